@@ -1,0 +1,34 @@
+//! Keys, sequences, entries and batches of writes: the words that every other crate of the store speaks.
+//!
+//! It promises a total order of internal keys, batches within their limits, a look-up among sorted entries that finds
+//! the newest visible one, and readers and writers of the fields that all formats share. It stands on no other crate
+//! of the store.
+#![tactic(auto)]
+
+mod batch;
+mod entry;
+mod fields;
+mod laws;
+mod limits;
+mod lookup;
+mod op;
+mod refused;
+mod seq;
+
+pub use batch::{Batch, KeyError};
+pub use entry::{Entry, EntryRef, InternalKey, Kind};
+pub use fields::{
+    key_of, know_bytes, piece_of, put_key, put_trailer, trailer_of, u8_of, u16_of, u32_of, u64_of,
+};
+pub use laws::{
+    an_earlier_place_is_newer, newest_is_the_greatest, order_does_not_matter,
+    visible_is_the_greatest,
+};
+pub use limits::{
+    DEFAULT_BASE, DEFAULT_L0, ENTRY_OVERHEAD, Limits, MAX_BASE, MAX_BATCH_OPS, MAX_BATCH_WEIGHT,
+    MAX_KEY_BYTES, MAX_L0, MAX_MEMTABLE_WEIGHT, MAX_NUMBER, MAX_TABLE_BYTES, MAX_VALUE_BYTES,
+};
+pub use lookup::{compare_place, seek_in};
+pub use op::Op;
+pub use refused::Refused;
+pub use seq::Seq;
