@@ -8,7 +8,7 @@ use Rattle.lsm_key.specs.declared.entry.Kind.{Kind}
 use Rattle.lsm_key.specs.declared.entry.Kind.TheVariants.{Delete, Put}
 use Rattle.lsm_key.specs.Order.{kind_code}
 use Rattle.lsm_key.specs.Spelling.{key, trailer, IsKey}
-use Rattle.lsm_key.specs.Reading.{◌>>=◌, number_at, piece_at, fixed_at, instead, key_at, kind_at, trailer_at}
+use Rattle.lsm_key.specs.Reading.{◌>>=◌, number_at, within_at, piece_at, fixed_at, instead, key_at, kind_at, trailer_at}
 
 abbrev pub IsBytes : List ℕ → Type 0
 IsBytes bytes = (i : ℕ) → get_or bytes i 0 < 256
@@ -123,6 +123,20 @@ module _ {F : Type 0} (short : F) where
       let len = wide.len n in
       let long : ltb (length (to_be_bytes w n ++ rest)) (byte_len w) ≡ false = le-ltb _ _ (omega (arith, length-append (to_be_bytes w n) rest)) in
       rw (long, take_at (to_be_bytes w n) rest (byte_len w) len, drop_at (to_be_bytes w n) rest (byte_len w) len, wide.again n lt) refl
+
+  -- ---- numbers of a range
+
+  pub within_takes : (bad : F) (w : Width) (limit : ℕ) (wide : IsWide w limit) (low high : ℕ) (bytes : List ℕ) (n : ℕ) (rest : List ℕ) → IsBytes bytes → within_at short bad w low high bytes ≡ Ok (n, rest) → Takes bytes (to_be_bytes w n) rest × (low ≤ n) × (n ≤ high)
+  within_takes bad w limit wide low high bytes n rest fits e =
+      let a = bind_ok (number_at short w bytes) (λ n. cond (ltb n.0 low || ltb high n.0) (Err bad) (Ok n)) (n, rest) e in
+      let g = guard_ok (ltb a.0.0 low || ltb high a.0.0) bad (Ok a.0) (n, rest) a.2 in
+      let g1 = ok_is {F = F} a.0 (n, rest) g.1 in
+      let tests = or_parts (ltb a.0.0 low) (ltb high a.0.0) g.0 in
+      let t = number_takes w limit wide bytes a.0.0 a.0.1 fits a.1 in
+      subst (λ (p : ℕ × List ℕ). Takes bytes (to_be_bytes w p.0) p.1 × (low ≤ p.0) × (p.0 ≤ high)) g1 (t.0, ltb-false a.0.0 low tests.0, ltb-false high a.0.0 tests.1)
+
+  pub within_again : (bad : F) (w : Width) (limit : ℕ) (wide : IsWide w limit) (low high n : ℕ) (rest : List ℕ) → n < limit → low ≤ n → n ≤ high → within_at short bad w low high (to_be_bytes w n ++ rest) ≡ Ok (n, rest)
+  within_again bad w limit wide low high n rest lt le ge = rw (number_again w limit wide n rest lt, or_from (ltb n low) (ltb high n) (le-ltb n low le) (le-ltb high n ge)) refl
 
   -- ---- pieces of a length that is known
 
