@@ -14,6 +14,9 @@ use Rattle.lsm_table.specs.BlockReading.{may_follow, last_of}
 pub no_entries : AreEntries []
 no_entries = record { each = tt; sequences = tt; ascending = λ i d lt. absurd (omega (arith, lt)) }
 
+pub last_at : (x : Entry) (es : List Entry) (d : Entry) → last_of (x ∷ es) ≡ Some (get_or (x ∷ es) (length es) d)
+last_at x es d = (let k : length (x ∷ es) - 1 ≡ length es = omega arith in rw k (slice_get-get_or (x ∷ es) (length es) d (omega arith)))
+
 -- ---- one more entry at the end
 
 module _ (P : Entry → Type 0) where
