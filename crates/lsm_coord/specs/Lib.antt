@@ -5,3 +5,4 @@ pub mod Range
 pub mod Changes
 pub mod Step
 pub mod Run
+pub mod Examples

@@ -25,7 +25,7 @@ pub record Snapshot : Type 0 where
 
 pub record State : Type 0 where
   pub writes : List Op  -- the accepted writes; the sequence of a write is its place, from 1
-  pub versions : List Version   -- the versions, by number from 0
+  pub versions : List Version  -- the versions, by number from 0
   pub frozen : Option ℕ  -- the last sequence of the frozen memtable
   pub snapshots : List Snapshot  -- the live ones, the oldest first
   pub made : ℕ  -- how many snapshots this epoch has made
