@@ -57,3 +57,27 @@ abbrev pub AbsentIsRefused : Type 0
 AbsentIsRefused = RunOfNew
   (say.Snap ∷ say.Release first_snapshot ∷ say.Release first_snapshot ∷ say.Get a (Some first_snapshot) ∷ say.Deliver 1 ∷ say.GiveUp 1 ∷ say.Trim 2 ∷ [])
   (say.Snapped first_snapshot 0 ∷ say.Released first_snapshot ∷ say.Refused say.NoSnapshot ∷ say.Refused say.NoSnapshot ∷ say.Refused say.NoMessage ∷ say.Refused say.NoClaim ∷ say.Refused say.BadFloor ∷ [])
+
+-- A write is not lost while the coordinator runs.
+abbrev pub LostWriteIsNoRun : Type 0
+LostWriteIsNoRun = RunOfNew (say.Write (Put a one ∷ []) ∷ say.Get a None ∷ []) (say.Wrote 1 1 ∷ say.Got None ∷ []) → ⊥
+
+-- A flush leaves nothing out.
+abbrev pub ShortFlushIsNoRun : Type 0
+ShortFlushIsNoRun = RunOfNew (say.Write (Put a one ∷ []) ∷ say.Flush ∷ []) (say.Wrote 1 1 ∷ say.Flushed 2 0 1 ∷ []) → ⊥
+
+-- A listing has the file of the flush.
+abbrev pub EmptyListingIsNoRun : Type 0
+EmptyListingIsNoRun = RunOfNew
+  (say.Write (Put a one ∷ []) ∷ say.Flush ∷ say.Show say.Coordinator ∷ [])
+  (say.Wrote 1 1 ∷ say.Flushed 2 1 1 ∷ say.Shown 2 1 [] ∷ []) → ⊥
+
+-- A restart keeps nothing that was not flushed.
+abbrev pub KeptWriteIsNoRun : Type 0
+KeptWriteIsNoRun = RunOfNew
+  (say.Write (Put a one ∷ []) ∷ say.Restart say.Coordinator ∷ say.Get a None ∷ [])
+  (say.Wrote 1 1 ∷ say.Restarted 2 2 0 ∷ say.Got (Some one) ∷ []) → ⊥
+
+-- A refusal comes only where it holds.
+abbrev pub UnforcedRefusalIsNoRun : Type 0
+UnforcedRefusalIsNoRun = RunOfNew (say.Write (Put a one ∷ []) ∷ []) (say.Refused say.MemtableFull ∷ []) → ⊥

@@ -5,4 +5,5 @@ pub mod Range
 pub mod Changes
 pub mod Step
 pub mod Run
+pub mod Laws
 pub mod Examples
