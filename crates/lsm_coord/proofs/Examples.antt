@@ -38,36 +38,83 @@ scanned = record {
   few = omega arith;
   ascending = λ i j d x y. absurd (omega arith);
   right = λ p m. elim m [ inl e ↦ rw e ((refl, refl), refl) | inr no_more ↦ absurd no_more ];
-  whole = λ key value w h. let x = only_b (bytes_eq a key) (bytes_eq b key) value h in inl (inl (sym (ap (λ (k : List ℕ). (k, two)) ((bytes_eq-Decides b key).0 x.0) ∙ ap (λ (v : List ℕ). (key, v)) x.1)))
+  whole = λ key value w h. let x = only_b (bytes_eq a key) (bytes_eq b key) value h in inl (inl (sym (ap (λ (k : List ℕ). (k, two)) ((bytes_eq-Decides b key).0 x.0) ∙ ap (λ (v : List ℕ). (key, v)) x.1)));
 }
 
 pub last_counts : LastOfABatchCounts
 last_counts = (_, (_, (refl, (refl, refl, refl)), (_, (refl, (refl, refl)), (_, (refl, (scanned, refl)), refl))))
 
 pub frozen_first : FrozenIsFlushedFirst
-frozen_first =
-    (_,
-    (_, (refl, (refl, refl, refl)),
-    (_, (refl, (refl, refl)),
-    (_, (inl refl, refl),
-    (_, (refl, (refl, refl, refl)),
-    (_, (refl, (refl, refl, refl, refl)),
-    (_, (refl, (refl, refl, refl, refl)),
-    (_, (inl refl, refl),
-    (_, (inl refl, refl),
-    refl)))))))))
+frozen_first = (
+  _,
+  (
+    _,
+    (refl, (refl, refl, refl)),
+    (
+      _,
+      (refl, (refl, refl)),
+      (
+        _,
+        (inl refl, refl),
+        (
+          _,
+          (refl, (refl, refl, refl)),
+          (
+            _,
+            (refl, (refl, refl, refl, refl)),
+            (
+              _,
+              (refl, (refl, refl, refl, refl)),
+              (
+                _,
+                (inl refl, refl),
+                (
+                  _,
+                  (inl refl, refl),
+                  refl,
+                ),
+              ),
+            ),
+          ),
+        ),
+      ),
+    ),
+  ),
+)
 
 pub absent_refused : AbsentIsRefused
-absent_refused =
-    (_,
-    (_, (refl, (refl, refl, refl)),
-    (_, (refl, (refl, refl)),
-    (_, (inl refl, refl),
-    (_, (inl refl, refl),
-    (_, (inr (refl, tt), refl),
-    (_, (inr (refl, tt), refl),
-    (_, (inl refl, refl),
-    refl))))))))
+absent_refused = (
+  _,
+  (
+    _,
+    (refl, (refl, refl, refl)),
+    (
+      _,
+      (refl, (refl, refl)),
+      (
+        _,
+        (inl refl, refl),
+        (
+          _,
+          (inl refl, refl),
+          (
+            _,
+            (inr (refl, tt), refl),
+            (
+              _,
+              (inr (refl, tt), refl),
+              (
+                _,
+                (inl refl, refl),
+                refl,
+              ),
+            ),
+          ),
+        ),
+      ),
+    ),
+  ),
+)
 
 pub lost_write : LostWriteIsNoRun
 lost_write (last, (s, (_, (_, _, e)), (_, (_, (value, _)), _))) = let v = rw e at value in absurd cc

@@ -6,3 +6,8 @@
 #![tactic(auto)]
 
 mod laws;
+
+pub use laws::{
+    flushed_rises, followers_agree, get_gives_the_put, listings_agree, versions_stay, worked_runs,
+    wrong_runs,
+};
