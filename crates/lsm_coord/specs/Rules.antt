@@ -5,7 +5,7 @@ use Rattle.lsm_key.specs.declared.op.Op.{Op}
 use Rattle.lsm_key.specs.declared.batch.KeyError.{KeyError}
 use Rattle.lsm_key.specs.declared.batch.KeyError.TheVariants as key_error
 use Rattle.lsm_key.specs.declared.limits.TheConstants.{MAX_NUMBER, MAX_MEMTABLE_WEIGHT}
-use Rattle.lsm_key.specs.declared.seq.TheConstants.Seq.{MAX}
+use Rattle.lsm_key.specs.declared.seq.TheConstants.Seq as seq
 use Rattle.lsm_key.specs.Limits.{batch_fault, total_weight}
 use Rattle.lsm_coord.specs.State.{State, SnapId, last_seq, current, last_flushed, active, snapshot_at}
 use Rattle.lsm_coord.specs.Event.{Event, Refusal, Node}
@@ -33,7 +33,7 @@ unless_down s why = if s.up then why else Some say.Down
 abbrev pub write_refusal : State → List Op → Option Refusal
 write_refusal s ops =
     if nat_eq (length ops) 0 then Some say.EmptyBatch
-    else if nat_lt MAX (last_seq s + length ops) then Some say.SequenceExhausted
+    else if nat_lt seq.MAX (last_seq s + length ops) then Some say.SequenceExhausted
     else if nat_lt MAX_MEMTABLE_WEIGHT (total_weight (active s) + total_weight ops) then Some say.MemtableFull
     else None
 
@@ -79,12 +79,18 @@ refusal s say.Snap = unless_down s (snapshot_refusal s)
 refusal s (say.Release id) = unless_down s (release_refusal s id)
 refusal s (say.Get key at) = unless_down s (read_refusal s at)
 refusal s (say.Scan lo hi at limit) = unless_down s (read_refusal s at)
+refusal s (say.Read follower key) = None
 refusal s (say.Show say.Coordinator) = unless_down s None
+refusal s (say.Show (say.Worker i)) = None
+refusal s (say.Show (say.Follower i)) = None
+refusal s (say.Deliver m) = None
 refusal s (say.Pick d) = unless_down s None
 refusal s (say.GiveUp d) = unless_down s None
+refusal s (say.Ask i) = None
 refusal s (say.Trim n) = unless_down s (trim_refusal s n)
 refusal s (say.Restart say.Coordinator) = restart_refusal s
-refusal s event = None
+refusal s (say.Restart (say.Worker i)) = None
+refusal s (say.Restart (say.Follower i)) = None
 
 -- a number that an install would give, or the next file number after it, is past its limit
 abbrev pub CannotNumber : State → Type 0
