@@ -1,2 +1,3 @@
 pub mod EditLaws
 pub mod Joins
+pub mod VersionLaws

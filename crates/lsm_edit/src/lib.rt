@@ -7,7 +7,9 @@
 mod edit;
 mod file;
 mod format;
+mod version;
 
 pub use edit::{Edit, EditKind, decode_edit, encode_edit};
 pub use file::FileMeta;
 pub use format::{FormatError, FormatFault};
+pub use version::{ApplyError, Version};
