@@ -1,14 +1,14 @@
 -- The runs that are written out.
-use Rattle.std.proofs.Common.{◌≡◌, ℕ, List, [], ◌∷◌, Option, None, Some, refl, sym, ap, ◌∙◌, subst, inl, inr, ◌⊎◌, Bool, true, false, is_some, arith, length}
+use Rattle.std.proofs.Common.{◌≡◌, ℕ, List, [], ◌∷◌, Option, None, Some, refl, sym, ap, ◌∙◌, inl, inr, Bool, true, false, is_some, arith, length}
 use Rattle.std.proofs.lemmas.Slice.Eq.{bytes_eq-Decides}
 use Rattle.std.specs.Bool.{if◌then◌else◌}
 use Rattle.std.specs.Option.{option_and_then, unwrap_or}
 use Rattle.std.specs.Str.{bytes_eq}
 use Rattle.lsm_key.specs.declared.op.Op.{Op}
 use Rattle.lsm_key.specs.declared.op.Op.TheVariants.{Put, Delete}
-use Rattle.lsm_key.specs.Writes.{answer, value_of}
+use Rattle.lsm_key.specs.Writes.{value_of}
 use Rattle.lsm_coord.specs.Range.{IsRange}
-use Rattle.lsm_coord.specs.State.{State, Version, empty_version}
+use Rattle.lsm_coord.specs.State.{Version, empty_version}
 use Rattle.lsm_coord.specs.Examples.{a, b, z, one, two, none, FlushedWriteIsFound, RestartLosesWrites, LastOfABatchCounts, FrozenIsFlushedFirst, AbsentIsRefused, LostWriteIsNoRun, ShortFlushIsNoRun, EmptyListingIsNoRun, KeptWriteIsNoRun, UnforcedRefusalIsNoRun}
 
 pub flushed_write : FlushedWriteIsFound

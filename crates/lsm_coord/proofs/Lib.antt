@@ -2,3 +2,4 @@ pub mod Examples
 pub mod Effects
 pub mod Versions
 pub mod Runs
+pub mod Ranges

@@ -7,6 +7,7 @@ use Rattle.lsm_key.specs.Writes.{last_write}
 use Rattle.lsm_coord.specs.State.{State, Version, Place, first_state, last_seq}
 use Rattle.lsm_coord.specs.Event.{Event, Reply}
 use Rattle.lsm_coord.specs.Event as say
+use Rattle.lsm_coord.specs.Range.{IsRange}
 use Rattle.lsm_coord.specs.Run.{Run, RunOfNew}
 
 -- A version, once it is there, keeps its flushed sequence and its files.
@@ -49,6 +50,11 @@ GetGivesThePut = (s t : State) (before between after : List Event) (ops : List O
     → last_write ops key ≡ Some (Put key value)
     → ((event : Event) → IsIn event between → SparesKey key event)
     → found ≡ Some value
+
+-- A scan can give one list only.
+abbrev pub ScansAreDetermined : Type 0
+ScansAreDetermined = (writes : List Op) (at : ℕ) (lo hi : List ℕ) (limit : ℕ) (pairs others : List (List ℕ × List ℕ))
+    → IsRange writes at lo hi limit pairs → IsRange writes at lo hi limit others → pairs ≡ others
 
 -- In a run of a new store, flushed sequences rise with the version number, up to the number of writes.
 pub record IsOrderly (s : State) : Type 0 where

@@ -1,5 +1,5 @@
 -- Which refusals a state forces, and which have another cause (LevelDB, db.h: what each call may answer).
-use Rattle.std.specs.Prelude.{◌≡◌, ℕ, ◌+◌, ◌^◌, ◌<◌, List, Option, None, Some, length, Bool, true, false, nat_lt, nat_le, nat_eq, ◌||◌, ◌&&◌, if◌then◌else◌, is_none, is_some, ◌⊎◌}
+use Rattle.std.specs.Prelude.{◌≡◌, ℕ, ◌+◌, ◌^◌, ◌<◌, List, Option, None, Some, length, true, false, nat_lt, nat_le, nat_eq, ◌||◌, ◌&&◌, if◌then◌else◌, is_none, is_some, ◌⊎◌}
 use Rattle.std.specs.Option.{option_or, option_map}
 use Rattle.lsm_key.specs.declared.op.Op.{Op}
 use Rattle.lsm_key.specs.declared.batch.KeyError.{KeyError}
