@@ -3,3 +3,5 @@ pub mod Effects
 pub mod Versions
 pub mod Runs
 pub mod Ranges
+pub mod Refusals
+pub mod States
