@@ -2,8 +2,8 @@
 //! contract.
 
 ghost use Rattle.lsm_coord.specs.Laws.{VersionsStay, ListingsAgree, FollowersAgree, GetGivesThePut, FlushedRises, ScansAreDetermined};
-ghost use Rattle.lsm_coord.specs.Examples.{FlushedWriteIsFound, RestartLosesWrites, LastOfABatchCounts, FrozenIsFlushedFirst, AbsentIsRefused};
-ghost use Rattle.lsm_coord.specs.Examples.{LostWriteIsNoRun, ShortFlushIsNoRun, EmptyListingIsNoRun, KeptWriteIsNoRun, UnforcedRefusalIsNoRun};
+ghost use Rattle.lsm_coord.specs.Examples.{FlushedWriteIsFound, RestartLosesWrites, LastOfABatchCounts, FrozenIsFlushedFirst, AbsentIsRefused, DownUntilRestarted, MergeKeepsAnswers, FollowerLiesBehind};
+ghost use Rattle.lsm_coord.specs.Examples.{LostWriteIsNoRun, ShortFlushIsNoRun, EmptyListingIsNoRun, KeptWriteIsNoRun, UnforcedRefusalIsNoRun, FileGivenTwiceIsNoRun, NewerValueIsNoRun};
 
 /// Along a run a version, once it is there, never changes its flushed sequence or its files.
 pub fn versions_stay()
@@ -43,6 +43,9 @@ pub fn worked_runs()
     ensures batch { LastOfABatchCounts }
     ensures frozen { FrozenIsFlushedFirst }
     ensures absent { AbsentIsRefused }
+    ensures down { DownUntilRestarted }
+    ensures merged { MergeKeepsAnswers }
+    ensures behind { FollowerLiesBehind }
 {}
 
 /// These are none.
@@ -52,4 +55,6 @@ pub fn wrong_runs()
     ensures listing { EmptyListingIsNoRun }
     ensures kept { KeptWriteIsNoRun }
     ensures refused { UnforcedRefusalIsNoRun }
+    ensures twice { FileGivenTwiceIsNoRun }
+    ensures newer { NewerValueIsNoRun }
 {}
