@@ -5,3 +5,5 @@ pub mod Runs
 pub mod Ranges
 pub mod Refusals
 pub mod States
+pub mod SnapshotEffects
+pub mod Snapshots

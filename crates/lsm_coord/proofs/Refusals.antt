@@ -1,6 +1,6 @@
 -- When a state forces a refusal, and when none, over plain facts.
-use Rattle.std.proofs.Common.{◌≡◌, ℕ, ◌+◌, ◌<◌, ◌≤◌, List, Option, None, Some, refl, ap, arith, Bool, true, false, length, nat_eq, ◌||◌, ◌&&◌, is_none, inl, inr, ◌⊎◌}
-use Rattle.std.specs.Bool.{nat_lt, nat_le}
+use Rattle.std.proofs.Common.{◌≡◌, ℕ, ◌+◌, ◌<◌, ◌≤◌, List, None, Some, refl, arith, Bool, true, false, length, nat_eq, ◌||◌, ◌&&◌, is_none, inl, inr, ◌⊎◌}
+use Rattle.std.specs.Bool.{nat_lt}
 use Rattle.std.proofs.lemmas.Bool.{lt-ltb, le-ltb, le-leb, lt-leb, ne_eqb}
 use Rattle.std.proofs.lemmas.Bool.Decides.{Decides-eqb}
 use Rattle.lsm_key.specs.declared.op.Op.{Op}

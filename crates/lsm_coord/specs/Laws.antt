@@ -4,7 +4,7 @@ use Rattle.lsm_key.specs.declared.op.Op.{Op}
 use Rattle.lsm_key.specs.declared.op.Op.TheVariants.{Put}
 use Rattle.lsm_key.specs.Sets.{IsIn}
 use Rattle.lsm_key.specs.Writes.{last_write}
-use Rattle.lsm_coord.specs.State.{State, Version, Place, first_state, last_seq}
+use Rattle.lsm_coord.specs.State.{State, Version, Place, SnapId, first_state, last_seq}
 use Rattle.lsm_coord.specs.Event.{Event, Reply}
 use Rattle.lsm_coord.specs.Event as say
 use Rattle.lsm_coord.specs.Range.{IsRange}
@@ -32,6 +32,14 @@ FollowersAgree = (events : List Event) (replies : List Reply) → RunOfNew event
     → (follower other number : ℕ) (key : List ℕ) (value other_value : Option (List ℕ))
     → IsAnswered events replies (say.Read follower key) (say.ReadAt number value)
     → IsAnswered events replies (say.Read other key) (say.ReadAt number other_value)
+    → value ≡ other_value
+
+-- In a run of a new store, two gets of one key at one snapshot give one value.
+abbrev pub SnapshotsAgree : Type 0
+SnapshotsAgree = (events : List Event) (replies : List Reply) → RunOfNew events replies
+    → (id : SnapId) (key : List ℕ) (value other_value : Option (List ℕ))
+    → IsAnswered events replies (say.Get key (Some id)) (say.Got value)
+    → IsAnswered events replies (say.Get key (Some id)) (say.Got other_value)
     → value ≡ other_value
 
 -- the event writes another key than this or nothing, and does not restart the coordinator

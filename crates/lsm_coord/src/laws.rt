@@ -1,7 +1,7 @@
 //! What every run of a store keeps, and runs that are written out. The functions do nothing: each is the proof of its
 //! contract.
 
-ghost use Rattle.lsm_coord.specs.Laws.{VersionsStay, ListingsAgree, FollowersAgree, GetGivesThePut, FlushedRises, ScansAreDetermined};
+ghost use Rattle.lsm_coord.specs.Laws.{VersionsStay, ListingsAgree, FollowersAgree, GetGivesThePut, FlushedRises, ScansAreDetermined, SnapshotsAgree};
 ghost use Rattle.lsm_coord.specs.Examples.{FlushedWriteIsFound, RestartLosesWrites, LastOfABatchCounts, FrozenIsFlushedFirst, AbsentIsRefused, DownUntilRestarted, MergeKeepsAnswers, FollowerLiesBehind};
 ghost use Rattle.lsm_coord.specs.Examples.{LostWriteIsNoRun, ShortFlushIsNoRun, EmptyListingIsNoRun, KeptWriteIsNoRun, UnforcedRefusalIsNoRun, FileGivenTwiceIsNoRun, NewerValueIsNoRun};
 
@@ -29,6 +29,11 @@ pub fn get_gives_the_put()
 /// In a run of a new store flushed sequences rise with the version number, up to the number of writes.
 pub fn flushed_rises()
     ensures { FlushedRises }
+{}
+
+/// In a run of a new store two gets of one key at one snapshot give one value: no name of a snapshot is given twice.
+pub fn snapshots_agree()
+    ensures { SnapshotsAgree }
 {}
 
 /// Of the writes, the sequence, the bounds and the limit of a scan there is one list that it may give.
