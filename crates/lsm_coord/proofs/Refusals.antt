@@ -115,6 +115,15 @@ get_at_absent s key id up absent = rw (up, absent) refl
 pub get_at_may : (s : State) (key : List ℕ) (id : SnapId) (at : ℕ) → s.up ≡ true → snapshot_at s.snapshots id ≡ Some at → refusal s (say.Get key (Some id)) ≡ None
 get_at_may s key id at up live = rw (up, live) refl
 
+pub scan_may : (s : State) (lo hi : List ℕ) (limit : ℕ) → s.up ≡ true → refusal s (say.Scan lo hi None limit) ≡ None
+scan_may s lo hi limit up = rw up refl
+
+pub scan_at_absent : (s : State) (lo hi : List ℕ) (id : SnapId) (limit : ℕ) → s.up ≡ true → snapshot_at s.snapshots id ≡ None → refusal s (say.Scan lo hi (Some id) limit) ≡ Some say.NoSnapshot
+scan_at_absent s lo hi id limit up absent = rw (up, absent) refl
+
+pub scan_at_may : (s : State) (lo hi : List ℕ) (id : SnapId) (limit at : ℕ) → s.up ≡ true → snapshot_at s.snapshots id ≡ Some at → refusal s (say.Scan lo hi (Some id) limit) ≡ None
+scan_at_may s lo hi id limit at up live = rw (up, live) refl
+
 pub show_may : (s : State) → s.up ≡ true → refusal s (say.Show say.Coordinator) ≡ None
 show_may s up = rw up refl
 

@@ -64,10 +64,11 @@ abbrev pub ScansAreDetermined : Type 0
 ScansAreDetermined = (writes : List Op) (at : ℕ) (lo hi : List ℕ) (limit : ℕ) (pairs others : List (List ℕ × List ℕ))
     → IsRange writes at lo hi limit pairs → IsRange writes at lo hi limit others → pairs ≡ others
 
--- In a run of a new store, flushed sequences rise with the version number, up to the number of writes.
+-- flushed sequences rise with the version number, up to the number of writes
 pub record IsOrderly (s : State) : Type 0 where
   pub ascending : (m n : ℕ) (v w : Version) → m ≤ n → slice_get s.versions m ≡ Some v → slice_get s.versions n ≡ Some w → v.flushed ≤ w.flushed
   pub written : (n : ℕ) (v : Version) → slice_get s.versions n ≡ Some v → v.flushed ≤ last_seq s
 
+-- In a run of a new store, flushed sequences rise with the version number, up to the number of writes.
 abbrev pub FlushedRises : Type 0
 FlushedRises = (events : List Event) (replies : List Reply) (s : State) → Run first_state events replies s → IsOrderly s
