@@ -5,8 +5,13 @@
 //! whose list of writes says what a read gives.
 #![tactic(auto)]
 
+mod coord;
+mod error;
 mod laws;
+mod memory;
 
+pub use coord::Flushed;
+pub use error::CoordError;
 pub use laws::{
     flushed_rises, followers_agree, get_gives_the_put, listings_agree, scans_are_determined,
     versions_stay, worked_runs, wrong_runs,
