@@ -9,8 +9,9 @@ mod coord;
 mod error;
 mod laws;
 mod memory;
+mod table;
 
-pub use coord::Flushed;
+pub use coord::{Coord, Flushed};
 pub use error::CoordError;
 pub use laws::{
     flushed_rises, followers_agree, get_gives_the_put, listings_agree, scans_are_determined,
