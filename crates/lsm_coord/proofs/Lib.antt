@@ -7,3 +7,6 @@ pub mod Refusals
 pub mod States
 pub mod SnapshotEffects
 pub mod Snapshots
+pub mod Sorting
+pub mod Manifests
+pub mod Answering

@@ -68,8 +68,15 @@ fn copies_of(alloc: Global, entries: &[Entry]) -> Result<Vec<Entry>, AllocError>
 {
     let mut copies = Vec::with_capacity(alloc, entries.len())?;
     for entry in entries {
-        let copy = entry.clone()?;
+        let copy = copy_of(entry)?;
         copies.push(copy)?;
     }
     Ok(copies)
+}
+
+/// The same entry, sharing its bytes.
+pub(crate) fn copy_of(entry: &Entry) -> Result<Entry, AllocError>
+    ensures { IfOk result (λ copy. copy ≡ entry.now) }
+{
+    entry.clone()
 }

@@ -1,15 +1,17 @@
 //! The table that a memtable becomes.
 
-ghost use Rattle.std.specs.Prelude.{◌≡◌, ◌<◌, ◌≤◌, ◌++◌, ℕ, List, length, sum_by, IfOk};
+ghost use Rattle.std.specs.Prelude.{◌≡◌, ◌<◌, ◌≤◌, ◌++◌, ℕ, List, [], ◌∷◌, None, length, sum_by, IfOk, OnOk};
+ghost use Rattle.lsm_table.specs.Blocks.{IsEntry};
+ghost use Rattle.lsm_table.specs.Building.{add_fault, finish_fault};
 ghost use Rattle.std.specs.List.Sorted.{IsPermutation};
 ghost use Rattle.lsm_key.specs.declared.limits.TheConstants.{MAX_MEMTABLE_WEIGHT};
 ghost use Rattle.lsm_key.specs.Limits.{entry_weight};
 ghost use Rattle.lsm_key.specs.Order.{IsAscending};
 ghost use Rattle.lsm_coord.specs.Memory.{AreSound, IsMemory};
 
-use crate::memory::sorted_copies;
+use crate::memory::{copy_of, sorted_copies};
 use lsm_key::Entry;
-use lsm_table::{BuildError, Table, TableBuilder};
+use lsm_table::{Table, TableBuilder};
 use std::alloc::{AllocError, Global};
 
 /// The table of the entries of a memtable, at least one.
@@ -31,11 +33,29 @@ fn built(alloc: Global, sorted: Vec<Entry>) -> Result<Table, AllocError>
     ensures { IfOk result (λ table. table.entries ≡ sorted.items) }
 {
     let mut builder = TableBuilder::new(alloc);
-    for entry in sorted {
-        if builder.add(entry).is_err() {
-            return Err(AllocError);
-        }
+    for entry in &sorted {
+        put(&mut builder, copy_of(entry)?)?;
     }
+    finished(builder)
+}
+
+// Adds an entry that the builder does not refuse: only memory can be wanting.
+fn put(builder: &mut TableBuilder, entry: Entry) -> Result<(), AllocError>
+    requires sound { IsEntry entry }
+    requires taken { add_fault builder.old entry ≡ None }
+    ensures { OnOk result (builder.new ≡ builder.old ++ entry ∷ []) }
+{
+    match builder.add(entry) {
+        Ok(()) => Ok(()),
+        Err(_) => Err(AllocError),
+    }
+}
+
+// The table of a builder that has entries: only memory can be wanting.
+fn finished(builder: TableBuilder) -> Result<Table, AllocError>
+    requires { finish_fault builder ≡ None }
+    ensures { IfOk result (λ table. table.entries ≡ builder) }
+{
     match builder.finish_open() {
         Ok(table) => Ok(table),
         Err(_) => Err(AllocError),

@@ -114,7 +114,7 @@ pub record Passes (v : VersionValue) (edit : Edit) : Type 0 where
   pub counted : is_low v edit ≡ false
   pub epoch : miscounts edit.kind v.epoch edit.epoch ≡ false
 
-none_passed : (a : Bool) (x : ApplyError) (r : Option ApplyError) → cond a (Some x) r ≡ None → (a ≡ false) × (r ≡ None)
+pub none_passed : (a : Bool) (x : ApplyError) (r : Option ApplyError) → cond a (Some x) r ≡ None → (a ≡ false) × (r ≡ None)
 none_passed true x r h = absurd cc
 none_passed false x r h = (refl, h)
 

@@ -208,3 +208,7 @@ keys_same xs ys h = keys_equal xs ys (tied (slice_cmp nat_cmp xs ys) h)
     tied Less e = absurd cc
     tied Equal e = refl
     tied Greater e = absurd cc
+
+-- places that tie have one sequence
+pub place_equal : (a : List ℕ) (s : ℕ) (b : List ℕ) (t : ℕ) → place_cmp a s b t ≡ Equal → s ≡ t
+place_equal a s b t e = sym (nat_equal t s (then_equal (slice_cmp nat_cmp a b) (nat_cmp t s) e).1)
