@@ -9,5 +9,5 @@ mod laws;
 
 pub use laws::{
     flushed_rises, followers_agree, get_gives_the_put, listings_agree, scans_are_determined,
-    versions_stay, worked_runs, wrong_runs,
+    snapshots_agree, versions_stay, worked_runs, wrong_runs,
 };
