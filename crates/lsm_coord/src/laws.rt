@@ -4,6 +4,7 @@
 ghost use Rattle.lsm_coord.specs.Laws.{VersionsStay, ListingsAgree, FollowersAgree, GetGivesThePut, FlushedRises, ScansAreDetermined, SnapshotsAgree};
 ghost use Rattle.lsm_coord.specs.Examples.{FlushedWriteIsFound, RestartLosesWrites, LastOfABatchCounts, FrozenIsFlushedFirst, AbsentIsRefused, DownUntilRestarted, MergeKeepsAnswers, FollowerLiesBehind};
 ghost use Rattle.lsm_coord.specs.Examples.{LostWriteIsNoRun, ShortFlushIsNoRun, EmptyListingIsNoRun, KeptWriteIsNoRun, UnforcedRefusalIsNoRun, FileGivenTwiceIsNoRun, NewerValueIsNoRun};
+ghost use Rattle.lsm_coord.specs.Examples.{SecondWriteLostIsNoRun, FileForgottenIsNoRun, FlushLosesWriteIsNoRun};
 
 /// Along a run a version, once it is there, never changes its flushed sequence or its files.
 pub fn versions_stay()
@@ -62,4 +63,7 @@ pub fn wrong_runs()
     ensures refused { UnforcedRefusalIsNoRun }
     ensures twice { FileGivenTwiceIsNoRun }
     ensures newer { NewerValueIsNoRun }
+    ensures second { SecondWriteLostIsNoRun }
+    ensures forgotten { FileForgottenIsNoRun }
+    ensures emptied { FlushLosesWriteIsNoRun }
 {}
