@@ -8,6 +8,6 @@
 mod laws;
 
 pub use laws::{
-    flushed_rises, followers_agree, get_gives_the_put, listings_agree, scans_are_determined,
+    flushed_rises, followers_agree, get_gives_the_write, listings_agree, scans_are_determined,
     snapshots_agree, versions_stay, worked_runs, wrong_runs,
 };
