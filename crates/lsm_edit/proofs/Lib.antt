@@ -1,3 +1,5 @@
 pub mod EditLaws
 pub mod Joins
 pub mod VersionLaws
+pub mod Search
+pub mod Advance

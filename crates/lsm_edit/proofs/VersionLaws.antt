@@ -94,7 +94,7 @@ plain_is v edit is ok =
     let apart : has_overlap (files_after v.files edit) ≡ false = ap has_overlap (files_after-is v.files edit ok.removed) ∙ still_disjoint edit.kind v.files edit.added ok.added is.disjoint in
     rw (none, apart, two_tests (is_low v edit) (miscounts edit.kind v.epoch edit.epoch) BadCounter) refl
 
-none_below : (limit : ℕ) (files : List FileMeta) → list_any (λ f. ltb f.number limit) files ≡ false → (f : FileMeta) → IsIn f files → limit ≤ f.number
+pub none_below : (limit : ℕ) (files : List FileMeta) → list_any (λ f. ltb f.number limit) files ≡ false → (f : FileMeta) → IsIn f files → limit ≤ f.number
 none_below limit [] h f m = absurd m
 none_below limit (x ∷ files) h f m =
     let parts = or_parts (ltb x.number limit) (list_any (λ f. ltb f.number limit) files) h in

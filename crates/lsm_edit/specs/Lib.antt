@@ -1,3 +1,4 @@
 pub mod File
 pub mod Edit
 pub mod Version
+pub mod Served

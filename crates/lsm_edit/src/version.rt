@@ -76,7 +76,7 @@ impl Model for Version {
 
 impl Version {
     ghost use Rattle.lsm_edit.specs.Edit.{IsEdit};
-    ghost use Rattle.lsm_edit.specs.Version.{first_version, applied, apply_fault, plain_fault};
+    ghost use Rattle.lsm_edit.specs.Version.{IsVersion, first_version, applied, apply_fault, plain_fault};
 
     /// Version 0: before the first edit.
     pub fn new(alloc: Global) -> Version
@@ -125,7 +125,8 @@ impl Version {
 
     /// Its files, by number.
     pub fn files(&self) -> &[FileMeta]
-        ensures { result.now ≡ self.now.files }
+        ensures all { result.now ≡ self.now.files }
+        ensures sound { IsVersion self.now }
     {
         self.listed.as_slice()
     }
@@ -151,8 +152,9 @@ impl Version {
     }
 
     // Why the edit does not apply.
-    fn fault_of(&self, edit: &Edit) -> Option<ApplyError>
-        ensures { result ≡ plain_fault self.now edit.now }
+    pub(crate) fn fault_of(&self, edit: &Edit) -> Option<ApplyError>
+        ensures fault { result ≡ plain_fault self.now edit.now }
+        ensures sound { IsVersion self.now }
     {
         if edit.number != self.number + 1 {
             return Some(ApplyError::WrongNumber);
