@@ -5,8 +5,14 @@
 //! whose list of writes says what a read gives.
 #![tactic(auto)]
 
+mod coord;
+mod error;
 mod laws;
+mod memory;
+mod table;
 
+pub use coord::{Coord, Flushed};
+pub use error::CoordError;
 pub use laws::{
     flushed_rises, followers_agree, get_gives_the_write, listings_agree, scans_are_determined,
     snapshots_agree, versions_stay, worked_runs, wrong_runs,

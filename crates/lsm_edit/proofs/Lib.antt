@@ -3,3 +3,4 @@ pub mod Joins
 pub mod VersionLaws
 pub mod Search
 pub mod Advance
+pub mod NextLaws

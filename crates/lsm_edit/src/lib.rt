@@ -7,6 +7,7 @@
 mod edit;
 mod file;
 mod format;
+mod next;
 mod served;
 mod version;
 
