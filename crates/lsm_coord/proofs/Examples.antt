@@ -10,7 +10,7 @@ use Rattle.lsm_key.specs.Writes.{value_of}
 use Rattle.lsm_coord.specs.Range.{IsRange}
 use Rattle.lsm_coord.specs.State.{Version, empty_version}
 use Rattle.lsm_coord.specs.Changes.{IsIndex}
-use Rattle.lsm_coord.specs.Examples.{a, b, z, one, two, none, FlushedWriteIsFound, RestartLosesWrites, LastOfABatchCounts, FrozenIsFlushedFirst, AbsentIsRefused, DownUntilRestarted, MergeKeepsAnswers, FollowerLiesBehind, FileGivenTwiceIsNoRun, NewerValueIsNoRun, LostWriteIsNoRun, ShortFlushIsNoRun, EmptyListingIsNoRun, KeptWriteIsNoRun, UnforcedRefusalIsNoRun}
+use Rattle.lsm_coord.specs.Examples.{a, b, z, one, two, none, FlushedWriteIsFound, RestartLosesWrites, LastOfABatchCounts, FrozenIsFlushedFirst, AbsentIsRefused, DownUntilRestarted, MergeKeepsAnswers, FollowerLiesBehind, FileGivenTwiceIsNoRun, NewerValueIsNoRun, LostWriteIsNoRun, ShortFlushIsNoRun, EmptyListingIsNoRun, KeptWriteIsNoRun, UnforcedRefusalIsNoRun, SecondWriteLostIsNoRun, FileForgottenIsNoRun, FlushLosesWriteIsNoRun}
 
 pub flushed_write : FlushedWriteIsFound
 flushed_write = (_, (_, (refl, (refl, refl, refl)), (_, (refl, (refl, refl, refl, refl)), (_, (refl, (refl, refl)), refl))))
@@ -302,3 +302,15 @@ newer_value (last, (s, (_, (_, _, e)), (t, (_, (_, _, _, f)), (u, (_, (_, _, g))
     let flushed : 1 ≡ version.flushed = ap (λ (o : Option Version). (unwrap_or o empty_version).flushed) there in
     let found = rw (k, h, g, f, e, ← flushed) at value in
     differ found
+
+pub second_write_lost : SecondWriteLostIsNoRun
+second_write_lost (last, (s, (_, (_, _, e)), (_, (_, (value, _)), _))) = let v = rw e at value in absurd cc
+
+pub file_forgotten : FileForgottenIsNoRun
+file_forgotten (last, (s, (_, (_, _, e)), (t, (_, (_, _, _, f)), (u, (_, (_, _, g)), (v, (_, (_, _, _, h)), (_, (_, (_, lists, _)), _)))))) =
+    let w = rw (h, g, f, e) at lists in
+    let x = ap (λ (o : Option Version). length (unwrap_or o empty_version).files) w in
+    absurd cc
+
+pub flush_loses_write : FlushLosesWriteIsNoRun
+flush_loses_write (last, (s, (_, (_, _, e)), (t, (_, (_, _, _, f)), (_, (_, (value, _)), _)))) = let v = rw (f, e) at value in absurd cc

@@ -4,7 +4,6 @@ use Rattle.std.specs.List.{slice_get}
 use Rattle.std.specs.Option.{option_and_then}
 use Rattle.std.proofs.Math.Seq.{take-length}
 use Rattle.lsm_key.specs.declared.op.Op.{Op}
-use Rattle.lsm_key.specs.declared.op.Op.TheVariants.{Put}
 use Rattle.lsm_key.specs.Sets.{IsIn}
 use Rattle.lsm_key.specs.Writes.{last_write, value_of, answer}
 use Rattle.lsm_key.proofs.Writes.{last_write-append}
@@ -13,7 +12,7 @@ use Rattle.lsm_coord.specs.Event.{Event, Reply}
 use Rattle.lsm_coord.specs.Event as say
 use Rattle.lsm_coord.specs.Step.{Step, Lists, Gives}
 use Rattle.lsm_coord.specs.Run.{Run}
-use Rattle.lsm_coord.specs.Laws.{VersionsStay, ListingsAgree, FollowersAgree, GetGivesThePut, FlushedRises, SparesKey}
+use Rattle.lsm_coord.specs.Laws.{VersionsStay, ListingsAgree, FollowersAgree, GetGivesTheWrite, FlushedRises, SparesKey}
 use Rattle.lsm_coord.proofs.Effects.{Effect, stays, wrote, froze, flushed, installed, fell, rose, effect}
 use Rattle.lsm_coord.proofs.Versions.{IsSound, step_sound, step_versions, step_writes, run_versions, first_sound, below_tip, some}
 
@@ -126,13 +125,13 @@ run_last s (e ∷ es) [] t key w h k q = absurd h
 run_last s (e ∷ es) (r ∷ rs) t key w h k q =
     run_last h.0 es rs t key w h.2 (λ x i. k x (inr i)) (step_last s e h.0 key w (effect s e r h.0 h.1) (k e (inl refl)) q)
 
-pub get_gives_the_put : GetGivesThePut
-get_gives_the_put s t before between after ops key value rs qs us first last found lr lq h put spares =
+pub get_gives_the_write : GetGivesTheWrite
+get_gives_the_write s t before between after ops key write rs qs us first last found lr lq h is spares =
     let p = run_parts s before (say.Write ops ∷ (between ++ say.Get key None ∷ after)) rs (say.Wrote first last ∷ (qs ++ say.Got found ∷ us)) t lr h in
     let q = run_parts p.2.0 between (say.Get key None ∷ after) qs (say.Got found ∷ us) t lq p.2.2 in
     let written : p.2.0.writes ≡ p.0.writes ++ ops = ap (λ (x : State). x.writes) p.2.1.1.2 in
-    let here : last_write p.2.0.writes key ≡ Some (Put key value) = rw (written, last_write-append p.0.writes ops key, put) refl in
-    let there : last_write q.0.writes key ≡ Some (Put key value) = run_last p.2.0 between qs q.0 key (Put key value) q.1 spares here in
+    let here : last_write p.2.0.writes key ≡ Some write = rw (written, last_write-append p.0.writes ops key, is) refl in
+    let there : last_write q.0.writes key ≡ Some write = run_last p.2.0 between qs q.0 key write q.1 spares here in
     let answered : found ≡ answer q.0.writes (length q.0.writes) key = q.2.1.1.0 in
     answered ∙ rw (take-length q.0.writes, there) refl
 

@@ -111,3 +111,19 @@ abbrev pub NewerValueIsNoRun : Type 0
 NewerValueIsNoRun = RunOfNew
     (say.Write (Put a one ∷ []) ∷ say.Flush ∷ say.Write (Put a two ∷ []) ∷ say.Flush ∷ say.Deliver 2 ∷ say.Read 1 a ∷ [])
     (say.Wrote 1 1 ∷ say.Flushed 2 1 1 ∷ say.Wrote 2 2 ∷ say.Flushed 3 2 2 ∷ say.Advanced 2 ∷ say.ReadAt 2 (Some two) ∷ []) → ⊥
+
+-- A batch is accepted whole: its second write is found too.
+abbrev pub SecondWriteLostIsNoRun : Type 0
+SecondWriteLostIsNoRun = RunOfNew (say.Write (Put a one ∷ Put b two ∷ []) ∷ say.Get b None ∷ []) (say.Wrote 1 2 ∷ say.Got None ∷ []) → ⊥
+
+-- A listing has the files of earlier flushes too.
+abbrev pub FileForgottenIsNoRun : Type 0
+FileForgottenIsNoRun = RunOfNew
+    (say.Write (Put a one ∷ []) ∷ say.Flush ∷ say.Write (Put b two ∷ []) ∷ say.Flush ∷ say.Show say.Coordinator ∷ [])
+    (say.Wrote 1 1 ∷ say.Flushed 2 1 1 ∷ say.Wrote 2 2 ∷ say.Flushed 3 2 2 ∷ say.Shown 3 2 (record { level = 0; file = 2 } ∷ []) ∷ []) → ⊥
+
+-- A flush takes nothing from what reads give.
+abbrev pub FlushLosesWriteIsNoRun : Type 0
+FlushLosesWriteIsNoRun = RunOfNew
+    (say.Write (Put a one ∷ []) ∷ say.Flush ∷ say.Get a None ∷ [])
+    (say.Wrote 1 1 ∷ say.Flushed 2 1 1 ∷ say.Got None ∷ []) → ⊥

@@ -1,9 +1,8 @@
 -- What holds of every run (LevelDB, implementation notes: a version never changes; RocksDB wiki: secondary instances).
 use Rattle.std.specs.Prelude.{◌≡◌, ℕ, ◌≤◌, List, ◌∷◌, ◌++◌, Option, None, Some, length, slice_get}
 use Rattle.lsm_key.specs.declared.op.Op.{Op}
-use Rattle.lsm_key.specs.declared.op.Op.TheVariants.{Put}
 use Rattle.lsm_key.specs.Sets.{IsIn}
-use Rattle.lsm_key.specs.Writes.{last_write}
+use Rattle.lsm_key.specs.Writes.{last_write, value_of}
 use Rattle.lsm_coord.specs.State.{State, Version, Place, SnapId, first_state, last_seq}
 use Rattle.lsm_coord.specs.Event.{Event, Reply}
 use Rattle.lsm_coord.specs.Event as say
@@ -48,16 +47,16 @@ SparesKey key (say.Write ops) = last_write ops key ≡ None
 SparesKey key (say.Restart say.Coordinator) = ⊥
 SparesKey key event = Unit {0}
 
--- In a run, a get gives the value of a put of its key that was answered, where no event between them writes the key or
--- restarts the coordinator. The put is the last write of its key in its batch.
-abbrev pub GetGivesThePut : Type 0
-GetGivesThePut = (s t : State) (before between after : List Event) (ops : List Op) (key value : List ℕ)
+-- In a run, a get gives what the last write of its key leaves: the value of a put, none of a deletion. It is the last of
+-- its key in a batch that was answered, and no event between them writes the key or restarts the coordinator.
+abbrev pub GetGivesTheWrite : Type 0
+GetGivesTheWrite = (s t : State) (before between after : List Event) (ops : List Op) (key : List ℕ) (write : Op)
     → (replies_before replies_between replies_after : List Reply) (first last : ℕ) (found : Option (List ℕ))
     → length replies_before ≡ length before → length replies_between ≡ length between
     → Run s (before ++ say.Write ops ∷ (between ++ say.Get key None ∷ after)) (replies_before ++ say.Wrote first last ∷ (replies_between ++ say.Got found ∷ replies_after)) t
-    → last_write ops key ≡ Some (Put key value)
+    → last_write ops key ≡ Some write
     → ((event : Event) → IsIn event between → SparesKey key event)
-    → found ≡ Some value
+    → found ≡ value_of write
 
 -- A scan can give one list only.
 abbrev pub ScansAreDetermined : Type 0

@@ -1,9 +1,10 @@
 //! What every run of a store keeps, and runs that are written out. The functions do nothing: each is the proof of its
 //! contract.
 
-ghost use Rattle.lsm_coord.specs.Laws.{VersionsStay, ListingsAgree, FollowersAgree, GetGivesThePut, FlushedRises, ScansAreDetermined, SnapshotsAgree};
+ghost use Rattle.lsm_coord.specs.Laws.{VersionsStay, ListingsAgree, FollowersAgree, GetGivesTheWrite, FlushedRises, ScansAreDetermined, SnapshotsAgree};
 ghost use Rattle.lsm_coord.specs.Examples.{FlushedWriteIsFound, RestartLosesWrites, LastOfABatchCounts, FrozenIsFlushedFirst, AbsentIsRefused, DownUntilRestarted, MergeKeepsAnswers, FollowerLiesBehind};
 ghost use Rattle.lsm_coord.specs.Examples.{LostWriteIsNoRun, ShortFlushIsNoRun, EmptyListingIsNoRun, KeptWriteIsNoRun, UnforcedRefusalIsNoRun, FileGivenTwiceIsNoRun, NewerValueIsNoRun};
+ghost use Rattle.lsm_coord.specs.Examples.{SecondWriteLostIsNoRun, FileForgottenIsNoRun, FlushLosesWriteIsNoRun};
 
 /// Along a run a version, once it is there, never changes its flushed sequence or its files.
 pub fn versions_stay()
@@ -20,10 +21,10 @@ pub fn followers_agree()
     ensures { FollowersAgree }
 {}
 
-/// A get gives the value of an answered put of its key, where no event between them writes the key or restarts the
-/// coordinator.
-pub fn get_gives_the_put()
-    ensures { GetGivesThePut }
+/// A get gives what an answered write of its key leaves, the value of a put and none of a deletion, where no event between
+/// them writes the key or restarts the coordinator.
+pub fn get_gives_the_write()
+    ensures { GetGivesTheWrite }
 {}
 
 /// In a run of a new store flushed sequences rise with the version number, up to the number of writes.
@@ -62,4 +63,7 @@ pub fn wrong_runs()
     ensures refused { UnforcedRefusalIsNoRun }
     ensures twice { FileGivenTwiceIsNoRun }
     ensures newer { NewerValueIsNoRun }
+    ensures second { SecondWriteLostIsNoRun }
+    ensures forgotten { FileForgottenIsNoRun }
+    ensures emptied { FlushLosesWriteIsNoRun }
 {}

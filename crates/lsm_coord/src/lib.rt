@@ -14,6 +14,6 @@ mod table;
 pub use coord::{Coord, Flushed};
 pub use error::CoordError;
 pub use laws::{
-    flushed_rises, followers_agree, get_gives_the_put, listings_agree, scans_are_determined,
-    versions_stay, worked_runs, wrong_runs,
+    flushed_rises, followers_agree, get_gives_the_write, listings_agree, scans_are_determined,
+    snapshots_agree, versions_stay, worked_runs, wrong_runs,
 };

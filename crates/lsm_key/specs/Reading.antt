@@ -1,4 +1,4 @@
--- Reading from the front, with the first fault that is met.
+-- Reading from the front, with the first fault that is met (LevelDB, coding.h; the fields are the store's own).
 use Rattle.std.specs.Prelude.{◌≡◌, ℕ, zero, suc, ◌/◌, ◌%◌, ◌||◌, List, length, take, drop, Result, Ok, Err, nat_lt, ◌==◌, if◌then◌else◌}
 use Rattle.std.specs.Int.{Width, w16, w64, byte_len, from_be_bytes}
 use Rattle.lsm_key.specs.declared.entry.Kind.{Kind}
