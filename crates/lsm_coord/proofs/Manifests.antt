@@ -1,7 +1,8 @@
 -- The versions that a list of edits folds to, and one edit more.
 use Rattle.std.proofs.Common.{◌≡◌, ℕ, ◌+◌, ◌-◌, ◌<◌, List, [], ◌∷◌, ◌++◌, Option, None, Some, length, map, get_or, refl, sym, ap, subst, ◌∙◌, arith, cond, not, eqb, length-append}
 use Rattle.std.proofs.lemmas.Bool.{not-false, eqb-true}
-use Rattle.std.proofs.lemmas.List.{map-append, length-map, get_or-append_seam}
+use Rattle.std.proofs.lemmas.List.{map-append, length-map}
+use Rattle.std.proofs.Math.ListN.{get_or-map}
 use Rattle.lsm_edit.specs.declared.edit.Edit.{Edit}
 use Rattle.lsm_edit.specs.declared.file.FileMeta.{FileMeta}
 use Rattle.lsm_edit.specs.Edit.{IsSpelled}
@@ -74,7 +75,7 @@ module _ (texts : List (List ℕ)) (served : ServedValue) (s : State) (h : Shows
       let at : current s ≡ length h.manifest.edits = omega (arith, count) in
       ap (λ (i : ℕ). get_or s.versions i empty_version) at
       ∙ ap (λ (vs : List Version). get_or vs (length h.manifest.edits) empty_version) h.versions
-      ∙ ?
+      ∙ get_or-map listed (versions_from first_version h.manifest.edits) (length h.manifest.edits) first_version
       ∙ ap listed (last_version first_version first_version h.manifest.edits)
       ∙ ap listed h.manifest.makes
 

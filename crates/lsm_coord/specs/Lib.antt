@@ -12,3 +12,4 @@ pub mod Value
 pub mod Shows
 pub mod Replies
 pub mod Memory
+pub mod Calls

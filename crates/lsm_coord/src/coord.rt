@@ -1,8 +1,7 @@
 //! The coordinator: one store, over tables in memory.
 
-ghost use Rattle.std.specs.Prelude.{◌≡◌, IfOk, None};
-ghost use Rattle.std.specs.Option.{option_and_then};
-ghost use Rattle.lsm_key.specs.Visible.{entry_value};
+ghost use Rattle.std.specs.Prelude.{◌≡◌, IfOk};
+ghost use Rattle.lsm_key.specs.Visible.{entry_value, lent};
 
 use crate::CoordError;
 use crate::memory::{entries_for, visible_in};
@@ -50,12 +49,17 @@ impl Model for Coord {
 }
 
 impl Coord {
-    ghost use Rattle.std.specs.Prelude.{◌≡◌, ◌<◌, ◌≤◌, ◌+◌, None, IfOk, OnOk, OnErr};
+    ghost use Rattle.std.specs.Prelude.{◌≡◌, ◌<◌, ◌≤◌, ◌+◌, None, IfOk, IfErr, OnOk, OnErr};
+    ghost use Rattle.std.specs.Option.{option_map};
+    ghost use Rattle.lsm_key.specs.Faults.{Refuses};
+    ghost use Rattle.lsm_key.specs.Visible.{lent};
+    ghost use Rattle.lsm_key.specs.declared.limits.TheConstants.{MAX_NUMBER};
     ghost use Rattle.lsm_edit.specs.File.{IsFile};
     ghost use Rattle.lsm_edit.specs.Served.{IsAsRecorded};
     ghost use Rattle.lsm_coord.specs.State.{first_state};
     ghost use Rattle.lsm_coord.specs.Event.{Write, Flush, Get, Show, Coordinator};
     ghost use Rattle.lsm_coord.specs.Shows.{Shows, Follows};
+    ghost use Rattle.lsm_coord.specs.Calls.{AddsTable, CanNumber, write_fault, flush_fault, written, found_in};
     ghost use Rattle.lsm_coord.specs.Replies.{write_reply, flush_reply, get_reply, show_reply};
 
     /// A new store, at version 1 of its first epoch.
@@ -88,7 +92,9 @@ impl Coord {
     /// Applies a batch, and answers the first and the last of its sequences. A refusal changes nothing.
     pub fn write(&mut self, batch: &Batch) -> Result<(Seq, Seq), CoordError>
         ensures step { Follows self.old (Write batch.now) (write_reply result) self.new }
+        ensures ok { OnOk result ((write_fault self.old batch.now ≡ None) × (self.new ≡ written self.old batch.now)) }
         ensures err { OnErr result (self.new ≡ self.old) }
+        ensures refused { IfErr result (Refuses CoordError.OutOfMemory (write_fault self.old batch.now)) }
     {
         let ops = batch.ops();
         if ops.is_empty() {
@@ -113,7 +119,9 @@ impl Coord {
     /// Makes the memtable a table of level 0 of the next version. A refusal changes nothing.
     pub fn flush(&mut self) -> Result<Flushed, CoordError>
         ensures step { Follows self.old Flush (flush_reply result) self.new }
+        ensures ok { OnOk result (flush_fault self.old ≡ None) }
         ensures err { OnErr result (self.new ≡ self.old) }
+        ensures refused { IfErr result (Refuses CoordError.OutOfMemory (flush_fault self.old)) }
     {
         if self.memory.is_empty() {
             return Err(CoordError::NothingToFlush);
@@ -135,8 +143,16 @@ impl Coord {
         })
     }
 
-    // Appends the edit that adds a table. A refusal changes nothing.
-    fn add_table(&mut self, meta: FileMeta, table: Table) -> Result<(), AllocError> {
+    // Appends the edit that adds a table of the memtable's entries. A refusal changes nothing.
+    fn add_table(&mut self, meta: FileMeta, table: Table) -> Result<(), AllocError>
+        requires room { CanNumber self.old }
+        requires newer { self.old.served.version.flushed < self.old.last }
+        requires sound { IsFile meta }
+        requires place { (meta.number ≡ self.old.served.version.next_file) × (meta.level ≡ 0) }
+        requires recorded { IsAsRecorded meta table }
+        ensures ok { OnOk result (AddsTable self.old meta table self.new) }
+        ensures err { OnErr result (self.new ≡ self.old) }
+    {
         let edit = Edit::flush(self.alloc, self.current.version(), self.newest, meta)?;
         let text = encode_edit(self.alloc, &edit)?;
         let mut tables = Vec::with_capacity(self.alloc, 1)?;
@@ -161,7 +177,9 @@ impl Coord {
     }
 
     // The newest entry of the key.
-    fn found(&self, key: &[u8]) -> Option<EntryRef<'_>> {
+    fn found(&self, key: &[u8]) -> Option<EntryRef<'_>>
+        ensures { option_map lent result ≡ found_in self.now key.now }
+    {
         match visible_in(&self.memory, key, self.newest) {
             Some(entry) => Some(entry),
             None => self.current.get_at(key, self.newest),
@@ -177,7 +195,9 @@ impl Coord {
 }
 
 // What a read gives that finds the entry.
-fn value_of(alloc: Global, entry: EntryRef<'_>) -> Result<Option<Bytes>, AllocError> {
+fn value_of(alloc: Global, entry: EntryRef<'_>) -> Result<Option<Bytes>, AllocError>
+    ensures { IfOk result (λ value. value ≡ entry_value (lent entry.entry)) }
+{
     match entry.kind {
         Kind::Put => Ok(Some(Bytes::copy_from_slice(alloc, entry.value)?)),
         Kind::Delete => Ok(None),

@@ -1,0 +1,52 @@
+-- What each call of the coordinator refuses and makes, of the value that contracts see (LevelDB, db_impl.cc: Write, CompactMemTable, Get).
+use Rattle.std.specs.Prelude.{◌≡◌, ℕ, ◌+◌, ◌≤◌, List, ◌++◌, [], ◌∷◌, Option, None, Some, length, sum_by, nat_eq, nat_lt, nat_le, ◌||◌, if◌then◌else◌}
+use Rattle.lsm_key.specs.declared.op.Op.{Op}
+use Rattle.lsm_key.specs.declared.entry.Entry.{Entry}
+use Rattle.lsm_key.specs.declared.limits.TheConstants.{MAX_MEMTABLE_WEIGHT, MAX_NUMBER}
+use Rattle.lsm_key.specs.declared.seq.TheConstants.Seq as seq
+use Rattle.lsm_key.specs.Limits.{total_weight, entry_weight}
+use Rattle.lsm_key.specs.Places.{entries_after, first_visible}
+use Rattle.lsm_table.specs.Tables.{Opened}
+use Rattle.lsm_edit.specs.declared.file.FileMeta.{FileMeta}
+use Rattle.lsm_edit.specs.Edit.{edit, IsSpelled}
+use Rattle.lsm_edit.specs.Next.{flush_edit}
+use Rattle.lsm_edit.specs.Version.{apply_fault}
+use Rattle.lsm_edit.specs.Served.{ServedValue, advanced, tables_of}
+use Rattle.lsm_coord.specs.declared.error.CoordError.{CoordError}
+use Rattle.lsm_coord.specs.declared.error.CoordError.TheVariants.{EmptyBatch, SequenceExhausted, MemtableFull, NothingToFlush, NumbersExhausted}
+use Rattle.lsm_coord.specs.Value.{CoordValue}
+
+-- why a batch is not applied: the first reason that holds
+abbrev pub write_fault : CoordValue → List Op → Option CoordError
+write_fault c ops =
+    if nat_eq (length ops) 0 then Some EmptyBatch
+    else if nat_lt seq.MAX (c.last + length ops) then Some SequenceExhausted
+    else if nat_lt MAX_MEMTABLE_WEIGHT (sum_by entry_weight c.active + total_weight ops) then Some MemtableFull
+    else None
+
+-- the entries of the batch, at the next sequences
+abbrev pub written : CoordValue → List Op → CoordValue
+written c ops = record c { active = c.active ++ entries_after c.last ops; last = c.last + length ops }
+
+-- why nothing is flushed: the first reason that holds
+abbrev pub flush_fault : CoordValue → Option CoordError
+flush_fault c =
+    if nat_eq (length c.active) 0 then Some NothingToFlush
+    else if nat_le MAX_NUMBER c.served.version.number || nat_le MAX_NUMBER c.served.version.next_file then Some NumbersExhausted
+    else None
+
+-- the numbers of the next version and of the file after the next fit
+pub record CanNumber (c : CoordValue) : Type 0 where
+  pub number : c.served.version.number + 1 ≤ MAX_NUMBER
+  pub next_file : c.served.version.next_file + 1 ≤ MAX_NUMBER
+
+-- the current version has one file more, and its edit is the last of the list
+pub record AddsTable (old : CoordValue) (file : FileMeta) (table : Opened) (new : CoordValue) : Type 0 where
+  pub applies : apply_fault old.served.version (flush_edit old.served.version old.last file) ≡ None
+  pub text : List ℕ
+  pub spelled : IsSpelled text (flush_edit old.served.version old.last file)
+  pub new_is : new ≡ record old { served = advanced old.served (flush_edit old.served.version old.last file) (table ∷ []); edits = old.edits ++ text ∷ [] }
+
+-- what a search of the memtable and then of the tables finds
+abbrev pub found_in : CoordValue → List ℕ → Option Entry
+found_in c key = first_visible (c.active ∷ tables_of c.served.places) key c.last
