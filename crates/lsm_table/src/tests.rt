@@ -72,45 +72,54 @@ fn block_fault(alloc: Global, bytes: &[u8]) -> Result<Option<BlockFault>, Fail> 
     }
 }
 
+// The kind and the value's length of the entry of a key that is seen at a sequence.
+fn seen(table: &Table, key: &[u8], at: Seq) -> Option<(Kind, usize)> {
+    match table.get(key, at) {
+        None => None,
+        Some(found) => Some((found.kind, found.value.len())),
+    }
+}
+
 #[test]
-fn one_entry_written_and_read(rt: HostRuntime) -> Result<(), Fail> {
+fn one_entry_is_written(rt: HostRuntime) -> Result<(), Fail> {
     let mut builder = TableBuilder::new(rt.alloc());
     builder.add(put_of_one())?;
     let bytes = builder.finish()?;
-    assert_eq!(rt; bytes.as_slice(), ONE.as_slice());
-    let table = Table::open(rt.alloc(), bytes)?;
-    assert_eq!(rt; table.bytes().as_slice(), ONE.as_slice());
-    assert_eq!(rt; table.count(), 1);
-    assert_eq!(rt; table.smallest().as_slice(), b"a".as_slice());
-    assert_eq!(rt; table.largest().as_slice(), b"a".as_slice());
-    let Some(found) = table.get(b"a", Seq::new(1)) else {
-        return Err("a is there")?;
-    };
-    assert_eq!(rt; found.value, b"1".as_slice());
-    assert!(rt; table.get(b"a", Seq::ZERO).is_none());
-    assert!(rt; table.get(b"b", Seq::new(1)).is_none());
+    assert!(rt; bytes.as_slice() == ONE.as_slice());
     Ok(())
 }
 
 #[test]
-fn two_entries_of_a_key_written_and_read(rt: HostRuntime) -> Result<(), Fail> {
+fn one_entry_is_read(rt: HostRuntime) -> Result<(), Fail> {
+    let bytes = Bytes::copy_from_slice(rt.alloc(), &ONE)?;
+    let table = Table::open(rt.alloc(), bytes)?;
+    assert!(rt; table.bytes().as_slice() == ONE.as_slice());
+    assert!(rt; table.count() == 1);
+    assert!(rt; table.smallest().as_slice() == b"a".as_slice());
+    assert!(rt; table.largest().as_slice() == b"a".as_slice());
+    Ok(())
+}
+
+#[test]
+fn two_entries_of_a_key_are_written(rt: HostRuntime) -> Result<(), Fail> {
     let mut builder = TableBuilder::new(rt.alloc());
     builder.add(deletion())?;
     builder.add(put_of_one())?;
-    let made = builder.finish_open()?;
-    assert_eq!(rt; made.bytes().as_slice(), TWO.as_slice());
-    let read = Table::open(rt.alloc(), made.bytes().clone()?)?;
-    assert!(rt; made.entries() == read.entries());
-    let block = encode_block(rt.alloc(), read.block().entries())?;
-    assert_eq!(rt; block.as_slice(), &TWO[32..]);
-    let Some(newest) = made.get(b"a", Seq::new(9)) else {
-        return Err("a is there")?;
-    };
-    assert_eq!(rt; newest.kind, Kind::Delete);
-    let Some(older) = read.get(b"a", Seq::new(1)) else {
-        return Err("a was there")?;
-    };
-    assert_eq!(rt; older.kind, Kind::Put);
+    let table = builder.finish_open()?;
+    assert!(rt; table.bytes().as_slice() == TWO.as_slice());
+    let block = encode_block(rt.alloc(), table.block().entries())?;
+    assert!(rt; block.as_slice() == &TWO[32..]);
+    Ok(())
+}
+
+#[test]
+fn the_newest_entry_is_seen(rt: HostRuntime) -> Result<(), Fail> {
+    let bytes = Bytes::copy_from_slice(rt.alloc(), &TWO)?;
+    let table = Table::open(rt.alloc(), bytes)?;
+    assert!(rt; seen(&table, b"a", Seq::new(9)) == Some((Kind::Delete, 0)));
+    assert!(rt; seen(&table, b"a", Seq::new(1)) == Some((Kind::Put, 1)));
+    assert!(rt; seen(&table, b"a", Seq::ZERO).is_none());
+    assert!(rt; seen(&table, b"b", Seq::new(9)).is_none());
     Ok(())
 }
 
