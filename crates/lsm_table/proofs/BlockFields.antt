@@ -1,5 +1,5 @@
 -- The two laws of each field of an entry: what is read is spelled so, and what is spelled so is read.
-use Rattle.std.proofs.Common.{◌≡◌, ℕ, ◌+◌, ◌^◌, ◌<◌, ◌≤◌, cond, ltb, List, ◌++◌, length, Ok, Err, sym, ap, subst, ◌∙◌, append_assoc, arith, refl}
+use Rattle.std.proofs.Common.{◌≡◌, ℕ, ◌^◌, ◌<◌, ◌≤◌, cond, ltb, List, ◌++◌, length, Ok, Err, sym, ap, subst, ◌∙◌, append_assoc, arith, refl}
 use Rattle.std.specs.Int.{w32, to_be_bytes}
 use Rattle.std.proofs.lemmas.Bool.{ltb-false, le-ltb}
 use Rattle.lsm_key.specs.declared.entry.Entry.{Entry}

@@ -1,12 +1,11 @@
 -- What a table's entries are, for those who hold tables.
-use Rattle.std.proofs.Common.{◌≡◌, ℕ, zero, suc, ◌+◌, ◌-◌, ◌<◌, ◌≤◌, true, false, List, [], ◌∷◌, length, get_or, Option, Some, None, Result, Ok, refl, sym, ap, subst, ◌∙◌, arith, inl, inr}
+use Rattle.std.proofs.Common.{◌≡◌, ℕ, ◌+◌, ◌-◌, ◌<◌, ◌≤◌, true, false, List, [], ◌∷◌, length, get_or, Some, refl, sym, ap, subst, ◌∙◌, arith, inl, inr}
 use Rattle.std.specs.declared.cmp.Ordering.{Ordering}
 use Rattle.std.specs.declared.cmp.Ordering.TheVariants.{Less, Equal, Greater}
 use Rattle.std.specs.Ordering.{ordering_then, nat_cmp, is_lt, is_gt}
 use Rattle.std.specs.Cmp.Lexicographic.{slice_cmp}
 use Rattle.std.proofs.lemmas.Bool.{cases_order}
 use Rattle.std.proofs.lemmas.Cmp.{nat_list_cmp_total, tied_itself}
-use Rattle.std.proofs.lemmas.List.{get_or_default}
 use Rattle.lsm_key.specs.declared.entry.Entry.{Entry}
 use Rattle.lsm_key.specs.declared.limits.TheConstants.{MAX_KEY_BYTES, MAX_TABLE_BYTES}
 use Rattle.lsm_key.specs.Order.{Precedes, IsAscending}
@@ -20,7 +19,6 @@ use Rattle.lsm_table.specs.declared.fault.TableFault.{TableFault}
 use Rattle.lsm_table.specs.Blocks.{IsEntry}
 use Rattle.lsm_table.specs.BlockReading.{last_of}
 use Rattle.lsm_table.specs.Tables.{IsTable, key_of_entry, smallest_key, largest_key}
-use Rattle.lsm_table.specs.TableReading.{table_of}
 use Rattle.lsm_table.proofs.Growing.{each_in, last_at}
 use Rattle.lsm_table.proofs.TableLaws.{table_again}
 

@@ -1,10 +1,10 @@
 -- What one more entry makes of a builder's entries.
-use Rattle.std.proofs.Common.{◌≡◌, ℕ, ◌+◌, ◌<◌, ◌≤◌, true, List, [], ◌∷◌, ◌++◌, length, Option, Some, None, refl, arith}
+use Rattle.std.proofs.Common.{◌≡◌, ℕ, ◌+◌, ◌<◌, ◌≤◌, true, List, [], ◌∷◌, ◌++◌, length, Some, None, refl, arith}
 use Rattle.std.proofs.lemmas.Bool.{lt-ltb, le-ltb}
 use Rattle.lsm_key.specs.declared.entry.Entry.{Entry}
 use Rattle.lsm_key.specs.declared.limits.TheConstants.{MAX_TABLE_BYTES}
 use Rattle.lsm_table.specs.declared.building.BuildError.TheVariants.{TableFull}
-use Rattle.lsm_table.specs.Blocks.{entries, IsEntry, HasSequence}
+use Rattle.lsm_table.specs.Blocks.{IsEntry, HasSequence}
 use Rattle.lsm_table.specs.BlockReading.{may_follow, last_of}
 use Rattle.lsm_table.specs.Tables.{table}
 use Rattle.lsm_table.specs.Building.{IsDraft, add_fault}

@@ -1,6 +1,5 @@
 -- What is opened is spelled so, and what is spelled so is opened.
 use Rattle.std.proofs.Common.{◌≡◌, ℕ, ◌+◌, ◌-◌, ◌*◌, ◌^◌, ◌<◌, ◌≤◌, Bool, true, false, cond, ltb, eqb, List, [], ◌∷◌, ◌++◌, length, get_or, Option, Some, None, Result, Ok, Err, refl, sym, ap, subst, ◌∙◌, append_assoc, arith}
-use Rattle.std.specs.Prelude.{slice_get}
 use Rattle.std.specs.Int.{w32, w64, to_be_bytes}
 use Rattle.std.specs.declared.cmp.Ordering.{Ordering}
 use Rattle.std.specs.declared.cmp.Ordering.TheVariants.{Less, Equal, Greater}
@@ -16,7 +15,7 @@ use Rattle.std.proofs.lemmas.Option.{slice_get-get_or}
 use Rattle.lsm_key.specs.declared.entry.Entry.{Entry}
 use Rattle.lsm_key.specs.declared.entry.InternalKey.{InternalKey}
 use Rattle.lsm_key.specs.declared.limits.TheConstants.{MAX_TABLE_BYTES}
-use Rattle.lsm_key.specs.Order.{kind_code, internal_cmp, internal_total}
+use Rattle.lsm_key.specs.Order.{kind_code, internal_total}
 use Rattle.lsm_key.specs.Reading.{◌>>=◌, instead}
 use Rattle.lsm_key.specs.Spelling.{key}
 use Rattle.lsm_key.proofs.FieldLaws.{IsBytes, bind_ok, guard_ok, guard_held, instead_ok, ok_is, Takes-then}

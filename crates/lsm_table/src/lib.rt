@@ -21,3 +21,6 @@ pub use laws::{
 };
 pub use reading::BLOCK_TARGET;
 pub use table::Table;
+
+#[cfg(test)]
+mod tests;

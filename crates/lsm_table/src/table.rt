@@ -73,14 +73,14 @@ impl Table {
     pub fn smallest(&self) -> &Bytes
         ensures { result.now ≡ smallest_key self.now.entries }
     {
-        &self.block.entries()[0].ikey.key
+        &self.entries()[0].ikey.key
     }
 
     /// The user key of the last entry: no entry has a greater one.
     pub fn largest(&self) -> &Bytes
         ensures { result.now ≡ largest_key self.now.entries }
     {
-        let entries = self.block.entries();
+        let entries = self.entries();
         &entries[entries.len() - 1].ikey.key
     }
 
@@ -89,7 +89,7 @@ impl Table {
         ensures value { result ≡ length self.now.entries }
         ensures bound { (1 ≤ result) × (result ≤ MAX_TABLE_BYTES) }
     {
-        self.block.entries().len()
+        self.entries().len()
     }
 
     /// Its bytes.

@@ -1,0 +1,281 @@
+//! Tables as the format's worked examples have them, and each refusal by its name.
+
+ghost use Rattle.lsm_table.specs.Blocks.{IsEntry};
+ghost use Rattle.std.specs.Prelude.{◌≡◌, ◌≤◌, length};
+
+use super::*;
+use bytes::{Bytes, BytesMut};
+use lsm_key::{Entry, InternalKey, Kind, MAX_TABLE_BYTES, Refused, Seq};
+use std::alloc::Global;
+use std::test::Fail;
+
+// Of the key a: at sequence 1 a put of 1.
+const ONE: [u8; 48] = [
+    0x4c, 0x53, 0x4d, 0x54, 1, 1, 0, 0, 0, 0, 0, 0, 1, 0, 0, 0, 1, //
+    0, 0, 0, 0x10, 0, 1, 0x61, 0, 0, 0, 0, 0, 0, 1, 1, //
+    0, 1, 0x61, 0, 0, 0, 0, 0, 0, 1, 1, 0, 0, 0, 1, 0x31,
+];
+
+// Of the key a: at sequence 2 a deletion, at sequence 1 a put of 1.
+const TWO: [u8; 63] = [
+    0x4c, 0x53, 0x4d, 0x54, 1, 1, 0, 0, 0, 0, 0, 0, 2, 0, 0, 0, 1, //
+    0, 0, 0, 0x1f, 0, 1, 0x61, 0, 0, 0, 0, 0, 0, 1, 1, //
+    0, 1, 0x61, 0, 0, 0, 0, 0, 0, 2, 0, 0, 0, 0, 0, //
+    0, 1, 0x61, 0, 0, 0, 0, 0, 0, 1, 1, 0, 0, 0, 1, 0x31,
+];
+
+// Of the key a: a put of 1 at the first sequence.
+fn put_of_one() -> Entry
+    ensures { IsEntry result }
+{
+    let key = Bytes::from_static(b"a");
+    let seq = Seq::new(1);
+    let kind = Kind::Put;
+    let value = Bytes::from_static(b"1");
+    Entry {
+        ikey: InternalKey { key, seq, kind },
+        value,
+    }
+}
+
+// Of the key a: a deletion at the second sequence.
+fn deletion() -> Entry
+    ensures { IsEntry result }
+{
+    let key = Bytes::from_static(b"a");
+    let seq = Seq::new(2);
+    let kind = Kind::Delete;
+    let value = Bytes::new();
+    Entry {
+        ikey: InternalKey { key, seq, kind },
+        value,
+    }
+}
+
+// The fault of the bytes as a table, or none.
+fn table_fault(alloc: Global, bytes: &[u8]) -> Result<Option<TableFault>, Fail> {
+    let bytes = Bytes::copy_from_slice(alloc, bytes)?;
+    match Table::open(alloc, bytes) {
+        Ok(_) => Ok(None),
+        Err(Refused::Fault(fault)) => Ok(Some(fault)),
+        Err(Refused::OutOfMemory) => Err("out of memory")?,
+    }
+}
+
+// The fault of the bytes as a block, or none.
+fn block_fault(alloc: Global, bytes: &[u8]) -> Result<Option<BlockFault>, Fail> {
+    let bytes = Bytes::copy_from_slice(alloc, bytes)?;
+    match decode_block(alloc, bytes) {
+        Ok(_) => Ok(None),
+        Err(Refused::Fault(fault)) => Ok(Some(fault)),
+        Err(Refused::OutOfMemory) => Err("out of memory")?,
+    }
+}
+
+// The kind and the value's length of the entry of a key that is seen at a sequence.
+fn seen(table: &Table, key: &[u8], at: Seq) -> Option<(Kind, usize)> {
+    match table.get(key, at) {
+        None => None,
+        Some(found) => Some((found.kind, found.value.len())),
+    }
+}
+
+#[test]
+fn one_entry_is_written(rt: HostRuntime) -> Result<(), Fail> {
+    let mut builder = TableBuilder::new(rt.alloc());
+    builder.add(put_of_one())?;
+    let bytes = builder.finish()?;
+    assert!(rt; bytes.as_slice() == ONE.as_slice());
+    Ok(())
+}
+
+#[test]
+fn one_entry_is_read(rt: HostRuntime) -> Result<(), Fail> {
+    let bytes = Bytes::copy_from_slice(rt.alloc(), &ONE)?;
+    let table = Table::open(rt.alloc(), bytes)?;
+    assert!(rt; table.bytes().as_slice() == ONE.as_slice());
+    assert!(rt; table.count() == 1);
+    assert!(rt; table.smallest().as_slice() == b"a".as_slice());
+    assert!(rt; table.largest().as_slice() == b"a".as_slice());
+    Ok(())
+}
+
+#[test]
+fn two_entries_of_a_key_are_written(rt: HostRuntime) -> Result<(), Fail> {
+    let mut builder = TableBuilder::new(rt.alloc());
+    builder.add(deletion())?;
+    builder.add(put_of_one())?;
+    let table = builder.finish_open()?;
+    assert!(rt; table.bytes().as_slice() == TWO.as_slice());
+    let block = encode_block(rt.alloc(), table.block().entries())?;
+    assert!(rt; block.as_slice() == &TWO[32..]);
+    Ok(())
+}
+
+#[test]
+fn the_newest_entry_is_seen(rt: HostRuntime) -> Result<(), Fail> {
+    let bytes = Bytes::copy_from_slice(rt.alloc(), &TWO)?;
+    let table = Table::open(rt.alloc(), bytes)?;
+    assert!(rt; seen(&table, b"a", Seq::new(9)) == Some((Kind::Delete, 0)));
+    assert!(rt; seen(&table, b"a", Seq::new(1)) == Some((Kind::Put, 1)));
+    assert!(rt; seen(&table, b"a", Seq::ZERO).is_none());
+    assert!(rt; seen(&table, b"b", Seq::new(9)).is_none());
+    Ok(())
+}
+
+#[test]
+fn a_builder_refuses(rt: HostRuntime) -> Result<(), Fail> {
+    let empty = TableBuilder::new(rt.alloc());
+    assert!(rt; matches!(empty.finish(), Err(BuildError::EmptyTable)));
+    let mut builder = TableBuilder::new(rt.alloc());
+    builder.add(put_of_one())?;
+    assert_eq!(rt; builder.add(put_of_one()), Err(BuildError::OutOfOrder));
+    assert_eq!(rt; builder.add(deletion()), Err(BuildError::OutOfOrder));
+    assert_eq!(rt; builder.finish()?.as_slice(), ONE.as_slice());
+    Ok(())
+}
+
+#[test]
+fn a_beginning_is_truncated(rt: HostRuntime) -> Result<(), Fail> {
+    for len in 0..ONE.len() {
+        let fault = table_fault(rt.alloc(), &ONE[..len])?;
+        assert_eq!(rt; fault, Some(TableFault::Truncated), "at {len}");
+    }
+    Ok(())
+}
+
+// The first bytes of an example, so many, with two of them replaced.
+fn changed<const N: usize>(
+    alloc: Global,
+    from: &[u8; N],
+    len: usize,
+    first: (usize, u8),
+    second: (usize, u8),
+) -> Result<Vec<u8>, Fail> {
+    let mut bytes = Vec::from_slice(alloc, from)?;
+    for (at, byte) in [first, second] {
+        if let Some(place) = bytes.get_mut(at) {
+            *place = byte;
+        }
+    }
+    bytes.truncate(len);
+    Ok(bytes)
+}
+
+#[test]
+fn each_fault_of_a_table(rt: HostRuntime) -> Result<(), Fail> {
+    let same = (0, 0x4c);
+    for (len, first, second, fault) in [
+        (48, same, (1, 0x54), TableFault::BadMagic),
+        (48, same, (4, 2), TableFault::BadVersion),
+        (48, same, (5, 0), TableFault::BadCut),
+        (48, same, (7, 0x10), TableFault::BadCut),
+        (48, same, (12, 0), TableFault::BadIndex),
+        (48, same, (12, 2), TableFault::BadIndex),
+        (48, same, (16, 0), TableFault::BadIndex),
+        (48, same, (16, 2), TableFault::BadIndex),
+        (48, same, (20, 0), TableFault::BadIndex),
+        (48, same, (22, 0), TableFault::BadIndex),
+        (48, same, (31, 2), TableFault::BadIndex),
+        (48, same, (30, 0), TableFault::BadIndex),
+        (48, same, (23, 0x62), TableFault::BadIndex),
+        (48, same, (31, 0), TableFault::BadIndex),
+        (48, same, (20, 0x11), TableFault::Truncated),
+        (48, same, (20, 0x0f), TableFault::TrailingBytes),
+        (48, same, (42, 2), TableFault::BadBlock),
+        (3, same, (0, 0), TableFault::Truncated),
+        (4, same, (0, 0), TableFault::BadMagic),
+        (48, (0, 0), (4, 2), TableFault::BadMagic),
+        (48, (4, 2), (5, 0), TableFault::BadVersion),
+        (48, (5, 0), (12, 0), TableFault::BadCut),
+        (9, same, (5, 0), TableFault::BadCut),
+        (40, same, (22, 0), TableFault::BadIndex),
+        (48, (20, 0x0f), (42, 2), TableFault::TrailingBytes),
+        (48, (23, 0x62), (42, 2), TableFault::BadBlock),
+        (48, (12, 2), (42, 2), TableFault::BadBlock),
+    ] {
+        let bytes = changed(rt.alloc(), &ONE, len, first, second)?;
+        let found = table_fault(rt.alloc(), &bytes)?;
+        assert_eq!(rt; found, Some(fault), "at {len} {first:?} {second:?}");
+    }
+    Ok(())
+}
+
+#[test]
+fn more_bytes_than_a_table(rt: HostRuntime) -> Result<(), Fail> {
+    let mut long = Vec::from_slice(rt.alloc(), &ONE)?;
+    long.push(0)?;
+    assert_eq!(rt;
+        table_fault(rt.alloc(), &long)?,
+        Some(TableFault::TrailingBytes)
+    );
+    let zeros = BytesMut::zeroed(rt.alloc(), MAX_TABLE_BYTES)?;
+    assert_eq!(rt;
+        table_fault(rt.alloc(), zeros.as_slice())?,
+        Some(TableFault::BadMagic)
+    );
+    let zeros = BytesMut::zeroed(rt.alloc(), MAX_TABLE_BYTES + 1)?;
+    assert_eq!(rt;
+        table_fault(rt.alloc(), zeros.as_slice())?,
+        Some(TableFault::TooLarge)
+    );
+    Ok(())
+}
+
+#[test]
+fn each_fault_of_a_block(rt: HostRuntime) -> Result<(), Fail> {
+    let same = (32, 0);
+    for (len, first, second, fault) in [
+        (32, same, same, BlockFault::Truncated),
+        (46, same, same, BlockFault::Truncated),
+        (62, same, same, BlockFault::Truncated),
+        (63, same, (33, 0), BlockFault::BadLength),
+        (63, same, (32, 4), BlockFault::BadLength),
+        (63, same, (42, 2), BlockFault::BadKind),
+        (63, same, (41, 0), BlockFault::BadKind),
+        (63, same, (46, 1), BlockFault::BadLength),
+        (63, same, (59, 1), BlockFault::BadLength),
+        (63, same, (41, 1), BlockFault::OutOfOrder),
+        (34, same, (33, 0), BlockFault::BadLength),
+        (43, same, (42, 2), BlockFault::BadKind),
+        (47, same, (46, 1), BlockFault::BadLength),
+        (63, (42, 2), (46, 1), BlockFault::BadKind),
+        (63, (41, 1), (60, 1), BlockFault::Truncated),
+    ] {
+        let bytes = changed(rt.alloc(), &TWO, len, first, second)?;
+        let found = block_fault(rt.alloc(), bytes.get(32..).ok_or("a block")?)?;
+        assert_eq!(rt; found, Some(fault), "at {len} {first:?} {second:?}");
+    }
+    Ok(())
+}
+
+// The bytes are refused as a table, or are the one spelling of its entries.
+fn is_refused_or_spelled(alloc: Global, bytes: Bytes) -> Result<bool, Fail> {
+    let table = match Table::open(alloc, bytes.clone()?) {
+        Ok(table) => table,
+        Err(Refused::Fault(_)) => return Ok(true),
+        Err(Refused::OutOfMemory) => return Err("out of memory")?,
+    };
+    let mut builder = TableBuilder::new(alloc);
+    for entry in table.entries() {
+        builder.add(entry.clone()?)?;
+    }
+    Ok(builder.finish()? == bytes)
+}
+
+#[test]
+fn a_change_is_refused_or_another_table(rt: HostRuntime) -> Result<(), Fail> {
+    let mut bytes = Vec::from_slice(rt.alloc(), &ONE)?;
+    for i in 0..48 * 255 {
+        let (at, change) = (i / 255, i % 255 + 1);
+        if let Some(place) = bytes.get_mut(at) {
+            *place ^= change as u8;
+            let copy = Bytes::copy_from_slice(rt.alloc(), &bytes)?;
+            assert!(rt; is_refused_or_spelled(rt.alloc(), copy)?, "at {at}");
+        }
+        if let Some(place) = bytes.get_mut(at) {
+            *place ^= change as u8;
+        }
+    }
+    Ok(())
+}
