@@ -1,13 +1,12 @@
 -- A read at the present or at a live snapshot gives what the list of writes gives.
-use Rattle.std.proofs.Common.{◌≡◌, ℕ, ◌+◌, ◌-◌, ◌<◌, ◌≤◌, List, [], ◌∷◌, ◌++◌, Option, None, Some, refl, sym, ap, subst, ◌∙◌, arith, inl, inr, ◌⊎◌, length, take, drop, length-drop}
+use Rattle.std.proofs.Common.{◌≡◌, ℕ, ◌≤◌, List, ◌++◌, Option, sym, ap, subst, ◌∙◌, arith, inl, inr, ◌⊎◌, length, take, drop, length-drop}
 use Rattle.std.specs.Option.{option_and_then}
 use Rattle.std.specs.List.Sorted.{IsPermutation}
 use Rattle.std.proofs.lemmas.Bool.{cases_lt}
 use Rattle.std.proofs.lemmas.List.{length-take, take-take}
-use Rattle.std.proofs.lemmas.List.Sorted.{IsPermutation-sym}
 use Rattle.lsm_key.specs.declared.entry.Entry.{Entry}
 use Rattle.lsm_key.specs.declared.op.Op.{Op}
-use Rattle.lsm_key.specs.Sets.{IsIn, SameMembers}
+use Rattle.lsm_key.specs.Sets.{IsIn}
 use Rattle.lsm_key.specs.Writes.{answer, last_write, value_of}
 use Rattle.lsm_key.specs.Visible.{value_at, visible, newer, entry_value, IsUnique}
 use Rattle.lsm_key.specs.Places.{entries_after, IsAbove}
@@ -54,10 +53,10 @@ module _ (active frozen tables : List Entry) (s : State) (a : ShowsRecent active
   in_order key p =
       let inner : visible (frozen ++ tables) key p ≡ visible (frozen_in_order s ++ tables) key p = same_before frozen (frozen_in_order s) tables key p (entries_after-unique (last_flushed s) (drop (last_flushed s) (frozen_writes s))) a.frozen_is in
       ap (option_and_then entry_value) (
-        same_before active (active_entries s) (frozen ++ tables) key p (entries_after-unique (active_start s) (drop (active_start s) s.writes)) a.active_is
-        ∙ visible-append (active_entries s) (frozen ++ tables) key p
-        ∙ ap (λ (o : Option Entry). newer (visible (active_entries s) key p) o) inner
-        ∙ sym (visible-append (active_entries s) (frozen_in_order s ++ tables) key p))
+      same_before active (active_entries s) (frozen ++ tables) key p (entries_after-unique (active_start s) (drop (active_start s) s.writes)) a.active_is
+      ∙ visible-append (active_entries s) (frozen ++ tables) key p
+      ∙ ap (λ (o : Option Entry). newer (visible (active_entries s) key p) o) inner
+      ∙ sym (visible-append (active_entries s) (frozen_in_order s ++ tables) key p))
 
   -- what the frozen memtable and the tables show, up to the frozen end
   frozen_at : (p : ℕ) (key : List ℕ) → last_flushed s ≤ p → p ≤ active_start s → value_at (frozen_in_order s ++ tables) key p ≡ answer s.writes p key

@@ -10,3 +10,7 @@ pub mod Snapshots
 pub mod Sorting
 pub mod Manifests
 pub mod Answering
+pub mod Writing
+pub mod Flushing
+pub mod Memories
+pub mod Opening

@@ -1,31 +1,30 @@
 -- The versions that a list of edits folds to, and one edit more.
-use Rattle.std.proofs.Common.{◌≡◌, ℕ, ◌+◌, ◌-◌, ◌<◌, List, [], ◌∷◌, ◌++◌, Option, None, Some, length, map, get_or, refl, sym, ap, subst, ◌∙◌, arith, cond, not, eqb, length-append}
+use Rattle.std.proofs.Common.{◌≡◌, ℕ, ◌+◌, List, [], ◌∷◌, ◌++◌, None, length, map, get_or, refl, sym, ap, subst, ◌∙◌, arith, eqb}
 use Rattle.std.proofs.lemmas.Bool.{not-false, eqb-true}
 use Rattle.std.proofs.lemmas.List.{map-append, length-map}
 use Rattle.std.proofs.Math.ListN.{get_or-map}
 use Rattle.lsm_edit.specs.declared.edit.Edit.{Edit}
-use Rattle.lsm_edit.specs.declared.file.FileMeta.{FileMeta}
 use Rattle.lsm_edit.specs.Edit.{IsSpelled}
 use Rattle.lsm_edit.specs.Version.{VersionValue, first_version, apply_fault, applied}
 use Rattle.lsm_edit.specs.Served.{ServedValue}
 use Rattle.lsm_edit.proofs.VersionLaws.{none_passed}
-use Rattle.lsm_coord.specs.State.{State, Version, Place, current, current_version, current_files, last_flushed, empty_version}
+use Rattle.lsm_coord.specs.State.{State, Version, current, current_version, current_files, last_flushed, empty_version}
 use Rattle.lsm_coord.specs.Manifest.{AreSpelled, Apply, folded, versions_from, listed, place_of, Folds}
 use Rattle.lsm_coord.specs.Shows.{ShowsStored}
 
 -- ---- one edit more
 
-AreSpelled-push : (texts : List (List ℕ)) (edits : List Edit) (text : List ℕ) (e : Edit) → AreSpelled texts edits → IsSpelled text e → AreSpelled (texts ++ text ∷ []) (edits ++ e ∷ [])
+pub AreSpelled-push : (texts : List (List ℕ)) (edits : List Edit) (text : List ℕ) (e : Edit) → AreSpelled texts edits → IsSpelled text e → AreSpelled (texts ++ text ∷ []) (edits ++ e ∷ [])
 AreSpelled-push [] [] text e h one = (one, tt)
 AreSpelled-push [] (x ∷ edits) text e h one = absurd h
 AreSpelled-push (t ∷ texts) [] text e h one = absurd h
 AreSpelled-push (t ∷ texts) (x ∷ edits) text e h one = (h.0, AreSpelled-push texts edits text e h.1 one)
 
-Apply-push : (v : VersionValue) (edits : List Edit) (e : Edit) → Apply v edits → apply_fault (folded v edits) e ≡ None → Apply v (edits ++ e ∷ [])
+pub Apply-push : (v : VersionValue) (edits : List Edit) (e : Edit) → Apply v edits → apply_fault (folded v edits) e ≡ None → Apply v (edits ++ e ∷ [])
 Apply-push v [] e h one = (one, tt)
 Apply-push v (x ∷ edits) e h one = (h.0, Apply-push (applied v x) edits e h.1 one)
 
-folded-push : (v : VersionValue) (edits : List Edit) (e : Edit) → folded v (edits ++ e ∷ []) ≡ applied (folded v edits) e
+pub folded-push : (v : VersionValue) (edits : List Edit) (e : Edit) → folded v (edits ++ e ∷ []) ≡ applied (folded v edits) e
 folded-push v [] e = refl
 folded-push v (x ∷ edits) e = folded-push (applied v x) edits e
 
@@ -33,7 +32,7 @@ versions_from-push : (v : VersionValue) (edits : List Edit) (e : Edit) → versi
 versions_from-push v [] e = refl
 versions_from-push v (x ∷ edits) e = ap (λ (vs : List VersionValue). v ∷ vs) (versions_from-push (applied v x) edits e)
 
-pub Folds-push : (texts : List (List ℕ)) (v : VersionValue) (text : List ℕ) (e : Edit) → Folds texts v → IsSpelled text e → apply_fault v e ≡ None → Folds (texts ++ text ∷ []) (applied v e)
+abbrev pub Folds-push : (texts : List (List ℕ)) (v : VersionValue) (text : List ℕ) (e : Edit) → Folds texts v → IsSpelled text e → apply_fault v e ≡ None → Folds (texts ++ text ∷ []) (applied v e)
 Folds-push texts v text e h one fits = record {
   edits = h.edits ++ e ∷ [];
   spelled = AreSpelled-push texts h.edits text e h.spelled one;

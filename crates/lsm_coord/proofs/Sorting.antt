@@ -1,5 +1,5 @@
 -- The entries of a memtable, sorted, are those of a table.
-use Rattle.std.proofs.Common.{◌≡◌, ℕ, zero, suc, ◌+◌, ◌<◌, ◌≤◌, Bool, true, false, List, [], ◌∷◌, ◌++◌, None, length, map, get_or, take, drop, refl, sym, ap, subst, ◌∙◌, arith, inl, inr, eqb, add-one}
+use Rattle.std.proofs.Common.{◌≡◌, ℕ, zero, suc, ◌+◌, ◌<◌, ◌≤◌, false, List, [], ◌∷◌, ◌++◌, None, length, map, get_or, take, drop, refl, sym, ap, subst, ◌∙◌, arith, inl, inr, eqb, add-one}
 use Rattle.std.specs.Prelude.{sum_by}
 use Rattle.std.specs.List.{IsDistinct, AllByRecursion}
 use Rattle.std.specs.List.Sorted.{IsPermutation, IsSortedByKey}
@@ -8,11 +8,9 @@ use Rattle.std.specs.declared.cmp.Ordering.TheVariants.{Less, Equal, Greater}
 use Rattle.std.specs.Ordering.{ordering_then, ordering_reverse, nat_cmp, is_lt}
 use Rattle.std.proofs.lemmas.Bool.{eqb-false, eqb-true, eq-eqb, ne_eqb, cases_Bool}
 use Rattle.std.proofs.lemmas.List.{get_or-map, length-map, take-append-drop, drop_more}
-use Rattle.std.proofs.lemmas.List.Sorted.{IsPermutation-map, IsPermutation-sym, sum_by-IsPermutation, length_permutation}
+use Rattle.std.proofs.lemmas.List.Sorted.{IsPermutation-map, sum_by-IsPermutation, length_permutation}
 use Rattle.std.proofs.lemmas.Map.Keys.{IsDistinct-IsPermutation, IsDistinct-head, IsDistinct-tail}
-use Rattle.std.specs.Cmp.Lexicographic.{slice_cmp}
 use Rattle.lsm_key.specs.declared.entry.Entry.{Entry}
-use Rattle.lsm_key.specs.declared.entry.InternalKey.{InternalKey}
 use Rattle.lsm_key.specs.Sets.{IsIn}
 use Rattle.lsm_key.specs.Order.{place_cmp, internal_cmp, kind_code, Precedes, IsAscending}
 use Rattle.lsm_key.specs.Limits.{entry_weight}
@@ -67,7 +65,7 @@ pub sorted_ascends : (entries sorted : List Entry) → SequencesRise entries →
 sorted_ascends entries sorted up perm order k d lt =
     let distinct : IsDistinct eqb (map seq_of sorted) = IsDistinct-IsPermutation eqb eqb-flips (map seq_of entries) (map seq_of sorted) (IsPermutation-map seq_of entries sorted perm) (rising_distinct entries up) in
     neighbours (get_or sorted k d) (get_or sorted (k + 1) d) (order k d (omega arith) lt) (λ e.
-      next_differs (map seq_of sorted) distinct k (omega (arith, length-map sorted seq_of)) (at k (omega arith) ∙ e ∙ sym (at (k + 1) lt) ∙ ap (λ (i : ℕ). get_or (map seq_of sorted) i 0) (add-one k)))
+    next_differs (map seq_of sorted) distinct k (omega (arith, length-map sorted seq_of)) (at k (omega arith) ∙ e ∙ sym (at (k + 1) lt) ∙ ap (λ (i : ℕ). get_or (map seq_of sorted) i 0) (add-one k)))
   where
     at : (i : ℕ) → i < length sorted → get_or (map seq_of sorted) i 0 ≡ (get_or sorted i d).ikey.seq
     at i lt = get_or-map seq_of sorted i d 0 lt
@@ -92,7 +90,7 @@ next_is_sound es i x e sound lt is same = subst IsEntry (sym same) (sound x (sub
 pub next_is_taken : (es : List Entry) (i : ℕ) (x e : Entry) (front : List Entry) → IsAscending es → sum_by entry_weight es ≤ MAX_MEMTABLE_WEIGHT → i < length es → x ≡ get_or es i x → e ≡ x → front ≡ take i es → add_fault front e ≡ None
 next_is_taken es i x e front up light lt is same front_is =
     let parts : es ≡ take i es ++ x ∷ drop (i + 1) es =
-        sym (take-append-drop i es) ∙ ap (λ (r : List Entry). take i es ++ r) (drop_more es i x lt ∙ ap (λ (y : Entry). y ∷ drop (i + 1) es) (sym is)) in
+    sym (take-append-drop i es) ∙ ap (λ (r : List Entry). take i es ++ r) (drop_more es i x lt ∙ ap (λ (y : Entry). y ∷ drop (i + 1) es) (sym is)) in
     rw (front_is, same) (never_refused (take i es) x (drop (i + 1) es) (subst IsAscending parts up) (subst (λ (r : List Entry). sum_by entry_weight r ≤ MAX_MEMTABLE_WEIGHT) parts light))
 
 pub some_finish : (es : List Entry) → 0 < length es → finish_fault es ≡ None

@@ -1,20 +1,23 @@
 -- What each call of the coordinator refuses and makes, of the value that contracts see (LevelDB, db_impl.cc: Write, CompactMemTable, Get).
 use Rattle.std.specs.Prelude.{◌≡◌, ℕ, ◌+◌, ◌≤◌, List, ◌++◌, [], ◌∷◌, Option, None, Some, length, sum_by, nat_eq, nat_lt, nat_le, ◌||◌, if◌then◌else◌}
 use Rattle.lsm_key.specs.declared.op.Op.{Op}
-use Rattle.lsm_key.specs.declared.entry.Entry.{Entry}
 use Rattle.lsm_key.specs.declared.limits.TheConstants.{MAX_MEMTABLE_WEIGHT, MAX_NUMBER}
 use Rattle.lsm_key.specs.declared.seq.TheConstants.Seq as seq
 use Rattle.lsm_key.specs.Limits.{total_weight, entry_weight}
-use Rattle.lsm_key.specs.Places.{entries_after, first_visible}
+use Rattle.lsm_key.specs.Places.{entries_after}
+use Rattle.lsm_key.specs.Writes.{answer}
 use Rattle.lsm_table.specs.Tables.{Opened}
 use Rattle.lsm_edit.specs.declared.file.FileMeta.{FileMeta}
-use Rattle.lsm_edit.specs.Edit.{edit, IsSpelled}
+use Rattle.lsm_edit.specs.declared.edit.Edit.{Edit}
+use Rattle.lsm_edit.specs.Edit.{IsSpelled}
 use Rattle.lsm_edit.specs.Next.{flush_edit}
-use Rattle.lsm_edit.specs.Version.{apply_fault}
-use Rattle.lsm_edit.specs.Served.{ServedValue, advanced, tables_of}
+use Rattle.lsm_edit.specs.Version.{apply_fault, applied}
+use Rattle.lsm_edit.specs.Served.{ServedValue, placed_of}
 use Rattle.lsm_coord.specs.declared.error.CoordError.{CoordError}
 use Rattle.lsm_coord.specs.declared.error.CoordError.TheVariants.{EmptyBatch, SequenceExhausted, MemtableFull, NothingToFlush, NumbersExhausted}
+use Rattle.lsm_coord.specs.State.{State, last_seq}
 use Rattle.lsm_coord.specs.Value.{CoordValue}
+use Rattle.lsm_coord.specs.Shows.{Shows}
 
 -- why a batch is not applied: the first reason that holds
 abbrev pub write_fault : CoordValue → List Op → Option CoordError
@@ -40,13 +43,17 @@ pub record CanNumber (c : CoordValue) : Type 0 where
   pub number : c.served.version.number + 1 ≤ MAX_NUMBER
   pub next_file : c.served.version.next_file + 1 ≤ MAX_NUMBER
 
--- the current version has one file more, and its edit is the last of the list
+-- a version goes on by an edit, whose file is searched first
+abbrev pub extended : ServedValue → Edit → List Opened → ServedValue
+extended served e tables = record { version = applied served.version e; places = placed_of e.added tables ++ served.places }
+
+-- the current version has one file more, its edit is the last of the list, and the memtable is empty
 pub record AddsTable (old : CoordValue) (file : FileMeta) (table : Opened) (new : CoordValue) : Type 0 where
   pub applies : apply_fault old.served.version (flush_edit old.served.version old.last file) ≡ None
   pub text : List ℕ
   pub spelled : IsSpelled text (flush_edit old.served.version old.last file)
-  pub new_is : new ≡ record old { served = advanced old.served (flush_edit old.served.version old.last file) (table ∷ []); edits = old.edits ++ text ∷ [] }
+  pub new_is : new ≡ record old { active = []; served = extended old.served (flush_edit old.served.version old.last file) (table ∷ []); edits = old.edits ++ text ∷ [] }
 
--- what a search of the memtable and then of the tables finds
-abbrev pub found_in : CoordValue → List ℕ → Option Entry
-found_in c key = first_visible (c.active ∷ tables_of c.served.places) key c.last
+-- the value of a key at the present, of each state that is shown
+abbrev pub Answers : CoordValue → List ℕ → Option (List ℕ) → Type 0
+Answers c key value = (s : State) → Shows c s → value ≡ answer s.writes (last_seq s) key

@@ -1,5 +1,5 @@
 -- Which states a coordinator shows (O'Neil et al. 1996, section 2: the components of the tree together are the data).
-use Rattle.std.specs.Prelude.{◌≡◌, ℕ, ◌≤◌, List, ◌++◌, Option, drop, take, map, true}
+use Rattle.std.specs.Prelude.{◌≡◌, ℕ, ◌≤◌, List, drop, take, map, true}
 use Rattle.std.specs.Option.{option_map}
 use Rattle.std.specs.List.Sorted.{IsPermutation}
 use Rattle.lsm_key.specs.declared.entry.Entry.{Entry}

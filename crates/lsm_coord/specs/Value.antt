@@ -11,14 +11,14 @@ pub record Frozen : Type 0 where
   pub end : ℕ
 
 pub record CoordValue : Type 0 where
-  pub active : List Entry        -- the entries of the active memtable
+  pub active : List Entry  -- the entries of the active memtable
   pub frozen : Option Frozen
-  pub served : ServedValue       -- the current version with its tables
-  pub edits : List (List ℕ)      -- the spelling of each edit, from edit 1
-  pub last : ℕ                   -- the last sequence
+  pub served : ServedValue  -- the current version with its tables
+  pub edits : List (List ℕ)  -- the spelling of each edit, from edit 1
+  pub last : ℕ  -- the last sequence
   pub snapshots : List Snapshot  -- the live ones
-  pub made : ℕ                   -- how many snapshots this epoch has made
-  pub floor : ℕ                  -- the least version whose files are still served
+  pub made : ℕ  -- how many snapshots this epoch has made
+  pub floor : ℕ  -- the least version whose files are still served
 
 abbrev pub frozen_entries : Option Frozen → List Entry
 frozen_entries None = []

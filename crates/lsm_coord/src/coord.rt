@@ -1,7 +1,12 @@
 //! The coordinator: one store, over tables in memory.
 
-ghost use Rattle.std.specs.Prelude.{◌≡◌, IfOk};
+ghost use Rattle.std.specs.Prelude.{◌≡◌, None, IfOk, OnOk, OnErr};
+ghost use Rattle.std.specs.Option.{option_and_then};
 ghost use Rattle.lsm_key.specs.Visible.{entry_value, lent};
+ghost use Rattle.lsm_edit.specs.Edit.{IsEdit};
+ghost use Rattle.lsm_edit.specs.Version.{apply_fault};
+ghost use Rattle.lsm_edit.specs.Served.{AreAsRecorded};
+ghost use Rattle.lsm_coord.specs.Calls.{extended};
 
 use crate::CoordError;
 use crate::memory::{entries_for, visible_in};
@@ -50,16 +55,16 @@ impl Model for Coord {
 
 impl Coord {
     ghost use Rattle.std.specs.Prelude.{◌≡◌, ◌<◌, ◌≤◌, ◌+◌, None, IfOk, IfErr, OnOk, OnErr};
-    ghost use Rattle.std.specs.Option.{option_map};
+    ghost use Rattle.std.specs.Option.{option_map, option_and_then};
     ghost use Rattle.lsm_key.specs.Faults.{Refuses};
-    ghost use Rattle.lsm_key.specs.Visible.{lent};
+    ghost use Rattle.lsm_key.specs.Visible.{entry_value, lent};
     ghost use Rattle.lsm_key.specs.declared.limits.TheConstants.{MAX_NUMBER};
     ghost use Rattle.lsm_edit.specs.File.{IsFile};
     ghost use Rattle.lsm_edit.specs.Served.{IsAsRecorded};
     ghost use Rattle.lsm_coord.specs.State.{first_state};
     ghost use Rattle.lsm_coord.specs.Event.{Write, Flush, Get, Show, Coordinator};
     ghost use Rattle.lsm_coord.specs.Shows.{Shows, Follows};
-    ghost use Rattle.lsm_coord.specs.Calls.{AddsTable, CanNumber, write_fault, flush_fault, written, found_in};
+    ghost use Rattle.lsm_coord.specs.Calls.{AddsTable, CanNumber, write_fault, flush_fault, written, Answers};
     ghost use Rattle.lsm_coord.specs.Replies.{write_reply, flush_reply, get_reply, show_reply};
 
     /// A new store, at version 1 of its first epoch.
@@ -69,10 +74,9 @@ impl Coord {
         let mut current = Served::new(alloc);
         let edit = Edit::epoch(alloc, current.version());
         let mut manifest = Vec::with_capacity(alloc, 1)?;
-        manifest.push(encode_edit(alloc, &edit)?)?;
-        if current.advance(&edit, Vec::new(alloc)).is_err() {
-            return Err(AllocError);
-        }
+        let text = encode_edit(alloc, &edit)?;
+        manifest.push(text)?;
+        extend(&mut current, &edit, Vec::new(alloc))?;
         Ok(Coord {
             alloc,
             limits,
@@ -128,14 +132,15 @@ impl Coord {
         }
         let number = self.current.version().number();
         let file = self.current.version().next_file();
-        if number >= MAX_NUMBER || file >= MAX_NUMBER {
+        if number >= MAX_NUMBER {
+            return Err(CoordError::NumbersExhausted);
+        }
+        if file >= MAX_NUMBER {
             return Err(CoordError::NumbersExhausted);
         }
         let table = table_of(self.alloc, &self.memory, self.weight, self.newest.number())?;
         let meta = FileMeta::of_table(file, 0, &table)?;
         self.add_table(meta, table)?;
-        self.memory.clear();
-        self.weight = 0;
         Ok(Flushed {
             number: number + 1,
             seq: self.newest,
@@ -143,7 +148,7 @@ impl Coord {
         })
     }
 
-    // Appends the edit that adds a table of the memtable's entries. A refusal changes nothing.
+    // Appends the edit that adds a table, in which the memtable's entries now are. A refusal changes nothing.
     fn add_table(&mut self, meta: FileMeta, table: Table) -> Result<(), AllocError>
         requires room { CanNumber self.old }
         requires newer { self.old.served.version.flushed < self.old.last }
@@ -158,10 +163,10 @@ impl Coord {
         let mut tables = Vec::with_capacity(self.alloc, 1)?;
         tables.push(table)?;
         self.manifest.reserve(1)?;
-        if self.current.advance(&edit, tables).is_err() {
-            return Err(AllocError);
-        }
+        extend(&mut self.current, &edit, tables)?;
         self.manifest.push_reserved(text);
+        self.memory.clear();
+        self.weight = 0;
         Ok(())
     }
 
@@ -170,15 +175,23 @@ impl Coord {
         ensures step { Follows self.old (Get key.now None) (get_reply result) self.new }
         ensures same { self.new ≡ self.old }
     {
+        let value = self.value_of(key)?;
+        Ok(value)
+    }
+
+    // A copy of what a read of the key finds.
+    fn value_of(&self, key: &[u8]) -> Result<Option<Bytes>, AllocError>
+        ensures { IfOk result (Answers self.now key.now) }
+    {
         match self.found(key) {
             None => Ok(None),
-            Some(entry) => Ok(value_of(self.alloc, entry)?),
+            Some(entry) => value_in(self.alloc, entry),
         }
     }
 
     // The newest entry of the key.
     fn found(&self, key: &[u8]) -> Option<EntryRef<'_>>
-        ensures { option_map lent result ≡ found_in self.now key.now }
+        ensures { Answers self.now key.now (option_and_then entry_value (option_map lent result)) }
     {
         match visible_in(&self.memory, key, self.newest) {
             Some(entry) => Some(entry),
@@ -194,8 +207,23 @@ impl Coord {
     }
 }
 
+// Goes on by an edit that applies: only memory can be wanting.
+fn extend(served: &mut Served, edit: &Edit, tables: Vec<Table>) -> Result<(), AllocError>
+    requires sound { IsEdit edit.now }
+    requires recorded { AreAsRecorded edit.now.added tables.items }
+    requires applies { apply_fault served.old.version edit.now ≡ None }
+    ensures ok { OnOk result (served.new ≡ extended served.old edit.now tables.items) }
+    ensures err { OnErr result (served.new ≡ served.old) }
+{
+    let _listing = served.listing();
+    match served.advance(edit, tables) {
+        Ok(()) => Ok(()),
+        Err(_) => Err(AllocError),
+    }
+}
+
 // What a read gives that finds the entry.
-fn value_of(alloc: Global, entry: EntryRef<'_>) -> Result<Option<Bytes>, AllocError>
+fn value_in(alloc: Global, entry: EntryRef<'_>) -> Result<Option<Bytes>, AllocError>
     ensures { IfOk result (λ value. value ≡ entry_value (lent entry.entry)) }
 {
     match entry.kind {

@@ -15,7 +15,12 @@ use lsm_table::{Table, TableBuilder};
 use std::alloc::{AllocError, Global};
 
 /// The table of the entries of a memtable, at least one.
-pub(crate) fn table_of(alloc: Global, entries: &[Entry], weight: usize, last: u64) -> Result<Table, AllocError>
+pub(crate) fn table_of(
+    alloc: Global,
+    entries: &[Entry],
+    weight: usize,
+    last: u64,
+) -> Result<Table, AllocError>
     requires memory { IsMemory entries.now weight last }
     requires some { 0 < length entries.now }
     ensures { IfOk result (λ table. IsPermutation entries.now table.entries) }

@@ -1,4 +1,4 @@
-use Rattle.std.proofs.Common.{arith, ◌≡◌, ◌≤◌, ◌∙◌, sym}
+use Rattle.std.proofs.Common.{arith}
 use Rattle.lsm_coord.proofs.Sorting.{sorted_ascends, sorted_sound, sorted_weight, sorted_length}
 use Rattle.lsm_coord.proofs.table.table_of.Goals as goal
 

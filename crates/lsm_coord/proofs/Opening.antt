@@ -1,0 +1,42 @@
+-- What a new coordinator shows.
+use Rattle.std.proofs.Common.{◌≡◌, ℕ, List, [], ◌∷◌, None, refl, arith}
+use Rattle.std.proofs.lemmas.List.Sorted.{IsPermutation-refl}
+use Rattle.lsm_edit.specs.Edit.{IsSpelled}
+use Rattle.lsm_edit.specs.Next.{epoch_edit}
+use Rattle.lsm_edit.specs.Version.{first_version, apply_fault, applied}
+use Rattle.lsm_edit.specs.Served.{ServedValue}
+use Rattle.lsm_coord.specs.State.{first_state}
+use Rattle.lsm_coord.specs.Shows.{Shows}
+use Rattle.lsm_coord.proofs.Flushing.{unfrozen}
+
+-- the version after the first edit, which has no tables
+abbrev pub opened : ServedValue
+opened = record { version = applied first_version (epoch_edit first_version); places = [] }
+
+pub Shows-new : (text : List ℕ) → IsSpelled text (epoch_edit first_version) → apply_fault first_version (epoch_edit first_version) ≡ None
+    → Shows (unfrozen [] opened (text ∷ []) 0 [] 0 1) first_state
+Shows-new text spelled fits = record {
+  up = refl;
+  last = refl;
+  frozen = refl;
+  snapshots = refl;
+  made = refl;
+  floor = refl;
+  tables = record {
+    manifest = record { edits = epoch_edit first_version ∷ []; spelled = (spelled, tt); apply = (fits, tt); makes = refl };
+    versions = refl;
+    next_file = refl;
+    epoch = refl;
+    ordered = tt;
+    old = λ e m. absurd m;
+    answers = λ key. refl;
+  };
+  memtables = record {
+    flushed = omega arith;
+    within = omega arith;
+    active_is = IsPermutation-refl [];
+    frozen_is = IsPermutation-refl [];
+    kept = λ x live. absurd live;
+    snapped = λ x live. absurd live;
+  };
+}
