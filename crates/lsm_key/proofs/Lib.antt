@@ -6,3 +6,4 @@ pub mod Places
 pub mod Writes
 pub mod Points
 pub mod FieldLaws
+pub mod Readers

@@ -1,7 +1,7 @@
 -- The order of internal keys (LevelDB, implementation notes: internal keys).
-use Rattle.std.specs.Prelude.{◌≡◌, ℕ, Bool, true, false, List, length}
+use Rattle.std.specs.Prelude.{◌≡◌, ℕ, Bool, true, false, not, List, length}
 use Rattle.std.specs.declared.cmp.Ordering.{Ordering}
-use Rattle.std.specs.Ordering.{ordering_then, nat_cmp, is_lt}
+use Rattle.std.specs.Ordering.{ordering_then, nat_cmp, is_lt, is_gt}
 use Rattle.std.specs.Cmp.{IsTotalOrder}
 use Rattle.std.specs.Cmp.Lexicographic.{slice_cmp}
 use Rattle.std.specs.List.{AllAdjacentBelow}
@@ -31,6 +31,10 @@ internal_total =
     then_total
     (then_total (on_total (λ (k : InternalKey). k.key) nat_list_cmp_total) (back_total (on_total (λ (k : InternalKey). k.seq) nat_cmp_total)))
     (back_total (on_total (λ (k : InternalKey). kind_code k.kind) nat_cmp_total))
+
+-- the first key is no greater
+abbrev pub key_le : List ℕ → List ℕ → Bool
+key_le a b = not (is_gt (slice_cmp nat_cmp a b))
 
 -- an entry stands before another, which has not its key and sequence
 abbrev pub Precedes : Entry → Entry → Type 0

@@ -6,7 +6,7 @@
 
 ghost use Rattle.std.specs.Prelude.{◌≡◌, ℕ, ◌<◌, ◌≤◌, ◌++◌, ◌^◌, length, slice_index, OnOk};
 ghost use Rattle.std.specs.Int.{w16, w32, w64, w8};
-ghost use Rattle.lsm_key.specs.Reading.{Gives, number_at, piece_at, key_at, trailer_at};
+ghost use Rattle.lsm_key.specs.Reading.{Gives, number_at, within_at, piece_at, key_at, trailer_at};
 ghost use Rattle.lsm_key.specs.Spelling.{key, trailer};
 
 use crate::{Kind, Refused, Seq};
@@ -51,6 +51,57 @@ pub fn u64_of<F: Drop>(rest: &mut Bytes, short: F) -> Result<u64, Refused<F>>
         return Err(Refused::Fault(short));
     }
     Ok(rest.get_u64())
+}
+
+/// A byte from the front that is a number from `low` to `high`.
+pub fn u8_within<F: Copy>(
+    rest: &mut Bytes,
+    low: u8,
+    high: u8,
+    short: F,
+    bad: F,
+) -> Result<u8, Refused<F>>
+    ensures { Gives (λ n. (n, rest.new)) result (within_at short bad w8 low high rest.old) }
+{
+    let number = u8_of(rest, short)?;
+    if number < low || number > high {
+        return Err(Refused::Fault(bad));
+    }
+    Ok(number)
+}
+
+/// Four bytes from the front that are a number from `low` to `high`.
+pub fn u32_within<F: Copy>(
+    rest: &mut Bytes,
+    low: u32,
+    high: u32,
+    short: F,
+    bad: F,
+) -> Result<u32, Refused<F>>
+    ensures { Gives (λ n. (n, rest.new)) result (within_at short bad w32 low high rest.old) }
+{
+    let number = u32_of(rest, short)?;
+    if number < low || number > high {
+        return Err(Refused::Fault(bad));
+    }
+    Ok(number)
+}
+
+/// Eight bytes from the front that are a number from `low` to `high`.
+pub fn u64_within<F: Copy>(
+    rest: &mut Bytes,
+    low: u64,
+    high: u64,
+    short: F,
+    bad: F,
+) -> Result<u64, Refused<F>>
+    ensures { Gives (λ n. (n, rest.new)) result (within_at short bad w64 low high rest.old) }
+{
+    let number = u64_of(rest, short)?;
+    if number < low || number > high {
+        return Err(Refused::Fault(bad));
+    }
+    Ok(number)
 }
 
 /// So many bytes from the front, shared with the others.

@@ -8,6 +8,7 @@
 mod batch;
 mod entry;
 mod fields;
+mod items;
 mod laws;
 mod limits;
 mod lookup;
@@ -18,8 +19,10 @@ mod seq;
 pub use batch::{Batch, KeyError};
 pub use entry::{Entry, EntryRef, InternalKey, Kind};
 pub use fields::{
-    key_of, know_bytes, piece_of, put_key, put_trailer, trailer_of, u8_of, u16_of, u32_of, u64_of,
+    key_of, know_bytes, piece_of, put_key, put_trailer, trailer_of, u8_of, u8_within, u16_of,
+    u32_of, u32_within, u64_of, u64_within,
 };
+pub use items::Items;
 pub use laws::{
     an_earlier_place_is_newer, newest_is_the_greatest, order_does_not_matter,
     visible_is_the_greatest,

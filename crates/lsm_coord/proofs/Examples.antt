@@ -1,0 +1,133 @@
+-- The runs that are written out.
+use Rattle.std.proofs.Common.{◌≡◌, ℕ, List, [], ◌∷◌, Option, None, Some, refl, sym, ap, ◌∙◌, subst, inl, inr, ◌⊎◌, Bool, true, false, is_some, arith, length}
+use Rattle.std.proofs.lemmas.Slice.Eq.{bytes_eq-Decides}
+use Rattle.std.specs.Bool.{if◌then◌else◌}
+use Rattle.std.specs.Option.{option_and_then, unwrap_or}
+use Rattle.std.specs.Str.{bytes_eq}
+use Rattle.lsm_key.specs.declared.op.Op.{Op}
+use Rattle.lsm_key.specs.declared.op.Op.TheVariants.{Put, Delete}
+use Rattle.lsm_key.specs.Writes.{answer, value_of}
+use Rattle.lsm_coord.specs.Range.{IsRange}
+use Rattle.lsm_coord.specs.State.{State, Version, empty_version}
+use Rattle.lsm_coord.specs.Examples.{a, b, z, one, two, none, FlushedWriteIsFound, RestartLosesWrites, LastOfABatchCounts, FrozenIsFlushedFirst, AbsentIsRefused, LostWriteIsNoRun, ShortFlushIsNoRun, EmptyListingIsNoRun, KeptWriteIsNoRun, UnforcedRefusalIsNoRun}
+
+pub flushed_write : FlushedWriteIsFound
+flushed_write = (_, (_, (refl, (refl, refl, refl)), (_, (refl, (refl, refl, refl, refl)), (_, (refl, (refl, refl)), refl))))
+
+pub restart_loses : RestartLosesWrites
+restart_loses = (_, (_, (refl, (refl, refl, refl)), (_, (refl, (refl, refl, refl, refl)), (_, (refl, (refl, refl)), (_, (refl, (refl, refl, refl)), refl)))))
+
+-- the batch of three writes
+abbrev batch : List Op
+batch = Put a one ∷ Put b two ∷ Delete a ∷ []
+
+abbrev later : Option Op → Option Op → Option Op
+later x y = if is_some x then x else y
+
+-- what a read of it gives, by whether the key is a and whether it is b
+abbrev found : Bool → Bool → Option Op
+found is_a is_b = later (later (if is_a then Some (Delete a) else None) (if is_b then Some (Put b two) else None)) (if is_a then Some (Put a one) else None)
+
+only_b : (is_a is_b : Bool) (value : List ℕ) → option_and_then value_of (found is_a is_b) ≡ Some value → (is_b ≡ true) × (two ≡ value)
+only_b true is_b value h = absurd cc
+only_b false true value h = (refl, ap (λ (o : Option (List ℕ)). unwrap_or o []) h)
+only_b false false value h = absurd cc
+
+scanned : IsRange batch 3 none z 10 ((b, two) ∷ [])
+scanned = record {
+  few = omega arith;
+  ascending = λ i j d x y. absurd (omega arith);
+  right = λ p m. elim m [ inl e ↦ rw e ((refl, refl), refl) | inr no_more ↦ absurd no_more ];
+  whole = λ key value w h. let x = only_b (bytes_eq a key) (bytes_eq b key) value h in inl (inl (sym (ap (λ (k : List ℕ). (k, two)) ((bytes_eq-Decides b key).0 x.0) ∙ ap (λ (v : List ℕ). (key, v)) x.1)));
+}
+
+pub last_counts : LastOfABatchCounts
+last_counts = (_, (_, (refl, (refl, refl, refl)), (_, (refl, (refl, refl)), (_, (refl, (scanned, refl)), refl))))
+
+pub frozen_first : FrozenIsFlushedFirst
+frozen_first = (
+  _,
+  (
+    _,
+    (refl, (refl, refl, refl)),
+    (
+      _,
+      (refl, (refl, refl)),
+      (
+        _,
+        (inl refl, refl),
+        (
+          _,
+          (refl, (refl, refl, refl)),
+          (
+            _,
+            (refl, (refl, refl, refl, refl)),
+            (
+              _,
+              (refl, (refl, refl, refl, refl)),
+              (
+                _,
+                (inl refl, refl),
+                (
+                  _,
+                  (inl refl, refl),
+                  refl,
+                ),
+              ),
+            ),
+          ),
+        ),
+      ),
+    ),
+  ),
+)
+
+pub absent_refused : AbsentIsRefused
+absent_refused = (
+  _,
+  (
+    _,
+    (refl, (refl, refl, refl)),
+    (
+      _,
+      (refl, (refl, refl)),
+      (
+        _,
+        (inl refl, refl),
+        (
+          _,
+          (inl refl, refl),
+          (
+            _,
+            (inr (refl, tt), refl),
+            (
+              _,
+              (inr (refl, tt), refl),
+              (
+                _,
+                (inl refl, refl),
+                refl,
+              ),
+            ),
+          ),
+        ),
+      ),
+    ),
+  ),
+)
+
+pub lost_write : LostWriteIsNoRun
+lost_write (last, (s, (_, (_, _, e)), (_, (_, (value, _)), _))) = let v = rw e at value in absurd cc
+
+pub short_flush : ShortFlushIsNoRun
+short_flush (last, (s, (_, (_, _, e)), (_, (_, (_, seq, _, _)), _))) = let v = rw e at seq in absurd cc
+
+pub empty_listing : EmptyListingIsNoRun
+empty_listing (last, (s, (_, (_, _, e)), (t, (_, (_, _, _, f)), (_, (_, (_, lists, _)), _)))) = let v = rw (f, e) at lists in let w = ap (λ (o : Option Version). length (unwrap_or o empty_version).files) v in absurd cc
+
+pub kept_write : KeptWriteIsNoRun
+kept_write (last, (s, (_, (_, _, e)), (t, (_, (_, _, _, f)), (_, (_, (value, _)), _)))) = let v = rw (f, e) at value in absurd cc
+
+pub unforced_refusal : UnforcedRefusalIsNoRun
+unforced_refusal (last, (s, (inl forced, _), _)) = absurd cc
+unforced_refusal (last, (s, (inr other, _), _)) = absurd other.1

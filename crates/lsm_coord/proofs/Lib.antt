@@ -1,0 +1,4 @@
+pub mod Examples
+pub mod Effects
+pub mod Versions
+pub mod Runs

@@ -1,0 +1,5 @@
+use Rattle.lsm_coord.proofs.Runs.{followers_agree}
+use Rattle.lsm_coord.proofs.laws.followers_agree.Goals as goal
+
+pub returns : goal.returns
+returns c = followers_agree

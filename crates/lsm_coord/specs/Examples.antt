@@ -1,0 +1,83 @@
+-- Runs of a new store, written out: what a reader can check by hand, and some that are none.
+use Rattle.std.specs.Prelude.{ℕ, List, [], ◌∷◌, None, Some}
+use Rattle.lsm_key.specs.declared.op.Op.TheVariants.{Put, Delete}
+use Rattle.lsm_coord.specs.State.{SnapId}
+use Rattle.lsm_coord.specs.Event as say
+use Rattle.lsm_coord.specs.Run.{RunOfNew}
+
+-- texts of one letter or none, by their bytes
+abbrev pub none : List ℕ
+none = []
+
+abbrev pub a : List ℕ
+a = 97 ∷ []
+
+abbrev pub b : List ℕ
+b = 98 ∷ []
+
+abbrev pub z : List ℕ
+z = 122 ∷ []
+
+abbrev pub one : List ℕ
+one = 49 ∷ []
+
+abbrev pub two : List ℕ
+two = 50 ∷ []
+
+-- the first snapshot of a new store
+abbrev pub first_snapshot : SnapId
+first_snapshot = record { epoch = 1; number = 1 }
+
+-- a write is found after its flush
+abbrev pub FlushedWriteIsFound : Type 0
+FlushedWriteIsFound = RunOfNew
+    (say.Write (Put a one ∷ []) ∷ say.Flush ∷ say.Get a None ∷ [])
+    (say.Wrote 1 1 ∷ say.Flushed 2 1 1 ∷ say.Got (Some one) ∷ [])
+
+-- a restart loses what was not flushed, and gives its sequence again
+abbrev pub RestartLosesWrites : Type 0
+RestartLosesWrites = RunOfNew
+    (say.Write (Put a one ∷ []) ∷ say.Restart say.Coordinator ∷ say.Get a None ∷ say.Write (Put b two ∷ []) ∷ [])
+    (say.Wrote 1 1 ∷ say.Restarted 2 2 0 ∷ say.Got None ∷ say.Wrote 1 1 ∷ [])
+
+-- of a batch the last write of a key counts, and a scan leaves out what was deleted
+abbrev pub LastOfABatchCounts : Type 0
+LastOfABatchCounts = RunOfNew
+    (say.Write (Put a one ∷ Put b two ∷ Delete a ∷ []) ∷ say.Get a None ∷ say.Scan none z None 10 ∷ [])
+    (say.Wrote 1 3 ∷ say.Got None ∷ say.Scanned ((b, two) ∷ []) ∷ [])
+
+-- the frozen memtable is flushed before the active one
+abbrev pub FrozenIsFlushedFirst : Type 0
+FrozenIsFlushedFirst = RunOfNew
+    (say.Write (Put a one ∷ []) ∷ say.Freeze ∷ say.Freeze ∷ say.Write (Put b two ∷ []) ∷ say.Flush ∷ say.Flush ∷ say.Flush ∷ say.Freeze ∷ [])
+    (say.Wrote 1 1 ∷ say.Froze 1 ∷ say.Refused say.FrozenWaiting ∷ say.Wrote 2 2 ∷ say.Flushed 2 1 1 ∷ say.Flushed 3 2 2 ∷ say.Refused say.NothingToFlush ∷ say.Refused say.NothingToFreeze ∷ [])
+
+-- what is not there is refused by name
+abbrev pub AbsentIsRefused : Type 0
+AbsentIsRefused = RunOfNew
+    (say.Snap ∷ say.Release first_snapshot ∷ say.Release first_snapshot ∷ say.Get a (Some first_snapshot) ∷ say.Deliver 1 ∷ say.GiveUp 1 ∷ say.Trim 2 ∷ [])
+    (say.Snapped first_snapshot 0 ∷ say.Released first_snapshot ∷ say.Refused say.NoSnapshot ∷ say.Refused say.NoSnapshot ∷ say.Refused say.NoMessage ∷ say.Refused say.NoClaim ∷ say.Refused say.BadFloor ∷ [])
+
+-- A write is not lost while the coordinator runs.
+abbrev pub LostWriteIsNoRun : Type 0
+LostWriteIsNoRun = RunOfNew (say.Write (Put a one ∷ []) ∷ say.Get a None ∷ []) (say.Wrote 1 1 ∷ say.Got None ∷ []) → ⊥
+
+-- A flush leaves nothing out.
+abbrev pub ShortFlushIsNoRun : Type 0
+ShortFlushIsNoRun = RunOfNew (say.Write (Put a one ∷ []) ∷ say.Flush ∷ []) (say.Wrote 1 1 ∷ say.Flushed 2 0 1 ∷ []) → ⊥
+
+-- A listing has the file of the flush.
+abbrev pub EmptyListingIsNoRun : Type 0
+EmptyListingIsNoRun = RunOfNew
+    (say.Write (Put a one ∷ []) ∷ say.Flush ∷ say.Show say.Coordinator ∷ [])
+    (say.Wrote 1 1 ∷ say.Flushed 2 1 1 ∷ say.Shown 2 1 [] ∷ []) → ⊥
+
+-- A restart keeps nothing that was not flushed.
+abbrev pub KeptWriteIsNoRun : Type 0
+KeptWriteIsNoRun = RunOfNew
+    (say.Write (Put a one ∷ []) ∷ say.Restart say.Coordinator ∷ say.Get a None ∷ [])
+    (say.Wrote 1 1 ∷ say.Restarted 2 2 0 ∷ say.Got (Some one) ∷ []) → ⊥
+
+-- A refusal comes only where it holds.
+abbrev pub UnforcedRefusalIsNoRun : Type 0
+UnforcedRefusalIsNoRun = RunOfNew (say.Write (Put a one ∷ []) ∷ []) (say.Refused say.MemtableFull ∷ []) → ⊥

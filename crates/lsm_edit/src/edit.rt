@@ -1,0 +1,188 @@
+//! Edits: what one version adds to the one before it.
+//!
+//! An edit is spelled as: u64 number, u8 kind (1 flush, 3 epoch), u64 flushed, u64 epoch, u64 next_file, u32 count of
+//! removed files and u64 each, u32 count of added files and a file record each; all numbers are big-endian.
+
+ghost use Rattle.std.specs.Prelude.{◌≡◌, ◌++◌, All, IfOk, OnOk, Ok};
+ghost use Rattle.std.specs.List.{flat_map};
+ghost use Rattle.lsm_edit.specs.File.{IsFile, file};
+ghost use Rattle.lsm_key.specs.Reading.{Gives};
+ghost use Rattle.lsm_edit.specs.declared.edit.Edit.{Edit};
+ghost use Rattle.lsm_edit.specs.Edit.{IsEdit, IsSpelled, edit, head, edit_of, fields_at, kind_at, kind_code, added_at, added_count};
+
+use crate::file::{file_of, put_file};
+use crate::{FileMeta, FormatError, FormatFault};
+use bytes::{BufMut, Bytes, BytesMut};
+use lsm_key::{
+    Items, MAX_KEY_BYTES, MAX_NUMBER, Refused, Seq, know_bytes, u8_of, u32_of, u32_within,
+    u64_within,
+};
+use std::alloc::{AllocError, Global};
+
+/// Why a version follows another.
+#[derive(Clone, Copy, Debug, PartialEq, Eq)]
+pub enum EditKind {
+    /// A memtable became a table of level 0.
+    Flush,
+    /// A coordinator opened the store.
+    Epoch,
+}
+
+/// What a version adds to the one before it (LevelDB, version edits).
+#[derive(Debug, Drop)]
+pub struct Edit {
+    /// The number of the version that it makes.
+    pub number: u64,
+    pub kind: EditKind,
+    /// The version's flushed sequence: every write up to it is in the version's tables.
+    pub flushed: Seq,
+    pub epoch: u64,
+    /// The number of the next file: every file's number is below it.
+    pub next_file: u64,
+    /// The numbers of the files that go, ascending.
+    pub removed: Items<u64>,
+    /// The files that come, by number.
+    pub added: Items<FileMeta>,
+}
+
+const SHORT: FormatFault = FormatFault::Truncated;
+
+const BAD: FormatFault = FormatFault::BadField;
+
+impl EditKind {
+    /// Its code in an edit.
+    fn code(self) -> u8
+        ensures { result ≡ kind_code self }
+    {
+        match self {
+            EditKind::Flush => 1,
+            EditKind::Epoch => 3,
+        }
+    }
+
+    /// How many files such an edit adds.
+    fn added(self) -> u32
+        ensures { result ≡ added_count self }
+    {
+        match self {
+            EditKind::Flush => 1,
+            EditKind::Epoch => 0,
+        }
+    }
+}
+
+fn kind_of(rest: &mut Bytes) -> Result<EditKind, FormatError>
+    ensures { Gives (λ k. (k, rest.new)) result (kind_at rest.old) }
+{
+    match u8_of(rest, SHORT)? {
+        1 => Ok(EditKind::Flush),
+        3 => Ok(EditKind::Epoch),
+        _ => Err(Refused::Fault(BAD)),
+    }
+}
+
+#[tactic(auto, unfolding(crate::specs::Edit::added_at, crate::specs::Edit::files_at))]
+fn added_of(alloc: Global, kind: EditKind, rest: &mut Bytes) -> Result<Items<FileMeta>, FormatError>
+    ensures { Gives (λ files. (files, rest.new)) result (added_at kind rest.old) }
+{
+    let count = kind.added();
+    u32_within(rest, count, count, SHORT, BAD)?;
+    let mut files = Items::new(alloc);
+    if kind == EditKind::Flush {
+        let file = file_of(rest, 0, 0)?;
+        files.push(file)?;
+    }
+    Ok(files)
+}
+
+#[tactic(auto, unfolding(crate::specs::Edit::fields_at))]
+fn fields_of(alloc: Global, rest: &mut Bytes) -> Result<Edit, FormatError>
+    ensures { Gives (λ e. (e, rest.new)) result (fields_at rest.old) }
+{
+    let number = u64_within(rest, 1, MAX_NUMBER, SHORT, BAD)?;
+    let kind = kind_of(rest)?;
+    let flushed = u64_within(rest, 0, Seq::MAX, SHORT, BAD)?;
+    let epoch = u64_within(rest, 1, MAX_NUMBER, SHORT, BAD)?;
+    let next_file = u64_within(rest, 1, MAX_NUMBER, SHORT, BAD)?;
+    u32_within(rest, 0, 0, SHORT, BAD)?;
+    let added = added_of(alloc, kind, rest)?;
+    Ok(Edit {
+        number,
+        kind,
+        flushed: Seq::new(flushed),
+        epoch,
+        next_file,
+        removed: Items::new(alloc),
+        added,
+    })
+}
+
+/// The edit that the bytes spell, all of the bytes. The first fault decides.
+pub fn decode_edit(alloc: Global, bytes: Bytes) -> Result<Edit, FormatError>
+    // What is read is spelled so.
+    ensures found { IfOk result (λ e. IsSpelled bytes e) }
+    // What is spelled so is read, unless memory runs out.
+    ensures only { (e : Edit) → IsSpelled bytes e → Gives (λ x. x) result (Ok e) }
+    // Which fault it is.
+    ensures exact { Gives (λ x. x) result (edit_of bytes) }
+{
+    know_bytes(&bytes);
+    whole_of(alloc, bytes)
+}
+
+// The edit that the bytes spell, with no byte left.
+#[tactic(auto, unfolding(crate::specs::Edit::edit_of))]
+fn whole_of(alloc: Global, bytes: Bytes) -> Result<Edit, FormatError>
+    ensures { Gives (λ x. x) result (edit_of bytes) }
+{
+    let mut rest = bytes;
+    let edit = fields_of(alloc, &mut rest)?;
+    if !rest.is_empty() {
+        return Err(Refused::Fault(FormatFault::TrailingBytes));
+    }
+    Ok(edit)
+}
+
+// An edit without its files: five numbers of eight bytes but the kind, and two counts.
+const HEAD_BYTES: usize = 41;
+
+// A file record at its longest: its numbers, and two keys of the greatest length.
+const MOST_FILE_BYTES: usize = 17 + 2 * (2 + MAX_KEY_BYTES);
+
+// Adds what comes before the files that are added.
+fn put_head(out: &mut BytesMut, e: &Edit) -> Result<(), AllocError>
+    requires { IsEdit e.now }
+    ensures { OnOk result (out.new.items ≡ out.old.items ++ head e.now) }
+{
+    out.put_u64(e.number)?;
+    out.put_u8(e.kind.code())?;
+    out.put_u64(e.flushed.number())?;
+    out.put_u64(e.epoch)?;
+    out.put_u64(e.next_file)?;
+    out.put_u32(e.removed.len() as u32)?;
+    Ok(())
+}
+
+// Adds the files, without their count.
+fn put_files(out: &mut BytesMut, files: &[FileMeta]) -> Result<(), AllocError>
+    requires { All IsFile files.now }
+    ensures { OnOk result (out.new.items ≡ out.old.items ++ flat_map file files.now) }
+{
+    for file in files {
+        put_file(out, file)?;
+    }
+    Ok(())
+}
+
+/// The one spelling of the edit.
+pub fn encode_edit(alloc: Global, e: &Edit) -> Result<Bytes, AllocError>
+    requires { IsEdit e.now }
+    ensures { IfOk result (λ b. b ≡ edit e.now) }
+{
+    let files = e.added.as_slice();
+    let mut out = BytesMut::with_capacity(alloc, HEAD_BYTES + MOST_FILE_BYTES)?;
+    put_head(&mut out, e)?;
+    out.put_u32(files.len() as u32)?;
+    put_files(&mut out, files)?;
+    Ok(out.freeze()?)
+}

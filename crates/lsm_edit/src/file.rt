@@ -1,0 +1,79 @@
+//! File records.
+//!
+//! A record is spelled as: u64 number, u8 level, smallest key, largest key, u32 bytes, u32 entries; a key is u16 length
+//! and its bytes, and all numbers are big-endian.
+
+ghost use Rattle.std.specs.Prelude.{◌≡◌, ◌++◌, OnOk, IfOk};
+ghost use Rattle.lsm_key.specs.Reading.{Gives};
+ghost use Rattle.lsm_edit.specs.File.{IsFile, file, file_at};
+ghost use Rattle.lsm_edit.specs.declared.format.FormatFault.TheVariants.{Truncated, BadField};
+
+use crate::format::{FormatError, FormatFault};
+use bytes::{BufMut, Bytes, BytesMut};
+use lsm_key::{
+    MAX_KEY_BYTES, MAX_NUMBER, MAX_TABLE_BYTES, Refused, key_of, put_key, u8_within, u32_within,
+    u64_within,
+};
+use std::alloc::AllocError;
+
+/// The deepest level.
+pub const MAX_LEVEL: u8 = 6;
+
+/// What a version knows of a table: where it stands, and what is in it.
+#[derive(Debug, Drop, Clone)]
+pub struct FileMeta {
+    /// Its number, which no other table ever has. From 1.
+    pub number: u64,
+    /// Its level, 0 to 6.
+    pub level: u8,
+    /// Its least user key.
+    pub smallest: Bytes,
+    /// Its greatest user key.
+    pub largest: Bytes,
+    /// Its length in bytes.
+    pub bytes: u32,
+    /// How many entries it has.
+    pub entries: u32,
+}
+
+const SHORT: FormatFault = FormatFault::Truncated;
+
+const BAD: FormatFault = FormatFault::BadField;
+
+/// A record of a file of level `lowest` to `deepest` from the front.
+#[tactic(auto, unfolding(crate::specs::File::file_at))]
+pub(crate) fn file_of(rest: &mut Bytes, lowest: u8, deepest: u8) -> Result<FileMeta, FormatError>
+    ensures { Gives (λ f. (f, rest.new)) result (file_at lowest deepest rest.old) }
+{
+    let number = u64_within(rest, 1, MAX_NUMBER, SHORT, BAD)?;
+    let level = u8_within(rest, lowest, deepest, SHORT, BAD)?;
+    let smallest = key_of(rest, MAX_KEY_BYTES, SHORT, BAD)?;
+    let largest = key_of(rest, MAX_KEY_BYTES, SHORT, BAD)?;
+    if smallest.cmp(&largest).is_gt() {
+        return Err(Refused::Fault(BAD));
+    }
+    let bytes = u32_within(rest, 1, MAX_TABLE_BYTES as u32, SHORT, BAD)?;
+    let entries = u32_within(rest, 1, u32::MAX, SHORT, BAD)?;
+    Ok(FileMeta {
+        number,
+        level,
+        smallest,
+        largest,
+        bytes,
+        entries,
+    })
+}
+
+/// Adds a record.
+pub(crate) fn put_file(out: &mut BytesMut, meta: &FileMeta) -> Result<(), AllocError>
+    requires { IsFile meta.now }
+    ensures { OnOk result (out.new.items ≡ out.old.items ++ file meta.now) }
+{
+    out.put_u64(meta.number)?;
+    out.put_u8(meta.level)?;
+    put_key(out, meta.smallest.as_slice())?;
+    put_key(out, meta.largest.as_slice())?;
+    out.put_u32(meta.bytes)?;
+    out.put_u32(meta.entries)?;
+    Ok(())
+}

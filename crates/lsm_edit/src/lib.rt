@@ -1,0 +1,13 @@
+//! File records, edits and versions: which tables a store has, and how that changes.
+//!
+//! It promises that an edit and its bytes say the same, that a version is the fold of its edits, and that a read of a
+//! version with its tables gives the newest visible entry. It stands on the tables and the keys.
+#![tactic(auto)]
+
+mod edit;
+mod file;
+mod format;
+
+pub use edit::{Edit, EditKind, decode_edit, encode_edit};
+pub use file::FileMeta;
+pub use format::{FormatError, FormatFault};

@@ -1,0 +1,115 @@
+//! Blocks: one or more entries in the order of their internal keys, without a gap.
+
+ghost use Rattle.std.specs.Prelude.{◌≡◌, List, IfOk, Ok};
+ghost use Rattle.std.specs.Option.{option_map};
+ghost use Rattle.lsm_key.specs.declared.entry.Entry.{Entry};
+ghost use Rattle.lsm_key.specs.Visible.{visible, lent};
+ghost use Rattle.lsm_key.specs.Reading.{Gives};
+ghost use Rattle.lsm_table.specs.Blocks.{AreEntries, IsBlock};
+ghost use Rattle.lsm_table.specs.BlockReading.{next_at, block_of, may_follow, last_of};
+
+use bytes::Bytes;
+use lsm_key::{Entry, EntryRef, Refused, Seq, compare_place, know_bytes, seek_in};
+use reading::entry_of;
+use std::alloc::Global;
+use std::marker::Model;
+
+mod fault;
+mod reading;
+mod writing;
+
+pub use fault::{BlockError, BlockFault};
+pub use writing::encode_block;
+pub(crate) use writing::put_entry;
+
+/// The entries of a block, in order. They share its bytes.
+#[derive(Debug, Drop)]
+pub struct Block {
+    entries: Vec<Entry>,
+}
+
+impl Model for Block {
+    ghost Value = { List Entry };
+
+    ghost view = { λ b. b.entries.items };
+
+    ghost invariant = { λ b. AreEntries b.entries.items };
+}
+
+impl Block {
+    /// The entry of the key with the greatest sequence at most `at`. It takes no memory.
+    pub fn seek(&self, key: &[u8], at: Seq) -> Option<EntryRef<'_>>
+        ensures { option_map lent result ≡ visible self.now key.now at }
+    {
+        seek_in(&self.entries, key, at)
+    }
+
+    /// The entries, in order.
+    pub fn entries(&self) -> &[Entry]
+        ensures all { result.now ≡ self.now }
+        ensures sound { AreEntries self.now }
+    {
+        &self.entries
+    }
+
+    // Entries that are known to be sound and in order.
+    pub(crate) fn of(entries: Vec<Entry>) -> Block
+        requires { AreEntries entries.items }
+        ensures { result ≡ entries.items }
+    {
+        Block { entries }
+    }
+}
+
+/// Whether an entry may stand right after these ones.
+pub(crate) fn may_come(before: &[Entry], entry: &Entry) -> bool
+    ensures { result ≡ may_follow (last_of before.now) entry.now }
+{
+    match before.last() {
+        None => true,
+        Some(last) => {
+            compare_place(&last.ikey, entry.ikey.key.as_slice(), entry.ikey.seq).is_lt()
+        }
+    }
+}
+
+// An entry that may follow those that were read.
+#[tactic(auto, unfolding(crate::specs::BlockReading::next_at))]
+fn next_of(before: &[Entry], rest: &mut Bytes) -> Result<Entry, BlockError>
+    ensures { Gives (λ e. (e, rest.new)) result (next_at before.now rest.old) }
+{
+    let entry = entry_of(rest)?;
+    if !may_come(before, &entry) {
+        return Err(Refused::Fault(BlockFault::OutOfOrder));
+    }
+    Ok(entry)
+}
+
+// The entries that the bytes spell, all of the bytes.
+fn entries_of(alloc: Global, bytes: Bytes) -> Result<Block, BlockError>
+    ensures { Gives (λ b. b) result (block_of bytes) }
+{
+    know_bytes(&bytes);
+    let mut entries = Vec::new(alloc);
+    let mut rest = bytes;
+    loop {
+        let entry = next_of(&entries, &mut rest)?;
+        entries.push(entry)?;
+        if rest.is_empty() {
+            return Ok(Block { entries });
+        }
+    }
+}
+
+/// The block that the bytes are, all of them. It shares the bytes.
+pub fn decode_block(alloc: Global, bytes: Bytes) -> Result<Block, BlockError>
+    // What is read is spelled so.
+    ensures found { IfOk result (λ b. IsBlock bytes b) }
+    // What is spelled so is read, unless memory runs out.
+    ensures only { (es : List Entry) → IsBlock bytes es → Gives (λ b. b) result (Ok es) }
+    // Which fault it is: the first one.
+    ensures exact { Gives (λ b. b) result (block_of bytes) }
+{
+    know_bytes(&bytes);
+    entries_of(alloc, bytes)
+}

@@ -1,0 +1,23 @@
+//! Tables: entries in the order of their internal keys, as bytes that never change.
+//!
+//! It promises that bytes are opened as a table exactly where they are the one spelling of valid entries in order, that
+//! the first fault is named where they are not, that a look-up in a table finds the newest entry that it may see, and
+//! that a builder makes the table of the entries that it was given. It stands on `lsm_key` for entries, their order and
+//! the fields of a format, and on `bytes` for what is shared.
+#![tactic(auto)]
+
+mod block;
+mod building;
+mod fault;
+mod laws;
+mod reading;
+mod table;
+
+pub use block::{Block, BlockError, BlockFault, decode_block, encode_block};
+pub use building::{BuildError, TableBuilder};
+pub use fault::{TableError, TableFault};
+pub use laws::{
+    a_memtable_fits_into_a_table, a_table_has_one_meaning, a_table_is_little_more_than_its_entries,
+};
+pub use reading::BLOCK_TARGET;
+pub use table::Table;
