@@ -3,3 +3,4 @@ pub mod Numbers
 pub mod Tokens
 pub mod Events
 pub mod Script
+pub mod Lines

@@ -12,8 +12,7 @@ use Rattle.lsm_sim.specs.declared.fault.Fault.{Fault}
 use Rattle.lsm_sim.specs.Text.{lines, words}
 use Rattle.lsm_sim.specs.Numbers.{number}
 use Rattle.lsm_sim.specs.Tokens.{token}
-use Rattle.lsm_sim.specs.Events.{Asked}
-use Rattle.lsm_sim.specs.Events as say
+use Rattle.lsm_coord.specs.Event as say
 
 -- the command of a name
 unfoldable pub command_of : List ℕ → Option Command
@@ -43,40 +42,40 @@ abbrev pub is_follower : List ℕ → Bool
 is_follower [] = false
 is_follower (byte ∷ digits) = byte == 102 && is_from_one_to_four (number digits)
 
-abbrev pub put : List (List ℕ) → Result Asked Reason
+abbrev pub put : List (List ℕ) → Result say.Event Reason
 put (key ∷ value ∷ []) = do
   k ← key_or_value key
   v ← key_or_value value
   Ok (say.Write (op.Put k v ∷ []))
 put args = Err WrongWordCount
 
-abbrev pub delete : List (List ℕ) → Result Asked Reason
+abbrev pub delete : List (List ℕ) → Result say.Event Reason
 delete (key ∷ []) = do
   k ← key_or_value key
   Ok (say.Write (op.Delete k ∷ []))
 delete args = Err WrongWordCount
 
-abbrev pub flush : List (List ℕ) → Result Asked Reason
+abbrev pub flush : List (List ℕ) → Result say.Event Reason
 flush [] = Ok say.Flush
 flush args = Err WrongWordCount
 
 -- reads at a snapshot are not there yet
-abbrev pub get : List (List ℕ) → Result Asked Reason
+abbrev pub get : List (List ℕ) → Result say.Event Reason
 get (key ∷ []) = do
   k ← key_or_value key
-  Ok (say.Get k)
+  Ok (say.Get k None)
 get (key ∷ snapshot ∷ []) = Err UnknownCommand
 get args = Err WrongWordCount
 
 -- listings of followers are not there yet
-abbrev pub show : List (List ℕ) → Result Asked Reason
+abbrev pub show : List (List ℕ) → Result say.Event Reason
 show (node ∷ []) =
-    if bytes_eq node (codes "c") then Ok say.Show
+    if bytes_eq node (codes "c") then Ok (say.Show say.Coordinator)
     else if is_follower node then Err UnknownCommand
     else Err BadName
 show args = Err WrongWordCount
 
-abbrev pub asked : Option Command → List (List ℕ) → Result Asked Reason
+abbrev pub asked : Option Command → List (List ℕ) → Result say.Event Reason
 asked None args = Err UnknownCommand
 asked (Some command.Put) args = put args
 asked (Some command.Delete) args = delete args
@@ -84,11 +83,11 @@ asked (Some command.Flush) args = flush args
 asked (Some command.Get) args = get args
 asked (Some command.Show) args = show args
 
-abbrev pub some_event : Result Asked Reason → Result (Option Asked) Reason
+abbrev pub some_event : Result say.Event Reason → Result (Option say.Event) Reason
 some_event asks = asks >>= λ event. Ok (Some event)
 
 -- the event of a line's words: a line without words, and a comment, have none
-unfoldable pub event : List (List ℕ) → Result (Option Asked) Reason
+unfoldable pub event : List (List ℕ) → Result (Option say.Event) Reason
 event [] = Ok None
 event (word ∷ args) = if is_comment word then Ok None else some_event (asked (command_of word) args)
 
@@ -97,12 +96,12 @@ at_line n (Ok x) = Ok x
 at_line n (Err reason) = Err (record { line = n; reason = reason })
 
 -- the events of lines that are numbered from n on, or the first fault
-unfoldable pub numbered : ℕ → List (List ℕ) → Result (List Asked) Fault
+unfoldable pub numbered : ℕ → List (List ℕ) → Result (List say.Event) Fault
 numbered n [] = Ok []
 numbered n (line ∷ lines) = do
   event ← at_line n (event (words line))
   events ← numbered (n + 1) lines
   Ok (option_to_list event ++ events)
 
-abbrev pub script : List ℕ → Result (List Asked) Fault
+abbrev pub script : List ℕ → Result (List say.Event) Fault
 script text = numbered 1 (lines text)

@@ -1,7 +1,8 @@
 use Rattle.std.proofs.Common.{◌≡◌, ◌+◌, ◌≤◌, ◌∷◌, ◌++◌, [], ℕ, List, Option, Some, None, Result, Ok, Err, ap, sym, ◌∙◌, length, map, rules, arith}
 use Rattle.lsm_sim.specs.declared.fault.Fault.{Fault}
 use Rattle.lsm_sim.specs.Text.{words, lines, lines_left}
-use Rattle.lsm_sim.specs.Events.{Asked, event_of}
+use Rattle.lsm_sim.specs.Events.{event_of}
+use Rattle.lsm_coord.specs.Event as say
 use Rattle.lsm_sim.specs.Script.{event, numbered}
 use Rattle.lsm_sim.proofs.Steps.{after, after_none, skipped, one_more, at_fault, at_end, events-push, lines-few}
 use Rattle.lsm_sim.proofs.script.parse.Goals as goal
@@ -40,7 +41,7 @@ loop-line-preserved c =
     record {
       can_next = tt;
       is_finite = tt;
-      so_far = c.loop-line.invariant.so_far ∙ ap (λ (l : List (List ℕ)). after done (numbered n l)) next ∙ one_more n c.in-Some.line.now ls done (event_of c.in-Ok-Some.event) some ∙ ap (λ (d : List Asked). after d (numbered (n + 1) ls)) (sym push);
+      so_far = c.loop-line.invariant.so_far ∙ ap (λ (l : List (List ℕ)). after done (numbered n l)) next ∙ one_more n c.in-Some.line.now ls done (event_of c.in-Ok-Some.event) some ∙ ap (λ (d : List say.Event). after d (numbered (n + 1) ls)) (sym push);
       count = omega (arith, c.loop-line.invariant.count, ap (λ (x : List (List ℕ)). length x) next);
     }
 
