@@ -4,9 +4,11 @@
 mod command;
 mod event;
 mod fault;
+mod lines;
 mod names;
 mod number;
 mod script;
+mod text;
 mod token;
 mod words;
 
