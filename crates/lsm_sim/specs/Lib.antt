@@ -4,3 +4,4 @@ pub mod Tokens
 pub mod Events
 pub mod Script
 pub mod Lines
+pub mod Runs

@@ -19,8 +19,7 @@ pub enum Reason {
 }
 
 /// The first fault of a script. Lines are numbered from 1, and every line counts, an empty one too.
-#[derive(Clone, Copy, Debug, PartialEq, Eq, Error)]
-#[error("line {line}: {reason}")]
+#[derive(Clone, Copy, Debug, PartialEq, Eq)]
 pub struct Fault {
     pub line: u64,
     pub reason: Reason,

@@ -2,12 +2,15 @@
 #![tactic(auto)]
 
 mod command;
+mod error;
 mod event;
 mod fault;
 mod lines;
 mod names;
 mod number;
+mod options;
 mod script;
+mod streams;
 mod text;
 mod token;
 mod words;
