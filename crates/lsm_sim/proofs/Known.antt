@@ -1,5 +1,5 @@
 -- What reads and writes in a row do to the bytes that are known.
-use Rattle.std.proofs.Common.{◌≡◌, ℕ, ◌+◌, ◌<◌, ◌≤◌, List, [], ◌∷◌, ◌++◌, length, take, drop, Option, Some, None, refl, sym, ap, ◌∙◌, append_assoc, append-nil, arith, IfSome}
+use Rattle.std.proofs.Common.{◌≡◌, ℕ, ◌+◌, ◌<◌, ◌≤◌, List, [], ◌∷◌, ◌++◌, length, take, drop, Option, Some, None, refl, sym, ap, ◌∙◌, append_assoc, append-nil, arith, IfSome, subst}
 use Rattle.std.specs.Io.KnownBytes.{Consumes, Keeps, Appends, IsAtEnd}
 use Rattle.std.proofs.lemmas.List.{drop-drop, length-drop, take_all}
 use Rattle.std.proofs.Math.Seq.{take-add}
@@ -72,3 +72,18 @@ IsWritten-all old new bytes rest so none =
     let e : length rest ≡ length (drop so.done bytes) = ap (λ (r : List ℕ). length r) so.left in
     let end : length bytes ≤ so.done = omega (arith, e, length-drop so.done bytes, none) in
     rw (take_all so.done bytes end) at so.wrote
+
+-- a read that gave nothing although there was room
+pub read_end : (a b d : Option (List ℕ)) (x buf : List ℕ) (n : ℕ) → Consumes a b x → (Consumes b d (take n buf) × (n ≡ 0 → 0 < length buf → IsAtEnd d)) → n ≡ 0 → 0 < length buf → IfSome a (λ xs. x ≡ xs)
+read_end a b d x buf n p q e room =
+    let nothing : Consumes b d [] = subst (λ (m : ℕ). Consumes b d (take m buf)) e q.0 in
+    Consumes-all a d x (Consumes-nothing a b d x p nothing) (q.1 e room)
+
+pub read_more : (a b d : Option (List ℕ)) (x buf more : List ℕ) (n : ℕ) → Consumes a b x → (Consumes b d (take n buf) × (n ≡ 0 → 0 < length buf → IsAtEnd d)) → more ≡ x ++ take n buf → Consumes a d more
+read_more a b d x buf more n p q is = rw is (Consumes-then a b d x (take n buf) p q.0)
+
+pub read_none : (a b d : Option (List ℕ)) (x more : List ℕ) → Consumes a b x → Keeps b d → more ≡ x → Consumes a d more
+read_none a b d x more p q is = rw is (Consumes-keep a b d x p q)
+
+pub IsWritten-same : (old new : Option (List ℕ)) (bytes rest more : List ℕ) → IsWritten old new bytes rest → more ≡ rest → IsWritten old new bytes more
+IsWritten-same old new bytes rest more so is = record { done = so.done; left = is ∙ so.left; within = so.within; wrote = so.wrote }

@@ -16,7 +16,9 @@ fn command<'a>(alloc: Global) -> Result<Command<'a>, AllocError> {
     let base = Arg::new(alloc, "base")
         .long("base")
         .value_name("N")
-        .help("Level 1 is due past this many bytes, 1 to 1000000000000; each deeper level holds ten times as many")
+        .help(
+            "Level 1 is due past this many bytes, 1 to 1000000000000; each deeper level holds ten times as many",
+        )
         .value_parser(value_parser!(u64).range(1..=1_000_000_000_000))
         .default_value("10485760");
     let run = Command::new(alloc, "run")

@@ -1,6 +1,6 @@
 //! Reading a script whole, and writing lines whole.
 
-ghost use Rattle.std.specs.Prelude.{◌≡◌, ◌⊎◌, ℕ, IfOk, IfErr, OnOk, OnErr, IfSome, take, vec_len};
+ghost use Rattle.std.specs.Prelude.{◌≡◌, ◌⊎◌, ℕ, IfOk, IfErr, OnOk, OnErr, IfSome, take, vec_len, length, ◌<◌};
 ghost use Rattle.std.specs.Io.KnownBytes.{Appends};
 
 use crate::error::RunError;
@@ -20,15 +20,19 @@ fn buffer_of(alloc: Global, len: usize) -> Result<Vec<u8>, AllocError>
     vec![in alloc; 0; len]
 }
 
-/// All bytes of a reader. One that fails, or has not ended after `MAX_READS` reads, is a read fault.
-pub fn read_all<R: Read>(alloc: Global, reader: &mut R) -> Result<Vec<u8>, RunError>
+/// Reads to the end by way of a buffer that has room.
+fn read_through<R: Read>(
+    alloc: Global,
+    reader: &mut R,
+    buffer: &mut [u8],
+) -> Result<Vec<u8>, RunError>
+    requires { 0 < length buffer.old }
     ensures bytes { IfOk result (λ bytes. IfSome (R.remaining reader.old) (λ xs. bytes.items ≡ xs)) }
     ensures errors { IfErr result (λ e. (e ≡ RunError.ReadFault) ⊎ (e ≡ RunError.OutOfMemory)) }
 {
     let mut bytes = Vec::new(alloc);
-    let mut buffer = buffer_of(alloc, READ_BYTES)?;
     for _ in 0..MAX_READS {
-        match reader.read(&mut buffer) {
+        match reader.read(buffer) {
             Ok(0) => return Ok(bytes),
             Ok(len) => bytes.extend_from_slice(&buffer[..len])?,
             Err(error) => {
@@ -39,6 +43,15 @@ pub fn read_all<R: Read>(alloc: Global, reader: &mut R) -> Result<Vec<u8>, RunEr
         }
     }
     Err(RunError::ReadFault)
+}
+
+/// All bytes of a reader. One that fails, or has not ended after `MAX_READS` reads, is a read fault.
+pub fn read_all<R: Read>(alloc: Global, reader: &mut R) -> Result<Vec<u8>, RunError>
+    ensures bytes { IfOk result (λ bytes. IfSome (R.remaining reader.old) (λ xs. bytes.items ≡ xs)) }
+    ensures errors { IfErr result (λ e. (e ≡ RunError.ReadFault) ⊎ (e ≡ RunError.OutOfMemory)) }
+{
+    let mut buffer = buffer_of(alloc, READ_BYTES)?;
+    read_through(alloc, reader, &mut buffer)
 }
 
 /// Writes all bytes. After a write fault a beginning of them is written.
