@@ -33,7 +33,7 @@ fn command<'a>(alloc: Global) -> Result<Command<'a>, AllocError> {
 }
 
 /// The limits that the words after the program's name ask for. Every other line, help too, is an error of `clap`.
-pub fn limits_of<'a>(alloc: Global, words: &'a [String]) -> Result<Limits, Error> {
+pub(crate) fn limits_of<'a>(alloc: Global, words: &'a [String]) -> Result<Limits, Error> {
     let mut command = command(alloc)?;
     let matches = command.try_get_matches_from_mut(words)?;
     let run = matches.subcommand_matches("run");
