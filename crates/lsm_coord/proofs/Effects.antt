@@ -1,5 +1,5 @@
 -- What a step may do to the writes, the versions and the frozen memtable.
-use Rattle.std.proofs.Common.{◌≡◌, ℕ, List, [], ◌∷◌, ◌++◌, Option, None, Some, refl, sym, subst, inl, inr, ◌⊎◌, take}
+use Rattle.std.proofs.Common.{◌≡◌, List, [], ◌∷◌, ◌++◌, None, Some, refl, sym, subst, inl, inr, take}
 use Rattle.lsm_key.specs.declared.op.Op.{Op}
 use Rattle.lsm_coord.specs.State.{State, Version, last_seq, last_flushed}
 use Rattle.lsm_coord.specs.Event.{Event, Refusal, Reply}

@@ -1,15 +1,16 @@
 -- The runs that are written out.
-use Rattle.std.proofs.Common.{◌≡◌, ℕ, List, [], ◌∷◌, Option, None, Some, refl, sym, ap, ◌∙◌, subst, inl, inr, ◌⊎◌, Bool, true, false, is_some, arith, length}
+use Rattle.std.proofs.Common.{◌≡◌, ℕ, List, [], ◌∷◌, Option, None, Some, refl, sym, ap, ◌∙◌, inl, inr, Bool, true, false, is_some, arith, length, get_or}
 use Rattle.std.proofs.lemmas.Slice.Eq.{bytes_eq-Decides}
 use Rattle.std.specs.Bool.{if◌then◌else◌}
 use Rattle.std.specs.Option.{option_and_then, unwrap_or}
 use Rattle.std.specs.Str.{bytes_eq}
 use Rattle.lsm_key.specs.declared.op.Op.{Op}
 use Rattle.lsm_key.specs.declared.op.Op.TheVariants.{Put, Delete}
-use Rattle.lsm_key.specs.Writes.{answer, value_of}
+use Rattle.lsm_key.specs.Writes.{value_of}
 use Rattle.lsm_coord.specs.Range.{IsRange}
-use Rattle.lsm_coord.specs.State.{State, Version, empty_version}
-use Rattle.lsm_coord.specs.Examples.{a, b, z, one, two, none, FlushedWriteIsFound, RestartLosesWrites, LastOfABatchCounts, FrozenIsFlushedFirst, AbsentIsRefused, LostWriteIsNoRun, ShortFlushIsNoRun, EmptyListingIsNoRun, KeptWriteIsNoRun, UnforcedRefusalIsNoRun}
+use Rattle.lsm_coord.specs.State.{Version, empty_version}
+use Rattle.lsm_coord.specs.Changes.{IsIndex}
+use Rattle.lsm_coord.specs.Examples.{a, b, z, one, two, none, FlushedWriteIsFound, RestartLosesWrites, LastOfABatchCounts, FrozenIsFlushedFirst, AbsentIsRefused, DownUntilRestarted, MergeKeepsAnswers, FollowerLiesBehind, FileGivenTwiceIsNoRun, NewerValueIsNoRun, LostWriteIsNoRun, ShortFlushIsNoRun, EmptyListingIsNoRun, KeptWriteIsNoRun, UnforcedRefusalIsNoRun}
 
 pub flushed_write : FlushedWriteIsFound
 flushed_write = (_, (_, (refl, (refl, refl, refl)), (_, (refl, (refl, refl, refl, refl)), (_, (refl, (refl, refl)), refl))))
@@ -116,6 +117,163 @@ absent_refused = (
   ),
 )
 
+pub down_until_restarted : DownUntilRestarted
+down_until_restarted = (
+  _,
+  (
+    _,
+    (refl, (refl, refl, refl)),
+    (
+      _,
+      (refl, (refl, refl, refl, refl)),
+      (
+        _,
+        (tt, refl),
+        (
+          _,
+          (inl refl, refl),
+          (
+            _,
+            (inl refl, refl),
+            (
+              _,
+              (refl, (refl, refl, refl, refl)),
+              (
+                _,
+                (refl, (refl, refl)),
+                refl,
+              ),
+            ),
+          ),
+        ),
+      ),
+    ),
+  ),
+)
+
+pub merge_keeps : MergeKeepsAnswers
+merge_keeps = (
+  _,
+  (
+    _,
+    (refl, (refl, refl, refl)),
+    (
+      _,
+      (refl, (refl, refl, refl, refl)),
+      (
+        _,
+        (refl, (refl, refl, refl)),
+        (
+          _,
+          (refl, (refl, refl, refl)),
+          (
+            _,
+            (refl, (refl, refl, refl, refl)),
+            (
+              _,
+              (refl, ((omega arith, omega arith), refl)),
+              (
+                _,
+                (
+                  refl,
+                  record {
+                    inputs = record { level = 0; file = 1 } ∷ record { level = 0; file = 2 } ∷ [];
+                    level = 1;
+                    up = refl;
+                    some_input = omega arith;
+                    of_current = λ p m. m;
+                    low = omega arith;
+                    high = omega arith;
+                    number_is = refl;
+                    files_are = refl;
+                    number_fits = omega arith;
+                    files_fit = omega arith;
+                    new_is = refl;
+                  },
+                ),
+                (
+                  _,
+                  (refl, (refl, refl, refl)),
+                  (
+                    _,
+                    (refl, (refl, refl)),
+                    (
+                      _,
+                      (refl, (refl, refl)),
+                      refl,
+                    ),
+                  ),
+                ),
+              ),
+            ),
+          ),
+        ),
+      ),
+    ),
+  ),
+)
+
+first : IsIndex 1
+first = (omega arith, omega arith)
+
+pub lies_behind : FollowerLiesBehind
+lies_behind = (
+  _,
+  (
+    _,
+    (refl, (refl, refl, refl)),
+    (
+      _,
+      (refl, (refl, refl, refl, refl)),
+      (
+        _,
+        (refl, (refl, refl, refl)),
+        (
+          _,
+          (refl, (refl, refl, refl, refl)),
+          (
+            _,
+            (refl, (first, refl)),
+            (
+              _,
+              (refl, (1, 0, (first, refl), omega arith, omega arith, refl)),
+              (
+                _,
+                (refl, ((first, refl), (_, refl, refl), refl)),
+                (
+                  _,
+                  (refl, ((first, refl), refl, refl)),
+                  (
+                    _,
+                    (refl, (refl, refl)),
+                    (
+                      _,
+                      (refl, (1, 2, (first, refl), omega arith, omega arith, refl)),
+                      (
+                        _,
+                        (refl, ((first, refl), (_, refl, refl), refl)),
+                        (
+                          _,
+                          (refl, (first, refl)),
+                          (
+                            _,
+                            (refl, ((first, refl), (_, refl, refl), refl)),
+                            refl,
+                          ),
+                        ),
+                      ),
+                    ),
+                  ),
+                ),
+              ),
+            ),
+          ),
+        ),
+      ),
+    ),
+  ),
+)
+
 pub lost_write : LostWriteIsNoRun
 lost_write (last, (s, (_, (_, _, e)), (_, (_, (value, _)), _))) = let v = rw e at value in absurd cc
 
@@ -131,3 +289,16 @@ kept_write (last, (s, (_, (_, _, e)), (t, (_, (_, _, _, f)), (_, (_, (value, _))
 pub unforced_refusal : UnforcedRefusalIsNoRun
 unforced_refusal (last, (s, (inl forced, _), _)) = absurd cc
 unforced_refusal (last, (s, (inr other, _), _)) = absurd other.1
+
+pub file_twice : FileGivenTwiceIsNoRun
+file_twice (last, (s, (_, (_, _, e)), (t, (_, (_, _, _, f)), (u, (_, (_, _, g)), (_, (_, (_, _, file, _)), _))))) = let v = rw (g, f, e) at file in absurd cc
+
+differ : Some two ≡ Some one → ⊥
+differ h = let e : 50 ≡ 49 = ap (λ (o : Option (List ℕ)). get_or (unwrap_or o []) 0 0) h in omega (arith, e)
+
+pub newer_value : NewerValueIsNoRun
+newer_value (last, (s, (_, (_, _, e)), (t, (_, (_, _, _, f)), (u, (_, (_, _, g)), (v, (_, (_, _, _, h)), (w, (_, (_, _, _, _, _, k)), (_, (_, (_, (version, is, value), _)), _))))))) =
+    let there = rw (k, h, g, f, e) at is in
+    let flushed : 1 ≡ version.flushed = ap (λ (o : Option Version). (unwrap_or o empty_version).flushed) there in
+    let found = rw (k, h, g, f, e, ← flushed) at value in
+    differ found

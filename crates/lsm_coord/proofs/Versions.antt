@@ -1,14 +1,12 @@
 -- Versions stay once they are there, and so do the writes that they hold.
-use Rattle.std.proofs.Common.{◌≡◌, ℕ, zero, suc, ◌+◌, ◌-◌, ◌≤◌, ◌<◌, List, [], ◌∷◌, ◌++◌, Option, None, Some, refl, sym, ap, subst, ◌∙◌, inl, inr, ◌⊎◌, arith, length, take, get_or, length-append, add-one}
+use Rattle.std.proofs.Common.{◌≡◌, ℕ, zero, suc, ◌-◌, ◌≤◌, ◌<◌, List, [], ◌∷◌, ◌++◌, Option, None, Some, refl, sym, ap, ◌∙◌, inl, inr, ◌⊎◌, arith, length, take, get_or, length-append}
 use Rattle.std.specs.List.{slice_get}
 use Rattle.std.specs.Option.{unwrap_or}
 use Rattle.std.proofs.Math.Seq.{get_or-append_seam}
 use Rattle.std.proofs.lemmas.List.{take-append-le, take-take, length-take-le}
 use Rattle.std.proofs.lemmas.Option.{slice_get_within, slice_get-get_or}
-use Rattle.lsm_key.specs.declared.op.Op.{Op}
-use Rattle.lsm_coord.specs.State.{State, Version, empty_version, last_seq, last_flushed, first_state}
+use Rattle.lsm_coord.specs.State.{State, Version, empty_version, first_state}
 use Rattle.lsm_coord.specs.Event.{Event, Reply}
-use Rattle.lsm_coord.specs.Step.{Step}
 use Rattle.lsm_coord.specs.Run.{Run}
 use Rattle.lsm_coord.proofs.Effects.{Effect, stays, wrote, froze, flushed, installed, fell, rose, effect}
 

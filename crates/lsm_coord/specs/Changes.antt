@@ -4,19 +4,22 @@ use Rattle.std.specs.List.{list_any, range_with_len}
 use Rattle.std.specs.Option.{unwrap_or}
 use Rattle.lsm_key.specs.declared.limits.TheConstants.{MAX_NUMBER}
 use Rattle.lsm_key.specs.Sets.{IsIn}
-use Rattle.lsm_coord.specs.State.{State, Version, SnapId, Snapshot, Place, last_seq, last_flushed, current_version, current_files, snapshot_at, same_id}
+use Rattle.lsm_coord.specs.State.{State, Version, SnapId, Place, last_seq, last_flushed, current_version, current_files, snapshot_at, same_id}
 
 -- the sequence of a read: the present, or that of a live snapshot
 abbrev pub read_at : State → Option SnapId → ℕ
 read_at s None = last_seq s
 read_at s (Some id) = unwrap_or (snapshot_at s.snapshots id) 0
 
+-- the name of the next snapshot
 abbrev pub next_snapshot : State → SnapId
 next_snapshot s = record { epoch = s.epoch; number = s.made + 1 }
 
+-- the next snapshot, at the present
 abbrev pub with_snapshot : State → State
 with_snapshot s = record s { snapshots = s.snapshots ++ record { id = next_snapshot s; at = last_seq s } ∷ []; made = s.made + 1 }
 
+-- without the snapshot of this name
 abbrev pub without_snapshot : State → SnapId → State
 without_snapshot s id = record s { snapshots = filter (λ live. not (same_id live.id id)) s.snapshots }
 
@@ -32,9 +35,11 @@ flush_end s = unwrap_or s.frozen (last_seq s)
 abbrev pub flushed_version : State → Version
 flushed_version s = record { flushed = flush_end s; files = current_files s ++ record { level = 0; file = s.next_file } ∷ [] }
 
+-- a flush makes the next version, and nothing is frozen after it
 abbrev pub after_flush : State → State
 after_flush s = record (with_version s (flushed_version s) (s.next_file + 1)) { frozen = None }
 
+-- the floor rises, and never falls
 abbrev pub after_trim : State → ℕ → State
 after_trim s n = record s { floor = max s.floor n }
 
@@ -46,12 +51,15 @@ fallen s = record s { writes = take (last_flushed s) s.writes; frozen = None; sn
 abbrev pub risen : State → State
 risen s = record (with_version (fallen s) (current_version s) s.next_file) { epoch = s.epoch + 1; floor = length s.versions; up = true }
 
+-- the same file in the same level
 abbrev pub same_place : Place → Place → Bool
 same_place a b = nat_eq a.level b.level && nat_eq a.file b.file
 
+-- the files that are none of the inputs
 abbrev pub without : List Place → List Place → List Place
 without inputs files = filter (λ p. not (list_any (same_place p) inputs)) files
 
+-- files of these numbers, all in one level
 abbrev pub at_level : ℕ → List ℕ → List Place
 at_level level files = map (λ file. record { level = level; file = file }) files
 

@@ -27,6 +27,7 @@ pub data Event : Type 0 where
   Trim : (number : ℕ) → Event
   Restart : (node : Node) → Event
 
+-- why nothing was answered
 pub data Refusal : Type 0 where
   -- of a batch
   EmptyKey : Refusal
@@ -60,6 +61,7 @@ pub data Refusal : Type 0 where
   -- of anything that takes memory
   OutOfMemory : Refusal
 
+-- what an event was answered
 pub data Reply : Type 0 where
   Wrote : (first last : ℕ) → Reply  -- the sequences of the operations
   Froze : (seq : ℕ) → Reply  -- the last sequence of the frozen memtable

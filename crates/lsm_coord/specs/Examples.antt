@@ -58,6 +58,24 @@ AbsentIsRefused = RunOfNew
     (say.Snap ∷ say.Release first_snapshot ∷ say.Release first_snapshot ∷ say.Get a (Some first_snapshot) ∷ say.Deliver 1 ∷ say.GiveUp 1 ∷ say.Trim 2 ∷ [])
     (say.Snapped first_snapshot 0 ∷ say.Released first_snapshot ∷ say.Refused say.NoSnapshot ∷ say.Refused say.NoSnapshot ∷ say.Refused say.NoMessage ∷ say.Refused say.NoClaim ∷ say.Refused say.BadFloor ∷ [])
 
+-- a restart that fails leaves the coordinator down, until one succeeds
+abbrev pub DownUntilRestarted : Type 0
+DownUntilRestarted = RunOfNew
+    (say.Write (Put a one ∷ []) ∷ say.Flush ∷ say.Restart say.Coordinator ∷ say.Get a None ∷ say.Write (Put none one ∷ []) ∷ say.Restart say.Coordinator ∷ say.Get a None ∷ [])
+    (say.Wrote 1 1 ∷ say.Flushed 2 1 1 ∷ say.Refused say.Device ∷ say.Refused say.Down ∷ say.Refused say.EmptyKey ∷ say.Restarted 2 3 1 ∷ say.Got (Some one) ∷ [])
+
+-- a merge changes the files, and no answer
+abbrev pub MergeKeepsAnswers : Type 0
+MergeKeepsAnswers = RunOfNew
+    (say.Write (Put a one ∷ []) ∷ say.Flush ∷ say.Snap ∷ say.Write (Delete a ∷ []) ∷ say.Flush ∷ say.Pick 1 ∷ say.Deliver 6 ∷ say.Show say.Coordinator ∷ say.Get a (Some first_snapshot) ∷ say.Get a None ∷ [])
+    (say.Wrote 1 1 ∷ say.Flushed 2 1 1 ∷ say.Snapped first_snapshot 1 ∷ say.Wrote 2 2 ∷ say.Flushed 3 2 2 ∷ say.Other ∷ say.Installed 4 (3 ∷ []) ∷ say.Shown 4 2 (record { level = 1; file = 3 } ∷ []) ∷ say.Got (Some one) ∷ say.Got None ∷ [])
+
+-- a follower answers from its version, which may lie behind, and begins again at version 0
+abbrev pub FollowerLiesBehind : Type 0
+FollowerLiesBehind = RunOfNew
+    (say.Write (Put a one ∷ []) ∷ say.Flush ∷ say.Write (Put a two ∷ []) ∷ say.Flush ∷ say.Ask 1 ∷ say.Deliver 2 ∷ say.Read 1 a ∷ say.Show (say.Follower 1) ∷ say.Trim 3 ∷ say.Deliver 4 ∷ say.Read 1 a ∷ say.Restart (say.Follower 1) ∷ say.Read 1 a ∷ [])
+    (say.Wrote 1 1 ∷ say.Flushed 2 1 1 ∷ say.Wrote 2 2 ∷ say.Flushed 3 2 2 ∷ say.Other ∷ say.Advanced 2 ∷ say.ReadAt 2 (Some one) ∷ say.Shown 2 1 (record { level = 0; file = 1 } ∷ []) ∷ say.Trimmed 3 ∷ say.Advanced 3 ∷ say.ReadAt 3 (Some two) ∷ say.Reset ∷ say.ReadAt 0 None ∷ [])
+
 -- A write is not lost while the coordinator runs.
 abbrev pub LostWriteIsNoRun : Type 0
 LostWriteIsNoRun = RunOfNew (say.Write (Put a one ∷ []) ∷ say.Get a None ∷ []) (say.Wrote 1 1 ∷ say.Got None ∷ []) → ⊥
@@ -81,3 +99,15 @@ KeptWriteIsNoRun = RunOfNew
 -- A refusal comes only where it holds.
 abbrev pub UnforcedRefusalIsNoRun : Type 0
 UnforcedRefusalIsNoRun = RunOfNew (say.Write (Put a one ∷ []) ∷ []) (say.Refused say.MemtableFull ∷ []) → ⊥
+
+-- A file number is not given twice.
+abbrev pub FileGivenTwiceIsNoRun : Type 0
+FileGivenTwiceIsNoRun = RunOfNew
+    (say.Write (Put a one ∷ []) ∷ say.Flush ∷ say.Write (Put a two ∷ []) ∷ say.Flush ∷ [])
+    (say.Wrote 1 1 ∷ say.Flushed 2 1 1 ∷ say.Wrote 2 2 ∷ say.Flushed 3 2 1 ∷ []) → ⊥
+
+-- A follower at an older version does not give a newer value.
+abbrev pub NewerValueIsNoRun : Type 0
+NewerValueIsNoRun = RunOfNew
+    (say.Write (Put a one ∷ []) ∷ say.Flush ∷ say.Write (Put a two ∷ []) ∷ say.Flush ∷ say.Deliver 2 ∷ say.Read 1 a ∷ [])
+    (say.Wrote 1 1 ∷ say.Flushed 2 1 1 ∷ say.Wrote 2 2 ∷ say.Flushed 3 2 2 ∷ say.Advanced 2 ∷ say.ReadAt 2 (Some two) ∷ []) → ⊥

@@ -4,9 +4,10 @@ use Rattle.lsm_key.specs.declared.op.Op.{Op}
 use Rattle.lsm_key.specs.declared.op.Op.TheVariants.{Put}
 use Rattle.lsm_key.specs.Sets.{IsIn}
 use Rattle.lsm_key.specs.Writes.{last_write}
-use Rattle.lsm_coord.specs.State.{State, Version, Place, first_state, last_seq}
+use Rattle.lsm_coord.specs.State.{State, Version, Place, SnapId, first_state, last_seq}
 use Rattle.lsm_coord.specs.Event.{Event, Reply}
 use Rattle.lsm_coord.specs.Event as say
+use Rattle.lsm_coord.specs.Range.{IsRange}
 use Rattle.lsm_coord.specs.Run.{Run, RunOfNew}
 
 -- A version, once it is there, keeps its flushed sequence and its files.
@@ -33,6 +34,14 @@ FollowersAgree = (events : List Event) (replies : List Reply) → RunOfNew event
     → IsAnswered events replies (say.Read other key) (say.ReadAt number other_value)
     → value ≡ other_value
 
+-- In a run of a new store, two gets of one key at one snapshot give one value.
+abbrev pub SnapshotsAgree : Type 0
+SnapshotsAgree = (events : List Event) (replies : List Reply) → RunOfNew events replies
+    → (id : SnapId) (key : List ℕ) (value other_value : Option (List ℕ))
+    → IsAnswered events replies (say.Get key (Some id)) (say.Got value)
+    → IsAnswered events replies (say.Get key (Some id)) (say.Got other_value)
+    → value ≡ other_value
+
 -- the event writes another key than this or nothing, and does not restart the coordinator
 abbrev pub SparesKey : List ℕ → Event → Type 0
 SparesKey key (say.Write ops) = last_write ops key ≡ None
@@ -50,10 +59,16 @@ GetGivesThePut = (s t : State) (before between after : List Event) (ops : List O
     → ((event : Event) → IsIn event between → SparesKey key event)
     → found ≡ Some value
 
--- In a run of a new store, flushed sequences rise with the version number, up to the number of writes.
+-- A scan can give one list only.
+abbrev pub ScansAreDetermined : Type 0
+ScansAreDetermined = (writes : List Op) (at : ℕ) (lo hi : List ℕ) (limit : ℕ) (pairs others : List (List ℕ × List ℕ))
+    → IsRange writes at lo hi limit pairs → IsRange writes at lo hi limit others → pairs ≡ others
+
+-- flushed sequences rise with the version number, up to the number of writes
 pub record IsOrderly (s : State) : Type 0 where
   pub ascending : (m n : ℕ) (v w : Version) → m ≤ n → slice_get s.versions m ≡ Some v → slice_get s.versions n ≡ Some w → v.flushed ≤ w.flushed
   pub written : (n : ℕ) (v : Version) → slice_get s.versions n ≡ Some v → v.flushed ≤ last_seq s
 
+-- In a run of a new store, flushed sequences rise with the version number, up to the number of writes.
 abbrev pub FlushedRises : Type 0
 FlushedRises = (events : List Event) (replies : List Reply) (s : State) → Run first_state events replies s → IsOrderly s

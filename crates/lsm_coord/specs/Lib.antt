@@ -7,3 +7,8 @@ pub mod Step
 pub mod Run
 pub mod Laws
 pub mod Examples
+pub mod Manifest
+pub mod Value
+pub mod Shows
+pub mod Replies
+pub mod Memory

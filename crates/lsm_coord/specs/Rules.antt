@@ -1,5 +1,5 @@
 -- Which refusals a state forces, and which have another cause (LevelDB, db.h: what each call may answer).
-use Rattle.std.specs.Prelude.{◌≡◌, ℕ, ◌+◌, ◌^◌, ◌<◌, List, Option, None, Some, length, Bool, true, false, nat_lt, nat_le, nat_eq, ◌||◌, ◌&&◌, if◌then◌else◌, is_none, is_some, ◌⊎◌}
+use Rattle.std.specs.Prelude.{◌≡◌, ℕ, ◌+◌, ◌^◌, ◌<◌, List, Option, None, Some, length, true, false, nat_lt, nat_le, nat_eq, ◌||◌, ◌&&◌, if◌then◌else◌, is_none, is_some, ◌⊎◌}
 use Rattle.std.specs.Option.{option_or, option_map}
 use Rattle.lsm_key.specs.declared.op.Op.{Op}
 use Rattle.lsm_key.specs.declared.batch.KeyError.{KeyError}
@@ -19,6 +19,7 @@ MAX_SNAPSHOTS = 64
 abbrev pub MAX_OUTPUTS : ℕ
 MAX_OUTPUTS = 2 ^ 32
 
+-- a batch is refused as its first operation that could not be pushed
 abbrev pub key_refusal : KeyError → Refusal
 key_refusal key_error.EmptyKey = say.EmptyKey
 key_refusal key_error.KeyTooLong = say.KeyTooLong
@@ -30,6 +31,7 @@ key_refusal key_error.OutOfMemory = say.OutOfMemory
 abbrev pub unless_down : State → Option Refusal → Option Refusal
 unless_down s why = if s.up then why else Some say.Down
 
+-- a batch has an operation, and there are sequences and room in the memtable for it
 abbrev pub write_refusal : State → List Op → Option Refusal
 write_refusal s ops =
     if nat_eq (length ops) 0 then Some say.EmptyBatch
@@ -37,6 +39,7 @@ write_refusal s ops =
     else if nat_lt MAX_MEMTABLE_WEIGHT (total_weight (active s) + total_weight ops) then Some say.MemtableFull
     else None
 
+-- one memtable is frozen at a time, and no empty one
 abbrev pub freeze_refusal : State → Option Refusal
 freeze_refusal s =
     if is_some s.frozen then Some say.FrozenWaiting
@@ -50,19 +53,23 @@ flush_refusal s =
     else if nat_lt MAX_NUMBER (length s.versions) || nat_lt MAX_NUMBER (s.next_file + 1) then Some say.NumbersExhausted
     else None
 
+-- few snapshots live at a time
 abbrev pub snapshot_refusal : State → Option Refusal
 snapshot_refusal s =
     if nat_le MAX_SNAPSHOTS (length s.snapshots) then Some say.TooManySnapshots
     else if nat_lt MAX_NUMBER (s.made + 1) then Some say.NumbersExhausted
     else None
 
+-- the snapshot lives
 abbrev pub release_refusal : State → SnapId → Option Refusal
 release_refusal s id = if is_none (snapshot_at s.snapshots id) then Some say.NoSnapshot else None
 
+-- a read at the present is never refused
 abbrev pub read_refusal : State → Option SnapId → Option Refusal
 read_refusal s None = None
 read_refusal s (Some id) = release_refusal s id
 
+-- the floor is at most the current version
 abbrev pub trim_refusal : State → ℕ → Option Refusal
 trim_refusal s n = if nat_lt (current s) n then Some say.BadFloor else None
 

@@ -1,4 +1,4 @@
--- One event after another.
+-- One event after another: every schedule of the nodes is such a list (RocksDB wiki: remote compaction, secondary instances).
 use Rattle.std.specs.Prelude.{◌≡◌, List, [], ◌∷◌}
 use Rattle.lsm_coord.specs.State.{State, first_state}
 use Rattle.lsm_coord.specs.Event.{Event, Reply}

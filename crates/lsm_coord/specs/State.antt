@@ -23,6 +23,7 @@ pub record Snapshot : Type 0 where
   pub id : SnapId
   pub at : ℕ
 
+-- what the store has accepted, and what its nodes have made of it
 pub record State : Type 0 where
   pub writes : List Op  -- the accepted writes; the sequence of a write is its place, from 1
   pub versions : List Version  -- the versions, by number from 0
@@ -62,6 +63,7 @@ last_seq s = length s.writes
 abbrev pub current : State → ℕ
 current s = length s.versions - 1
 
+-- what the current number stands for
 abbrev pub current_version : State → Version
 current_version s = get_or s.versions (current s) empty_version
 
@@ -81,6 +83,7 @@ active_start s = unwrap_or s.frozen (last_flushed s)
 abbrev pub active : State → List Op
 active s = drop (active_start s) s.writes
 
+-- the same epoch and number
 abbrev pub same_id : SnapId → SnapId → Bool
 same_id a b = nat_eq a.epoch b.epoch && nat_eq a.number b.number
 

@@ -52,6 +52,7 @@ Leaves s (say.Restart say.Coordinator) say.OutOfMemory new = (new ≡ fallen s) 
 Leaves s (say.Restart say.Coordinator) why new = new ≡ fallen s
 Leaves s event why new = new ≡ s
 
+-- a refusal that may come, or a reply to what is not refused
 abbrev pub Step : State → Event → Reply → State → Type 0
 Step s event (say.Refused why) new = IsAllowed s event why × Leaves s event why new
 Step s event reply new = (refusal s event ≡ None) × Does s event reply new

@@ -1,9 +1,9 @@
 //! What every run of a store keeps, and runs that are written out. The functions do nothing: each is the proof of its
 //! contract.
 
-ghost use Rattle.lsm_coord.specs.Laws.{VersionsStay, ListingsAgree, FollowersAgree, GetGivesThePut, FlushedRises};
-ghost use Rattle.lsm_coord.specs.Examples.{FlushedWriteIsFound, RestartLosesWrites, LastOfABatchCounts, FrozenIsFlushedFirst, AbsentIsRefused};
-ghost use Rattle.lsm_coord.specs.Examples.{LostWriteIsNoRun, ShortFlushIsNoRun, EmptyListingIsNoRun, KeptWriteIsNoRun, UnforcedRefusalIsNoRun};
+ghost use Rattle.lsm_coord.specs.Laws.{VersionsStay, ListingsAgree, FollowersAgree, GetGivesThePut, FlushedRises, ScansAreDetermined, SnapshotsAgree};
+ghost use Rattle.lsm_coord.specs.Examples.{FlushedWriteIsFound, RestartLosesWrites, LastOfABatchCounts, FrozenIsFlushedFirst, AbsentIsRefused, DownUntilRestarted, MergeKeepsAnswers, FollowerLiesBehind};
+ghost use Rattle.lsm_coord.specs.Examples.{LostWriteIsNoRun, ShortFlushIsNoRun, EmptyListingIsNoRun, KeptWriteIsNoRun, UnforcedRefusalIsNoRun, FileGivenTwiceIsNoRun, NewerValueIsNoRun};
 
 /// Along a run a version, once it is there, never changes its flushed sequence or its files.
 pub fn versions_stay()
@@ -31,6 +31,16 @@ pub fn flushed_rises()
     ensures { FlushedRises }
 {}
 
+/// In a run of a new store two gets of one key at one snapshot give one value: no name of a snapshot is given twice.
+pub fn snapshots_agree()
+    ensures { SnapshotsAgree }
+{}
+
+/// Of the writes, the sequence, the bounds and the limit of a scan there is one list that it may give.
+pub fn scans_are_determined()
+    ensures { ScansAreDetermined }
+{}
+
 /// These are runs of a new store.
 pub fn worked_runs()
     ensures flushed { FlushedWriteIsFound }
@@ -38,6 +48,9 @@ pub fn worked_runs()
     ensures batch { LastOfABatchCounts }
     ensures frozen { FrozenIsFlushedFirst }
     ensures absent { AbsentIsRefused }
+    ensures down { DownUntilRestarted }
+    ensures merged { MergeKeepsAnswers }
+    ensures behind { FollowerLiesBehind }
 {}
 
 /// These are none.
@@ -47,4 +60,6 @@ pub fn wrong_runs()
     ensures listing { EmptyListingIsNoRun }
     ensures kept { KeptWriteIsNoRun }
     ensures refused { UnforcedRefusalIsNoRun }
+    ensures twice { FileGivenTwiceIsNoRun }
+    ensures newer { NewerValueIsNoRun }
 {}

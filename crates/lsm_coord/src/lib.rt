@@ -5,9 +5,15 @@
 //! whose list of writes says what a read gives.
 #![tactic(auto)]
 
+mod coord;
+mod error;
 mod laws;
+mod memory;
+mod table;
 
+pub use coord::{Coord, Flushed};
+pub use error::CoordError;
 pub use laws::{
-    flushed_rises, followers_agree, get_gives_the_put, listings_agree, versions_stay, worked_runs,
-    wrong_runs,
+    flushed_rises, followers_agree, get_gives_the_put, listings_agree, scans_are_determined,
+    versions_stay, worked_runs, wrong_runs,
 };

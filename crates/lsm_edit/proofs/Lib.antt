@@ -1,2 +1,6 @@
 pub mod EditLaws
 pub mod Joins
+pub mod VersionLaws
+pub mod Search
+pub mod Advance
+pub mod NextLaws

@@ -7,7 +7,12 @@
 mod edit;
 mod file;
 mod format;
+mod next;
+mod served;
+mod version;
 
 pub use edit::{Edit, EditKind, decode_edit, encode_edit};
 pub use file::FileMeta;
 pub use format::{FormatError, FormatFault};
+pub use served::{Listing, Placed, Served};
+pub use version::{ApplyError, Version};

@@ -1,5 +1,5 @@
 -- Membership, and std's `Contains`.
-use Rattle.std.proofs.Common.{◌≡◌, ℕ, zero, suc, ◌+◌, ◌<◌, ◌⊎◌, List, [], ◌∷◌, ◌++◌, length, get_or, refl, sym, ap, subst, ◌∙◌, arith, inl, inr, take, drop}
+use Rattle.std.proofs.Common.{◌≡◌, ℕ, zero, suc, ◌+◌, ◌<◌, ◌⊎◌, List, [], ◌∷◌, ◌++◌, length, get_or, refl, sym, ap, subst, ◌∙◌, arith, inl, inr, map}
 use Rattle.std.specs.List.{Contains}
 use Rattle.std.specs.List.Sorted.{IsPermutation}
 use Rattle.std.proofs.lemmas.List.Sorted.{Contains-permutation, IsPermutation-sym}
@@ -49,3 +49,11 @@ module _ {X : Type 0} where
 
   pub SameMembers-sym : (xs ys : List X) → SameMembers xs ys → SameMembers ys xs
   SameMembers-sym xs ys same x = ((same x).1, (same x).0)
+
+pub IsIn-map : {X Y : Type 0} (f : X → Y) (x : X) (xs : List X) → IsIn x xs → IsIn (f x) (map f xs)
+IsIn-map f x [] h = absurd h
+IsIn-map f x (z ∷ xs) h = elim h [ inl e ↦ inl (ap f e) | inr m ↦ inr (IsIn-map f x xs m) ]
+
+pub IsIn-mapped : {X Y : Type 0} (f : X → Y) (y : Y) (xs : List X) → IsIn y (map f xs) → (x : X) × IsIn x xs × (y ≡ f x)
+IsIn-mapped f y [] h = absurd h
+IsIn-mapped f y (z ∷ xs) h = elim h [ inl e ↦ (z, inl refl, e) | inr m ↦ let r = IsIn-mapped f y xs m in (r.0, inr r.1, r.2) ]

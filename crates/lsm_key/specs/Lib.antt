@@ -1,4 +1,5 @@
 pub mod Sets
+pub mod Faults
 pub mod Order
 pub mod Limits
 pub mod Writes

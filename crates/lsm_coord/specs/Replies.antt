@@ -1,0 +1,32 @@
+-- The coordinator's answers as replies.
+use Rattle.std.specs.Prelude.{ℕ, List, Option, Result, Ok, Err, map}
+use Rattle.lsm_edit.specs.declared.served.Listing.{Listing}
+use Rattle.lsm_coord.specs.declared.error.CoordError.{CoordError}
+use Rattle.lsm_coord.specs.declared.error.CoordError.TheVariants as error
+use Rattle.lsm_coord.specs.declared.coord.Flushed.{Flushed}
+use Rattle.lsm_coord.specs.Event.{Refusal, Reply}
+use Rattle.lsm_coord.specs.Event as say
+use Rattle.lsm_coord.specs.Manifest.{place_of}
+
+abbrev pub refusal_of : CoordError → Refusal
+refusal_of error.SequenceExhausted = say.SequenceExhausted
+refusal_of error.NothingToFlush = say.NothingToFlush
+refusal_of error.MemtableFull = say.MemtableFull
+refusal_of error.EmptyBatch = say.EmptyBatch
+refusal_of error.NumbersExhausted = say.NumbersExhausted
+refusal_of error.OutOfMemory = say.OutOfMemory
+
+abbrev pub write_reply : Result (ℕ × ℕ) CoordError → Reply
+write_reply (Ok r) = say.Wrote r.0 r.1
+write_reply (Err e) = say.Refused (refusal_of e)
+
+abbrev pub flush_reply : Result Flushed CoordError → Reply
+flush_reply (Ok f) = say.Flushed f.number f.seq f.file
+flush_reply (Err e) = say.Refused (refusal_of e)
+
+abbrev pub get_reply : Result (Option (List ℕ)) CoordError → Reply
+get_reply (Ok value) = say.Got value
+get_reply (Err e) = say.Refused (refusal_of e)
+
+abbrev pub show_reply : Listing → Reply
+show_reply l = say.Shown l.number l.flushed (map place_of l.files.now)

@@ -1,0 +1,29 @@
+-- What contracts see of a coordinator (LevelDB, implementation notes: memtable, immutable memtable, versions).
+use Rattle.std.specs.Prelude.{ℕ, List, [], Option, None, Some}
+use Rattle.lsm_key.specs.declared.entry.Entry.{Entry}
+use Rattle.lsm_key.specs.Places.{all_entries}
+use Rattle.lsm_edit.specs.Served.{ServedValue, tables_of}
+use Rattle.lsm_coord.specs.State.{Snapshot}
+
+-- a memtable that takes no more writes, and its last sequence
+pub record Frozen : Type 0 where
+  pub entries : List Entry
+  pub end : ℕ
+
+pub record CoordValue : Type 0 where
+  pub active : List Entry        -- the entries of the active memtable
+  pub frozen : Option Frozen
+  pub served : ServedValue       -- the current version with its tables
+  pub edits : List (List ℕ)      -- the spelling of each edit, from edit 1
+  pub last : ℕ                   -- the last sequence
+  pub snapshots : List Snapshot  -- the live ones
+  pub made : ℕ                   -- how many snapshots this epoch has made
+  pub floor : ℕ                  -- the least version whose files are still served
+
+abbrev pub frozen_entries : Option Frozen → List Entry
+frozen_entries None = []
+frozen_entries (Some memtable) = memtable.entries
+
+-- the entries of all tables of the current version
+abbrev pub stored : ServedValue → List Entry
+stored served = all_entries (tables_of served.places)

@@ -1,0 +1,43 @@
+//! Why the coordinator refuses a call.
+
+use std::alloc::{AllocError, AllocFailed};
+use thiserror::Error;
+
+/// Why the coordinator refuses a call, the first reason that holds.
+#[derive(Clone, Copy, Debug, PartialEq, Eq, Error)]
+pub enum CoordError {
+    #[error("the sequences are exhausted")]
+    SequenceExhausted,
+    #[error("there is nothing to flush")]
+    NothingToFlush,
+    #[error("the memtable is full")]
+    MemtableFull,
+    #[error("the batch is empty")]
+    EmptyBatch,
+    #[error("the version or file numbers are exhausted")]
+    NumbersExhausted,
+    #[error("out of memory")]
+    OutOfMemory,
+}
+
+impl From<AllocError> for CoordError {
+    ghost use Rattle.std.specs.Prelude.{◌≡◌};
+    ghost use Rattle.lsm_coord.specs.declared.error.CoordError.TheVariants.{OutOfMemory};
+
+    ghost from_gives = { λ _ e. e ≡ OutOfMemory };
+
+    fn from(_e: AllocError) -> CoordError {
+        CoordError::OutOfMemory
+    }
+}
+
+impl<T: Drop> From<AllocFailed<T>> for CoordError {
+    ghost use Rattle.std.specs.Prelude.{◌≡◌};
+    ghost use Rattle.lsm_coord.specs.declared.error.CoordError.TheVariants.{OutOfMemory};
+
+    ghost from_gives = { λ _ e. e ≡ OutOfMemory };
+
+    fn from(_e: AllocFailed<T>) -> CoordError {
+        CoordError::OutOfMemory
+    }
+}

@@ -1,0 +1,102 @@
+//! The edits that follow a version.
+
+ghost use Rattle.std.specs.Prelude.{◌≡◌, ◌+◌, ◌<◌, ◌≤◌, IfOk, None};
+ghost use Rattle.lsm_edit.specs.File.{IsFile};
+ghost use Rattle.lsm_edit.specs.Edit.{IsEdit};
+ghost use Rattle.lsm_edit.specs.Version.{apply_fault};
+ghost use Rattle.lsm_edit.specs.Next.{flush_edit, epoch_edit};
+ghost use Rattle.lsm_edit.specs.Served.{IsAsRecorded};
+ghost use Rattle.lsm_table.specs.Tables.{IsTable};
+
+use crate::file::MAX_LEVEL;
+use crate::{Edit, EditKind, FileMeta, Version};
+use lsm_key::{Items, MAX_NUMBER, Seq};
+use lsm_table::Table;
+use std::alloc::{AllocError, Global};
+
+impl FileMeta {
+    /// The record of a table that is to stand at a level under a number. It shares the table's keys.
+    pub fn of_table(number: u64, level: u8, table: &Table) -> Result<FileMeta, AllocError>
+        requires some { 1 ≤ number }
+        requires most { number ≤ MAX_NUMBER }
+        requires level { level ≤ MAX_LEVEL }
+        ensures place { IfOk result (λ f. (f.number ≡ number) × (f.level ≡ level)) }
+        ensures sound { IfOk result IsFile }
+        ensures recorded { IfOk result (λ f. IsAsRecorded f table.now) }
+    {
+        know_table(table);
+        let smallest = table.smallest().clone()?;
+        let largest = table.largest().clone()?;
+        Ok(FileMeta {
+            number,
+            level,
+            smallest,
+            largest,
+            bytes: table.bytes().len() as u32,
+            entries: table.count() as u32,
+        })
+    }
+}
+
+impl Edit {
+    /// The edit that adds a file of the writes up to a sequence, under the version's next file number.
+    pub fn flush(
+        alloc: Global,
+        version: &Version,
+        flushed: Seq,
+        file: FileMeta,
+    ) -> Result<Edit, AllocError>
+        requires number { version.now.number + 1 ≤ MAX_NUMBER }
+        requires next_file { version.now.next_file + 1 ≤ MAX_NUMBER }
+        requires epoch { 1 ≤ version.now.epoch }
+        requires newer { version.now.flushed < flushed }
+        requires sound { IsFile file }
+        requires place { (file.number ≡ version.now.next_file) × (file.level ≡ 0) }
+        ensures edit { IfOk result (λ e. e ≡ flush_edit version.now flushed file) }
+        ensures sound { IfOk result IsEdit }
+        ensures applies { IfOk result (λ e. apply_fault version.now e ≡ None) }
+    {
+        let number = version.number() + 1;
+        let next_file = version.next_file() + 1;
+        let _written = flushed.number();
+        let mut added = Items::new(alloc);
+        added.push(file)?;
+        let _files = version.files();
+        Ok(Edit {
+            number,
+            kind: EditKind::Flush,
+            flushed,
+            epoch: version.epoch(),
+            next_file,
+            removed: Items::new(alloc),
+            added,
+        })
+    }
+
+    /// The edit that begins the next epoch.
+    pub fn epoch(alloc: Global, version: &Version) -> Edit
+        requires number { version.now.number + 1 ≤ MAX_NUMBER }
+        requires epoch { version.now.epoch + 1 ≤ MAX_NUMBER }
+        ensures edit { result ≡ epoch_edit version.now }
+        ensures sound { IsEdit result }
+        ensures applies { apply_fault version.now result ≡ None }
+    {
+        let _files = version.files();
+        Edit {
+            number: version.number() + 1,
+            kind: EditKind::Epoch,
+            flushed: version.flushed(),
+            epoch: version.epoch() + 1,
+            next_file: version.next_file(),
+            removed: Items::new(alloc),
+            added: Items::new(alloc),
+        }
+    }
+}
+
+// What a table's type says of it, as a proof wants to know.
+fn know_table(table: &Table)
+    ensures { IsTable table.now.bytes table.now.entries }
+{
+    let _entries = table.entries();
+}

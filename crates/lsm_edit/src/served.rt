@@ -1,0 +1,184 @@
+//! A version with its tables: what is read of it.
+
+ghost use Rattle.std.specs.Prelude.{◌≡◌, OnOk, OnErr, IfOk, IfErr, None};
+ghost use Rattle.std.specs.Option.{option_map, option_copied, option_to_list};
+ghost use Rattle.lsm_key.specs.Faults.{Refuses};
+ghost use Rattle.lsm_key.specs.Visible.{visible, lent};
+ghost use Rattle.lsm_key.specs.Places.{AreOrdered, all_entries, first_visible};
+ghost use Rattle.lsm_edit.specs.Edit.{IsEdit};
+ghost use Rattle.lsm_edit.specs.Version.{apply_fault};
+ghost use Rattle.lsm_edit.specs.Served.{AllRecorded, AreAsRecorded, IsAsRecorded, is_covered, placed_of, tables_of};
+
+use crate::{ApplyError, Edit, FileMeta, Version};
+use lsm_key::{EntryRef, Seq};
+use lsm_table::Table;
+use std::alloc::{AllocError, Global};
+use std::marker::Model;
+
+/// A file with its opened table.
+#[derive(Debug, Drop)]
+pub struct Placed {
+    pub meta: FileMeta,
+    pub table: Table,
+}
+
+/// What a version lists: its number, its flushed sequence, and its files by number.
+#[derive(Clone, Copy, Debug)]
+pub struct Listing<'a> {
+    pub number: u64,
+    pub flushed: Seq,
+    pub files: &'a [FileMeta],
+}
+
+/// A version with its tables, each as its file record says, in the order of a search: level 0 from the newest file to
+/// the oldest, then each deeper level by key.
+#[derive(Debug, Drop)]
+pub struct Served {
+    current: Version,
+    placed: Vec<Placed>,
+}
+
+impl Model for Served {
+    ghost use Rattle.lsm_edit.specs.Served.{ServedValue, IsServed};
+
+    ghost Value = { ServedValue };
+
+    ghost view = { λ s. record { version = s.current; places = s.placed.items } };
+
+    ghost invariant = { λ s. IsServed (record { version = s.current; places = s.placed.items }) };
+}
+
+impl Served {
+    ghost use Rattle.lsm_edit.specs.Version.{IsVersion};
+    ghost use Rattle.lsm_edit.specs.Served.{IsServed, first_served, advanced, AreAsRecorded, tables_of, table_at};
+
+    /// Version 0, without tables.
+    pub fn new(alloc: Global) -> Served
+        ensures { result ≡ first_served }
+    {
+        Served {
+            current: Version::new(alloc),
+            placed: Vec::new(alloc),
+        }
+    }
+
+    /// The version.
+    pub fn version(&self) -> &Version
+        ensures { result.now ≡ self.now.version }
+    {
+        &self.current
+    }
+
+    /// What the version lists.
+    pub fn listing(&self) -> Listing<'_>
+        ensures number { result.number ≡ self.now.version.number }
+        ensures flushed { result.flushed ≡ self.now.version.flushed }
+        ensures files { result.files.now ≡ self.now.version.files }
+        ensures sound { IsServed self.now × IsVersion self.now.version }
+    {
+        Listing {
+            number: self.current.number(),
+            flushed: self.current.flushed(),
+            files: self.current.files(),
+        }
+    }
+
+    /// Becomes the next version by an edit, with the tables of the files that it adds, by number. It refuses as
+    /// `Version::apply` does, and a refusal changes nothing.
+    pub fn advance(&mut self, edit: &Edit, tables: Vec<Table>) -> Result<(), ApplyError>
+        requires sound { IsEdit edit.now }
+        requires recorded { AreAsRecorded edit.now.added tables.items }
+        ensures ok { OnOk result ((apply_fault self.old.version edit.now ≡ None) × (self.new ≡ advanced self.old edit.now tables.items)) }
+        ensures err { OnErr result (self.new ≡ self.old) }
+        ensures refused { IfErr result (Refuses ApplyError.OutOfMemory (apply_fault self.old.version edit.now)) }
+    {
+        match self.current.fault_of(edit) {
+            Some(fault) => return Err(fault),
+            None => {}
+        }
+        self.placed.reserve(1)?;
+        let added = placed_for(edit, tables)?;
+        self.current.apply(edit)?;
+        match added {
+            Some(placed) => self.placed.insert(0, placed).unwrap(),
+            None => {}
+        }
+        Ok(())
+    }
+
+    /// The entry of the key with the greatest sequence at most `at`. It takes no memory.
+    pub fn get_at(&self, key: &[u8], at: Seq) -> Option<EntryRef<'_>>
+        ensures first { option_map lent result ≡ first_visible (tables_of self.now.places) key.now at }
+        ensures found { AreOrdered (tables_of self.now.places) → option_map lent result ≡ visible (all_entries (tables_of self.now.places)) key.now at }
+    {
+        first_in(&self.placed, key, at)
+    }
+
+    /// The same at the version's flushed sequence, from which on it has no entry.
+    pub fn get(&self, key: &[u8]) -> Option<EntryRef<'_>>
+        ensures { AreOrdered (tables_of self.now.places) → option_map lent result ≡ visible (all_entries (tables_of self.now.places)) key.now self.now.version.flushed }
+    {
+        self.get_at(key, self.current.flushed())
+    }
+
+    /// The table of a file.
+    pub fn table(&self, number: u64) -> Option<&Table>
+        ensures { option_copied result ≡ table_at self.now.places number }
+    {
+        for placed in &self.placed {
+            if placed.meta.number == number {
+                return Some(&placed.table);
+            }
+        }
+        None
+    }
+}
+
+// The file that the edit adds, if any, with its table.
+fn placed_for(edit: &Edit, tables: Vec<Table>) -> Result<Option<Placed>, AllocError>
+    requires sound { IsEdit edit.now }
+    requires recorded { AreAsRecorded edit.now.added tables.items }
+    ensures { IfOk result (λ placed. placed_of edit.now.added tables.items ≡ option_to_list placed) }
+{
+    let mut tables = tables;
+    let Some(meta) = edit.added.as_slice().first() else {
+        return Ok(None);
+    };
+    let Some(table) = tables.pop() else {
+        return Ok(None);
+    };
+    let meta = meta.clone()?;
+    Ok(Some(Placed { meta, table }))
+}
+
+// What the first place shows that shows anything.
+fn first_in<'a>(places: &'a [Placed], key: &[u8], at: Seq) -> Option<EntryRef<'a>>
+    requires { AllRecorded places.now }
+    ensures { option_map lent result ≡ first_visible (tables_of places.now) key.now at }
+{
+    for placed in places {
+        match shown_by(placed, key, at) {
+            Some(entry) => return Some(entry),
+            None => {}
+        }
+    }
+    None
+}
+
+// What a table shows, which is not asked where its range misses the key.
+fn shown_by<'a>(placed: &'a Placed, key: &[u8], at: Seq) -> Option<EntryRef<'a>>
+    requires { IsAsRecorded placed.now.meta placed.now.table }
+    ensures { option_map lent result ≡ visible placed.now.table.entries key.now at }
+{
+    if !covers(&placed.meta, key) {
+        return None;
+    }
+    placed.table.get(key, at)
+}
+
+// The key is in the file's range.
+fn covers(meta: &FileMeta, key: &[u8]) -> bool
+    ensures { result ≡ is_covered meta.now key.now }
+{
+    meta.smallest.as_slice().cmp(key).is_le() && key.cmp(meta.largest.as_slice()).is_le()
+}
