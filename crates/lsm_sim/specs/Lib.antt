@@ -5,3 +5,4 @@ pub mod Events
 pub mod Script
 pub mod Lines
 pub mod Runs
+pub mod Replies

@@ -1,12 +1,18 @@
 //! The lines that replies print.
 
-ghost use Rattle.std.specs.Prelude.{◌≡◌, ◌++◌, OnOk};
-ghost use Rattle.lsm_sim.specs.Lines.{wrote, flushed, got, level_text};
+ghost use Rattle.std.specs.Prelude.{◌≡◌, ◌++◌, OnOk, IfOk};
+ghost use Rattle.std.specs.Prelude.{map};
+ghost use Rattle.lsm_coord.specs.Rules.{key_refusal};
+ghost use Rattle.lsm_coord.specs.Replies.{refusal_of};
+ghost use Rattle.lsm_sim.specs.Lines.{wrote, flushed, got, files_of, level_text, listed, name_of, refused};
+ghost use Rattle.lsm_sim.specs.Replies.{line, place_at, why_of};
 
-use crate::text::{put_bytes, put_number, put_numbers, put_text};
+use crate::reply::{Place, Refusal, Reply, Shown};
+use crate::text::{put_bytes, put_line_end, put_number, put_numbers, put_text};
 use bytes::Bytes;
-use lsm_key::Seq;
-use std::alloc::AllocError;
+use lsm_coord::{CoordError, Flushed};
+use lsm_key::{KeyError, Seq};
+use std::alloc::{AllocError, Global};
 
 /// `seq F`, or `seq F-L` where F and L differ
 pub fn put_wrote(out: &mut Vec<u8>, first: Seq, last: Seq) -> Result<(), AllocError>
@@ -57,4 +63,84 @@ pub fn put_level(out: &mut Vec<u8>, level: u64, files: &[u64]) -> Result<(), All
     put_number(out, level)?;
     put_text(out, " ")?;
     put_numbers(out, files)
+}
+
+/// The files of a level, in the order of the listing.
+fn files_of(alloc: Global, level: u8, files: &[Place]) -> Result<Vec<u64>, AllocError>
+    ensures { IfOk result (λ numbers. numbers.items ≡ files_of level (map place_at files.now)) }
+{
+    let mut numbers = Vec::new(alloc);
+    for place in files {
+        if place.level == level {
+            numbers.push(place.file)?;
+        }
+    }
+    Ok(numbers)
+}
+
+/// `show N flushed S`, and each level with files
+pub fn put_shown(alloc: Global, out: &mut Vec<u8>, shown: &Shown) -> Result<(), AllocError>
+    ensures { OnOk result (out.new.items ≡ out.old.items ++ listed shown.now.number shown.now.flushed (map place_at shown.now.files.items)) }
+{
+    put_text(out, "show ")?;
+    put_number(out, shown.number)?;
+    put_text(out, " flushed ")?;
+    put_number(out, shown.flushed.number())?;
+    for level in 0..7u8 {
+        let files = files_of(alloc, level, &shown.files)?;
+        put_level(out, u64::from(level), &files)?;
+    }
+    Ok(())
+}
+
+/// The name of a refusal of a batch.
+fn key_name(error: KeyError) -> &'static str
+    ensures { result.now ≡ name_of (key_refusal error) }
+{
+    match error {
+        KeyError::EmptyKey => "EmptyKey",
+        KeyError::KeyTooLong => "KeyTooLong",
+        KeyError::ValueTooLong => "ValueTooLong",
+        KeyError::BatchFull => "BatchFull",
+        KeyError::OutOfMemory => "OutOfMemory",
+    }
+}
+
+/// The name of a refusal of the coordinator.
+fn coord_name(error: CoordError) -> &'static str
+    ensures { result.now ≡ name_of (refusal_of error) }
+{
+    match error {
+        CoordError::SequenceExhausted => "SequenceExhausted",
+        CoordError::NothingToFlush => "NothingToFlush",
+        CoordError::MemtableFull => "MemtableFull",
+        CoordError::EmptyBatch => "EmptyBatch",
+        CoordError::NumbersExhausted => "NumbersExhausted",
+        CoordError::OutOfMemory => "OutOfMemory",
+    }
+}
+
+/// `refused Name`
+pub fn put_refused(out: &mut Vec<u8>, refusal: Refusal) -> Result<(), AllocError>
+    ensures { OnOk result (out.new.items ≡ out.old.items ++ refused (why_of refusal)) }
+{
+    put_text(out, "refused ")?;
+    match refusal {
+        Refusal::Key(error) => put_text(out, key_name(error)),
+        Refusal::Coord(error) => put_text(out, coord_name(error)),
+    }
+}
+
+/// The line of a reply.
+pub fn put_line(alloc: Global, out: &mut Vec<u8>, reply: &Reply) -> Result<(), AllocError>
+    ensures { OnOk result (out.new.items ≡ out.old.items ++ line reply.now) }
+{
+    match reply {
+        Reply::Wrote(first, last) => put_wrote(out, *first, *last)?,
+        Reply::Flushed(Flushed { number, seq, file }) => put_flushed(out, *number, *seq, *file)?,
+        Reply::Got(value) => put_got(out, value)?,
+        Reply::Shown(shown) => put_shown(alloc, out, shown)?,
+        Reply::Refused(refusal) => put_refused(out, *refusal)?,
+    }
+    put_line_end(out)
 }

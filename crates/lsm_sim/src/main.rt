@@ -9,6 +9,7 @@ mod lines;
 mod names;
 mod number;
 mod options;
+mod reply;
 mod run;
 mod script;
 mod streams;
@@ -17,6 +18,7 @@ mod tests;
 mod text;
 mod token;
 mod words;
+mod world;
 
 use error::RunError;
 use options::limits_of;

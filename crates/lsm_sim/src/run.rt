@@ -1,14 +1,22 @@
 //! Running a script.
 
 use crate::error::RunError;
+use crate::event::Event;
+use crate::lines::put_line;
 use crate::script::parse;
 use crate::streams::{read_all, write_all};
+use crate::world::step;
+use lsm_coord::Coord;
 use lsm_key::Limits;
 use std::alloc::Global;
 use std::io::{Read, Write};
 
-/// Runs the script that the reader gives against a new store, and writes a line for each reply.
-pub fn run_script<R: Read, W: Write>(
+/// How many bytes of lines are gathered before they are written.
+const BUFFER_BYTES: usize = 65_536;
+
+/// Runs the script that the reader gives against a new store, and writes a line for each reply. The script is read
+/// whole first; where it is faulty nothing is written.
+pub(crate) fn run_script<R: Read, W: Write>(
     alloc: Global,
     reader: &mut R,
     writer: &mut W,
@@ -16,8 +24,26 @@ pub fn run_script<R: Read, W: Write>(
 ) -> Result<(), RunError> {
     let text = read_all(alloc, reader)?;
     let events = parse(alloc, &text)?;
-    let _limits = limits;
-    let out: Vec<u8> = Vec::new(alloc);
-    let _events = events;
-    write_all(writer, &out)
+    let mut coord = Coord::new(alloc, limits)?;
+    run(alloc, &mut coord, &events, writer)
+}
+
+/// Runs the events in order, and writes a line for each reply.
+fn run<W: Write>(
+    alloc: Global,
+    coord: &mut Coord,
+    events: &[Event],
+    writer: &mut W,
+) -> Result<(), RunError> {
+    let mut out = Vec::new(alloc);
+    for event in events {
+        let reply = step(alloc, coord, event);
+        put_line(alloc, &mut out, &reply)?;
+        if out.len() >= BUFFER_BYTES {
+            write_all(writer, &out)?;
+            out.clear();
+        }
+    }
+    write_all(writer, &out)?;
+    writer.flush().map_err(|_| RunError::WriteFault)
 }
