@@ -41,9 +41,13 @@ abbrev pub level_text : ℕ → List ℕ → List ℕ
 level_text level [] = []
 level_text level (file ∷ files) = codes " L" ++ decimal level ++ codes " " ++ join_with_byte 44 (map decimal (file ∷ files))
 
+-- these levels, in turn
+abbrev pub levels_text : List Place → List ℕ → List ℕ
+levels_text places levels = flat_map (λ level. level_text level (files_of level places)) levels
+
 abbrev pub listed : ℕ → ℕ → List Place → List ℕ
 listed number seq places =
-    codes "show " ++ decimal number ++ codes " flushed " ++ decimal seq ++ flat_map (λ level. level_text level (files_of level places)) (0 ∷ 1 ∷ 2 ∷ 3 ∷ 4 ∷ 5 ∷ 6 ∷ [])
+    codes "show " ++ decimal number ++ codes " flushed " ++ decimal seq ++ levels_text places (0 ∷ 1 ∷ 2 ∷ 3 ∷ 4 ∷ 5 ∷ 6 ∷ [])
 
 abbrev pub name_of : say.Refusal → List ℕ
 name_of say.EmptyKey = codes "EmptyKey"

@@ -4,7 +4,7 @@ ghost use Rattle.std.specs.Prelude.{◌≡◌, ◌++◌, OnOk, IfOk};
 ghost use Rattle.std.specs.Prelude.{map};
 ghost use Rattle.lsm_coord.specs.Rules.{key_refusal};
 ghost use Rattle.lsm_coord.specs.Replies.{refusal_of};
-ghost use Rattle.lsm_sim.specs.Lines.{wrote, flushed, got, files_of, level_text, listed, name_of, refused};
+ghost use Rattle.lsm_sim.specs.Lines.{wrote, flushed, got, files_of, level_text, levels_text, listed, name_of, refused};
 ghost use Rattle.lsm_sim.specs.Replies.{line, place_at, why_of};
 
 use crate::reply::{Place, Refusal, Reply, Shown};
@@ -78,6 +78,22 @@ fn files_of(alloc: Global, level: u8, files: &[Place]) -> Result<Vec<u64>, Alloc
     Ok(numbers)
 }
 
+/// Each of these levels that has files.
+fn put_levels(
+    alloc: Global,
+    out: &mut Vec<u8>,
+    levels: &[u8],
+    files: &[Place],
+) -> Result<(), AllocError>
+    ensures { OnOk result (out.new.items ≡ out.old.items ++ levels_text (map place_at files.now) levels.now) }
+{
+    for level in levels {
+        let numbers = files_of(alloc, *level, files)?;
+        put_level(out, u64::from(*level), &numbers)?;
+    }
+    Ok(())
+}
+
 /// `show N flushed S`, and each level with files
 pub fn put_shown(alloc: Global, out: &mut Vec<u8>, shown: &Shown) -> Result<(), AllocError>
     ensures { OnOk result (out.new.items ≡ out.old.items ++ listed shown.now.number shown.now.flushed (map place_at shown.now.files.items)) }
@@ -86,11 +102,7 @@ pub fn put_shown(alloc: Global, out: &mut Vec<u8>, shown: &Shown) -> Result<(), 
     put_number(out, shown.number)?;
     put_text(out, " flushed ")?;
     put_number(out, shown.flushed.number())?;
-    for level in 0..7u8 {
-        let files = files_of(alloc, level, &shown.files)?;
-        put_level(out, u64::from(level), &files)?;
-    }
-    Ok(())
+    put_levels(alloc, out, &[0, 1, 2, 3, 4, 5, 6], &shown.files)
 }
 
 /// The name of a refusal of a batch.

@@ -53,7 +53,8 @@ fn shown(alloc: Global, listing: Listing<'_>) -> Result<Shown, AllocError>
     ensures files { IfOk result (λ shown. map place_at shown.files.items ≡ map place_of listing.entry.files.now) }
 {
     let mut files = Vec::with_capacity(alloc, listing.files.len())?;
-    for file in listing.files {
+    let records = listing.files;
+    for file in records {
         let place = Place {
             level: file.level,
             file: file.number,
