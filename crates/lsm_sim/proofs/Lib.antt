@@ -4,3 +4,4 @@ pub mod Spelled
 pub mod Steps
 pub mod Joins
 pub mod Known
+pub mod Runs

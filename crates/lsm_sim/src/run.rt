@@ -1,5 +1,11 @@
 //! Running a script.
 
+ghost use Rattle.std.specs.Prelude.{◌≡◌, ◌++◌, ℕ, List, OnOk, OnErr, take};
+ghost use Rattle.std.specs.Io.KnownBytes.{Appends};
+ghost use Rattle.lsm_sim.specs.Replies.{lines};
+ghost use Rattle.lsm_sim.specs.Runs.{RunsTo};
+ghost use Rattle.lsm_sim.specs.declared.reply.Reply.{Reply};
+
 use crate::error::RunError;
 use crate::event::Event;
 use crate::lines::put_line;
@@ -34,7 +40,9 @@ fn run<W: Write>(
     coord: &mut Coord,
     events: &[Event],
     writer: &mut W,
-) -> Result<(), RunError> {
+) -> Result<(), RunError>
+    ensures ok { OnOk result ((replies : List Reply) × RunsTo coord.old events.now replies coord.new × Appends (W.contents writer.old) (W.contents writer.new) (lines replies)) }
+{
     let mut out = Vec::new(alloc);
     for event in events {
         let reply = step(alloc, coord, event);
