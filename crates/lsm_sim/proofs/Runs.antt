@@ -5,7 +5,7 @@ use Rattle.std.proofs.lemmas.List.{take_more, map-append, take_all}
 use Rattle.lsm_sim.proofs.Known.{Appends-then, Appends-keep}
 use Rattle.std.specs.List.{flat_map}
 use Rattle.std.specs.Io.KnownBytes.{Appends, Keeps}
-use Rattle.lsm_coord.specs.State.{State}
+use Rattle.lsm_coord.specs.State.{State, first_state}
 use Rattle.lsm_coord.specs.Event as say
 use Rattle.lsm_coord.specs.Run.{Run}
 use Rattle.lsm_coord.specs.Step.{Step}
@@ -15,7 +15,9 @@ use Rattle.lsm_sim.specs.declared.event.Event.{Event}
 use Rattle.lsm_sim.specs.declared.reply.Reply.{Reply}
 use Rattle.lsm_sim.specs.Events.{event_of}
 use Rattle.lsm_sim.specs.Replies.{reply_of, line, lines}
-use Rattle.lsm_sim.specs.Runs.{RunsTo}
+use Rattle.lsm_sim.specs.Runs.{RunsTo, PrintsScript}
+use Rattle.lsm_sim.specs.Script.{script}
+use Rattle.std.proofs.Common.{IfSome, Some, None}
 
 pub Run-push : (s m t : State) (es : List say.Event) (rs : List say.Reply) (e : say.Event) (r : say.Reply) → Run s es rs m → Step m e r t → Run s (es ++ e ∷ []) (rs ++ r ∷ []) t
 Run-push s m t [] [] e r a b = (t, subst (λ (n : State). Step n e r t) a b, refl)
@@ -75,3 +77,14 @@ IsSoFar-end old now events i was held last out end so none keeps =
 pub on_ok : {A E : Type 0} (r : Result A E) (P : Type 0) → P → OnOk r P
 on_ok (Ok x) P p = p
 on_ok (Err e) P p = tt
+
+-- a run of a new coordinator prints what its script says
+pub prints_script : (c last : CoordValue) (events : List Event) (bytes : List ℕ) (known was held : Option (List ℕ)) → Shows c first_state → script bytes ≡ Ok (map event_of events) → IfSome known (λ xs. bytes ≡ xs) → (x : List Reply) × RunsTo c events x last × Appends was held (lines x) → IfSome known (λ xs. PrintsScript xs was held)
+prints_script c last events bytes None was held shows says read ran = tt
+prints_script c last events bytes (Some xs) was held shows says read ran =
+    let end = ran.1 first_state shows in
+    (map event_of events, ap script (sym read) ∙ says, lines ran.0, (ran.0, (end.0, end.1), refl), ran.2)
+
+pub OnOk-weaker : {A E : Type 0} (r : Result A E) (P Q : Type 0) → (P → Q) → OnOk r P → OnOk r Q
+OnOk-weaker (Ok x) P Q f p = f p
+OnOk-weaker (Err e) P Q f p = tt

@@ -1,6 +1,6 @@
 -- What running a script reads and writes.
-use Rattle.std.specs.Prelude.{◌≡◌, ◌⊎◌, ℕ, List, ◌++◌, Option, Result, Ok, Err, map, take}
-use Rattle.std.specs.Io.KnownBytes.{Appends, Keeps}
+use Rattle.std.specs.Prelude.{◌≡◌, ℕ, List, Option, Ok, map}
+use Rattle.std.specs.Io.KnownBytes.{Appends}
 use Rattle.lsm_coord.specs.State.{State}
 use Rattle.lsm_coord.specs.Event as say
 use Rattle.lsm_coord.specs.Run.{Run, RunOfNew}
@@ -10,7 +10,7 @@ use Rattle.lsm_key.specs.declared.refused.Refused.{Refused}
 use Rattle.lsm_key.specs.declared.refused.Refused.TheVariants as refused
 use Rattle.lsm_sim.specs.declared.fault.Fault.{Fault}
 use Rattle.lsm_sim.specs.declared.error.RunError.{RunError}
-use Rattle.lsm_sim.specs.declared.error.RunError.TheVariants.{Script, ReadFault, WriteFault, OutOfMemory}
+use Rattle.lsm_sim.specs.declared.error.RunError.TheVariants.{Script, OutOfMemory}
 use Rattle.lsm_sim.specs.declared.event.Event.{Event}
 use Rattle.lsm_sim.specs.declared.reply.Reply.{Reply}
 use Rattle.lsm_sim.specs.Events.{event_of}
@@ -30,17 +30,6 @@ RunsTo old events replies new = (s : State) → Shows old s → (t : State) × R
 abbrev pub Prints : List say.Event → List ℕ → Type 0
 Prints events text = (replies : List Reply) × RunOfNew events (map reply_of replies) × (text ≡ lines replies)
 
--- a beginning of what a run of the first events prints
-abbrev pub PrintsSome : List say.Event → List ℕ → Type 0
-PrintsSome events text = (count : ℕ) × (rest : List ℕ) × Prints (take count events) (text ++ rest)
-
--- what was written after what a writer held: all lines, a beginning of them, or nothing
-abbrev pub WritesSome : List ℕ → Option (List ℕ) → Option (List ℕ) → Type 0
-WritesSome script_text old new = (events : List say.Event) × (script script_text ≡ Ok events) × (text : List ℕ) × PrintsSome events text × Appends old new text
-
-abbrev pub RunsScript : List ℕ → Option (List ℕ) → Option (List ℕ) → Result (Unit {0}) RunError → Type 0
-RunsScript script_text old new (Ok done) = (events : List say.Event) × (script script_text ≡ Ok events) × (text : List ℕ) × Prints events text × Appends old new text
-RunsScript script_text old new (Err (Script line reason)) = (script script_text ≡ Err (record { line = line; reason = reason })) × Keeps old new
-RunsScript script_text old new (Err ReadFault) = Keeps old new
-RunsScript script_text old new (Err WriteFault) = WritesSome script_text old new
-RunsScript script_text old new (Err OutOfMemory) = Keeps old new ⊎ WritesSome script_text old new
+-- what was written after what a writer held is what the events of the script print
+abbrev pub PrintsScript : List ℕ → Option (List ℕ) → Option (List ℕ) → Type 0
+PrintsScript script_text old new = (events : List say.Event) × (script script_text ≡ Ok events) × (text : List ℕ) × Prints events text × Appends old new text

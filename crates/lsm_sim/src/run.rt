@@ -1,9 +1,9 @@
 //! Running a script.
 
-ghost use Rattle.std.specs.Prelude.{◌≡◌, ◌++◌, ℕ, List, OnOk, OnErr, take};
+ghost use Rattle.std.specs.Prelude.{◌≡◌, ◌++◌, ℕ, List, OnOk, IfSome};
 ghost use Rattle.std.specs.Io.KnownBytes.{Appends};
 ghost use Rattle.lsm_sim.specs.Replies.{lines};
-ghost use Rattle.lsm_sim.specs.Runs.{RunsTo};
+ghost use Rattle.lsm_sim.specs.Runs.{RunsTo, PrintsScript};
 ghost use Rattle.lsm_sim.specs.declared.reply.Reply.{Reply};
 
 use crate::error::RunError;
@@ -22,12 +22,14 @@ const BUFFER_BYTES: usize = 65_536;
 
 /// Runs the script that the reader gives against a new store, and writes a line for each reply. The script is read
 /// whole first; where it is faulty nothing is written.
-pub(crate) fn run_script<R: Read, W: Write>(
+pub fn run_script<R: Read, W: Write>(
     alloc: Global,
     reader: &mut R,
     writer: &mut W,
     limits: Limits,
-) -> Result<(), RunError> {
+) -> Result<(), RunError>
+    ensures ok { OnOk result (IfSome (R.remaining reader.old) (λ text. PrintsScript text (W.contents writer.old) (W.contents writer.new))) }
+{
     let text = read_all(alloc, reader)?;
     let events = parse(alloc, &text)?;
     let mut coord = Coord::new(alloc, limits)?;
