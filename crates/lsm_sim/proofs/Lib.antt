@@ -1,0 +1,7 @@
+pub mod Cuts
+pub mod Digits
+pub mod Spelled
+pub mod Steps
+pub mod Joins
+pub mod Known
+pub mod Runs

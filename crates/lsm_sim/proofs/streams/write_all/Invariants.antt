@@ -1,0 +1,8 @@
+-- a beginning is written, and the rest is left
+use Rattle.std.proofs.Common.{◌≡◌, ◌≤◌, ℕ, take, drop, length}
+use Rattle.std.specs.Io.KnownBytes.{Appends}
+use Rattle.lsm_sim.proofs.Known.{IsWritten}
+use Rattle.lsm_sim.proofs.streams.write_all.Given as goal
+
+abbrev pub invariant-loop : goal.invariant-loop
+invariant-loop g l = IsWritten (g.W.Write.contents l.fn.writer) (g.W.Write.contents l.writer) l.bytes l.rest

@@ -1,0 +1,86 @@
+-- The lines that replies print (the store's own output format, one line a reply).
+use Rattle.std.specs.Prelude.{ℕ, ◌+◌, ◌/◌, ◌%◌, ◌==◌, ◌&&◌, ◌||◌, not, Bool, List, [], ◌∷◌, ◌++◌, Option, None, Some, codes, map, filter, nat_lt, if◌then◌else◌}
+use Rattle.std.specs.List.{flat_map, join_with_byte}
+use Rattle.std.specs.Fmt.{decimal}
+use Rattle.lsm_coord.specs.State.{Place}
+use Rattle.lsm_coord.specs.Event as say
+use Rattle.lsm_sim.specs.Tokens.{is_between}
+
+-- a hexadecimal digit, in lower case
+abbrev pub hex_digit : ℕ → ℕ
+hex_digit n = if nat_lt n 10 then 48 + n else 87 + n
+
+-- a printable byte other than the percent sign, the quote and the equals sign prints as itself
+abbrev pub prints_as_itself : ℕ → Bool
+prints_as_itself byte = is_between 33 126 byte && not (byte == 37 || byte == 34 || byte == 61)
+
+abbrev pub printed_byte : ℕ → List ℕ
+printed_byte byte = if prints_as_itself byte then byte ∷ [] else 37 ∷ hex_digit (byte / 16) ∷ hex_digit (byte % 16) ∷ []
+
+-- a key or value; the empty text is two quotes
+abbrev pub printed : List ℕ → List ℕ
+printed [] = 34 ∷ 34 ∷ []
+printed (byte ∷ bytes) = flat_map printed_byte (byte ∷ bytes)
+
+abbrev pub wrote : ℕ → ℕ → List ℕ
+wrote first last = codes "seq " ++ decimal first ++ (if first == last then [] else codes "-" ++ decimal last)
+
+abbrev pub flushed : ℕ → ℕ → ℕ → List ℕ
+flushed number seq file = codes "version " ++ decimal number ++ codes " flushed " ++ decimal seq ++ codes " file " ++ decimal file
+
+abbrev pub got : Option (List ℕ) → List ℕ
+got None = codes "none"
+got (Some value) = codes "value " ++ printed value
+
+-- the files of a level, in the order of the listing
+abbrev pub files_of : ℕ → List Place → List ℕ
+files_of level places = map (λ p. p.file) (filter (λ p. p.level == level) places)
+
+-- a level with files: its digit and their numbers
+abbrev pub level_text : ℕ → List ℕ → List ℕ
+level_text level [] = []
+level_text level (file ∷ files) = codes " L" ++ decimal level ++ codes " " ++ join_with_byte 44 (map decimal (file ∷ files))
+
+-- these levels, in turn
+abbrev pub levels_text : List Place → List ℕ → List ℕ
+levels_text places levels = flat_map (λ level. level_text level (files_of level places)) levels
+
+abbrev pub listed : ℕ → ℕ → List Place → List ℕ
+listed number seq places =
+    codes "show " ++ decimal number ++ codes " flushed " ++ decimal seq ++ levels_text places (0 ∷ 1 ∷ 2 ∷ 3 ∷ 4 ∷ 5 ∷ 6 ∷ [])
+
+abbrev pub name_of : say.Refusal → List ℕ
+name_of say.EmptyKey = codes "EmptyKey"
+name_of say.KeyTooLong = codes "KeyTooLong"
+name_of say.ValueTooLong = codes "ValueTooLong"
+name_of say.BatchFull = codes "BatchFull"
+name_of say.BadManifest = codes "BadManifest"
+name_of say.MissingTable = codes "MissingTable"
+name_of say.Device = codes "Device"
+name_of say.SequenceExhausted = codes "SequenceExhausted"
+name_of say.FrozenWaiting = codes "FrozenWaiting"
+name_of say.NothingToFreeze = codes "NothingToFreeze"
+name_of say.NothingToFlush = codes "NothingToFlush"
+name_of say.TooManySnapshots = codes "TooManySnapshots"
+name_of say.NoSnapshot = codes "NoSnapshot"
+name_of say.WrongJob = codes "WrongJob"
+name_of say.BadResult = codes "BadResult"
+name_of say.MemtableFull = codes "MemtableFull"
+name_of say.EmptyBatch = codes "EmptyBatch"
+name_of say.BookFull = codes "BookFull"
+name_of say.TooWide = codes "TooWide"
+name_of say.BadFloor = codes "BadFloor"
+name_of say.NumbersExhausted = codes "NumbersExhausted"
+name_of say.Down = codes "Down"
+name_of say.Busy = codes "Busy"
+name_of say.NoClaim = codes "NoClaim"
+name_of say.OldEpoch = codes "OldEpoch"
+name_of say.NoMessage = codes "NoMessage"
+name_of say.OutOfMemory = codes "OutOfMemory"
+
+abbrev pub refused : say.Refusal → List ℕ
+refused why = codes "refused " ++ name_of why
+
+-- a line ends with a line feed
+abbrev pub ended : List ℕ → List ℕ
+ended text = text ++ 10 ∷ []

@@ -1,0 +1,42 @@
+-- What the replies of the program are in the coordinator's definitions, and the lines that they print.
+use Rattle.std.specs.Prelude.{List, ℕ, ◌++◌, map}
+use Rattle.std.specs.List.{flat_map}
+use Rattle.lsm_coord.specs.State as state
+use Rattle.lsm_coord.specs.Event as say
+use Rattle.lsm_coord.specs.Rules.{key_refusal}
+use Rattle.lsm_coord.specs.Replies.{refusal_of}
+use Rattle.lsm_sim.specs.declared.reply.Place.{Place}
+use Rattle.lsm_sim.specs.declared.reply.Refusal.{Refusal}
+use Rattle.lsm_sim.specs.declared.reply.Refusal.TheVariants as why
+use Rattle.lsm_sim.specs.declared.reply.Reply.{Reply}
+use Rattle.lsm_sim.specs.declared.reply.Reply.TheVariants as reply
+use Rattle.lsm_sim.specs.Lines.{wrote, flushed, got, listed, refused, ended}
+
+abbrev pub place_at : Place → state.Place
+place_at p = record { level = p.level; file = p.file }
+
+abbrev pub why_of : Refusal → say.Refusal
+why_of (why.Key error) = key_refusal error
+why_of (why.Coord error) = refusal_of error
+
+abbrev pub reply_of : Reply → say.Reply
+reply_of (reply.Wrote first last) = say.Wrote first last
+reply_of (reply.Flushed f) = say.Flushed f.number f.seq f.file
+reply_of (reply.Got value) = say.Got value
+reply_of (reply.Shown s) = say.Shown s.number s.flushed (map place_at s.files.items)
+reply_of (reply.Refused why) = say.Refused (why_of why)
+
+-- the text of a reply
+abbrev pub text_of : Reply → List ℕ
+text_of (reply.Wrote first last) = wrote first last
+text_of (reply.Flushed f) = flushed f.number f.seq f.file
+text_of (reply.Got value) = got value
+text_of (reply.Shown s) = listed s.number s.flushed (map place_at s.files.items)
+text_of (reply.Refused why) = refused (why_of why)
+
+abbrev pub line : Reply → List ℕ
+line reply = ended (text_of reply)
+
+-- a line for each reply
+abbrev pub lines : List Reply → List ℕ
+lines replies = flat_map line replies

@@ -1,0 +1,35 @@
+-- What running a script reads and writes.
+use Rattle.std.specs.Prelude.{◌≡◌, ℕ, List, Option, Ok, map}
+use Rattle.std.specs.Io.KnownBytes.{Appends}
+use Rattle.lsm_coord.specs.State.{State}
+use Rattle.lsm_coord.specs.Event as say
+use Rattle.lsm_coord.specs.Run.{Run, RunOfNew}
+use Rattle.lsm_coord.specs.Shows.{Shows}
+use Rattle.lsm_coord.specs.Value.{CoordValue}
+use Rattle.lsm_key.specs.declared.refused.Refused.{Refused}
+use Rattle.lsm_key.specs.declared.refused.Refused.TheVariants as refused
+use Rattle.lsm_sim.specs.declared.fault.Fault.{Fault}
+use Rattle.lsm_sim.specs.declared.error.RunError.{RunError}
+use Rattle.lsm_sim.specs.declared.error.RunError.TheVariants.{Script, OutOfMemory}
+use Rattle.lsm_sim.specs.declared.event.Event.{Event}
+use Rattle.lsm_sim.specs.declared.reply.Reply.{Reply}
+use Rattle.lsm_sim.specs.Events.{event_of}
+use Rattle.lsm_sim.specs.Replies.{reply_of, lines}
+use Rattle.lsm_sim.specs.Script.{script}
+
+-- the error of a script that is refused
+abbrev pub error_of : Refused Fault → RunError
+error_of refused.OutOfMemory = OutOfMemory
+error_of (refused.Fault fault) = Script fault.line fault.reason
+
+-- Of each state that is shown before, the events and their replies are a run to one that is shown after.
+abbrev pub RunsTo : CoordValue → List Event → List Reply → CoordValue → Type 0
+RunsTo old events replies new = (s : State) → Shows old s → (t : State) × Run s (map event_of events) (map reply_of replies) t × Shows new t
+
+-- the events and some replies are a run of a new store, and these are the replies' lines
+abbrev pub Prints : List say.Event → List ℕ → Type 0
+Prints events text = (replies : List Reply) × RunOfNew events (map reply_of replies) × (text ≡ lines replies)
+
+-- what was written after what a writer held is what the events of the script print
+abbrev pub PrintsScript : List ℕ → Option (List ℕ) → Option (List ℕ) → Type 0
+PrintsScript script_text old new = (events : List say.Event) × (script script_text ≡ Ok events) × (text : List ℕ) × Prints events text × Appends old new text

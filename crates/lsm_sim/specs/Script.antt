@@ -1,0 +1,107 @@
+-- What a script says: the events of its lines, or its first fault (the store's own script format, one command a line).
+use Rattle.std.specs.Prelude.{ℕ, ◌+◌, ◌==◌, ◌&&◌, ◌≤◌, Bool, true, false, List, [], ◌∷◌, ◌++◌, Option, None, Some, Result, Ok, Err, codes, option_to_list, nat_le, if◌then◌else◌}
+use Rattle.std.specs.Str.{bytes_eq}
+use Rattle.lsm_key.specs.declared.op.Op.{Op}
+use Rattle.lsm_key.specs.declared.op.Op.TheVariants as op
+use Rattle.lsm_key.specs.Reading.{◌>>=◌}
+use Rattle.lsm_sim.specs.declared.command.Command.{Command}
+use Rattle.lsm_sim.specs.declared.command.Command.TheVariants as command
+use Rattle.lsm_sim.specs.declared.fault.Reason.{Reason}
+use Rattle.lsm_sim.specs.declared.fault.Reason.TheVariants.{UnknownCommand, WrongWordCount, BadName, BadToken}
+use Rattle.lsm_sim.specs.declared.fault.Fault.{Fault}
+use Rattle.lsm_sim.specs.Text.{lines, words}
+use Rattle.lsm_sim.specs.Numbers.{number}
+use Rattle.lsm_sim.specs.Tokens.{token}
+use Rattle.lsm_coord.specs.Event as say
+
+-- the command of a name
+unfoldable pub command_of : List ℕ → Option Command
+command_of word =
+    if bytes_eq word (codes "put") then Some command.Put
+    else if bytes_eq word (codes "del") then Some command.Delete
+    else if bytes_eq word (codes "flush") then Some command.Flush
+    else if bytes_eq word (codes "get") then Some command.Get
+    else if bytes_eq word (codes "show") then Some command.Show
+    else None
+
+-- a line that begins with a number sign is a comment
+abbrev pub is_comment : List ℕ → Bool
+is_comment [] = false
+is_comment (byte ∷ word) = byte == 35
+
+-- a key or value word
+abbrev pub key_or_value : List ℕ → Result (List ℕ) Reason
+key_or_value word = elim (token word) [ None ↦ Err BadToken | Some bytes ↦ Ok bytes ]
+
+abbrev pub is_from_one_to_four : Option ℕ → Bool
+is_from_one_to_four None = false
+is_from_one_to_four (Some n) = nat_le 1 n && nat_le n 4
+
+-- the name of a follower: an f and its number
+abbrev pub is_follower : List ℕ → Bool
+is_follower [] = false
+is_follower (byte ∷ digits) = byte == 102 && is_from_one_to_four (number digits)
+
+abbrev pub put : List (List ℕ) → Result say.Event Reason
+put (key ∷ value ∷ []) = do
+  k ← key_or_value key
+  v ← key_or_value value
+  Ok (say.Write (op.Put k v ∷ []))
+put args = Err WrongWordCount
+
+abbrev pub delete : List (List ℕ) → Result say.Event Reason
+delete (key ∷ []) = do
+  k ← key_or_value key
+  Ok (say.Write (op.Delete k ∷ []))
+delete args = Err WrongWordCount
+
+abbrev pub flush : List (List ℕ) → Result say.Event Reason
+flush [] = Ok say.Flush
+flush args = Err WrongWordCount
+
+-- reads at a snapshot are not there yet
+abbrev pub get : List (List ℕ) → Result say.Event Reason
+get (key ∷ []) = do
+  k ← key_or_value key
+  Ok (say.Get k None)
+get (key ∷ snapshot ∷ []) = Err UnknownCommand
+get args = Err WrongWordCount
+
+-- listings of followers are not there yet
+abbrev pub show : List (List ℕ) → Result say.Event Reason
+show (node ∷ []) =
+    if bytes_eq node (codes "c") then Ok (say.Show say.Coordinator)
+    else if is_follower node then Err UnknownCommand
+    else Err BadName
+show args = Err WrongWordCount
+
+abbrev pub asked : Option Command → List (List ℕ) → Result say.Event Reason
+asked None args = Err UnknownCommand
+asked (Some command.Put) args = put args
+asked (Some command.Delete) args = delete args
+asked (Some command.Flush) args = flush args
+asked (Some command.Get) args = get args
+asked (Some command.Show) args = show args
+
+abbrev pub some_event : Result say.Event Reason → Result (Option say.Event) Reason
+some_event asks = asks >>= λ event. Ok (Some event)
+
+-- the event of a line's words: a line without words, and a comment, have none
+unfoldable pub event : List (List ℕ) → Result (Option say.Event) Reason
+event [] = Ok None
+event (word ∷ args) = if is_comment word then Ok None else some_event (asked (command_of word) args)
+
+abbrev pub at_line : {A : Type 0} → ℕ → Result A Reason → Result A Fault
+at_line n (Ok x) = Ok x
+at_line n (Err reason) = Err (record { line = n; reason = reason })
+
+-- the events of lines that are numbered from n on, or the first fault
+unfoldable pub numbered : ℕ → List (List ℕ) → Result (List say.Event) Fault
+numbered n [] = Ok []
+numbered n (line ∷ lines) = do
+  event ← at_line n (event (words line))
+  events ← numbered (n + 1) lines
+  Ok (option_to_list event ++ events)
+
+abbrev pub script : List ℕ → Result (List say.Event) Fault
+script text = numbered 1 (lines text)

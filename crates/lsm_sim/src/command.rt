@@ -1,0 +1,14 @@
+//! The commands' names.
+
+ghost use Rattle.std.specs.Prelude.{◌≡◌};
+ghost use Rattle.lsm_sim.specs.Script.{command_of};
+
+/// The commands of a script.
+#[derive(Clone, Copy, Debug, PartialEq, Eq)]
+pub enum Command {
+    Put,
+    Delete,
+    Flush,
+    Get,
+    Show,
+}

@@ -1,0 +1,59 @@
+//! Why a script was not run to its end.
+
+use crate::fault::{Fault, Reason};
+use lsm_key::Refused;
+use std::alloc::{AllocError, AllocFailed};
+use thiserror::Error;
+
+/// Why a script was not run to its end.
+#[derive(Clone, Copy, Debug, PartialEq, Eq, Error)]
+pub enum RunError {
+    /// The number of the first faulty line, from 1, and what is wrong with it. Nothing was run or written.
+    #[error("line {0}: {1}")]
+    Script(u64, Reason),
+    /// The script could not be read. Nothing was run or written.
+    #[error("read fault")]
+    ReadFault,
+    /// A reply could not be written. A beginning of the lines was.
+    #[error("write fault")]
+    WriteFault,
+    /// Memory ran out outside an event. A beginning of the lines was written.
+    #[error("out of memory")]
+    OutOfMemory,
+}
+
+impl From<AllocError> for RunError {
+    ghost use Rattle.std.specs.Prelude.{◌≡◌};
+    ghost use Rattle.lsm_sim.specs.declared.error.RunError.TheVariants.{OutOfMemory};
+
+    ghost from_gives = { λ _ e. e ≡ OutOfMemory };
+
+    fn from(_e: AllocError) -> RunError {
+        RunError::OutOfMemory
+    }
+}
+
+impl<T: Drop> From<AllocFailed<T>> for RunError {
+    ghost use Rattle.std.specs.Prelude.{◌≡◌};
+    ghost use Rattle.lsm_sim.specs.declared.error.RunError.TheVariants.{OutOfMemory};
+
+    ghost from_gives = { λ _ e. e ≡ OutOfMemory };
+
+    fn from(_e: AllocFailed<T>) -> RunError {
+        RunError::OutOfMemory
+    }
+}
+
+impl From<Refused<Fault>> for RunError {
+    ghost use Rattle.std.specs.Prelude.{◌≡◌};
+    ghost use Rattle.lsm_sim.specs.Runs.{error_of};
+
+    ghost from_gives = { λ refused e. e ≡ error_of refused };
+
+    fn from(refused: Refused<Fault>) -> RunError {
+        match refused {
+            Refused::OutOfMemory => RunError::OutOfMemory,
+            Refused::Fault(fault) => RunError::Script(fault.line, fault.reason),
+        }
+    }
+}

@@ -1,0 +1,40 @@
+//! What the store answers to a command.
+
+use bytes::Bytes;
+use lsm_coord::{CoordError, Flushed};
+use lsm_key::{KeyError, Seq};
+
+/// Why a command is refused.
+#[derive(Clone, Copy, Debug, PartialEq, Eq)]
+pub enum Refusal {
+    /// An operation does not go into a batch.
+    Key(KeyError),
+    /// The coordinator refuses the call.
+    Coord(CoordError),
+}
+
+/// A file, and the level that it stands in.
+#[derive(Clone, Copy, Debug, PartialEq, Eq)]
+pub struct Place {
+    pub level: u8,
+    pub file: u64,
+}
+
+/// A version: its number, its flushed sequence, and its files by number.
+#[derive(Debug, Drop)]
+pub struct Shown {
+    pub number: u64,
+    pub flushed: Seq,
+    pub files: Vec<Place>,
+}
+
+/// What the store answers to a command.
+#[derive(Debug, Drop)]
+pub enum Reply {
+    /// The first and the last sequence of a batch.
+    Wrote(Seq, Seq),
+    Flushed(Flushed),
+    Got(Option<Bytes>),
+    Shown(Shown),
+    Refused(Refusal),
+}

@@ -1,0 +1,59 @@
+//! Running a script.
+
+ghost use Rattle.std.specs.Prelude.{◌≡◌, ◌++◌, ℕ, List, OnOk, IfSome};
+ghost use Rattle.std.specs.Io.KnownBytes.{Appends};
+ghost use Rattle.lsm_sim.specs.Replies.{lines};
+ghost use Rattle.lsm_sim.specs.Runs.{RunsTo, PrintsScript};
+ghost use Rattle.lsm_sim.specs.declared.reply.Reply.{Reply};
+
+use crate::error::RunError;
+use crate::event::Event;
+use crate::lines::put_line;
+use crate::script::parse;
+use crate::streams::{read_all, write_all};
+use crate::world::step;
+use lsm_coord::Coord;
+use lsm_key::Limits;
+use std::alloc::Global;
+use std::io::{Read, Write};
+
+/// How many bytes of lines are gathered before they are written.
+const BUFFER_BYTES: usize = 65_536;
+
+/// Runs the script that the reader gives against a new store, and writes a line for each reply. The script is read
+/// whole first; where it is faulty nothing is written.
+pub fn run_script<R: Read, W: Write>(
+    alloc: Global,
+    reader: &mut R,
+    writer: &mut W,
+    limits: Limits,
+) -> Result<(), RunError>
+    ensures ok { OnOk result (IfSome (R.remaining reader.old) (λ text. PrintsScript text (W.contents writer.old) (W.contents writer.new))) }
+{
+    let text = read_all(alloc, reader)?;
+    let events = parse(alloc, &text)?;
+    let mut coord = Coord::new(alloc, limits)?;
+    run(alloc, &mut coord, &events, writer)
+}
+
+/// Runs the events in order, and writes a line for each reply.
+fn run<W: Write>(
+    alloc: Global,
+    coord: &mut Coord,
+    events: &[Event],
+    writer: &mut W,
+) -> Result<(), RunError>
+    ensures ok { OnOk result ((replies : List Reply) × RunsTo coord.old events.now replies coord.new × Appends (W.contents writer.old) (W.contents writer.new) (lines replies)) }
+{
+    let mut out = Vec::new(alloc);
+    for event in events {
+        let reply = step(alloc, coord, event);
+        put_line(alloc, &mut out, &reply)?;
+        if out.len() >= BUFFER_BYTES {
+            write_all(writer, &out)?;
+            out.clear();
+        }
+    }
+    write_all(writer, &out)?;
+    writer.flush().map_err(|_| RunError::WriteFault)
+}

@@ -1,0 +1,139 @@
+//! Scripts: one command a line, words between spaces, tabs or carriage returns. A line without words and a comment, which
+//! begins with `#`, are skipped and counted.
+
+ghost use Rattle.std.specs.Prelude.{◌≡◌, map, IfOk};
+ghost use Rattle.std.specs.Option.{option_map};
+ghost use Rattle.lsm_key.specs.Reading.{Gives};
+ghost use Rattle.lsm_sim.specs.Events.{event_of};
+ghost use Rattle.lsm_sim.specs.Text.{words};
+ghost use Rattle.lsm_sim.specs.Script.{asked, key_or_value, event, script, put, delete, flush, get, show};
+
+use crate::command::Command;
+use crate::event::Event;
+use crate::fault::{Fault, Reason};
+use crate::names::{command_of, is_comment, is_follower};
+use crate::token::token_of;
+use crate::words::{Lines, Words};
+use bytes::Bytes;
+use lsm_key::{Op, Refused};
+use std::alloc::Global;
+
+/// The bytes of a key or value word.
+fn key_or_value(alloc: Global, word: &[u8]) -> Result<Bytes, Refused<Reason>>
+    ensures { Gives (λ bytes. bytes) result (key_or_value word.now) }
+{
+    token_of(alloc, word)?.ok_or(Refused::Fault(Reason::BadToken))
+}
+
+/// `put K V`
+fn put(alloc: Global, mut args: Words<'_>) -> Result<Event, Refused<Reason>>
+    ensures { Gives event_of result (put (words args.entry.rest.now)) }
+{
+    let (Some(key), Some(value), None) = (args.next(), args.next(), args.next()) else {
+        return Err(Refused::Fault(Reason::WrongWordCount));
+    };
+    let key = key_or_value(alloc, key)?;
+    let value = key_or_value(alloc, value)?;
+    Ok(Event::Write(vec![in alloc; Op::Put(key, value)]?))
+}
+
+/// `del K`
+fn delete(alloc: Global, mut args: Words<'_>) -> Result<Event, Refused<Reason>>
+    ensures { Gives event_of result (delete (words args.entry.rest.now)) }
+{
+    let (Some(key), None) = (args.next(), args.next()) else {
+        return Err(Refused::Fault(Reason::WrongWordCount));
+    };
+    let key = key_or_value(alloc, key)?;
+    Ok(Event::Write(vec![in alloc; Op::Delete(key)]?))
+}
+
+/// `flush`
+fn flush(mut args: Words<'_>) -> Result<Event, Refused<Reason>>
+    ensures { Gives event_of result (flush (words args.entry.rest.now)) }
+{
+    match args.next() {
+        None => Ok(Event::Flush),
+        Some(_) => Err(Refused::Fault(Reason::WrongWordCount)),
+    }
+}
+
+/// `get K`
+fn get(alloc: Global, mut args: Words<'_>) -> Result<Event, Refused<Reason>>
+    ensures { Gives event_of result (get (words args.entry.rest.now)) }
+{
+    let Some(key) = args.next() else {
+        return Err(Refused::Fault(Reason::WrongWordCount));
+    };
+    match (args.next(), args.next()) {
+        (None, _) => Ok(Event::Get(key_or_value(alloc, key)?)),
+        (Some(_), None) => Err(Refused::Fault(Reason::UnknownCommand)),
+        (Some(_), Some(_)) => Err(Refused::Fault(Reason::WrongWordCount)),
+    }
+}
+
+/// `show c`
+fn show(mut args: Words<'_>) -> Result<Event, Refused<Reason>>
+    ensures { Gives event_of result (show (words args.entry.rest.now)) }
+{
+    let (Some(node), None) = (args.next(), args.next()) else {
+        return Err(Refused::Fault(Reason::WrongWordCount));
+    };
+    if node == b"c".as_slice() {
+        Ok(Event::Show)
+    } else if is_follower(node) {
+        Err(Refused::Fault(Reason::UnknownCommand))
+    } else {
+        Err(Refused::Fault(Reason::BadName))
+    }
+}
+
+/// The event of a command with these arguments.
+fn asked(alloc: Global, command: Option<Command>, args: Words<'_>) -> Result<Event, Refused<Reason>>
+    ensures { Gives event_of result (asked command (words args.entry.rest.now)) }
+{
+    match command {
+        None => Err(Refused::Fault(Reason::UnknownCommand)),
+        Some(Command::Put) => put(alloc, args),
+        Some(Command::Delete) => delete(alloc, args),
+        Some(Command::Flush) => flush(args),
+        Some(Command::Get) => get(alloc, args),
+        Some(Command::Show) => show(args),
+    }
+}
+
+/// The event of a line, if it has one.
+#[tactic(auto, unfolding(crate::specs::Script::event))]
+fn event_in(alloc: Global, line: &[u8]) -> Result<Option<Event>, Refused<Reason>>
+    ensures { Gives (option_map event_of) result (event (words line.now)) }
+{
+    let mut words = Words::new(line);
+    let Some(word) = words.next() else {
+        return Ok(None);
+    };
+    if is_comment(word) {
+        return Ok(None);
+    }
+    asked(alloc, command_of(word), words).map(Some)
+}
+
+/// The events of a script, or its first fault. It takes one pass over the text.
+pub fn parse(alloc: Global, text: &[u8]) -> Result<Vec<Event>, Refused<Fault>>
+    ensures { Gives (λ events. map event_of events.items) result (script text.now) }
+{
+    let mut events = Vec::new(alloc);
+    let mut line_number = 0;
+    for line in Lines::new(text) {
+        line_number += 1;
+        match event_in(alloc, line) {
+            Ok(None) => {}
+            Ok(Some(event)) => events.push(event)?,
+            Err(Refused::OutOfMemory) => return Err(Refused::OutOfMemory),
+            Err(Refused::Fault(reason)) => {
+                let line = line_number;
+                return Err(Refused::Fault(Fault { line, reason }));
+            }
+        }
+    }
+    Ok(events)
+}

@@ -1,0 +1,91 @@
+//! Pieces of lines: text, numbers, keys and values, added to a buffer.
+
+ghost use Rattle.std.specs.Prelude.{◌≡◌, ◌++◌, ◌∷◌, [], ◌<◌, OnOk, length, map};
+ghost use Rattle.std.specs.Fmt.{decimal};
+ghost use Rattle.std.specs.List.{join_with_byte};
+ghost use Rattle.lsm_sim.specs.Lines.{hex_digit, prints_as_itself, printed_byte, printed};
+
+use std::alloc::AllocError;
+use std::io::Write;
+
+/// Adds text.
+pub fn put_text(out: &mut Vec<u8>, text: &str) -> Result<(), AllocError>
+    ensures { OnOk result (out.new.items ≡ out.old.items ++ text.now) }
+{
+    out.extend_from_slice(text.as_bytes())
+}
+
+/// Adds the decimal digits of a number.
+pub fn put_number(out: &mut Vec<u8>, number: u64) -> Result<(), AllocError>
+    ensures { OnOk result (out.new.items ≡ out.old.items ++ decimal number) }
+{
+    write!(out, "{number}").map_err(|_| AllocError)
+}
+
+/// Adds the end of a line.
+pub fn put_line_end(out: &mut Vec<u8>) -> Result<(), AllocError>
+    ensures { OnOk result (out.new.items ≡ out.old.items ++ 10 ∷ []) }
+{
+    out.push(b'\n')?;
+    Ok(())
+}
+
+/// The hexadecimal digit of a number below 16.
+fn hex_digit(number: u8) -> u8
+    requires { number < 16 }
+    ensures { result ≡ hex_digit number }
+{
+    if number < 10 {
+        b'0' + number
+    } else {
+        b'a' + (number - 10)
+    }
+}
+
+/// Whether the byte prints as itself.
+fn prints_as_itself(byte: u8) -> bool
+    ensures { result ≡ prints_as_itself byte }
+{
+    byte >= b'!' && byte <= b'~' && !(byte == b'%' || byte == b'"' || byte == b'=')
+}
+
+/// Adds a byte of a key or value.
+fn put_byte(out: &mut Vec<u8>, byte: u8) -> Result<(), AllocError>
+    ensures { OnOk result (out.new.items ≡ out.old.items ++ printed_byte byte) }
+{
+    if prints_as_itself(byte) {
+        out.push(byte)?;
+        Ok(())
+    } else {
+        out.extend_from_slice(&[b'%', hex_digit(byte / 16), hex_digit(byte % 16)])
+    }
+}
+
+/// Adds a key or value: a byte from `!` to `~` but `%`, `"` and `=` as itself, any other as `%` and two hexadecimal
+/// digits, and the empty text as `""`.
+pub fn put_bytes(out: &mut Vec<u8>, bytes: &[u8]) -> Result<(), AllocError>
+    ensures { OnOk result (out.new.items ≡ out.old.items ++ printed bytes.now) }
+{
+    if bytes.is_empty() {
+        return put_text(out, "\"\"");
+    }
+    for byte in bytes {
+        put_byte(out, *byte)?;
+    }
+    Ok(())
+}
+
+/// Adds numbers with commas between them.
+pub fn put_numbers(out: &mut Vec<u8>, numbers: &[u64]) -> Result<(), AllocError>
+    ensures { OnOk result (out.new.items ≡ out.old.items ++ join_with_byte 44 (map decimal numbers.now)) }
+{
+    let Some((first, others)) = numbers.split_first() else {
+        return Ok(());
+    };
+    put_number(out, *first)?;
+    for number in others {
+        out.push(b',')?;
+        put_number(out, *number)?;
+    }
+    Ok(())
+}

@@ -1,0 +1,74 @@
+//! Keys and values as scripts write them: the word `""` is the empty text; else `%` and two hexadecimal digits are that
+//! byte, and any other byte from `!` to `~` is itself.
+
+ghost use Rattle.std.specs.Prelude.{◌≡◌, ◌<◌, IfOk, length};
+ghost use Rattle.lsm_sim.specs.Tokens.{hex, escape, literal, onto, spelled, token};
+
+use bytes::Bytes;
+use std::alloc::{AllocError, Global};
+
+/// The value of a hexadecimal digit.
+fn hex_of(byte: u8) -> Option<u8>
+    ensures { result ≡ hex byte }
+{
+    match byte {
+        b'0'..=b'9' => Some(byte - b'0'),
+        b'a'..=b'f' => Some(byte - b'a' + 10),
+        b'A'..=b'F' => Some(byte - b'A' + 10),
+        _ => None,
+    }
+}
+
+/// The byte of two hexadecimal digits.
+fn escape_of(high: u8, low: u8) -> Option<u8>
+    ensures { result ≡ escape high low }
+{
+    Some(hex_of(high)? * 16 + hex_of(low)?)
+}
+
+/// The byte that stands for itself.
+fn literal_of(byte: u8) -> Option<u8>
+    ensures { result ≡ literal byte }
+{
+    if byte < b'!' || byte > b'~' || byte == b'%' {
+        None
+    } else {
+        Some(byte)
+    }
+}
+
+/// The first byte that the word spells, and the rest of the word.
+fn first_of(word: &[u8]) -> (Option<u8>, &[u8])
+    requires { 0 < length word.now }
+    ensures value { spelled word.now ≡ onto result.0 (spelled result.1.now) }
+    ensures shorter { length result.1.now < length word.now }
+{
+    let first = word[0];
+    if first != b'%' {
+        (literal_of(first), &word[1..])
+    } else if word.len() < 3 {
+        (None, &word[1..])
+    } else {
+        (escape_of(word[1], word[2]), &word[3..])
+    }
+}
+
+/// The bytes that a key or value word means, or `None` where it is no such word.
+#[tactic(auto, unfolding(crate::specs::Tokens::token))]
+pub fn token_of(alloc: Global, word: &[u8]) -> Result<Option<Bytes>, AllocError>
+    ensures { IfOk result (λ bytes. bytes ≡ token word.now) }
+{
+    if word == b"\"\"".as_slice() {
+        return Ok(Some(Bytes::new()));
+    }
+    let mut bytes = Vec::with_capacity(alloc, word.len())?;
+    let mut rest = word;
+    while !rest.is_empty() {
+        let (Some(byte), after) = first_of(rest) else {
+            return Ok(None);
+        };
+        bytes.push(byte)?;
+        rest = after;
+    }
+    Ok(Some(Bytes::from_vec(bytes)?))
+}
