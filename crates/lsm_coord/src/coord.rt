@@ -33,6 +33,7 @@ pub struct Flushed {
 #[derive(Debug, Drop)]
 pub struct Coord {
     alloc: Global,
+    // When its levels are due to be merged.
     limits: Limits,
     current: Served,
     manifest: Vec<Bytes>,
@@ -86,11 +87,6 @@ impl Coord {
             weight: 0,
             newest: Seq::ZERO,
         })
-    }
-
-    /// When its levels are due to be merged.
-    pub fn limits(&self) -> Limits {
-        self.limits
     }
 
     /// Applies a batch, and answers the first and the last of its sequences. A refusal changes nothing.

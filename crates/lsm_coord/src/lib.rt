@@ -1,8 +1,10 @@
-//! The coordinator: the one node that takes writes, makes versions and decides which files are merged.
+//! The coordinator: the one node that takes writes and makes versions.
 //!
-//! Here stand the definitions that say what a store has to answer: its abstract state, the events and replies, the
-//! refusals that a state forces, one step, and a run. The laws of runs are proved beside them. It stands on `lsm_key`,
-//! whose list of writes says what a read gives.
+//! Its definitions say what a store has to answer: the abstract state, the events and replies, the refusals that a
+//! state forces, one step, and a run; the laws of runs are proved beside them. `Coord` is one store in memory, and each
+//! call promises that it follows them: of each state that the store shows before, the call and its answer are a step to
+//! a state that it shows after. It stands on `lsm_key` for writes and entries, `lsm_table` for tables, and `lsm_edit`
+//! for versions and the tables that they serve.
 #![tactic(auto)]
 
 mod coord;
@@ -10,6 +12,8 @@ mod error;
 mod laws;
 mod memory;
 mod table;
+#[cfg(test)]
+mod tests;
 
 pub use coord::{Coord, Flushed};
 pub use error::CoordError;
