@@ -21,15 +21,15 @@ pub places_without-none : (ps : List Placed) → places_without [] ps ≡ ps
 places_without-none [] = refl
 places_without-none (p ∷ ps) = ap (λ (qs : List Placed). p ∷ qs) (places_without-none ps)
 
-or-left : (a b : Bool) → a ≡ true → (a || b) ≡ true
+pub or-left : (a b : Bool) → a ≡ true → (a || b) ≡ true
 or-left true b h = refl
 or-left false b h = absurd cc
 
-or-right : (a b : Bool) → b ≡ true → (a || b) ≡ true
+pub or-right : (a b : Bool) → b ≡ true → (a || b) ≡ true
 or-right true b h = refl
 or-right false b h = h
 
-and-both : (a b : Bool) → a ≡ true → b ≡ true → (a && b) ≡ true
+pub and-both : (a b : Bool) → a ≡ true → b ≡ true → (a && b) ≡ true
 and-both true b h k = k
 and-both false b h k = absurd cc
 

@@ -4,3 +4,5 @@ pub mod VersionLaws
 pub mod Search
 pub mod Advance
 pub mod NextLaws
+pub mod SearchOrder
+pub mod Rebase

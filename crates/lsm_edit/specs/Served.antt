@@ -58,6 +58,11 @@ abbrev pub put_all : List Placed → List Placed → List Placed
 put_all [] qs = qs
 put_all (p ∷ ps) qs = put_all ps (put_in_order p qs)
 
+-- all places put in the order of a search
+abbrev pub in_order : List Placed → List Placed
+in_order [] = []
+in_order (p ∷ ps) = put_in_order p (in_order ps)
+
 abbrev pub places_without : List ℕ → List Placed → List Placed
 places_without numbers ps = filter (λ p. not (list_any (λ n. has_number n p.meta) numbers)) ps
 

@@ -1,13 +1,15 @@
 //! A version with its tables: what is read of it.
 
-ghost use Rattle.std.specs.Prelude.{◌≡◌, OnOk, OnErr, IfOk, IfErr, None};
+ghost use Rattle.std.specs.Prelude.{◌≡◌, ◌<◌, ◌≤◌, ◌++◌, ◌∷◌, length, take, drop, slice_index_or, OnOk, OnErr, IfOk, IfErr, None};
 ghost use Rattle.std.specs.Option.{option_map, option_copied, option_to_list};
 ghost use Rattle.lsm_key.specs.Faults.{Refuses};
+ghost use Rattle.lsm_key.specs.Sets.{SameMembers};
 ghost use Rattle.lsm_key.specs.Visible.{visible, lent};
+ghost use Rattle.lsm_edit.specs.declared.served.Placed.{Placed};
 ghost use Rattle.lsm_key.specs.Places.{AreOrdered, all_entries, first_visible};
 ghost use Rattle.lsm_edit.specs.Edit.{IsEdit};
 ghost use Rattle.lsm_edit.specs.Version.{apply_fault};
-ghost use Rattle.lsm_edit.specs.Served.{AllRecorded, AreAsRecorded, IsAsRecorded, is_covered, placed_of, tables_of};
+ghost use Rattle.lsm_edit.specs.Served.{AllRecorded, AreAsRecorded, IsAsRecorded, is_before, is_covered, placed_of, put_in_order, in_order, tables_of};
 
 use crate::{ApplyError, Edit, FileMeta, Version};
 use lsm_key::{EntryRef, Seq};
@@ -106,6 +108,19 @@ impl Served {
         Ok(())
     }
 
+    /// Becomes another version, with a table for each of its files, by number. A refusal changes nothing.
+    pub fn rebase(&mut self, version: Version, tables: Vec<Table>) -> Result<(), AllocError>
+        requires { AreAsRecorded version.files tables.items }
+        ensures version { OnOk result (self.new.version ≡ version) }
+        ensures places { OnOk result (SameMembers self.new.places (placed_of version.files tables.items)) }
+        ensures err { OnErr result (self.new ≡ self.old) }
+    {
+        let placed = places_of(version.alloc(), version.files(), tables)?;
+        self.current = version;
+        self.placed = placed;
+        Ok(())
+    }
+
     /// The entry of the key with the greatest sequence at most `at`. It takes no memory.
     pub fn get_at(&self, key: &[u8], at: Seq) -> Option<EntryRef<'_>>
         ensures first { option_map lent result ≡ first_visible (tables_of self.now.places) key.now at }
@@ -149,6 +164,66 @@ fn placed_for(edit: &Edit, tables: Vec<Table>) -> Result<Option<Placed>, AllocEr
     };
     let meta = meta.clone()?;
     Ok(Some(Placed { meta, table }))
+}
+
+// The files with their tables, in the order of a search.
+fn places_of(
+    alloc: Global,
+    files: &[FileMeta],
+    tables: Vec<Table>,
+) -> Result<Vec<Placed>, AllocError>
+    requires { AreAsRecorded files.now tables.items }
+    ensures { IfOk result (λ places. places.items ≡ in_order (placed_of files.now tables.items)) }
+{
+    let mut tables = tables;
+    let mut places = Vec::with_capacity(alloc, files.len())?;
+    while let Some(table) = tables.pop() {
+        let meta = copy_at(files, tables.len())?;
+        put_in(&mut places, Placed { meta, table })?;
+    }
+    Ok(places)
+}
+
+fn copy_at(files: &[FileMeta], index: usize) -> Result<FileMeta, AllocError>
+    requires { index < length files.now }
+    ensures { IfOk result (λ file. file ≡ slice_index_or files.now index file) }
+{
+    files[index].clone()
+}
+
+// Puts a place before the first one that it is searched before.
+fn put_in(places: &mut Vec<Placed>, placed: Placed) -> Result<(), AllocError>
+    ensures { OnOk result (places.new.items ≡ put_in_order placed places.old.items) }
+{
+    let spot = spot_of(places.as_slice(), &placed.meta);
+    places.insert(spot, placed)?;
+    Ok(())
+}
+
+// How many places stand before the first one that the file is searched before.
+fn spot_of(places: &[Placed], meta: &FileMeta) -> usize
+    ensures within { result ≤ length places.now }
+    ensures spot { (p : Placed) → p.meta ≡ meta.now → put_in_order p places.now ≡ take result places.now ++ p ∷ drop result places.now }
+{
+    let mut spot = 0;
+    while spot < places.len() && !goes_first(meta, &places[spot].meta) {
+        spot += 1;
+    }
+    spot
+}
+
+// The one file is searched before the other.
+fn goes_first(file: &FileMeta, other: &FileMeta) -> bool
+    ensures { result ≡ is_before file.now other.now }
+{
+    if file.level != other.level {
+        return file.level < other.level;
+    }
+    if file.level == 0 {
+        other.number < file.number
+    } else {
+        other.smallest.cmp(&file.largest).is_gt()
+    }
 }
 
 // What the first place shows that shows anything.

@@ -151,6 +151,11 @@ impl Version {
         Ok(())
     }
 
+    // Where its memory comes from.
+    pub(crate) fn alloc(&self) -> Global {
+        self.alloc
+    }
+
     // Why the edit does not apply.
     pub(crate) fn fault_of(&self, edit: &Edit) -> Option<ApplyError>
         ensures fault { result ≡ plain_fault self.now edit.now }

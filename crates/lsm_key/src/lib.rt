@@ -15,6 +15,8 @@ mod lookup;
 mod op;
 mod refused;
 mod seq;
+#[cfg(test)]
+mod tests;
 
 pub use batch::{Batch, KeyError};
 pub use entry::{Entry, EntryRef, InternalKey, Kind};
