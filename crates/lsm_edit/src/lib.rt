@@ -9,6 +9,8 @@ mod file;
 mod format;
 mod next;
 mod served;
+#[cfg(test)]
+mod tests;
 mod version;
 
 pub use edit::{Edit, EditKind, decode_edit, encode_edit};
