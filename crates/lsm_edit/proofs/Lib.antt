@@ -6,3 +6,4 @@ pub mod Advance
 pub mod NextLaws
 pub mod SearchOrder
 pub mod Rebase
+pub mod Levels

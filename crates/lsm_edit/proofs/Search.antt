@@ -29,10 +29,3 @@ missed f t key at is out = by (visible t.entries key at) refl
     by (Some x) e =
         let l = at_visible t.entries key at x e in
         absurd (true≢false (sym (key_covered f t is x l.member) ∙ ap (is_covered f) (is_seen-key key at x l.passes) ∙ out))
-
--- one more place, which shows nothing
-pub skipped : (ps : List Placed) (i : ℕ) (p : Placed) (key : List ℕ) (at : ℕ) → i < length ps → p ≡ get_or ps i p → visible p.table.entries key at ≡ None
-    → first_visible (tables_of (drop (i + 1) ps)) key at ≡ first_visible (tables_of (drop i ps)) key at
-skipped ps i p key at lt is none =
-    let parts : drop i ps ≡ p ∷ drop (i + 1) ps = drop_more ps i p lt ∙ ap (λ (x : Placed). x ∷ drop (i + 1) ps) (sym is) in
-    sym (ap (λ (qs : List Placed). first_visible (tables_of qs) key at) parts ∙ ap (λ (r : Option Entry). if is_some r then r else first_visible (tables_of (drop (i + 1) ps)) key at) none)

@@ -4,6 +4,7 @@ use Rattle.std.specs.List.{list_any}
 use Rattle.lsm_key.specs.declared.entry.Entry.{Entry}
 use Rattle.lsm_key.specs.Sets.{IsIn, SameMembers}
 use Rattle.lsm_key.specs.Order.{key_le}
+use Rattle.lsm_key.specs.Visible.{visible}
 use Rattle.lsm_table.specs.Tables.{Opened, IsTable, smallest_key, largest_key}
 use Rattle.lsm_edit.specs.declared.file.FileMeta.{FileMeta}
 use Rattle.lsm_edit.specs.declared.edit.Edit.{Edit}
@@ -77,6 +78,18 @@ tables_of ps = map (λ p. p.table.entries) ps
 -- the key is in the file's range
 abbrev pub is_covered : FileMeta → List ℕ → Bool
 is_covered f key = key_le f.smallest key && key_le key f.largest
+
+-- a table shows nothing of the key
+abbrev pub ShowsNone : List ℕ → ℕ → Placed → Type 0
+ShowsNone key at p = visible p.table.entries key at ≡ None
+
+-- no table of the levels above this one shows anything of the key
+abbrev pub UpperShowNone : List Placed → ℕ → List ℕ → ℕ → Type 0
+UpperShowNone ps level key at = (p : Placed) → IsIn p ps → p.meta.level < level → ShowsNone key at p
+
+-- the file is of an upper level, or of this one with all its keys below the key
+abbrev pub comes_left : ℕ → List ℕ → Placed → Bool
+comes_left level key p = nat_lt p.meta.level level || (nat_eq p.meta.level level && not (key_le key p.meta.largest))
 
 -- the table of a number
 abbrev pub table_at : List Placed → ℕ → Option Opened

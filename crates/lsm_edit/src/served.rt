@@ -1,16 +1,18 @@
 //! A version with its tables: what is read of it.
 
-ghost use Rattle.std.specs.Prelude.{◌≡◌, ◌<◌, ◌≤◌, ◌++◌, ◌∷◌, length, take, drop, slice_index_or, OnOk, OnErr, IfOk, IfErr, None};
+ghost use Rattle.std.specs.Prelude.{◌≡◌, ◌+◌, ◌<◌, ◌≤◌, ◌++◌, ◌∷◌, length, take, drop, slice_index_or, true, false, OnOk, OnErr, IfOk, IfErr, IfSome, IfNone, None};
+ghost use Rattle.std.specs.List.Sorted.{IsPartitionPoint};
 ghost use Rattle.std.specs.Option.{option_map, option_copied, option_to_list};
 ghost use Rattle.lsm_key.specs.Faults.{Refuses};
-ghost use Rattle.lsm_key.specs.Sets.{SameMembers};
+ghost use Rattle.lsm_key.specs.Sets.{IsIn, SameMembers};
 ghost use Rattle.lsm_key.specs.Visible.{visible, lent};
 ghost use Rattle.lsm_edit.specs.declared.served.Placed.{Placed};
 ghost use Rattle.lsm_key.specs.Places.{AreOrdered, all_entries, first_visible};
 ghost use Rattle.lsm_edit.specs.Edit.{IsEdit};
 ghost use Rattle.lsm_edit.specs.Version.{apply_fault};
-ghost use Rattle.lsm_edit.specs.Served.{AllRecorded, AreAsRecorded, IsAsRecorded, is_before, is_covered, placed_of, put_in_order, in_order, tables_of};
+ghost use Rattle.lsm_edit.specs.Served.{AllRecorded, AreAsRecorded, AreInSearchOrder, UpperShowNone, comes_left, IsAsRecorded, is_before, is_covered, placed_of, put_in_order, in_order, tables_of};
 
+use crate::file::MAX_LEVEL;
 use crate::{ApplyError, Edit, FileMeta, Version};
 use lsm_key::{EntryRef, Seq};
 use lsm_table::Table;
@@ -126,6 +128,7 @@ impl Served {
         ensures first { option_map lent result ≡ first_visible (tables_of self.now.places) key.now at }
         ensures found { AreOrdered (tables_of self.now.places) → option_map lent result ≡ visible (all_entries (tables_of self.now.places)) key.now at }
     {
+        let _files = self.current.files();
         first_in(&self.placed, key, at)
     }
 
@@ -226,18 +229,94 @@ fn goes_first(file: &FileMeta, other: &FileMeta) -> bool
     }
 }
 
-// What the first place shows that shows anything.
+// What the first place shows that shows anything: level 0 is searched file by file, and of each deeper level at most
+// one table is asked.
 fn first_in<'a>(places: &'a [Placed], key: &[u8], at: Seq) -> Option<EntryRef<'a>>
-    requires { AllRecorded places.now }
+    requires recorded { AllRecorded places.now }
+    requires ordered { AreInSearchOrder places.now }
+    requires levels { (p : Placed) → IsIn p places.now → p.meta.level ≤ MAX_LEVEL }
     ensures { option_map lent result ≡ first_visible (tables_of places.now) key.now at }
 {
+    match in_level_zero(places, key, at) {
+        Some(entry) => return Some(entry),
+        None => {}
+    }
+    for level in 1..MAX_LEVEL + 1 {
+        match in_level(places, level, key, at) {
+            Some(entry) => return Some(entry),
+            None => {}
+        }
+    }
+    None
+}
+
+// What the first file of level 0 shows that shows anything.
+fn in_level_zero<'a>(places: &'a [Placed], key: &[u8], at: Seq) -> Option<EntryRef<'a>>
+    requires recorded { AllRecorded places.now }
+    requires ordered { AreInSearchOrder places.now }
+    ensures found { IfSome result (λ entry. first_visible (tables_of places.now) key.now at ≡ Some (lent entry)) }
+    ensures none { IfNone result (UpperShowNone places.now 1 key.now at) }
+{
     for placed in places {
+        if placed.meta.level > 0 {
+            return None;
+        }
         match shown_by(placed, key, at) {
             Some(entry) => return Some(entry),
             None => {}
         }
     }
     None
+}
+
+// What the one file of a deeper level shows that may have the key.
+fn in_level<'a>(places: &'a [Placed], level: u8, key: &[u8], at: Seq) -> Option<EntryRef<'a>>
+    requires recorded { AllRecorded places.now }
+    requires ordered { AreInSearchOrder places.now }
+    requires deeper { 1 ≤ level }
+    requires done { UpperShowNone places.now level key.now at }
+    ensures found { IfSome result (λ entry. first_visible (tables_of places.now) key.now at ≡ Some (lent entry)) }
+    ensures none { IfNone result (UpperShowNone places.now (level + 1) key.now at) }
+{
+    let place = place_in(places, level, key);
+    if place >= places.len() {
+        return None;
+    }
+    let placed = &places[place];
+    if placed.meta.level != level {
+        return None;
+    }
+    shown_by(placed, key, at)
+}
+
+// How many places come left of the key in a level.
+fn place_in(places: &[Placed], level: u8, key: &[u8]) -> usize
+    requires recorded { AllRecorded places.now }
+    requires ordered { AreInSearchOrder places.now }
+    requires deeper { 1 ≤ level }
+    ensures { IsPartitionPoint (λ p. comes_left level key.now p ≡ true) (λ p. comes_left level key.now p ≡ false) places.now result }
+{
+    let mut low = 0;
+    let mut high = places.len();
+    while low < high {
+        let middle = low + (high - low) / 2;
+        if stands_left(&places[middle], level, key) {
+            low = middle + 1;
+        } else {
+            high = middle;
+        }
+    }
+    low
+}
+
+// The file is of an upper level, or of this one with all its keys below the key.
+fn stands_left(placed: &Placed, level: u8, key: &[u8]) -> bool
+    ensures { result ≡ comes_left level key.now placed.now }
+{
+    if placed.meta.level != level {
+        return placed.meta.level < level;
+    }
+    key.cmp(placed.meta.largest.as_slice()).is_gt()
 }
 
 // What a table shows, which is not asked where its range misses the key.

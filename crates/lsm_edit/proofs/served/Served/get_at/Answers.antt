@@ -1,9 +1,16 @@
-use Rattle.std.proofs.Common.{◌≡◌, ◌∙◌, ap, List}
+use Rattle.std.proofs.Common.{◌≡◌, ◌∙◌, ap, subst, List}
+use Rattle.lsm_key.specs.Sets.{IsIn}
+use Rattle.lsm_key.proofs.Sets.{IsIn-map}
 use Rattle.lsm_key.specs.Places.{first_visible}
 use Rattle.lsm_key.proofs.Places.{first_visible-is}
 use Rattle.lsm_edit.specs.Served.{tables_of, ServedValue}
 use Rattle.lsm_edit.specs.declared.served.Placed.{Placed}
 use Rattle.lsm_edit.proofs.served.Served.get_at.Goals as goal
+
+pub first_in-requires-clause-levels : goal.first_in-requires-clause-levels
+first_in-requires-clause-levels c = λ p m.
+    let there : IsIn p c.self.inside.placed.items = subst (λ (ps : List Placed). IsIn p ps) c.deref.ensures.value m in
+    (c.files-files.ensures.sound.files p.meta ((c.self.invariant.listed p.meta).0 (IsIn-map (λ (q : Placed). q.meta) p c.self.inside.placed.items there))).level
 
 pub returns-clause-found : goal.returns-clause-found
 returns-clause-found c = λ ordered.
