@@ -5,3 +5,4 @@ pub mod Steps
 pub mod Joins
 pub mod Known
 pub mod Runs
+pub mod Stops

@@ -1,5 +1,5 @@
 -- What running a script reads and writes.
-use Rattle.std.specs.Prelude.{◌≡◌, ℕ, List, Option, Ok, map}
+use Rattle.std.specs.Prelude.{◌≡◌, ◌⊎◌, ℕ, List, Option, IfSome, Ok, Err, map, take}
 use Rattle.std.specs.Io.KnownBytes.{Appends}
 use Rattle.lsm_coord.specs.State.{State}
 use Rattle.lsm_coord.specs.Event as say
@@ -10,7 +10,7 @@ use Rattle.lsm_key.specs.declared.refused.Refused.{Refused}
 use Rattle.lsm_key.specs.declared.refused.Refused.TheVariants as refused
 use Rattle.lsm_sim.specs.declared.fault.Fault.{Fault}
 use Rattle.lsm_sim.specs.declared.error.RunError.{RunError}
-use Rattle.lsm_sim.specs.declared.error.RunError.TheVariants.{Script, OutOfMemory}
+use Rattle.lsm_sim.specs.declared.error.RunError.TheVariants.{Script, ReadFault, WriteFault, OutOfMemory}
 use Rattle.lsm_sim.specs.declared.event.Event.{Event}
 use Rattle.lsm_sim.specs.declared.reply.Reply.{Reply}
 use Rattle.lsm_sim.specs.Events.{event_of}
@@ -33,3 +33,18 @@ Prints events text = (replies : List Reply) × RunOfNew events (map reply_of rep
 -- what was written after what a writer held is what the events of the script print
 abbrev pub PrintsScript : List ℕ → Option (List ℕ) → Option (List ℕ) → Type 0
 PrintsScript script_text old new = (events : List say.Event) × (script script_text ≡ Ok events) × (text : List ℕ) × Prints events text × Appends old new text
+
+-- a first part of the events was run, and what was written is a beginning of the lines of its replies
+abbrev pub RunsAPart : CoordValue → List Event → CoordValue → Option (List ℕ) → Option (List ℕ) → Type 0
+RunsAPart old events new was held = (n : ℕ) × (replies : List Reply) × (k : ℕ) × RunsTo old (take n events) replies new × Appends was held (take k (lines replies))
+
+-- what was written after what a writer held is a beginning of what a first part of the events of the script prints
+abbrev pub PrintsAPart : List ℕ → Option (List ℕ) → Option (List ℕ) → Type 0
+PrintsAPart script_text old new = (events : List say.Event) × (script script_text ≡ Ok events) × (n : ℕ) × (text : List ℕ) × (k : ℕ) × Prints (take n events) text × Appends old new (take k text)
+
+-- what each error says of the script, where that is known, and of what was written
+abbrev pub StopsFor : RunError → Option (List ℕ) → Option (List ℕ) → Option (List ℕ) → Type 0
+StopsFor (Script line reason) known old new = IfSome known (λ text. script text ≡ Err (record { line = line; reason = reason })) × (new ≡ old)
+StopsFor ReadFault known old new = new ≡ old
+StopsFor WriteFault known old new = IfSome known (λ text. PrintsAPart text old new)
+StopsFor OutOfMemory known old new = (new ≡ old) ⊎ IfSome known (λ text. PrintsAPart text old new)

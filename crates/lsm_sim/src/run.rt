@@ -1,9 +1,9 @@
 //! Running a script.
 
-ghost use Rattle.std.specs.Prelude.{◌≡◌, ◌++◌, ℕ, List, OnOk, IfSome};
+ghost use Rattle.std.specs.Prelude.{◌≡◌, ◌⊎◌, ◌++◌, ℕ, List, IfErr, OnOk, OnErr, IfSome};
 ghost use Rattle.std.specs.Io.KnownBytes.{Appends};
 ghost use Rattle.lsm_sim.specs.Replies.{lines};
-ghost use Rattle.lsm_sim.specs.Runs.{RunsTo, PrintsScript};
+ghost use Rattle.lsm_sim.specs.Runs.{RunsTo, RunsAPart, PrintsScript, StopsFor};
 ghost use Rattle.lsm_sim.specs.declared.reply.Reply.{Reply};
 
 use crate::error::RunError;
@@ -29,6 +29,7 @@ pub fn run_script<R: Read, W: Write>(
     limits: Limits,
 ) -> Result<(), RunError>
     ensures ok { OnOk result (IfSome (R.remaining reader.old) (λ text. PrintsScript text (W.contents writer.old) (W.contents writer.new))) }
+    ensures err { IfErr result (λ e. StopsFor e (R.remaining reader.old) (W.contents writer.old) (W.contents writer.new)) }
 {
     let text = read_all(alloc, reader)?;
     let events = parse(alloc, &text)?;
@@ -44,6 +45,8 @@ fn run<W: Write>(
     writer: &mut W,
 ) -> Result<(), RunError>
     ensures ok { OnOk result ((replies : List Reply) × RunsTo coord.old events.now replies coord.new × Appends (W.contents writer.old) (W.contents writer.new) (lines replies)) }
+    ensures err { OnErr result (RunsAPart coord.old events.now coord.new (W.contents writer.old) (W.contents writer.new)) }
+    ensures errors { IfErr result (λ e. (e ≡ RunError.WriteFault) ⊎ (e ≡ RunError.OutOfMemory)) }
 {
     let mut out = Vec::new(alloc);
     for event in events {
