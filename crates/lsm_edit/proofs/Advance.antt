@@ -1,10 +1,8 @@
 -- What an edit makes of a version with its tables.
-use Rattle.std.proofs.Common.{◌≡◌, ℕ, ◌+◌, ◌<◌, ◌≤◌, Bool, true, false, not, cond, ◌&&◌, ◌||◌, List, [], ◌∷◌, ◌++◌, Option, None, Some, map, refl, sym, ap, subst, ◌∙◌, arith, inl, inr, ◌⊎◌, eqb, ltb}
-use Rattle.std.specs.Prelude.{filter}
-use Rattle.std.specs.List.{list_any}
-use Rattle.std.proofs.lemmas.Bool.{lt-ltb, eq-eqb, cases_order, eqb-true}
-use Rattle.lsm_key.specs.Sets.{IsIn, SameMembers}
-use Rattle.lsm_key.proofs.Sets.{IsIn-append_left, IsIn-append_right, IsIn-append_cases, IsIn-map, IsIn-mapped}
+use Rattle.std.proofs.Common.{◌≡◌, ℕ, ◌<◌, ◌≤◌, Bool, true, false, not, cond, ◌&&◌, ◌||◌, List, [], ◌∷◌, ◌++◌, None, refl, sym, ap, subst, ◌∙◌, arith, inl, inr, ◌⊎◌, eqb, ltb}
+use Rattle.std.proofs.lemmas.Bool.{lt-ltb, eq-eqb, cases_order}
+use Rattle.lsm_key.specs.Sets.{IsIn}
+use Rattle.lsm_key.proofs.Sets.{IsIn-append_left, IsIn-append_right, IsIn-append_cases, IsIn-map}
 use Rattle.lsm_key.specs.Order.{key_le}
 use Rattle.lsm_table.specs.Tables.{Opened}
 use Rattle.lsm_edit.specs.declared.file.FileMeta.{FileMeta}
@@ -12,10 +10,10 @@ use Rattle.lsm_edit.specs.declared.edit.Edit.{Edit}
 use Rattle.lsm_edit.specs.declared.edit.EditKind.{EditKind}
 use Rattle.lsm_edit.specs.declared.edit.EditKind.TheVariants.{Flush, Epoch}
 use Rattle.lsm_edit.specs.declared.served.Placed.{Placed}
-use Rattle.lsm_edit.specs.Version.{VersionValue, IsVersion, has_number, files_after, plain_fault, applied}
+use Rattle.lsm_edit.specs.Version.{VersionValue, IsVersion, plain_fault, applied}
 use Rattle.lsm_edit.proofs.VersionLaws.{none_below, passes, files_after-is}
 use Rattle.lsm_edit.specs.Edit.{IsEdit, AreAdded}
-use Rattle.lsm_edit.specs.Served.{IsAsRecorded, AreAsRecorded, ServedValue, is_before, AreInSearchOrder, placed_of, put_in_order, put_all, places_without, advanced, IsServed}
+use Rattle.lsm_edit.specs.Served.{IsAsRecorded, AreAsRecorded, ServedValue, is_before, placed_of, put_in_order, put_all, places_without, advanced, IsServed}
 
 pub places_without-none : (ps : List Placed) → places_without [] ps ≡ ps
 places_without-none [] = refl

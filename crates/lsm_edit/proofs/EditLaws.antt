@@ -1,5 +1,5 @@
 -- An edit that is read is spelled so, and what is spelled so is read.
-use Rattle.std.proofs.Common.{◌≡◌, ℕ, ◌+◌, ◌-◌, ◌*◌, ◌^◌, ◌<◌, ◌≤◌, Bool, true, false, not, cond, eqb, List, [], ◌∷◌, ◌++◌, length, Result, Ok, Err, refl, sym, ap, subst, ◌∙◌, append_assoc, arith, inl, inr, ◌⊎◌}
+use Rattle.std.proofs.Common.{◌≡◌, ℕ, ◌-◌, ◌^◌, ◌<◌, ◌≤◌, false, not, cond, eqb, List, [], ◌∷◌, ◌++◌, length, Result, Ok, Err, refl, sym, ap, subst, ◌∙◌, append_assoc, arith, inl, inr}
 use Rattle.std.specs.Int.{w8, w32, w64, to_be_bytes}
 use Rattle.std.specs.List.{flat_map, All}
 use Rattle.std.proofs.lemmas.List.Elements.{All-from_recursion}
@@ -10,7 +10,7 @@ use Rattle.std.specs.Prelude.{IfOk}
 use Rattle.lsm_key.specs.declared.refused.Refused.{Refused}
 use Rattle.lsm_key.specs.Order.{key_le}
 use Rattle.lsm_key.specs.Spelling.{key, IsKey}
-use Rattle.lsm_key.specs.Reading.{◌>>=◌, number_at, within_at, key_at, Gives}
+use Rattle.lsm_key.specs.Reading.{◌>>=◌, number_at, within_at, Gives}
 use Rattle.lsm_key.proofs.FieldLaws.{IsBytes, Takes, Takes-then, bind_ok, guard_held, ok_is, wide8, wide32, wide64, number_takes, number_again}
 use Rattle.lsm_key.proofs.Readers.{Reads, Goes, field, field_as, unless, done, whole, within_reads, key_reads}
 use Rattle.lsm_edit.specs.declared.file.FileMeta.{FileMeta}
@@ -20,7 +20,7 @@ use Rattle.lsm_edit.specs.declared.edit.EditKind.TheVariants.{Flush, Epoch}
 use Rattle.lsm_edit.specs.declared.format.FormatFault.{FormatFault}
 use Rattle.lsm_edit.specs.declared.format.FormatFault.TheVariants.{Truncated, BadField, TrailingBytes}
 use Rattle.lsm_edit.specs.File.{IsFile, file, file_at}
-use Rattle.lsm_edit.specs.Edit.{IsEdit, IsSpelled, AreAdded, removed, added, added_count, edit, kind_code, kind_from, kind_at, files_at, added_at, fields_at, edit_of}
+use Rattle.lsm_edit.specs.Edit.{IsEdit, IsSpelled, AreAdded, added, added_count, edit, kind_code, kind_from, kind_at, files_at, added_at, fields_at, edit_of}
 
 -- ---- file records
 

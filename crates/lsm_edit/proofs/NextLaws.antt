@@ -1,11 +1,11 @@
 -- The edits that follow a version apply to it.
-use Rattle.std.proofs.Common.{◌≡◌, ℕ, ◌+◌, ◌<◌, ◌≤◌, ◌^◌, false, true, not, None, [], ◌∷◌, refl, sym, ap, ◌∙◌, arith}
+use Rattle.std.proofs.Common.{◌≡◌, ℕ, ◌+◌, ◌<◌, ◌≤◌, ◌^◌, None, refl, sym, ◌∙◌, arith}
 use Rattle.std.proofs.lemmas.Bool.{eq-eqb, le-ltb, lt-leb}
 use Rattle.lsm_key.specs.declared.limits.TheConstants.{MAX_NUMBER}
 use Rattle.lsm_edit.specs.declared.file.FileMeta.{FileMeta}
 use Rattle.lsm_edit.specs.File.{IsFile}
 use Rattle.lsm_edit.specs.Edit.{IsEdit}
-use Rattle.lsm_edit.specs.Version.{VersionValue, IsVersion, plain_fault, apply_fault}
+use Rattle.lsm_edit.specs.Version.{VersionValue, IsVersion, apply_fault}
 use Rattle.lsm_edit.specs.Next.{flush_edit, epoch_edit}
 use Rattle.lsm_edit.proofs.VersionLaws.{plain_is}
 

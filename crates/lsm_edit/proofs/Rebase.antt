@@ -1,5 +1,5 @@
 -- The files of a version with their tables, put in the order of a search.
-use Rattle.std.proofs.Common.{◌≡◌, ℕ, zero, suc, ◌+◌, ◌<◌, ◌≤◌, Bool, true, false, cond, List, [], ◌∷◌, ◌++◌, length, length-append, append_assoc, map, take, drop, get_or, refl, sym, ap, subst, ◌∙◌, arith, inl, inr, ◌⊎◌}
+use Rattle.std.proofs.Common.{◌≡◌, ℕ, suc, ◌+◌, ◌<◌, ◌≤◌, Bool, true, false, cond, List, [], ◌∷◌, ◌++◌, length, length-append, append_assoc, map, take, drop, get_or, refl, sym, ap, subst, ◌∙◌, arith, inl, inr, ◌⊎◌}
 use Rattle.std.specs.List.{list_any}
 use Rattle.std.proofs.lemmas.Bool.{or_parts}
 use Rattle.std.proofs.lemmas.List.{drop_more, drop_all, take_more}
@@ -10,7 +10,7 @@ use Rattle.lsm_table.specs.Tables.{Opened}
 use Rattle.lsm_edit.specs.declared.file.FileMeta.{FileMeta}
 use Rattle.lsm_edit.specs.declared.served.Placed.{Placed}
 use Rattle.lsm_edit.specs.Version.{VersionValue, IsVersion, NumbersRise, has_overlap, clashes}
-use Rattle.lsm_edit.specs.Served.{IsAsRecorded, AreAsRecorded, ServedValue, AllRecorded, is_before, AreInSearchOrder, placed_of, put_in_order, in_order, IsServed}
+use Rattle.lsm_edit.specs.Served.{IsAsRecorded, AreAsRecorded, AllRecorded, is_before, AreInSearchOrder, placed_of, put_in_order, in_order, IsServed}
 use Rattle.lsm_edit.proofs.SearchOrder.{Apart, apart, before_of, before_is, before_trans}
 
 -- ---- a place put among others in order

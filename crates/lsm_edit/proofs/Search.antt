@@ -1,18 +1,15 @@
 -- A table whose range misses the key shows nothing of it.
-use Rattle.std.proofs.Common.{◌≡◌, ℕ, ◌+◌, ◌<◌, Bool, true, false, not, cond, ◌&&◌, List, [], ◌∷◌, Option, None, Some, length, map, drop, get_or, refl, sym, ap, subst, ◌∙◌, arith, is_some, if◌then◌else◌, inl, inr}
+use Rattle.std.proofs.Common.{◌≡◌, ℕ, true, false, not, List, Option, None, Some, refl, sym, ap, ◌∙◌}
 use Rattle.std.proofs.lemmas.Bool.{true≢false, and_from}
-use Rattle.std.proofs.lemmas.List.{drop_more}
 use Rattle.lsm_key.specs.declared.entry.Entry.{Entry}
 use Rattle.lsm_key.specs.Sets.{IsIn}
 use Rattle.lsm_key.specs.Order.{key_le}
-use Rattle.lsm_key.specs.Visible.{visible, is_seen, IsLatest}
-use Rattle.lsm_key.specs.Places.{first_visible}
+use Rattle.lsm_key.specs.Visible.{visible}
 use Rattle.lsm_key.proofs.Visible.{at_visible, is_seen-key}
 use Rattle.lsm_table.proofs.Contents.{table_range}
 use Rattle.lsm_table.specs.Tables.{Opened}
-use Rattle.lsm_edit.specs.declared.served.Placed.{Placed}
 use Rattle.lsm_edit.specs.declared.file.FileMeta.{FileMeta}
-use Rattle.lsm_edit.specs.Served.{IsAsRecorded, is_covered, tables_of}
+use Rattle.lsm_edit.specs.Served.{IsAsRecorded, is_covered}
 
 pub key_covered : (f : FileMeta) (t : Opened) → IsAsRecorded f t → (e : Entry) → IsIn e t.entries → is_covered f e.ikey.key ≡ true
 key_covered f t is e m =

@@ -1,8 +1,7 @@
 -- What an edit that applies makes of a version.
-use Rattle.std.proofs.Common.{◌≡◌, ℕ, ◌+◌, ◌<◌, ◌≤◌, Bool, true, false, not, cond, ◌&&◌, ◌||◌, List, [], ◌∷◌, ◌++◌, Option, None, Some, refl, sym, ap, subst, ◌∙◌, arith, inl, inr, ◌⊎◌, eqb, ltb, leb}
-use Rattle.std.specs.Prelude.{filter}
+use Rattle.std.proofs.Common.{◌≡◌, ℕ, ◌+◌, ◌<◌, ◌≤◌, Bool, true, false, not, cond, ◌&&◌, ◌||◌, List, [], ◌∷◌, ◌++◌, Option, None, Some, refl, sym, ap, subst, ◌∙◌, arith, inl, inr, eqb, ltb, leb}
 use Rattle.std.specs.List.{list_any}
-use Rattle.std.proofs.lemmas.Bool.{or_from, or_parts, ltb-false, leb-false, not-true, not-false, eqb-true, cases_Bool, true≢false}
+use Rattle.std.proofs.lemmas.Bool.{or_from, or_parts, ltb-false, leb-false, not-false, eqb-true, cases_Bool}
 use Rattle.lsm_key.specs.Sets.{IsIn}
 use Rattle.lsm_key.proofs.Sets.{IsIn-append_cases}
 use Rattle.lsm_edit.specs.declared.file.FileMeta.{FileMeta}
@@ -10,7 +9,7 @@ use Rattle.lsm_edit.specs.declared.edit.Edit.{Edit}
 use Rattle.lsm_edit.specs.declared.edit.EditKind.{EditKind}
 use Rattle.lsm_edit.specs.declared.edit.EditKind.TheVariants.{Flush, Epoch}
 use Rattle.lsm_edit.specs.declared.version.ApplyError.{ApplyError}
-use Rattle.lsm_edit.specs.declared.version.ApplyError.TheVariants.{WrongNumber, NoSuchFile, FileExists, Overlap, FlushedBack, BadCounter}
+use Rattle.lsm_edit.specs.declared.version.ApplyError.TheVariants.{BadCounter}
 use Rattle.lsm_edit.specs.File.{IsFile}
 use Rattle.lsm_edit.specs.Edit.{IsEdit, AreAdded}
 use Rattle.lsm_edit.specs.Version.{VersionValue, IsVersion, NumbersRise, without, has_number, files_after, clashes, meets, has_overlap, apply_fault, plain_fault, applied, goes_back, miscounts, is_low}

@@ -1,5 +1,5 @@
 -- A version with its tables, in the order of a search (LevelDB, implementation notes: level 0; version_set.cc, Version::Get).
-use Rattle.std.specs.Prelude.{◌≡◌, ℕ, ◌<◌, Bool, true, false, not, ◌&&◌, ◌||◌, List, [], ◌∷◌, ◌++◌, Option, None, Some, length, map, filter, nat_eq, nat_lt, if◌then◌else◌}
+use Rattle.std.specs.Prelude.{◌≡◌, ℕ, ◌<◌, Bool, true, not, ◌&&◌, ◌||◌, List, [], ◌∷◌, Option, None, Some, length, map, filter, nat_eq, nat_lt, if◌then◌else◌}
 use Rattle.std.specs.List.{list_any}
 use Rattle.lsm_key.specs.declared.entry.Entry.{Entry}
 use Rattle.lsm_key.specs.Sets.{IsIn, SameMembers}
@@ -9,7 +9,7 @@ use Rattle.lsm_table.specs.Tables.{Opened, IsTable, smallest_key, largest_key}
 use Rattle.lsm_edit.specs.declared.file.FileMeta.{FileMeta}
 use Rattle.lsm_edit.specs.declared.edit.Edit.{Edit}
 use Rattle.lsm_edit.specs.declared.served.Placed.{Placed}
-use Rattle.lsm_edit.specs.Version.{VersionValue, IsVersion, first_version, applied, without, has_number}
+use Rattle.lsm_edit.specs.Version.{VersionValue, first_version, applied, has_number}
 
 -- a table is as its record says
 pub record IsAsRecorded (f : FileMeta) (t : Opened) : Type 0 where

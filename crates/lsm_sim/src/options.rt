@@ -26,6 +26,7 @@ fn command<'a>(alloc: Global) -> Result<Command<'a>, AllocError> {
         .arg(l0)?
         .arg(base)?;
     Command::new(alloc, "lsmsim")
+        .bin_name("lsmsim")?
         .about("A key-value store as a leveled LSM tree")
         .no_binary_name(true)
         .subcommand_required(true)

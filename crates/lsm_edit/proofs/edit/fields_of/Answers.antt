@@ -1,4 +1,4 @@
-use Rattle.std.proofs.Common.{arith, ◌≤◌, ◌-◌, ◌^◌}
+use Rattle.std.proofs.Common.{arith, ◌-◌, ◌^◌}
 use Rattle.std.specs.Int.{w64}
 use Rattle.lsm_edit.specs.declared.format.FormatFault.TheVariants.{Truncated, BadField}
 use Rattle.lsm_key.proofs.FieldLaws.{within_range}

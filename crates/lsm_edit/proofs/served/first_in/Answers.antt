@@ -1,4 +1,4 @@
-use Rattle.std.proofs.Common.{◌≡◌, ◌∙◌, subst, sym, arith}
+use Rattle.std.proofs.Common.{sym, arith}
 use Rattle.lsm_edit.proofs.Levels.{none_at_all}
 use Rattle.lsm_edit.proofs.served.first_in.Goals as goal
 

@@ -1,7 +1,6 @@
-use Rattle.std.proofs.Common.{◌≡◌, ◌∙◌, ◌+◌, ap, subst, sym, arith, false, Option}
+use Rattle.std.proofs.Common.{◌≡◌, ◌+◌, subst, sym, arith, false}
 use Rattle.lsm_key.specs.Sets.{IsIn}
 use Rattle.lsm_key.proofs.Sets.{IsIn-at}
-use Rattle.lsm_key.specs.declared.entry.Entry.{Entry}
 use Rattle.lsm_key.specs.Visible.{visible}
 use Rattle.lsm_key.specs.Places.{first_visible}
 use Rattle.lsm_edit.specs.declared.served.Placed.{Placed}

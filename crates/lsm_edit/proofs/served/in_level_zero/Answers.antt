@@ -1,4 +1,4 @@
-use Rattle.std.proofs.Common.{◌≡◌, ◌∙◌, subst, sym, arith}
+use Rattle.std.proofs.Common.{subst, sym, arith}
 use Rattle.lsm_key.specs.Sets.{IsIn}
 use Rattle.lsm_key.proofs.Sets.{IsIn-at}
 use Rattle.lsm_key.specs.Visible.{lent}

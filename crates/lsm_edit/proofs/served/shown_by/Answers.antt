@@ -1,5 +1,4 @@
 use Rattle.std.proofs.Common.{sym, ◌∙◌}
-use Rattle.std.proofs.lemmas.Bool.{not-true}
 use Rattle.lsm_edit.proofs.Search.{missed}
 use Rattle.lsm_edit.proofs.served.shown_by.Goals as goal
 

@@ -1,7 +1,4 @@
-use Rattle.std.proofs.Common.{◌≡◌, ◌≤◌, true, not, ap, ◌∙◌, sym, subst, arith, List, ℕ, length}
-use Rattle.lsm_key.specs.declared.limits.TheConstants.{MAX_KEY_BYTES}
-use Rattle.lsm_key.specs.Spelling.{IsKey}
-use Rattle.lsm_key.specs.Order.{key_le}
+use Rattle.std.proofs.Common.{◌≡◌, not, ap, ◌∙◌, arith, List, ℕ, length}
 use Rattle.lsm_table.specs.Tables.{smallest_key, largest_key}
 use Rattle.lsm_table.proofs.Contents.{table_small, table_ends, smallest_fits, largest_fits}
 use Rattle.lsm_edit.proofs.file.FileMeta.of_table.Goals as goal

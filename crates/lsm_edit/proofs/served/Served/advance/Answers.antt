@@ -1,10 +1,10 @@
-use Rattle.std.proofs.Common.{◌≡◌, ◌∙◌, sym, subst, ap, refl, inl, inr, List, [], ◌∷◌, ◌++◌, None, rules, arith}
+use Rattle.std.proofs.Common.{◌≡◌, ◌∙◌, sym, subst, ap, refl, inl, inr, List, [], ◌∷◌, ◌++◌, None, arith}
 use Rattle.std.specs.Option.{option_to_list}
 use Rattle.std.proofs.lemmas.Grind.{common_steps}
 use Rattle.std.proofs.lemmas.Result.{err_from_is_err_and}
 use Rattle.lsm_edit.specs.declared.served.Placed.{Placed}
 use Rattle.lsm_edit.specs.Served.{IsServed, ServedValue, placed_of, advanced}
-use Rattle.lsm_edit.specs.Version.{plain_fault, apply_fault, VersionValue, applied}
+use Rattle.lsm_edit.specs.Version.{plain_fault, applied}
 use Rattle.lsm_edit.proofs.VersionLaws.{plain_is}
 use Rattle.lsm_edit.proofs.Advance.{places_are, served_after}
 use Rattle.lsm_edit.proofs.served.Served.advance.Goals as goal

@@ -2,8 +2,7 @@ use Rattle.std.proofs.Common.{◌≡◌, ◌∙◌, ap, sym, subst, List}
 use Rattle.lsm_key.specs.Sets.{SameMembers}
 use Rattle.lsm_edit.specs.declared.file.FileMeta.{FileMeta}
 use Rattle.lsm_edit.specs.declared.served.Placed.{Placed}
-use Rattle.lsm_edit.specs.Version.{VersionValue, IsVersion}
-use Rattle.lsm_edit.specs.Served.{IsServed, placed_of, in_order}
+use Rattle.lsm_edit.specs.Served.{placed_of, in_order}
 use Rattle.lsm_edit.proofs.Rebase.{rebased, in_order-members}
 use Rattle.lsm_edit.proofs.served.Served.rebase.Goals as goal
 

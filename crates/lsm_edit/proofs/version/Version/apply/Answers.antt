@@ -1,7 +1,7 @@
 use Rattle.std.proofs.Common.{◌≡◌, None, sym, subst, ◌∙◌, inl, inr, refl, List, ◌++◌, ap}
 use Rattle.std.proofs.lemmas.Result.{err_from_is_err_and}
 use Rattle.lsm_edit.specs.declared.file.FileMeta.{FileMeta}
-use Rattle.lsm_edit.specs.Version.{IsVersion, plain_fault, apply_fault, applied, VersionValue, files_after}
+use Rattle.lsm_edit.specs.Version.{IsVersion, plain_fault, applied, VersionValue, files_after}
 use Rattle.lsm_edit.proofs.VersionLaws.{plain_is, applied_is, files_after-is}
 use Rattle.lsm_edit.proofs.version.Version.apply.Goals as goal
 
