@@ -13,9 +13,9 @@ use Rattle.lsm_key.specs.Limits.{entry_weight, total_weight, value_len, push_fau
 use Rattle.lsm_key.specs.Places.{entry_of, entries_after}
 use Rattle.lsm_key.proofs.Sets.{IsIn-append_cases}
 use Rattle.lsm_key.proofs.Writes.{entries_after-range, weight-entries_after, entry_seq}
-use Rattle.lsm_table.specs.Blocks.{IsEntry}
+use Rattle.lsm_key.specs.Entries.{IsEntry, AreSound}
 use Rattle.lsm_edit.specs.Served.{ServedValue}
-use Rattle.lsm_coord.specs.Memory.{SequencesRise, AreSound, IsCoord}
+use Rattle.lsm_coord.specs.Memory.{SequencesRise, IsCoord}
 
 -- ---- the entries of a batch are within their limits
 

@@ -17,10 +17,10 @@ use Rattle.lsm_key.specs.Limits.{entry_weight}
 use Rattle.lsm_key.proofs.Sets.{SameMembers-permutation, IsIn-at}
 use Rattle.lsm_key.proofs.Order.{pair_total, place_equal}
 use Rattle.lsm_key.specs.declared.limits.TheConstants.{MAX_MEMTABLE_WEIGHT}
-use Rattle.lsm_table.specs.Blocks.{IsEntry}
+use Rattle.lsm_key.specs.Entries.{IsEntry, AreSound}
 use Rattle.lsm_table.specs.Building.{add_fault, finish_fault}
 use Rattle.lsm_table.proofs.Weights.{never_refused}
-use Rattle.lsm_coord.specs.Memory.{SequencesRise, AreSound, IsMemory}
+use Rattle.lsm_coord.specs.Memory.{SequencesRise, IsMemory}
 
 abbrev seq_of : Entry → ℕ
 seq_of e = e.ikey.seq

@@ -4,16 +4,13 @@ use Rattle.lsm_key.specs.declared.entry.Entry.{Entry}
 use Rattle.lsm_key.specs.declared.limits.TheConstants.{MAX_MEMTABLE_WEIGHT}
 use Rattle.lsm_key.specs.Sets.{IsIn}
 use Rattle.lsm_key.specs.Limits.{entry_weight}
-use Rattle.lsm_table.specs.Blocks.{IsEntry}
+use Rattle.lsm_key.specs.Entries.{AreSound}
 use Rattle.lsm_edit.specs.Served.{ServedValue}
 
 -- sequences rise from entry to entry
 abbrev pub SequencesRise : List Entry → Type 0
 SequencesRise [] = Unit {0}
 SequencesRise (e ∷ es) = ((f : Entry) → IsIn f es → e.ikey.seq < f.ikey.seq) × SequencesRise es
-
-abbrev pub AreSound : List Entry → Type 0
-AreSound es = (e : Entry) → IsIn e es → IsEntry e
 
 -- entries in the order of writing, up to a sequence, with what they weigh
 pub record IsMemory (entries : List Entry) (weight last : ℕ) : Type 0 where

@@ -1,13 +1,13 @@
 //! The table that a memtable becomes.
 
 ghost use Rattle.std.specs.Prelude.{◌≡◌, ◌<◌, ◌≤◌, ◌++◌, ℕ, List, [], ◌∷◌, None, length, sum_by, IfOk, OnOk};
-ghost use Rattle.lsm_table.specs.Blocks.{IsEntry};
+ghost use Rattle.lsm_key.specs.Entries.{IsEntry, AreSound};
 ghost use Rattle.lsm_table.specs.Building.{add_fault, finish_fault};
 ghost use Rattle.std.specs.List.Sorted.{IsPermutation};
 ghost use Rattle.lsm_key.specs.declared.limits.TheConstants.{MAX_MEMTABLE_WEIGHT};
 ghost use Rattle.lsm_key.specs.Limits.{entry_weight};
 ghost use Rattle.lsm_key.specs.Order.{IsAscending};
-ghost use Rattle.lsm_coord.specs.Memory.{AreSound, IsMemory};
+ghost use Rattle.lsm_coord.specs.Memory.{IsMemory};
 
 use crate::memory::{copy_of, sorted_copies};
 use lsm_key::Entry;

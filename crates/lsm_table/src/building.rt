@@ -15,7 +15,8 @@
 
 ghost use Rattle.std.specs.Prelude.{◌≡◌, ◌++◌, [], ◌∷◌, List, IfOk, OnOk, OnErr, IfErr, None};
 ghost use Rattle.lsm_key.specs.declared.entry.Entry.{Entry};
-ghost use Rattle.lsm_table.specs.Blocks.{IsEntry, HasSequence};
+ghost use Rattle.lsm_key.specs.Entries.{IsEntry};
+ghost use Rattle.lsm_table.specs.Blocks.{HasSequence};
 ghost use Rattle.lsm_table.specs.Tables.{IsTable};
 ghost use Rattle.lsm_table.specs.Building.{IsDraft, add_fault, finish_fault, Refuses};
 

@@ -1,6 +1,6 @@
 //! Tables as the format's worked examples have them, and each refusal by its name.
 
-ghost use Rattle.lsm_table.specs.Blocks.{IsEntry};
+ghost use Rattle.lsm_key.specs.Entries.{IsEntry};
 ghost use Rattle.std.specs.Prelude.{◌≡◌, ◌≤◌, length};
 
 use super::*;

@@ -4,7 +4,7 @@ use Rattle.lsm_key.specs.declared.limits.TheConstants.{MAX_MEMTABLE_WEIGHT}
 use Rattle.lsm_key.specs.declared.entry.Entry.{Entry}
 use Rattle.lsm_key.specs.Order.{IsAscending}
 use Rattle.lsm_key.specs.Limits.{entry_weight}
-use Rattle.lsm_coord.specs.Memory.{AreSound}
+use Rattle.lsm_key.specs.Entries.{AreSound}
 use Rattle.lsm_coord.proofs.Sorting.{next_is_sound, next_is_taken}
 use Rattle.lsm_coord.proofs.table.built.Goals as goal
 
