@@ -1,5 +1,5 @@
 -- What each call of the coordinator refuses and makes, of the value that contracts see (LevelDB, db_impl.cc: Write, CompactMemTable, Get).
-use Rattle.std.specs.Prelude.{◌≡◌, ℕ, ◌+◌, ◌≤◌, List, ◌++◌, [], ◌∷◌, Option, None, Some, length, sum_by, nat_eq, nat_lt, nat_le, ◌||◌, if◌then◌else◌}
+use Rattle.std.specs.Prelude.{◌≡◌, ℕ, ◌+◌, ◌≤◌, List, ◌++◌, [], ◌∷◌, Option, None, Some, IsSome, length, sum_by, nat_eq, nat_lt, nat_le, ◌||◌, if◌then◌else◌}
 use Rattle.lsm_key.specs.declared.op.Op.{Op}
 use Rattle.lsm_key.specs.declared.limits.TheConstants.{MAX_MEMTABLE_WEIGHT, MAX_NUMBER}
 use Rattle.lsm_key.specs.declared.seq.TheConstants.Seq as seq
@@ -57,3 +57,7 @@ pub record AddsTable (old : CoordValue) (file : FileMeta) (table : Opened) (new 
 -- the value of a key at the present, of each state that is shown
 abbrev pub Answers : CoordValue → List ℕ → Option (List ℕ) → Type 0
 Answers c key value = (s : State) → Shows c s → value ≡ answer s.writes (last_seq s) key
+
+-- the key has a value at the present, in each state that is shown
+abbrev pub HasValue : CoordValue → List ℕ → Type 0
+HasValue c key = (s : State) → Shows c s → IsSome (answer s.writes (last_seq s) key)

@@ -1,6 +1,6 @@
 //! The coordinator: one store, over tables in memory.
 
-ghost use Rattle.std.specs.Prelude.{◌≡◌, None, IfOk, OnOk, OnErr};
+ghost use Rattle.std.specs.Prelude.{◌≡◌, None, IfOk, IfErr, IsSome, OnOk, OnErr};
 ghost use Rattle.std.specs.Option.{option_and_then};
 ghost use Rattle.lsm_key.specs.Visible.{entry_value, lent};
 ghost use Rattle.lsm_edit.specs.Edit.{IsEdit};
@@ -65,7 +65,7 @@ impl Coord {
     ghost use Rattle.lsm_coord.specs.State.{first_state};
     ghost use Rattle.lsm_coord.specs.Event.{Write, Flush, Get, Show, Coordinator};
     ghost use Rattle.lsm_coord.specs.Shows.{Shows, Follows};
-    ghost use Rattle.lsm_coord.specs.Calls.{AddsTable, CanNumber, write_fault, flush_fault, written, Answers};
+    ghost use Rattle.lsm_coord.specs.Calls.{AddsTable, CanNumber, write_fault, flush_fault, written, Answers, HasValue};
     ghost use Rattle.lsm_coord.specs.Replies.{write_reply, flush_reply, get_reply, show_reply};
 
     /// A new store, at version 1 of its first epoch.
@@ -170,6 +170,8 @@ impl Coord {
     pub fn get(&mut self, key: &[u8]) -> Result<Option<Bytes>, CoordError>
         ensures step { Follows self.old (Get key.now None) (get_reply result) self.new }
         ensures same { self.new ≡ self.old }
+        // Only a value takes memory.
+        ensures refused { IfErr result (λ e. (e ≡ CoordError.OutOfMemory) × HasValue self.old key.now) }
     {
         let value = self.value_of(key)?;
         Ok(value)
@@ -177,7 +179,8 @@ impl Coord {
 
     // A copy of what a read of the key finds.
     fn value_of(&self, key: &[u8]) -> Result<Option<Bytes>, AllocError>
-        ensures { IfOk result (Answers self.now key.now) }
+        ensures ok { IfOk result (Answers self.now key.now) }
+        ensures refused { IfErr result (λ _. HasValue self.now key.now) }
     {
         match self.found(key) {
             None => Ok(None),
@@ -211,6 +214,7 @@ fn extend(served: &mut Served, edit: &Edit, tables: Vec<Table>) -> Result<(), Al
     ensures ok { OnOk result (served.new ≡ extended served.old edit.now tables.items) }
     ensures err { OnErr result (served.new ≡ served.old) }
 {
+    // That it is sound, as the proof wants to know.
     let _listing = served.listing();
     match served.advance(edit, tables) {
         Ok(()) => Ok(()),
@@ -220,7 +224,8 @@ fn extend(served: &mut Served, edit: &Edit, tables: Vec<Table>) -> Result<(), Al
 
 // What a read gives that finds the entry.
 fn value_in(alloc: Global, entry: EntryRef<'_>) -> Result<Option<Bytes>, AllocError>
-    ensures { IfOk result (λ value. value ≡ entry_value (lent entry.entry)) }
+    ensures ok { IfOk result (λ value. value ≡ entry_value (lent entry.entry)) }
+    ensures refused { IfErr result (λ _. IsSome (entry_value (lent entry.entry))) }
 {
     match entry.kind {
         Kind::Put => Ok(Some(Bytes::copy_from_slice(alloc, entry.value)?)),

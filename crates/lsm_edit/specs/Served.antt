@@ -55,14 +55,13 @@ abbrev pub put_in_order : Placed → List Placed → List Placed
 put_in_order p [] = p ∷ []
 put_in_order p (q ∷ qs) = if is_before p.meta q.meta then p ∷ q ∷ qs else q ∷ put_in_order p qs
 
+-- places put among others that are in the order of a search
 abbrev pub put_all : List Placed → List Placed → List Placed
 put_all [] qs = qs
-put_all (p ∷ ps) qs = put_all ps (put_in_order p qs)
+put_all (p ∷ ps) qs = put_in_order p (put_all ps qs)
 
--- all places put in the order of a search
 abbrev pub in_order : List Placed → List Placed
-in_order [] = []
-in_order (p ∷ ps) = put_in_order p (in_order ps)
+in_order ps = put_all ps []
 
 abbrev pub places_without : List ℕ → List Placed → List Placed
 places_without numbers ps = filter (λ p. not (list_any (λ n. has_number n p.meta) numbers)) ps

@@ -58,10 +58,11 @@ impl Edit {
     {
         let number = version.number() + 1;
         let next_file = version.next_file() + 1;
+        // That the sequence fits and the version is sound, as the proof wants to know.
         let _written = flushed.number();
+        let _files = version.files();
         let mut added = Items::new(alloc);
         added.push(file)?;
-        let _files = version.files();
         Ok(Edit {
             number,
             kind: EditKind::Flush,
@@ -81,6 +82,7 @@ impl Edit {
         ensures sound { IsEdit result }
         ensures applies { apply_fault version.now result ≡ None }
     {
+        // That the version is sound, as the proof wants to know.
         let _files = version.files();
         Edit {
             number: version.number() + 1,

@@ -128,6 +128,7 @@ impl Served {
         ensures first { option_map lent result ≡ first_visible (tables_of self.now.places) key.now at }
         ensures found { AreOrdered (tables_of self.now.places) → option_map lent result ≡ visible (all_entries (tables_of self.now.places)) key.now at }
     {
+        // That their levels are in range, as the proof wants to know.
         let _files = self.current.files();
         first_in(&self.placed, key, at)
     }

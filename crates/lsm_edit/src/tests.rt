@@ -1,5 +1,7 @@
 //! Edits as the format's worked examples have them, and each refusal by its name.
 
+mod versions;
+
 use super::*;
 use bytes::Bytes;
 use lsm_key::{Refused, Seq};
