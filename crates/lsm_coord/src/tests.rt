@@ -11,10 +11,8 @@ fn put_of(alloc: Global, len: usize) -> Result<Batch, Fail> {
     let value = vec![in alloc; 49; len]?;
     let value = Bytes::copy_from_slice(alloc, &value)?;
     let mut batch = Batch::new(alloc);
-    match batch.push(Op::Put(Bytes::from_static(b"a"), value)) {
-        Ok(()) => Ok(batch),
-        Err(_) => Err(Fail::from("no batch")),
-    }
+    batch.push(Op::Put(Bytes::from_static(b"a"), value))?;
+    Ok(batch)
 }
 
 /// A new store.
@@ -33,11 +31,11 @@ fn the_way_of_a_write(rt: HostRuntime) -> Result<(), Fail> {
         seq: first,
         file: 1,
     };
-    assert!(rt; coord.write(&batch) == Ok((first, first)));
-    assert!(rt; coord.flush() == Ok(flushed));
-    match coord.get(b"a") {
-        Ok(Some(value)) => assert!(rt; value.as_slice() == b"1".as_slice()),
-        _ => assert!(rt; false, "no value"),
+    assert!(rt; coord.write(&batch)? == (first, first));
+    assert!(rt; coord.flush()? == flushed);
+    match coord.get(b"a")? {
+        Some(value) => assert!(rt; value.as_slice() == b"1".as_slice()),
+        None => assert!(rt; false, "no value"),
     }
     let listing = coord.show();
     assert!(rt; listing.number == 2);
@@ -54,14 +52,14 @@ fn a_full_memtable_takes_writes_again_after_a_flush(rt: HostRuntime) -> Result<(
     let above = put_of(rt.alloc(), 2_764)?;
     let last = put_of(rt.alloc(), 2_763)?;
     for _ in 0..122 {
-        assert!(rt; coord.write(&large).is_ok());
+        coord.write(&large)?;
     }
     assert!(rt; coord.write(&large) == Err(CoordError::MemtableFull));
     assert!(rt; coord.write(&above) == Err(CoordError::MemtableFull));
-    assert!(rt; coord.write(&last) == Ok((Seq::new(123), Seq::new(123))));
-    assert!(rt; coord.flush().is_ok());
+    assert!(rt; coord.write(&last)? == (Seq::new(123), Seq::new(123)));
+    coord.flush()?;
     assert!(rt; coord.flush() == Err(CoordError::NothingToFlush));
-    assert!(rt; coord.write(&above) == Ok((Seq::new(124), Seq::new(124))));
+    assert!(rt; coord.write(&above)? == (Seq::new(124), Seq::new(124)));
     Ok(())
 }
 
