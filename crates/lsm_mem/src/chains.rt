@@ -1,0 +1,76 @@
+//! A memtable's entries, key by key.
+
+ghost use Rattle.std.specs.Prelude.{◌≡◌, ◌++◌, OnOk, reverse};
+
+use lsm_key::Entry;
+use std::alloc::{AllocError, Global};
+use std::collections::BTreeMap;
+use std::marker::Model;
+
+/// Each key with its versions, the oldest first.
+#[derive(Debug, Drop)]
+pub(crate) struct Chains {
+    alloc: Global,
+    by_key: BTreeMap<Vec<u8>, Vec<Entry>>,
+}
+
+impl Model for Chains {
+    ghost use Rattle.std.specs.Prelude.{List};
+    ghost use Rattle.lsm_mem.specs.Chains.{Chain, chains_of};
+
+    ghost Value = { List Chain };
+
+    ghost view = { λ c. chains_of c.by_key.entries };
+}
+
+impl Chains {
+    ghost use Rattle.std.specs.Prelude.{◌≡◌, ◌≢◌, [], IfOk, IsTrue, ◌↔◌, IfSome, IfNone};
+    ghost use Rattle.lsm_key.specs.Sets.{IsIn};
+    ghost use Rattle.lsm_mem.specs.Chains.{Chain, entries_in};
+
+    /// No key yet.
+    pub(crate) fn new(alloc: Global) -> Chains
+        ensures { result ≡ [] }
+    {
+        Chains {
+            alloc,
+            by_key: BTreeMap::new(alloc),
+        }
+    }
+
+    /// Whether there is no key.
+    pub(crate) fn is_empty(&self) -> bool
+        ensures { IsTrue result ↔ (self.now ≡ []) }
+    {
+        self.by_key.is_empty()
+    }
+
+    /// The versions of a key, the oldest first.
+    pub(crate) fn versions(&self, key: &[u8]) -> Option<&[Entry]>
+        ensures found { IfSome result (λ versions. IsIn (record { key = key.now; versions = versions.now }) self.now) }
+        ensures none { IfNone result ((c : Chain) → IsIn c self.now → c.key ≢ key.now) }
+    {
+        Some(self.by_key.get(key)?.as_slice())
+    }
+
+    /// Copies of all entries, in order. They share the bytes.
+    pub(crate) fn entries(&self) -> Result<Vec<Entry>, AllocError>
+        ensures { IfOk result (λ copies. copies.items ≡ entries_in self.now) }
+    {
+        let mut copies = Vec::new(self.alloc);
+        for (_, versions) in &self.by_key {
+            push_newest_first(&mut copies, versions.as_slice())?;
+        }
+        Ok(copies)
+    }
+}
+
+// Adds copies of the entries at the end, the last one first.
+fn push_newest_first(copies: &mut Vec<Entry>, versions: &[Entry]) -> Result<(), AllocError>
+    ensures { OnOk result (copies.new.items ≡ copies.old.items ++ reverse versions.now) }
+{
+    for entry in versions.iter().rev() {
+        copies.push(entry.clone()?)?;
+    }
+    Ok(())
+}

@@ -1,0 +1,89 @@
+//! The memtable.
+
+use crate::chains::Chains;
+use lsm_key::{Entry, EntryRef, Seq};
+use std::alloc::{AllocError, Global};
+use std::marker::Model;
+
+/// The entries that were written last, at most `MAX_MEMTABLE_WEIGHT` bytes of them, in the order of internal keys.
+#[derive(Debug, Drop)]
+pub struct Memtable {
+    chains: Chains,
+    // What the entries take in a block, in bytes.
+    weight: usize,
+    // How many entries there are.
+    count: usize,
+    // The greatest sequence.
+    last: Seq,
+}
+
+impl Model for Memtable {
+    ghost use Rattle.std.specs.Prelude.{List};
+    ghost use Rattle.lsm_key.specs.declared.entry.Entry.{Entry};
+    ghost use Rattle.lsm_mem.specs.Chains.{entries_in};
+    ghost use Rattle.lsm_mem.specs.Memtable.{IsNoted};
+
+    ghost Value = { List Entry };
+
+    ghost view = { λ m. entries_in m.chains };
+
+    ghost invariant = { λ m. IsNoted m.chains m.weight m.count m.last };
+}
+
+impl Memtable {
+    ghost use Rattle.std.specs.Prelude.{◌≡◌, [], ◌≤◌, ◌↔◌, IfOk, IsTrue, length, sum_by};
+    ghost use Rattle.std.specs.Option.{option_map};
+    ghost use Rattle.lsm_key.specs.declared.limits.TheConstants.{MAX_MEMTABLE_WEIGHT};
+    ghost use Rattle.lsm_key.specs.Limits.{entry_weight};
+    ghost use Rattle.lsm_key.specs.Visible.{visible, lent};
+    ghost use Rattle.lsm_mem.specs.Memtable.{IsMemtable, last_sequence};
+
+    /// No entry yet.
+    pub fn new(alloc: Global) -> Memtable
+        ensures { result ≡ [] }
+    {
+        Memtable {
+            chains: Chains::new(alloc),
+            weight: 0,
+            count: 0,
+            last: Seq::ZERO,
+        }
+    }
+
+    /// Copies of all entries, in the order of internal keys. They share the bytes.
+    pub fn entries(&self) -> Result<Vec<Entry>, AllocError>
+        ensures { IfOk result (λ copies. copies.items ≡ self.now) }
+    {
+        self.chains.entries()
+    }
+
+    /// The greatest sequence, 0 where there is no entry.
+    pub fn last_seq(&self) -> Seq
+        ensures value { result ≡ last_sequence self.now }
+        ensures sound { IsMemtable self.now }
+    {
+        self.last
+    }
+
+    /// What the entries take in a block, in bytes.
+    pub fn weight(&self) -> usize
+        ensures value { result ≡ sum_by entry_weight self.now }
+        ensures bound { result ≤ MAX_MEMTABLE_WEIGHT }
+    {
+        self.weight
+    }
+
+    /// How many entries there are.
+    pub fn len(&self) -> usize
+        ensures { result ≡ length self.now }
+    {
+        self.count
+    }
+
+    /// Whether there is no entry.
+    pub fn is_empty(&self) -> bool
+        ensures { IsTrue result ↔ (self.now ≡ []) }
+    {
+        self.chains.is_empty()
+    }
+}
