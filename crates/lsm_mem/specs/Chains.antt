@@ -1,5 +1,5 @@
 -- A memtable's entries, held key by key (LevelDB, implementation notes: the memtable; the grouping is the store's own).
-use Rattle.std.specs.Prelude.{ℕ, List, ◌≡◌, ◌<◌, ◌-◌, [], ◌∷◌, ◌++◌, length, map, fold, take, reverse, flat_map, if◌then◌else◌}
+use Rattle.std.specs.Prelude.{ℕ, Bool, nat_le, List, ◌≡◌, ◌<◌, ◌-◌, [], ◌∷◌, ◌++◌, length, map, fold, take, reverse, flat_map, if◌then◌else◌}
 use Rattle.std.specs.declared.cmp.Ordering.TheVariants.{Less}
 use Rattle.std.specs.declared.vec.Vec.{Vec}
 use Rattle.std.specs.Ordering.{nat_cmp, is_eq, match_ordering}
@@ -27,6 +27,10 @@ entries_in chains = flat_map (λ c. reverse c.versions) chains
 abbrev pub SequencesRise : List Entry → Type 0
 SequencesRise [] = Unit {0}
 SequencesRise (e ∷ es) = ((f : Entry) → IsIn f es → e.ikey.seq < f.ikey.seq) × SequencesRise es
+
+-- a read at the point sees the entry, if it is of its key
+abbrev pub is_written : ℕ → Entry → Bool
+is_written point e = nat_le e.ikey.seq point
 
 -- one version or more, all of the key, the oldest first
 pub record IsChain (chain : Chain) : Type 0 where

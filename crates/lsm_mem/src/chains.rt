@@ -1,8 +1,11 @@
 //! A memtable's entries, key by key.
 
 ghost use Rattle.std.specs.Prelude.{◌≡◌, ◌++◌, OnOk, reverse};
+ghost use Rattle.std.specs.Option.{option_copied};
+ghost use Rattle.lsm_key.specs.Visible.{latest};
+ghost use Rattle.lsm_mem.specs.Chains.{SequencesRise, is_written};
 
-use lsm_key::Entry;
+use lsm_key::{Entry, Seq};
 use std::alloc::{AllocError, Global};
 use std::collections::BTreeMap;
 use std::marker::Model;
@@ -63,6 +66,18 @@ impl Chains {
         }
         Ok(copies)
     }
+}
+
+/// Of versions in the order of their sequences, the last one of a sequence at most `at`.
+pub(crate) fn newest_at(versions: &[Entry], at: Seq) -> Option<&Entry>
+    requires { SequencesRise versions.now }
+    ensures { option_copied result ≡ latest (is_written at) versions.now }
+{
+    let place = versions.partition_point(|entry| entry.ikey.seq <= at);
+    if place == 0 {
+        return None;
+    }
+    Some(&versions[place - 1])
 }
 
 // Adds copies of the entries at the end, the last one first.

@@ -1,6 +1,6 @@
 //! The memtable.
 
-use crate::chains::Chains;
+use crate::chains::{Chains, newest_at};
 use lsm_key::{Entry, EntryRef, Seq};
 use std::alloc::{AllocError, Global};
 use std::marker::Model;
@@ -48,6 +48,21 @@ impl Memtable {
             count: 0,
             last: Seq::ZERO,
         }
+    }
+
+    /// The entry of the key with the greatest sequence at most `at`. It takes no memory, and as many comparisons as the
+    /// counts of keys and of the key's versions have bits.
+    pub fn get(&self, key: &[u8], at: Seq) -> Option<EntryRef<'_>>
+        ensures { option_map lent result ≡ visible self.now key.now at }
+    {
+        let versions = self.chains.versions(key)?;
+        let entry = newest_at(versions, at)?;
+        Some(EntryRef {
+            key: entry.ikey.key.as_slice(),
+            seq: entry.ikey.seq,
+            kind: entry.ikey.kind,
+            value: entry.value.as_slice(),
+        })
     }
 
     /// Copies of all entries, in the order of internal keys. They share the bytes.
