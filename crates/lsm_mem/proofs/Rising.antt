@@ -8,10 +8,11 @@ use Rattle.std.proofs.lemmas.List.{get_or_default}
 use Rattle.std.proofs.lemmas.List.Sorted.{IsPartitionedBy-leb}
 use Rattle.lsm_key.specs.declared.entry.Entry.{Entry}
 use Rattle.lsm_key.specs.Sets.{IsIn}
-use Rattle.lsm_key.specs.Visible.{latest, newer, is_seen, has_key, Latest}
+use Rattle.lsm_key.specs.Visible.{latest, newer, visible, is_seen, has_key, Latest}
 use Rattle.lsm_key.proofs.Sets.{IsIn-at, IsIn-place}
 use Rattle.lsm_key.proofs.Visible.{latest_one, latest-is, has_key-at, AreApart}
-use Rattle.lsm_mem.specs.Chains.{SequencesRise, is_written}
+use Rattle.lsm_mem.specs.Chains.{Chain, AreChains, SequencesRise, entries_in, is_written}
+use Rattle.lsm_mem.proofs.Chained.{is_chain, visible_chain}
 
 abbrev pub seq_of : Entry → ℕ
 seq_of e = e.ikey.seq
@@ -88,3 +89,9 @@ seen_is_written key at vs own = latest_alike (is_seen key at) (is_written at) vs
 -- a search by sequence
 pub written_first : (at : ℕ) (vs : List Entry) → SequencesRise vs → IsPartitionedBy (is_written at) vs
 written_first at vs up = IsPartitionedBy-leb seq_of vs at (never_falls vs up)
+
+-- of a key with a chain that version shows which is the last one written
+pub visible_written : (cs : List Chain) (key : List ℕ) (vs : List Entry) (at : ℕ) → AreChains cs → IsIn (record { key = key; versions = vs }) cs → visible (entries_in cs) key at ≡ latest (is_written at) vs
+visible_written cs key vs at up m =
+    let chain : Chain = record { key = key; versions = vs } in
+    visible_chain cs up key at chain m refl ∙ seen_is_written key at vs (is_chain cs up chain m).own

@@ -5,7 +5,7 @@ ghost use Rattle.std.specs.Option.{option_copied};
 ghost use Rattle.lsm_key.specs.Visible.{latest};
 ghost use Rattle.lsm_mem.specs.Chains.{SequencesRise, is_written};
 
-use lsm_key::{Entry, Seq};
+use lsm_key::{Entry, Op, Seq};
 use std::alloc::{AllocError, Global};
 use std::collections::BTreeMap;
 use std::marker::Model;
@@ -27,9 +27,10 @@ impl Model for Chains {
 }
 
 impl Chains {
-    ghost use Rattle.std.specs.Prelude.{◌≡◌, ◌≢◌, [], IfOk, IsTrue, ◌↔◌, IfSome, IfNone};
+    ghost use Rattle.std.specs.Prelude.{◌≡◌, ◌≢◌, [], IfOk, IsTrue, ◌↔◌, IfSome, IfNone, OnErr};
     ghost use Rattle.lsm_key.specs.Sets.{IsIn};
-    ghost use Rattle.lsm_mem.specs.Chains.{Chain, entries_in};
+    ghost use Rattle.lsm_key.specs.Places.{entry_of};
+    ghost use Rattle.lsm_mem.specs.Chains.{Chain, entries_in, with_entry, without_newest};
 
     /// No key yet.
     pub(crate) fn new(alloc: Global) -> Chains
@@ -54,6 +55,36 @@ impl Chains {
         ensures none { IfNone result ((c : Chain) → IsIn c self.now → c.key ≢ key.now) }
     {
         Some(self.by_key.get(key)?.as_slice())
+    }
+
+    /// Adds the entry of an operation as the newest one of its key. A refusal changes nothing.
+    pub(crate) fn put(&mut self, op: &Op, seq: Seq) -> Result<(), AllocError>
+        ensures ok { OnOk result (self.new ≡ with_entry (entry_of seq op.now) self.old) }
+        ensures err { OnErr result (self.new ≡ self.old) }
+    {
+        let entry = op.entry(seq)?;
+        if let Some(versions) = self.by_key.get_mut(op.key().as_slice()) {
+            versions.push(entry)?;
+            return Ok(());
+        }
+        let key = op.key().as_slice().to_vec(self.alloc)?;
+        let mut versions = Vec::new(self.alloc);
+        versions.push(entry)?;
+        self.by_key.insert(key, versions)?;
+        Ok(())
+    }
+
+    /// Removes the newest version of a key.
+    pub(crate) fn take(&mut self, key: &[u8])
+        ensures { self.new ≡ without_newest key.now self.old }
+    {
+        let Some(versions) = self.by_key.get_mut(key) else {
+            return;
+        };
+        versions.pop();
+        if versions.is_empty() {
+            drop(self.by_key.remove(key));
+        }
     }
 
     /// Copies of all entries, in order. They share the bytes.

@@ -1,9 +1,7 @@
-use Rattle.std.proofs.Common.{◌≡◌, List, ℕ, Option, None, Some, sym, ap, refl, subst, ◌∙◌}
-use Rattle.lsm_key.specs.declared.entry.Entry.{Entry}
-use Rattle.lsm_key.specs.Visible.{visible, latest}
-use Rattle.lsm_mem.specs.Chains.{Chain, IsChain, entries_in, is_written}
-use Rattle.lsm_mem.proofs.Chained.{is_chain, visible_none, visible_chain}
-use Rattle.lsm_mem.proofs.Rising.{seen_is_written}
+use Rattle.std.proofs.Common.{◌≡◌, List, ℕ, Option, None, Some, sym, ◌∙◌}
+use Rattle.lsm_mem.specs.Chains.{Chain}
+use Rattle.lsm_mem.proofs.Chained.{is_chain, visible_none}
+use Rattle.lsm_mem.proofs.Rising.{visible_written}
 use Rattle.lsm_mem.proofs.memtable.Memtable.get.Goals as goal
 
 pub returns-in_err-versions : goal.returns-in_err-versions
@@ -15,14 +13,8 @@ newest_at-requires c = (is_chain c.self.inside.chains c.self.invariant.chained (
 
 pub returns-in_err-entry : goal.returns-in_err-entry
 returns-in_err-entry c =
-    let chain : Chain = record { key = c.args.key.now; versions = c.in_ok-versions.versions.now } in
-    let own = (is_chain c.self.inside.chains c.self.invariant.chained chain c.in_ok-versions.ensures.found).own in
-    let shown : visible (entries_in c.self.inside.chains) c.args.key.now c.args.at ≡ latest (is_written c.args.at) c.in_ok-versions.versions.now = visible_chain c.self.inside.chains c.self.invariant.chained c.args.key.now c.args.at chain c.in_ok-versions.ensures.found refl ∙ seen_is_written c.args.key.now c.args.at c.in_ok-versions.versions.now own in
-    rw (c.from_residual-in_err-entry.ensures, ← c.self.view_is) (c.in_err-entry.ensures ∙ sym shown)
+    rw (c.from_residual-in_err-entry.ensures, ← c.self.view_is) (c.in_err-entry.ensures ∙ sym (visible_written c.self.inside.chains c.args.key.now c.in_ok-versions.versions.now c.args.at c.self.invariant.chained c.in_ok-versions.ensures.found))
 
 pub returns : goal.returns
 returns c =
-    let chain : Chain = record { key = c.args.key.now; versions = c.in_ok-versions.versions.now } in
-    let own = (is_chain c.self.inside.chains c.self.invariant.chained chain c.in_ok-versions.ensures.found).own in
-    let shown : visible (entries_in c.self.inside.chains) c.args.key.now c.args.at ≡ latest (is_written c.args.at) c.in_ok-versions.versions.now = visible_chain c.self.inside.chains c.self.invariant.chained c.args.key.now c.args.at chain c.in_ok-versions.ensures.found refl ∙ seen_is_written c.args.key.now c.args.at c.in_ok-versions.versions.now own in
-    rw (c.as_slice.ensures, c.as_slice-2.ensures, ← c.self.view_is) (c.in_ok-entry.ensures ∙ sym shown)
+    rw (c.as_slice.ensures, c.as_slice-2.ensures, ← c.self.view_is) (c.in_ok-entry.ensures ∙ sym (visible_written c.self.inside.chains c.args.key.now c.in_ok-versions.versions.now c.args.at c.self.invariant.chained c.in_ok-versions.ensures.found))
