@@ -1,3 +1,4 @@
 pub mod Pairs
 pub mod Chained
 pub mod Rising
+pub mod Growing

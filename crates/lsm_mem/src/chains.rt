@@ -27,10 +27,10 @@ impl Model for Chains {
 }
 
 impl Chains {
-    ghost use Rattle.std.specs.Prelude.{◌≡◌, ◌≢◌, [], IfOk, IsTrue, ◌↔◌, IfSome, IfNone, OnErr};
+    ghost use Rattle.std.specs.Prelude.{◌≡◌, ◌≢◌, ◌≤◌, ◌+◌, ◌-◌, ℕ, List, [], length, IfOk, IsTrue, ◌↔◌, IfSome, IfNone, OnErr};
     ghost use Rattle.lsm_key.specs.Sets.{IsIn};
-    ghost use Rattle.lsm_key.specs.Places.{entry_of};
-    ghost use Rattle.lsm_mem.specs.Chains.{Chain, entries_in, with_entry, without_newest};
+    ghost use Rattle.lsm_key.specs.Places.{entry_of, entries_after};
+    ghost use Rattle.lsm_mem.specs.Chains.{Chain, AreChains, entries_in, with_entry, with_entries, without_newest};
 
     /// No key yet.
     pub(crate) fn new(alloc: Global) -> Chains
@@ -57,8 +57,8 @@ impl Chains {
         Some(self.by_key.get(key)?.as_slice())
     }
 
-    /// Adds the entry of an operation as the newest one of its key. A refusal changes nothing.
-    pub(crate) fn put(&mut self, op: &Op, seq: Seq) -> Result<(), AllocError>
+    // Adds the entry of an operation as the newest one of its key. A refusal changes nothing.
+    fn put(&mut self, op: &Op, seq: Seq) -> Result<(), AllocError>
         ensures ok { OnOk result (self.new ≡ with_entry (entry_of seq op.now) self.old) }
         ensures err { OnErr result (self.new ≡ self.old) }
     {
@@ -74,8 +74,36 @@ impl Chains {
         Ok(())
     }
 
-    /// Removes the newest version of a key.
-    pub(crate) fn take(&mut self, key: &[u8])
+    /// Adds the entries of operations from a sequence on. A refusal changes nothing.
+    pub(crate) fn put_all(&mut self, ops: &[Op], first: Seq) -> Result<(), AllocError>
+        requires chained { AreChains self.old }
+        requires some { 1 ≤ first }
+        requires fits { first + length ops.now ≤ Seq.MAX + 1 }
+        ensures ok { OnOk result (self.new ≡ with_entries (entries_after (first - 1) ops.now) self.old) }
+        ensures err { OnErr result (self.new ≡ self.old) }
+    {
+        for (done, op) in ops.iter().enumerate() {
+            let seq = Seq::new(first.number() + done as u64);
+            if let Err(refused) = self.put(op, seq) {
+                self.take_all(&ops[..done]);
+                return Err(refused);
+            }
+        }
+        Ok(())
+    }
+
+    // Takes back what `put_all` added.
+    fn take_all(&mut self, ops: &[Op])
+        ensures { (before : List Chain) (after : ℕ) → AreChains before
+            → self.old ≡ with_entries (entries_after after ops.now) before → self.new ≡ before }
+    {
+        for op in ops.iter().rev() {
+            self.take(op.key().as_slice());
+        }
+    }
+
+    // Removes the newest version of a key.
+    fn take(&mut self, key: &[u8])
         ensures { self.new ≡ without_newest key.now self.old }
     {
         let Some(versions) = self.by_key.get_mut(key) else {
