@@ -2,3 +2,5 @@ pub mod Pairs
 pub mod Chained
 pub mod Rising
 pub mod Growing
+pub mod Taken
+pub mod Noted

@@ -25,18 +25,22 @@ never_falls (v ∷ vs) up zero (suc j) d le lt = let low : v.ikey.seq < (get_or 
 never_falls (v ∷ vs) up (suc i) zero d le lt = absurd (omega arith)
 never_falls (v ∷ vs) up (suc i) (suc j) d le lt = never_falls vs up.1 i j d (omega arith) (omega arith)
 
-rising_apart : (test : Entry → Bool) (vs : List Entry) → SequencesRise vs → AreApart test vs
-rising_apart test [] up x y mx my tx ty s = absurd mx
-rising_apart test (v ∷ vs) up x y mx my tx ty s = elim mx [
+-- a sequence has one version
+pub rising_same : (vs : List Entry) → SequencesRise vs → (x y : Entry) → IsIn x vs → IsIn y vs → x.ikey.seq ≡ y.ikey.seq → x ≡ y
+rising_same [] up x y mx my s = absurd mx
+rising_same (v ∷ vs) up x y mx my s = elim mx [
   | inl e ↦ elim my [
     | inl f ↦ e ∙ sym f
     | inr n ↦ (let lt : v.ikey.seq < y.ikey.seq = up.0 y n in let q : x.ikey.seq ≡ v.ikey.seq = ap seq_of e in absurd (omega arith))
   ]
   | inr m ↦ elim my [
     | inl f ↦ (let lt : v.ikey.seq < x.ikey.seq = up.0 x m in let q : y.ikey.seq ≡ v.ikey.seq = ap seq_of f in absurd (omega arith))
-    | inr n ↦ rising_apart test vs up.1 x y m n tx ty s
+    | inr n ↦ rising_same vs up.1 x y m n s
   ]
 ]
+
+rising_apart : (test : Entry → Bool) (vs : List Entry) → SequencesRise vs → AreApart test vs
+rising_apart test vs up x y mx my tx ty s = rising_same vs up x y mx my s
 
 module _ (vs : List Entry) (at i : ℕ) (up : SequencesRise vs) (part : IsPartitionPoint (λ y. is_written at y ≡ true) (λ y. is_written at y ≡ false) vs i) where
   -- a version that was written stands before the place

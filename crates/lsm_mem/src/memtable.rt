@@ -1,7 +1,7 @@
 //! The memtable.
 
 use crate::chains::{Chains, newest_at};
-use lsm_key::{Entry, EntryRef, Seq};
+use lsm_key::{Batch, Entry, EntryRef, Seq};
 use std::alloc::{AllocError, Global};
 use std::marker::Model;
 
@@ -31,10 +31,12 @@ impl Model for Memtable {
 }
 
 impl Memtable {
-    ghost use Rattle.std.specs.Prelude.{◌≡◌, [], ◌≤◌, ◌↔◌, IfOk, IsTrue, length, sum_by};
+    ghost use Rattle.std.specs.Prelude.{◌≡◌, [], ◌++◌, ◌<◌, ◌≤◌, ◌+◌, ◌-◌, ◌↔◌, IfOk, OnOk, OnErr, IsTrue, length, sum_by};
     ghost use Rattle.std.specs.Option.{option_map};
     ghost use Rattle.lsm_key.specs.declared.limits.TheConstants.{MAX_MEMTABLE_WEIGHT};
-    ghost use Rattle.lsm_key.specs.Limits.{entry_weight};
+    ghost use Rattle.std.specs.List.Sorted.{IsPermutation};
+    ghost use Rattle.lsm_key.specs.Limits.{entry_weight, total_weight};
+    ghost use Rattle.lsm_key.specs.Places.{entries_after};
     ghost use Rattle.lsm_key.specs.Visible.{visible, lent};
     ghost use Rattle.lsm_mem.specs.Memtable.{IsMemtable, last_sequence};
 
@@ -48,6 +50,25 @@ impl Memtable {
             count: 0,
             last: Seq::ZERO,
         }
+    }
+
+    /// Adds the entries of a batch: its operation number i, from 0, gets the sequence `first_seq` + i. Where memory does not
+    /// suffice the memtable stays as it was.
+    pub fn apply(&mut self, first_seq: Seq, batch: &Batch) -> Result<(), AllocError>
+        requires newer { last_sequence self.old < first_seq }
+        requires room { sum_by entry_weight self.old + total_weight batch.now ≤ MAX_MEMTABLE_WEIGHT }
+        requires fits { first_seq + length batch.now ≤ Seq.MAX + 1 }
+        ensures ok { OnOk result (IsPermutation (self.old ++ entries_after (first_seq - 1) batch.now) self.new) }
+        ensures err { OnErr result (self.new ≡ self.old) }
+    {
+        let ops = batch.ops();
+        self.chains.put_all(ops, first_seq)?;
+        self.weight += batch.weight();
+        self.count += ops.len();
+        if !ops.is_empty() {
+            self.last = Seq::new(first_seq.number() + (ops.len() as u64 - 1));
+        }
+        Ok(())
     }
 
     /// The entry of the key with the greatest sequence at most `at`. It takes no memory, and as many comparisons as the
