@@ -4,3 +4,4 @@ pub mod Rising
 pub mod Growing
 pub mod Taken
 pub mod Noted
+pub mod Between

@@ -1,11 +1,12 @@
 -- A memtable's entries, held key by key (LevelDB, implementation notes: the memtable; the grouping is the store's own).
-use Rattle.std.specs.Prelude.{ℕ, Bool, nat_le, List, ◌≡◌, ◌<◌, ◌-◌, [], ◌∷◌, ◌++◌, length, map, fold, take, reverse, flat_map, if◌then◌else◌}
+use Rattle.std.specs.Prelude.{ℕ, Bool, nat_le, List, ◌≡◌, ◌<◌, ◌-◌, [], ◌∷◌, ◌++◌, length, map, fold, take, filter, ◌&&◌, reverse, flat_map, if◌then◌else◌}
 use Rattle.std.specs.declared.cmp.Ordering.TheVariants.{Less}
 use Rattle.std.specs.declared.vec.Vec.{Vec}
-use Rattle.std.specs.Ordering.{nat_cmp, is_eq, match_ordering}
+use Rattle.std.specs.Ordering.{nat_cmp, is_eq, is_lt, match_ordering}
 use Rattle.std.specs.Cmp.Lexicographic.{slice_cmp}
 use Rattle.std.specs.BTreeMap.{BTreeMap}
 use Rattle.lsm_key.specs.declared.entry.Entry.{Entry}
+use Rattle.lsm_key.specs.Order.{key_le}
 use Rattle.lsm_key.specs.Sets.{IsIn}
 
 -- a key with its versions, the oldest first
@@ -74,3 +75,11 @@ without_newest key [] = []
 without_newest key (c ∷ cs) =
     if is_eq (slice_cmp nat_cmp key c.key) then chain_if c.key (older c.versions) ++ cs
     else c ∷ without_newest key cs
+
+-- the key stands at or after lo, and before hi
+abbrev pub key_between : List ℕ → List ℕ → List ℕ → Bool
+key_between lo hi key = key_le lo key && is_lt (slice_cmp nat_cmp key hi)
+
+-- the chains whose key stands so
+abbrev pub chains_between : List ℕ → List ℕ → List Chain → List Chain
+chains_between lo hi chains = filter (λ c. key_between lo hi c.key) chains

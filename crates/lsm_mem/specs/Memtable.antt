@@ -1,14 +1,12 @@
 -- What every memtable keeps (LevelDB, implementation notes: the memtable; the limit is the store's own).
-use Rattle.std.specs.Prelude.{◌≡◌, ℕ, ◌≤◌, Bool, ◌&&◌, List, [], ◌∷◌, length, sum_by, max}
-use Rattle.std.specs.Ordering.{nat_cmp, is_lt}
-use Rattle.std.specs.Cmp.Lexicographic.{slice_cmp}
+use Rattle.std.specs.Prelude.{◌≡◌, ℕ, ◌≤◌, Bool, List, [], ◌∷◌, length, sum_by, max}
 use Rattle.lsm_key.specs.declared.entry.Entry.{Entry}
 use Rattle.lsm_key.specs.declared.limits.TheConstants.{MAX_MEMTABLE_WEIGHT}
 use Rattle.lsm_key.specs.Sets.{IsIn}
 use Rattle.lsm_key.specs.Limits.{entry_weight}
 use Rattle.lsm_key.specs.Entries.{AreSound}
-use Rattle.lsm_key.specs.Order.{IsAscending, key_le}
-use Rattle.lsm_mem.specs.Chains.{Chain, AreChains, entries_in}
+use Rattle.lsm_key.specs.Order.{IsAscending}
+use Rattle.lsm_mem.specs.Chains.{Chain, AreChains, entries_in, key_between}
 
 -- the greatest sequence, 0 where there is no entry
 abbrev pub last_sequence : List Entry → ℕ
@@ -21,7 +19,7 @@ SequencesDiffer entries = (e f : Entry) → IsIn e entries → IsIn f entries �
 
 -- the entry's key stands at or after lo, and before hi
 abbrev pub is_between : List ℕ → List ℕ → Entry → Bool
-is_between lo hi e = key_le lo e.ikey.key && is_lt (slice_cmp nat_cmp e.ikey.key hi)
+is_between lo hi e = key_between lo hi e.ikey.key
 
 -- what the entries of a memtable are
 pub record IsMemtable (entries : List Entry) : Type 0 where

@@ -30,7 +30,7 @@ impl Chains {
     ghost use Rattle.std.specs.Prelude.{◌≡◌, ◌≢◌, ◌≤◌, ◌+◌, ◌-◌, ℕ, List, [], length, IfOk, IsTrue, ◌↔◌, IfSome, IfNone, OnErr};
     ghost use Rattle.lsm_key.specs.Sets.{IsIn};
     ghost use Rattle.lsm_key.specs.Places.{entry_of, entries_after};
-    ghost use Rattle.lsm_mem.specs.Chains.{Chain, AreChains, entries_in, with_entry, with_entries, without_newest};
+    ghost use Rattle.lsm_mem.specs.Chains.{Chain, AreChains, entries_in, with_entry, with_entries, without_newest, chains_between};
 
     /// No key yet.
     pub(crate) fn new(alloc: Global) -> Chains
@@ -121,6 +121,22 @@ impl Chains {
     {
         let mut copies = Vec::new(self.alloc);
         for (_, versions) in &self.by_key {
+            push_newest_first(&mut copies, versions.as_slice())?;
+        }
+        Ok(copies)
+    }
+
+    /// Copies of the entries whose key stands at or after `lo`, and before `hi`, in order. They share the bytes.
+    pub(crate) fn entries_between(&self, lo: &[u8], hi: &[u8]) -> Result<Vec<Entry>, AllocError>
+        ensures { IfOk result (λ copies. copies.items ≡ entries_in (chains_between lo.now hi.now self.now)) }
+    {
+        let mut copies = Vec::new(self.alloc);
+        if lo.cmp(hi).is_ge() {
+            return Ok(copies);
+        }
+        let from = lo.to_vec(self.alloc)?;
+        let to = hi.to_vec(self.alloc)?;
+        for (_, versions) in self.by_key.range(from..to) {
             push_newest_first(&mut copies, versions.as_slice())?;
         }
         Ok(copies)

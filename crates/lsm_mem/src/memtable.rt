@@ -31,14 +31,14 @@ impl Model for Memtable {
 }
 
 impl Memtable {
-    ghost use Rattle.std.specs.Prelude.{◌≡◌, [], ◌++◌, ◌<◌, ◌≤◌, ◌+◌, ◌-◌, ◌↔◌, IfOk, OnOk, OnErr, IsTrue, length, sum_by};
+    ghost use Rattle.std.specs.Prelude.{◌≡◌, [], ◌++◌, ◌<◌, ◌≤◌, ◌+◌, ◌-◌, ◌↔◌, IfOk, OnOk, OnErr, IsTrue, filter, length, sum_by};
     ghost use Rattle.std.specs.Option.{option_map};
     ghost use Rattle.lsm_key.specs.declared.limits.TheConstants.{MAX_MEMTABLE_WEIGHT};
     ghost use Rattle.std.specs.List.Sorted.{IsPermutation};
     ghost use Rattle.lsm_key.specs.Limits.{entry_weight, total_weight};
     ghost use Rattle.lsm_key.specs.Places.{entries_after};
     ghost use Rattle.lsm_key.specs.Visible.{visible, lent};
-    ghost use Rattle.lsm_mem.specs.Memtable.{IsMemtable, last_sequence};
+    ghost use Rattle.lsm_mem.specs.Memtable.{IsMemtable, last_sequence, is_between};
 
     /// No entry yet.
     pub fn new(alloc: Global) -> Memtable
@@ -91,6 +91,14 @@ impl Memtable {
         ensures { IfOk result (λ copies. copies.items ≡ self.now) }
     {
         self.chains.entries()
+    }
+
+    /// Copies of the entries whose key stands at or after `lo`, and before `hi`, in the order of internal keys. They share
+    /// the bytes. It takes as many comparisons as the count of keys has bits, and a step for each entry that it gives.
+    pub fn range(&self, lo: &[u8], hi: &[u8]) -> Result<Vec<Entry>, AllocError>
+        ensures { IfOk result (λ copies. copies.items ≡ filter (is_between lo.now hi.now) self.now) }
+    {
+        self.chains.entries_between(lo, hi)
     }
 
     /// The greatest sequence, 0 where there is no entry.
