@@ -4,17 +4,16 @@ use Rattle.std.specs.declared.cmp.Ordering.{Ordering}
 use Rattle.std.specs.declared.cmp.Ordering.TheVariants.{Less, Equal, Greater}
 use Rattle.std.specs.declared.ops.Bound.TheVariants.{Included, Excluded}
 use Rattle.std.specs.declared.vec.Vec.{Vec}
-use Rattle.std.specs.Ordering.{nat_cmp, is_lt, is_le, is_ge, is_gt, ordering_reverse}
+use Rattle.std.specs.Ordering.{is_lt, is_le, is_ge, is_gt, ordering_reverse}
 use Rattle.std.proofs.lemmas.Bool.{false_from_ne_true}
-use Rattle.std.specs.Cmp.Lexicographic.{slice_cmp}
 use Rattle.std.specs.List.{filter}
 use Rattle.std.specs.BTreeMap.Range.{entries_between, range_contains}
 use Rattle.std.proofs.lemmas.Cmp.{nat_list_cmp_total}
 use Rattle.std.proofs.lemmas.List.Elements.{filter-append}
 use Rattle.lsm_key.specs.declared.entry.Entry.{Entry}
 use Rattle.lsm_key.specs.Sets.{IsIn}
-use Rattle.lsm_mem.specs.Chains.{Chain, AreChains, chain_of, chains_of, entries_in, key_between, chains_between}
-use Rattle.lsm_mem.specs.Memtable.{is_between}
+use Rattle.lsm_mem.specs.Chains.{Chain, AreChains, chain_of, chains_of, entries_in, chains_between}
+use Rattle.lsm_mem.specs.Memtable.{key_between, is_between}
 use Rattle.lsm_mem.proofs.Pairs.{key_cmp, vec_cmp}
 use Rattle.lsm_mem.proofs.Chained.{from_reverse}
 

@@ -1,19 +1,19 @@
 -- Chains in order, and the entries in them.
-use Rattle.std.proofs.Common.{◌≡◌, ℕ, zero, suc, ◌+◌, ◌-◌, ◌<◌, ◌≤◌, Bool, true, false, ltb, List, [], ◌∷◌, ◌++◌, length, get_or, Option, Some, None, refl, sym, ap, subst, ◌∙◌, ◌⊎◌, inl, inr, arith, add-one, reverse, length-append}
+use Rattle.std.proofs.Common.{◌≡◌, ℕ, zero, suc, ◌<◌, List, [], ◌∷◌, ◌++◌, length, get_or, Option, Some, None, refl, sym, ap, subst, ◌∙◌, inl, inr, arith, add-one, reverse, length-append}
 use Rattle.std.specs.declared.cmp.Ordering.{Ordering}
-use Rattle.std.specs.declared.cmp.Ordering.TheVariants.{Less, Equal, Greater}
+use Rattle.std.specs.declared.cmp.Ordering.TheVariants.{Less, Equal}
 use Rattle.std.specs.Ordering.{nat_cmp, ordering_then, is_lt}
 use Rattle.std.proofs.lemmas.Bool.{lt-ltb}
 use Rattle.std.proofs.lemmas.List.{reverse-append, length-reverse}
 use Rattle.std.proofs.lemmas.List.Sorted.{IsPermutation-reverse}
 use Rattle.lsm_key.specs.declared.entry.Entry.{Entry}
-use Rattle.lsm_key.specs.Sets.{IsIn, SameMembers}
-use Rattle.lsm_key.specs.Order.{place_cmp, Precedes, IsAscending}
+use Rattle.lsm_key.specs.Sets.{IsIn}
+use Rattle.lsm_key.specs.Order.{Precedes, IsAscending}
 use Rattle.lsm_key.specs.Visible.{visible, is_seen, Latest}
 use Rattle.lsm_key.proofs.Sets.{IsIn-append_cases, IsIn-append_left, IsIn-append_right, IsIn-at, IsIn-one, SameMembers-permutation}
 use Rattle.lsm_key.proofs.Order.{of_one_key, ascending_unique}
 use Rattle.lsm_key.proofs.Visible.{visible_one, latest-is, is_seen-key}
-use Rattle.lsm_mem.specs.Chains.{Chain, IsChain, AreChains, StandsBefore, SequencesRise, entries_in}
+use Rattle.lsm_mem.specs.Chains.{Chain, IsChain, AreChains, SequencesRise, entries_in}
 use Rattle.lsm_mem.proofs.Pairs.{key_cmp, same_key}
 
 -- ---- membership

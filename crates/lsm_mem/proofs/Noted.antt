@@ -1,5 +1,5 @@
 -- What is noted of a memtable's entries.
-use Rattle.std.proofs.Common.{◌≡◌, ℕ, zero, suc, ◌+◌, ◌-◌, ◌<◌, ◌≤◌, max, List, [], ◌∷◌, ◌++◌, None, length, sum_by, refl, sym, ap, subst, ◌∙◌, ◌⊎◌, arith, inl, inr, length-append}
+use Rattle.std.proofs.Common.{◌≡◌, ℕ, ◌+◌, ◌<◌, ◌≤◌, List, [], ◌∷◌, ◌++◌, None, length, sum_by, refl, sym, ap, subst, ◌∙◌, ◌⊎◌, arith, inl, inr, length-append}
 use Rattle.std.specs.List.Sorted.{IsPermutation}
 use Rattle.std.proofs.lemmas.List.Sums.{sum_by-append, sum_by-cons}
 use Rattle.std.proofs.lemmas.List.Sorted.{sum_by-IsPermutation, length_permutation}
@@ -11,8 +11,9 @@ use Rattle.lsm_key.specs.Limits.{entry_weight, total_weight, batch_fault}
 use Rattle.lsm_key.specs.Places.{entries_after}
 use Rattle.lsm_key.proofs.Sets.{IsIn-append_cases, IsIn-append_right, SameMembers-permutation}
 use Rattle.lsm_key.proofs.Writes.{entries_after-range, length-entries_after, weight-entries_after}
-use Rattle.lsm_mem.specs.Chains.{Chain, entries_in, with_entries}
-use Rattle.lsm_mem.specs.Memtable.{last_sequence, SequencesDiffer, IsNoted}
+use Rattle.lsm_mem.specs.Chains.{Chain, entries_in, with_entries, IsNoted}
+use Rattle.lsm_mem.specs.Memtable.{last_sequence, SequencesDiffer, IsMemtable}
+use Rattle.lsm_mem.proofs.Chained.{chained_ascend}
 use Rattle.lsm_mem.proofs.Rising.{rising_same}
 use Rattle.lsm_mem.proofs.Growing.{with_entries-permuted, with_entries-chained}
 use Rattle.lsm_mem.proofs.Taken.{after_sound, after_rise, last_written}
@@ -32,6 +33,13 @@ last_low (x ∷ es) n h = let own : x.ikey.seq ≤ n = h x (inl refl) in let res
 
 pub last_is : (es : List Entry) (n : ℕ) (e : Entry) → ((f : Entry) → IsIn f es → f.ikey.seq ≤ n) → IsIn e es → e.ikey.seq ≡ n → last_sequence es ≡ n
 last_is es n e h m is = let low : last_sequence es ≤ n = last_low es n h in let high : e.ikey.seq ≤ last_sequence es = up_to_last es e m in omega arith
+
+-- what a caller learns
+pub noted_sound : (cs : List Chain) (weight count last : ℕ) → IsNoted cs weight count last → IsMemtable (entries_in cs)
+noted_sound cs weight count last is =
+    let weighed = is.weighed in
+    let light = is.light in
+    record { ascending = chained_ascend cs is.chained; sound = is.sound; apart = is.apart; light = omega arith }
 
 -- ---- the entries of a batch join those of a memtable
 

@@ -1,14 +1,13 @@
 -- Versions in the order of their sequences.
-use Rattle.std.proofs.Common.{◌≡◌, ℕ, zero, suc, ◌+◌, ◌-◌, ◌<◌, ◌≤◌, Bool, true, false, cond, ◌&&◌, List, [], ◌∷◌, length, get_or, Option, Some, None, refl, sym, ap, subst, ◌∙◌, inl, inr, arith}
+use Rattle.std.proofs.Common.{◌≡◌, ℕ, zero, suc, ◌-◌, ◌<◌, ◌≤◌, Bool, true, false, cond, ◌&&◌, List, [], ◌∷◌, length, get_or, Some, None, refl, sym, ap, subst, ◌∙◌, inl, inr, arith}
 use Rattle.std.specs.Bool.{nat_le}
-use Rattle.std.specs.Str.{bytes_eq}
 use Rattle.std.specs.List.Sorted.{IsNonDecreasingBy, IsPartitionPoint, IsPartitionedBy}
-use Rattle.std.proofs.lemmas.Bool.{leb-true, cases_order}
+use Rattle.std.proofs.lemmas.Bool.{cases_order}
 use Rattle.std.proofs.lemmas.List.{get_or_default}
 use Rattle.std.proofs.lemmas.List.Sorted.{IsPartitionedBy-leb}
 use Rattle.lsm_key.specs.declared.entry.Entry.{Entry}
 use Rattle.lsm_key.specs.Sets.{IsIn}
-use Rattle.lsm_key.specs.Visible.{latest, newer, visible, is_seen, has_key, Latest}
+use Rattle.lsm_key.specs.Visible.{latest, newer, visible, is_seen, has_key}
 use Rattle.lsm_key.proofs.Sets.{IsIn-at, IsIn-place}
 use Rattle.lsm_key.proofs.Visible.{latest_one, latest-is, has_key-at, AreApart}
 use Rattle.lsm_mem.specs.Chains.{Chain, AreChains, SequencesRise, entries_in, is_written}

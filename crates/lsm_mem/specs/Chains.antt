@@ -1,13 +1,15 @@
--- A memtable's entries, held key by key (LevelDB, implementation notes: the memtable; the grouping is the store's own).
-use Rattle.std.specs.Prelude.{ℕ, Bool, nat_le, List, ◌≡◌, ◌<◌, ◌-◌, [], ◌∷◌, ◌++◌, length, map, fold, take, filter, ◌&&◌, reverse, flat_map, if◌then◌else◌}
+-- How a memtable holds its entries: key by key (LevelDB, implementation notes: the memtable; the grouping is the store's own).
+use Rattle.std.specs.Prelude.{ℕ, Bool, nat_le, List, ◌≡◌, ◌<◌, ◌≤◌, ◌-◌, [], ◌∷◌, ◌++◌, length, sum_by, map, fold, take, filter, reverse, flat_map, if◌then◌else◌}
 use Rattle.std.specs.declared.cmp.Ordering.TheVariants.{Less}
 use Rattle.std.specs.declared.vec.Vec.{Vec}
-use Rattle.std.specs.Ordering.{nat_cmp, is_eq, is_lt, match_ordering}
+use Rattle.std.specs.Ordering.{nat_cmp, is_eq, match_ordering}
 use Rattle.std.specs.Cmp.Lexicographic.{slice_cmp}
-use Rattle.std.specs.BTreeMap.{BTreeMap}
 use Rattle.lsm_key.specs.declared.entry.Entry.{Entry}
-use Rattle.lsm_key.specs.Order.{key_le}
+use Rattle.lsm_key.specs.declared.limits.TheConstants.{MAX_MEMTABLE_WEIGHT}
 use Rattle.lsm_key.specs.Sets.{IsIn}
+use Rattle.lsm_key.specs.Limits.{entry_weight}
+use Rattle.lsm_key.specs.Entries.{AreSound}
+use Rattle.lsm_mem.specs.Memtable.{last_sequence, SequencesDiffer, key_between}
 
 -- a key with its versions, the oldest first
 pub record Chain : Type 0 where
@@ -29,7 +31,7 @@ abbrev pub SequencesRise : List Entry → Type 0
 SequencesRise [] = Unit {0}
 SequencesRise (e ∷ es) = ((f : Entry) → IsIn f es → e.ikey.seq < f.ikey.seq) × SequencesRise es
 
--- a read at the point sees the entry, if it is of its key
+-- the entry was written by the point
 abbrev pub is_written : ℕ → Entry → Bool
 is_written point e = nat_le e.ikey.seq point
 
@@ -56,7 +58,7 @@ with_entry e (c ∷ cs) =
     (record { key = c.key; versions = c.versions ++ e ∷ [] } ∷ cs)
     (c ∷ with_entry e cs)
 
--- the same, one entry after another
+-- the chains with more entries, one after another
 abbrev pub with_entries : List Entry → List Chain → List Chain
 with_entries es chains = fold (λ cs e. with_entry e cs) chains es
 
@@ -76,10 +78,16 @@ without_newest key (c ∷ cs) =
     if is_eq (slice_cmp nat_cmp key c.key) then chain_if c.key (older c.versions) ++ cs
     else c ∷ without_newest key cs
 
--- the key stands at or after lo, and before hi
-abbrev pub key_between : List ℕ → List ℕ → List ℕ → Bool
-key_between lo hi key = key_le lo key && is_lt (slice_cmp nat_cmp key hi)
-
--- the chains whose key stands so
+-- the chains whose key stands at or after lo, and before hi
 abbrev pub chains_between : List ℕ → List ℕ → List Chain → List Chain
 chains_between lo hi chains = filter (λ c. key_between lo hi c.key) chains
+
+-- chains, with what is noted of their entries
+pub record IsNoted (chains : List Chain) (weight count last : ℕ) : Type 0 where
+  pub chained : AreChains chains
+  pub sound : AreSound (entries_in chains)
+  pub apart : SequencesDiffer (entries_in chains)
+  pub weighed : weight ≡ sum_by entry_weight (entries_in chains)
+  pub light : weight ≤ MAX_MEMTABLE_WEIGHT
+  pub counted : count ≡ length (entries_in chains)
+  pub newest : last ≡ last_sequence (entries_in chains)

@@ -1,2 +1,2 @@
-pub mod Chains
 pub mod Memtable
+pub mod Chains

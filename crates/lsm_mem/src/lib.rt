@@ -6,5 +6,7 @@
 
 mod chains;
 mod memtable;
+#[cfg(test)]
+mod tests;
 
 pub use memtable::Memtable;

@@ -20,8 +20,7 @@ pub struct Memtable {
 impl Model for Memtable {
     ghost use Rattle.std.specs.Prelude.{List};
     ghost use Rattle.lsm_key.specs.declared.entry.Entry.{Entry};
-    ghost use Rattle.lsm_mem.specs.Chains.{entries_in};
-    ghost use Rattle.lsm_mem.specs.Memtable.{IsNoted};
+    ghost use Rattle.lsm_mem.specs.Chains.{entries_in, IsNoted};
 
     ghost Value = { List Entry };
 
@@ -33,7 +32,9 @@ impl Model for Memtable {
 impl Memtable {
     ghost use Rattle.std.specs.Prelude.{◌≡◌, [], ◌++◌, ◌<◌, ◌≤◌, ◌+◌, ◌-◌, ◌↔◌, IfOk, OnOk, OnErr, IsTrue, filter, length, sum_by};
     ghost use Rattle.std.specs.Option.{option_map};
+    ghost use Rattle.lsm_key.specs.declared.entry.Entry.{Entry};
     ghost use Rattle.lsm_key.specs.declared.limits.TheConstants.{MAX_MEMTABLE_WEIGHT};
+    ghost use Rattle.lsm_key.specs.Sets.{IsIn};
     ghost use Rattle.std.specs.List.Sorted.{IsPermutation};
     ghost use Rattle.lsm_key.specs.Limits.{entry_weight, total_weight};
     ghost use Rattle.lsm_key.specs.Places.{entries_after};
@@ -88,7 +89,8 @@ impl Memtable {
 
     /// Copies of all entries, in the order of internal keys. They share the bytes.
     pub fn entries(&self) -> Result<Vec<Entry>, AllocError>
-        ensures { IfOk result (λ copies. copies.items ≡ self.now) }
+        ensures all { IfOk result (λ copies. copies.items ≡ self.now) }
+        ensures sound { IsMemtable self.now }
     {
         self.chains.entries()
     }
@@ -104,6 +106,7 @@ impl Memtable {
     /// The greatest sequence, 0 where there is no entry.
     pub fn last_seq(&self) -> Seq
         ensures value { result ≡ last_sequence self.now }
+        ensures early { (e : Entry) → IsIn e self.now → e.ikey.seq ≤ result }
         ensures sound { IsMemtable self.now }
     {
         self.last

@@ -1,4 +1,4 @@
-use Rattle.std.proofs.Common.{◌≡◌, true, false, ℕ, ◌<◌, length, sym, arith, rules}
+use Rattle.std.proofs.Common.{◌≡◌, true, false, ℕ, ◌<◌, sym, arith, rules}
 use Rattle.std.specs.List.Sorted.{IsPartitionPoint}
 use Rattle.std.proofs.lemmas.List.Sorted.{IsPartitionPoint-from_clause}
 use Rattle.lsm_mem.specs.Chains.{is_written}

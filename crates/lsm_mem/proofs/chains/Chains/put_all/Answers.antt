@@ -1,8 +1,8 @@
 use Rattle.std.proofs.Common.{◌≡◌, ◌++◌, ◌∷◌, [], ◌+◌, ◌-◌, ◌<◌, List, ℕ, length, take, sym, ap, ◌∙◌, arith}
-use Rattle.std.proofs.lemmas.List.{take_more, get_or_default, length-take-le}
+use Rattle.std.proofs.lemmas.List.{take_more, length-take-le}
 use Rattle.lsm_key.specs.declared.op.Op.{Op}
 use Rattle.lsm_key.specs.Places.{entry_of, entries_after}
-use Rattle.lsm_mem.specs.Chains.{Chain, with_entry, with_entries}
+use Rattle.lsm_mem.specs.Chains.{with_entry, with_entries}
 use Rattle.lsm_mem.proofs.Growing.{with_entries-push}
 use Rattle.lsm_mem.proofs.chains.Chains.put_all.Goals as goal
 

@@ -1,4 +1,4 @@
-use Rattle.std.proofs.Common.{◌≡◌, ◌++◌, ◌∷◌, [], ◌<◌, ◌⊎◌, IsSome, vec_len, inl, inr, length, List, ℕ, Vec, Global, BTreeMap, sym, ap, refl, ◌∙◌, rules, arith}
+use Rattle.std.proofs.Common.{◌≡◌, [], ◌<◌, IsSome, vec_len, inl, inr, length, ℕ, Vec, Global, BTreeMap, sym, ap, ◌∙◌, arith}
 use Rattle.std.specs.Map.{remove_entry}
 use Rattle.std.proofs.lemmas.Bool.{eqb-true, eqb-false}
 use Rattle.std.proofs.lemmas.List.{nil_from_length}

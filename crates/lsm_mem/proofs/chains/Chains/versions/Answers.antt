@@ -1,8 +1,4 @@
-use Rattle.std.proofs.Common.{◌≡◌, List, Some, None, rules, sym, ap, subst, ◌∙◌}
-use Rattle.std.specs.Option.{option_copied}
-use Rattle.lsm_key.specs.declared.entry.Entry.{Entry}
-use Rattle.lsm_key.specs.Sets.{IsIn}
-use Rattle.lsm_mem.specs.Chains.{Chain, chains_of}
+use Rattle.std.proofs.Common.{sym}
 use Rattle.lsm_mem.proofs.Pairs.{lookup_none, lookup_some}
 use Rattle.lsm_mem.proofs.chains.Chains.versions.Goals as goal
 

@@ -1,13 +1,12 @@
-use Rattle.std.proofs.Common.{◌≡◌, ◌++◌, ◌+◌, ◌-◌, ◌<◌, ◌≤◌, ℕ, List, length, sum_by, None, Fits, w64, true, false, sym, ap, subst, ◌∙◌, arith, rules}
-use Rattle.std.specs.List.Sorted.{IsPermutation}
+use Rattle.std.proofs.Common.{◌≡◌, ◌+◌, ◌-◌, ◌<◌, ◌≤◌, ℕ, List, length, sum_by, None, sym, ap, ◌∙◌, arith}
 use Rattle.std.proofs.lemmas.Bool.{eqb-true, eqb-false}
 use Rattle.lsm_key.specs.declared.entry.Entry.{Entry}
 use Rattle.lsm_key.specs.declared.op.Op.{Op}
 use Rattle.lsm_key.specs.declared.limits.TheConstants.{MAX_MEMTABLE_WEIGHT}
 use Rattle.lsm_key.specs.Limits.{entry_weight, total_weight, batch_fault}
 use Rattle.lsm_key.specs.Places.{entries_after}
-use Rattle.lsm_mem.specs.Chains.{Chain, entries_in, with_entries}
-use Rattle.lsm_mem.specs.Memtable.{last_sequence, IsNoted}
+use Rattle.lsm_mem.specs.Chains.{Chain, entries_in}
+use Rattle.lsm_mem.specs.Memtable.{last_sequence}
 use Rattle.lsm_mem.proofs.Growing.{with_entries-permuted}
 use Rattle.lsm_mem.proofs.Noted.{noted_none, noted_some, length-le-weight}
 use Rattle.lsm_mem.proofs.memtable.Memtable.apply.Goals as goal
@@ -64,7 +63,7 @@ invariant_of-self-else-not-is_empty c =
     rw (c.in_ok-put_all.ensures.ok, weight) (noted_none cs c.self.inside.weight c.self.inside.count c.self.inside.last after ops is later good light none)
 
 pub returns-then-not-is_empty-clause-ok : goal.returns-then-not-is_empty-clause-ok
-returns-then-not-is_empty-clause-ok c = 
+returns-then-not-is_empty-clause-ok c =
     let made = c.in_ok-put_all.ensures.ok in
     let all = c.ops-ops.ensures.all in
     rw (← c.self.view_is, ← all, made) (with_entries-permuted (entries_after (c.args.first_seq - 1) c.ops-ops.result.now) c.self.inside.chains)

@@ -1,5 +1,4 @@
-use Rattle.std.proofs.Common.{◌≡◌, List, ℕ, Option, None, Some, sym, ◌∙◌}
-use Rattle.lsm_mem.specs.Chains.{Chain}
+use Rattle.std.proofs.Common.{sym, ◌∙◌}
 use Rattle.lsm_mem.proofs.Chained.{is_chain, visible_none}
 use Rattle.lsm_mem.proofs.Rising.{visible_written}
 use Rattle.lsm_mem.proofs.memtable.Memtable.get.Goals as goal

@@ -1,6 +1,6 @@
-use Rattle.std.proofs.Common.{◌≡◌, sym, ap, ◌∙◌}
+use Rattle.std.proofs.Common.{sym, ap, ◌∙◌}
 use Rattle.std.specs.List.{filter}
-use Rattle.std.proofs.lemmas.Result.{IfOk-equal, IfOk-weaker}
+use Rattle.std.proofs.lemmas.Result.{IfOk-weaker}
 use Rattle.lsm_mem.specs.Memtable.{is_between}
 use Rattle.lsm_mem.proofs.Between.{between_chains}
 use Rattle.lsm_mem.proofs.memtable.Memtable.range.Goals as goal
