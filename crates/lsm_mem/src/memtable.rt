@@ -53,8 +53,9 @@ impl Memtable {
         }
     }
 
-    /// Adds the entries of a batch: its operation number i, from 0, gets the sequence `first_seq` + i. Where memory does not
-    /// suffice the memtable stays as it was.
+    /// Adds the entries of a batch: its operation number i, from 0, gets the sequence `first_seq` + i. `first_seq` comes after
+    /// every sequence in the memtable, the last operation's is at most `Seq::MAX`, and the entries fit the memtable's weight.
+    /// Where memory does not suffice the memtable stays as it was.
     pub fn apply(&mut self, first_seq: Seq, batch: &Batch) -> Result<(), AllocError>
         requires newer { last_sequence self.old < first_seq }
         requires room { sum_by entry_weight self.old + total_weight batch.now ≤ MAX_MEMTABLE_WEIGHT }
@@ -87,7 +88,7 @@ impl Memtable {
         })
     }
 
-    /// Copies of all entries, in the order of internal keys. They share the bytes.
+    /// Copies of all entries, in the order of internal keys, or want of memory. They share the bytes.
     pub fn entries(&self) -> Result<Vec<Entry>, AllocError>
         ensures all { IfOk result (λ copies. copies.items ≡ self.now) }
         ensures sound { IsMemtable self.now }
@@ -95,8 +96,9 @@ impl Memtable {
         self.chains.entries()
     }
 
-    /// Copies of the entries whose key stands at or after `lo`, and before `hi`, in the order of internal keys. They share
-    /// the bytes. It takes as many comparisons as the count of keys has bits, and a step for each entry that it gives.
+    /// Copies of the entries whose key stands at or after `lo`, and before `hi`, in the order of internal keys, or want of
+    /// memory. They share the bytes. It takes as many comparisons as the count of keys has bits, and a step for each entry
+    /// that it gives.
     pub fn range(&self, lo: &[u8], hi: &[u8]) -> Result<Vec<Entry>, AllocError>
         ensures { IfOk result (λ copies. copies.items ≡ filter (is_between lo.now hi.now) self.now) }
     {
