@@ -1,0 +1,2 @@
+pub mod Memtable
+pub mod Chains

@@ -1,0 +1,138 @@
+//! The memtable.
+
+use crate::chains::{Chains, newest_at};
+use lsm_key::{Batch, Entry, EntryRef, Seq};
+use std::alloc::{AllocError, Global};
+use std::marker::Model;
+
+/// The entries that were written last, at most `MAX_MEMTABLE_WEIGHT` bytes of them, in the order of internal keys.
+#[derive(Debug, Drop)]
+pub struct Memtable {
+    chains: Chains,
+    // What the entries take in a block, in bytes.
+    weight: usize,
+    // How many entries there are.
+    count: usize,
+    // The greatest sequence.
+    last: Seq,
+}
+
+impl Model for Memtable {
+    ghost use Rattle.std.specs.Prelude.{List};
+    ghost use Rattle.lsm_key.specs.declared.entry.Entry.{Entry};
+    ghost use Rattle.lsm_mem.specs.Chains.{entries_in, IsNoted};
+
+    ghost Value = { List Entry };
+
+    ghost view = { λ m. entries_in m.chains };
+
+    ghost invariant = { λ m. IsNoted m.chains m.weight m.count m.last };
+}
+
+impl Memtable {
+    ghost use Rattle.std.specs.Prelude.{◌≡◌, [], ◌++◌, ◌<◌, ◌≤◌, ◌+◌, ◌-◌, ◌↔◌, IfOk, OnOk, OnErr, IsTrue, filter, length, sum_by};
+    ghost use Rattle.std.specs.Option.{option_map};
+    ghost use Rattle.lsm_key.specs.declared.entry.Entry.{Entry};
+    ghost use Rattle.lsm_key.specs.declared.limits.TheConstants.{MAX_MEMTABLE_WEIGHT};
+    ghost use Rattle.lsm_key.specs.Sets.{IsIn};
+    ghost use Rattle.std.specs.List.Sorted.{IsPermutation};
+    ghost use Rattle.lsm_key.specs.Limits.{entry_weight, total_weight};
+    ghost use Rattle.lsm_key.specs.Places.{entries_after};
+    ghost use Rattle.lsm_key.specs.Visible.{visible, lent};
+    ghost use Rattle.lsm_mem.specs.Memtable.{IsMemtable, last_sequence, is_between};
+
+    /// No entry yet.
+    pub fn new(alloc: Global) -> Memtable
+        ensures { result ≡ [] }
+    {
+        Memtable {
+            chains: Chains::new(alloc),
+            weight: 0,
+            count: 0,
+            last: Seq::ZERO,
+        }
+    }
+
+    /// Adds the entries of a batch: its operation number i, from 0, gets the sequence `first_seq` + i. `first_seq` comes after
+    /// every sequence in the memtable, the last operation's is at most `Seq::MAX`, and the entries fit the memtable's weight.
+    /// Where memory does not suffice the memtable stays as it was.
+    pub fn apply(&mut self, first_seq: Seq, batch: &Batch) -> Result<(), AllocError>
+        requires newer { last_sequence self.old < first_seq }
+        requires room { sum_by entry_weight self.old + total_weight batch.now ≤ MAX_MEMTABLE_WEIGHT }
+        requires fits { first_seq + length batch.now ≤ Seq.MAX + 1 }
+        ensures ok { OnOk result (IsPermutation (self.old ++ entries_after (first_seq - 1) batch.now) self.new) }
+        ensures err { OnErr result (self.new ≡ self.old) }
+    {
+        let ops = batch.ops();
+        self.chains.put_all(ops, first_seq)?;
+        self.weight += batch.weight();
+        self.count += ops.len();
+        if !ops.is_empty() {
+            self.last = Seq::new(first_seq.number() + (ops.len() as u64 - 1));
+        }
+        Ok(())
+    }
+
+    /// The entry of the key with the greatest sequence at most `at`. It takes no memory, and as many comparisons as the
+    /// counts of keys and of the key's versions have bits.
+    pub fn get(&self, key: &[u8], at: Seq) -> Option<EntryRef<'_>>
+        ensures { option_map lent result ≡ visible self.now key.now at }
+    {
+        let versions = self.chains.versions(key)?;
+        let entry = newest_at(versions, at)?;
+        Some(EntryRef {
+            key: entry.ikey.key.as_slice(),
+            seq: entry.ikey.seq,
+            kind: entry.ikey.kind,
+            value: entry.value.as_slice(),
+        })
+    }
+
+    /// Copies of all entries, in the order of internal keys, or want of memory. They share the bytes.
+    pub fn entries(&self) -> Result<Vec<Entry>, AllocError>
+        ensures all { IfOk result (λ copies. copies.items ≡ self.now) }
+        ensures sound { IsMemtable self.now }
+    {
+        self.chains.entries()
+    }
+
+    /// Copies of the entries whose key stands at or after `lo`, and before `hi`, in the order of internal keys, or want of
+    /// memory. They share the bytes. It takes as many comparisons as the count of keys has bits, and a step for each entry
+    /// that it gives.
+    pub fn range(&self, lo: &[u8], hi: &[u8]) -> Result<Vec<Entry>, AllocError>
+        ensures { IfOk result (λ copies. copies.items ≡ filter (is_between lo.now hi.now) self.now) }
+    {
+        self.chains.entries_between(lo, hi)
+    }
+
+    /// The greatest sequence, 0 where there is no entry.
+    pub fn last_seq(&self) -> Seq
+        ensures value { result ≡ last_sequence self.now }
+        ensures early { (e : Entry) → IsIn e self.now → e.ikey.seq ≤ result }
+        ensures sound { IsMemtable self.now }
+    {
+        self.last
+    }
+
+    /// What the entries take in a block, in bytes.
+    pub fn weight(&self) -> usize
+        ensures value { result ≡ sum_by entry_weight self.now }
+        ensures bound { result ≤ MAX_MEMTABLE_WEIGHT }
+    {
+        self.weight
+    }
+
+    /// How many entries there are.
+    pub fn len(&self) -> usize
+        ensures { result ≡ length self.now }
+    {
+        self.count
+    }
+
+    /// Whether there is no entry.
+    pub fn is_empty(&self) -> bool
+        ensures { IsTrue result ↔ (self.now ≡ []) }
+    {
+        self.chains.is_empty()
+    }
+}
