@@ -98,15 +98,6 @@ module _ (ps : List Placed) (level : ℕ) (key : List ℕ) (some : 1 ≤ level) 
     ]
   ]
 
-  at_default : (m : ℕ) (p : Placed) (b : Bool) (d : Placed) → m < length ps → p ≡ get_or ps m p → comes_left level key p ≡ b → comes_left level key (get_or ps m d) ≡ b
-  at_default m p b d within is h = subst (λ (x : Placed). comes_left level key x ≡ b) (is ∙ get_or_default ps m p d within) h
-
-  pub more_left : (m : ℕ) (p : Placed) → m < length ps → p ≡ get_or ps m p → comes_left level key p ≡ true → AllWithin (λ y. comes_left level key y ≡ true) ps 0 (m + 1)
-  more_left m p within is h k d low lt = partitioned k m d (omega (arith, lt)) within (at_default m p true d within is h)
-
-  pub more_right : (m : ℕ) (p : Placed) → m < length ps → p ≡ get_or ps m p → comes_left level key p ≡ false → AllWithin (λ y. comes_left level key y ≡ false) ps m (length ps)
-  more_right m p within is h k d low lt = false_from_ne_true (comes_left level key (get_or ps k d)) (λ t. let bad : true ≡ false = sym (partitioned m k d low lt t) ∙ at_default m p false d within is h in absurd cc)
-
   -- ---- what the level shows
 
   covered-largest : (f : FileMeta) → key_le key f.largest ≡ false → is_covered f key ≡ false

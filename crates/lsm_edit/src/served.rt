@@ -297,17 +297,7 @@ fn place_in(places: &[Placed], level: u8, key: &[u8]) -> usize
     requires deeper { 1 ≤ level }
     ensures { IsPartitionPoint (λ p. comes_left level key.now p ≡ true) (λ p. comes_left level key.now p ≡ false) places.now result }
 {
-    let mut low = 0;
-    let mut high = places.len();
-    while low < high {
-        let middle = low + (high - low) / 2;
-        if stands_left(&places[middle], level, key) {
-            low = middle + 1;
-        } else {
-            high = middle;
-        }
-    }
-    low
+    places.partition_point(|placed| stands_left(placed, level, key))
 }
 
 // The file is of an upper level, or of this one with all its keys below the key.

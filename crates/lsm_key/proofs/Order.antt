@@ -98,16 +98,6 @@ partitioned es key at up i j d le lt h =
       | inr (inr more) ↦ absurd (omega (arith, more, le))
     ]
 
--- one step of a search: all below an entry that comes before, and all from one that does not
-at_default : (es : List Entry) (key : List ℕ) (at m : ℕ) (e : Entry) (b : Bool) (d : Entry) → m < length es → e ≡ get_or es m e → comes_before key at e ≡ b → comes_before key at (get_or es m d) ≡ b
-at_default es key at m e b d within is h = subst (λ (x : Entry). comes_before key at x ≡ b) (is ∙ get_or_default es m e d within) h
-
-pub more_before : (es : List Entry) (key : List ℕ) (at m : ℕ) (e : Entry) → IsAscending es → m < length es → e ≡ get_or es m e → comes_before key at e ≡ true → AllWithin (λ y. comes_before key at y ≡ true) es 0 (m + 1)
-more_before es key at m e up within is h k d low lt = partitioned es key at up k m d (omega (arith, lt)) within (at_default es key at m e true d within is h)
-
-pub more_after : (es : List Entry) (key : List ℕ) (at m : ℕ) (e : Entry) → IsAscending es → m < length es → e ≡ get_or es m e → comes_before key at e ≡ false → AllWithin (λ y. comes_before key at y ≡ false) es m (length es)
-more_after es key at m e up within is h k d low lt = false_from_ne_true (comes_before key at (get_or es k d)) (λ t. let bad : true ≡ false = sym (partitioned es key at up m k d low lt t) ∙ at_default es key at m e false d within is h in absurd cc)
-
 -- entries in order have their own places
 pub ascending_unique : (es : List Entry) → IsAscending es → IsUnique es
 ascending_unique es up e f me mf keys seqs =

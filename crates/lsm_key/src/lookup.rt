@@ -31,17 +31,7 @@ fn place_of(entries: &[Entry], key: &[u8], at: Seq) -> usize
     requires { IsAscending entries.now }
     ensures { IsPlace entries.now key.now at result }
 {
-    let mut low = 0;
-    let mut high = entries.len();
-    while low < high {
-        let middle = low + (high - low) / 2;
-        if stands_before(&entries[middle], key, at) {
-            low = middle + 1;
-        } else {
-            high = middle;
-        }
-    }
-    low
+    entries.partition_point(|entry| stands_before(entry, key, at))
 }
 
 /// The entry of the key with the greatest sequence at most `at`, among entries in the order of internal keys. It takes
