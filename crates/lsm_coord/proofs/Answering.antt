@@ -1,5 +1,5 @@
 -- A read at the present or at a live snapshot gives what the list of writes gives.
-use Rattle.std.proofs.Common.{◌≡◌, ℕ, ◌≤◌, List, ◌++◌, Option, sym, ap, subst, ◌∙◌, arith, inl, inr, ◌⊎◌, length, take, drop, length-drop}
+use Rattle.std.proofs.Common.{◌≡◌, ℕ, ◌<◌, ◌≤◌, List, ◌++◌, Option, sym, ap, subst, ◌∙◌, arith, inl, inr, ◌⊎◌, length, take, drop, length-drop}
 use Rattle.std.specs.Option.{option_and_then}
 use Rattle.std.specs.List.Sorted.{IsPermutation}
 use Rattle.std.proofs.lemmas.Bool.{cases_lt}
@@ -14,7 +14,8 @@ use Rattle.lsm_key.proofs.Sets.{IsIn-append_cases, SameMembers-permutation, Same
 use Rattle.lsm_key.proofs.Visible.{visible-append, visible_same}
 use Rattle.lsm_key.proofs.Writes.{entries_after-range, entries_after-unique}
 use Rattle.lsm_key.proofs.Points.{at_point, value_at-stored}
-use Rattle.lsm_coord.specs.State.{State, Snapshot, last_seq, last_flushed, active_start}
+use Rattle.lsm_coord.specs.State.{State, last_seq, last_flushed, active_start}
+use Rattle.lsm_coord.specs.declared.snapshot.Snapshot.{Snapshot}
 use Rattle.lsm_coord.specs.Shows.{ShowsRecent}
 
 -- the present or a live snapshot
@@ -116,3 +117,49 @@ module _ (active frozen tables : List Entry) (s : State) (a : ShowsRecent active
       let o = t.old f n in
       let first = a.flushed in
       omega arith
+
+  -- ---- the frozen memtable over the tables
+
+  frozen_first : (p : ℕ) (key : List ℕ) → value_at (frozen ++ tables) key p ≡ value_at (frozen_in_order s ++ tables) key p
+  frozen_first p key = ap (option_and_then entry_value) (same_before frozen (frozen_in_order s) tables key p (entries_after-unique (last_flushed s) (drop (last_flushed s) (frozen_writes s))) a.frozen_is)
+
+  -- they give the answers up to where the active memtable begins
+  pub frozen_answers : (p : ℕ) (key : List ℕ) → last_flushed s ≤ p → p ≤ active_start s → value_at (frozen ++ tables) key p ≡ answer s.writes p key
+  frozen_answers p key low high = frozen_first p key ∙ frozen_at p key low high
+
+  -- and those at the live snapshots up to there
+  pub frozen_reads : (x : Snapshot) → IsIn x s.snapshots → x.at ≤ active_start s → (key : List ℕ) → value_at (frozen ++ tables) key x.at ≡ answer s.writes x.at key
+  frozen_reads x live high key = elim (cases_lt x.at (last_flushed s)) [
+    | inl lt ↦ frozen_first x.at key ∙ value_at-stored (frozen_writes s) (last_flushed s) tables key x.at (omega arith) ∙ a.kept x live (omega arith) key
+    | inr ge ↦ frozen_answers x.at key ge high
+  ]
+
+  -- ---- the order of a search
+
+  frozen_range : (e : Entry) → IsIn e frozen → (last_flushed s < e.ikey.seq) × (e.ikey.seq ≤ active_start s)
+  frozen_range e m =
+      let r = entries_after-range (last_flushed s) (drop (last_flushed s) (frozen_writes s)) e ((SameMembers-permutation frozen (frozen_in_order s) a.frozen_is e).0 m) in
+      let w = a.within in
+      let low = r.0 in
+      (low, omega (arith, r.1, length-drop (last_flushed s) (frozen_writes s), length-take (active_start s) s.writes))
+
+  pub frozen_entries_old : (e : Entry) → IsIn e (frozen ++ tables) → e.ikey.seq ≤ active_start s
+  frozen_entries_old e m = elim (IsIn-append_cases e frozen tables m) [
+    | inl b ↦ (frozen_range e b).1
+    | inr b ↦ let o = t.old e b in let first = a.flushed in omega arith
+  ]
+
+  -- the frozen memtable is newer than the tables
+  pub frozen_above : IsAbove frozen tables
+  frozen_above e f m n keys = let r = frozen_range e m in let low = r.0 in let o = t.old f n in omega arith
+
+  -- and the active one newer than both
+  pub active_first : IsAbove active (frozen ++ tables)
+  active_first e f m n keys = elim (IsIn-append_cases f frozen tables n) [
+    | inl b ↦
+        let r = entries_after-range (active_start s) (drop (active_start s) s.writes) e ((SameMembers-permutation active (active_entries s) a.active_is e).0 m) in
+        let low = r.0 in
+        let high = (frozen_range f b).1 in
+        omega arith
+    | inr b ↦ active_above e f m b keys
+  ]

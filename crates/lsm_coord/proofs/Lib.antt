@@ -7,10 +7,14 @@ pub mod Refusals
 pub mod States
 pub mod SnapshotEffects
 pub mod Snapshots
-pub mod Sorting
 pub mod Manifests
 pub mod Answering
 pub mod Writing
+pub mod Freezing
 pub mod Flushing
+pub mod Snapping
+pub mod Reading
+pub mod Faults
+pub mod Building
 pub mod Memories
 pub mod Opening

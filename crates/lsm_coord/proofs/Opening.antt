@@ -7,14 +7,13 @@ use Rattle.lsm_edit.specs.Version.{first_version, apply_fault, applied}
 use Rattle.lsm_edit.specs.Served.{ServedValue}
 use Rattle.lsm_coord.specs.State.{first_state}
 use Rattle.lsm_coord.specs.Shows.{Shows}
-use Rattle.lsm_coord.proofs.Flushing.{unfrozen}
 
 -- the version after the first edit, which has no tables
 abbrev pub opened : ServedValue
 opened = record { version = applied first_version (epoch_edit first_version); places = [] }
 
 pub Shows-new : (text : List ℕ) → IsSpelled text (epoch_edit first_version) → apply_fault first_version (epoch_edit first_version) ≡ None
-    → Shows (unfrozen [] opened (text ∷ []) 0 [] 0 1) first_state
+    → Shows (record { active = []; frozen = None; served = opened; edits = text ∷ []; last = 0; snapshots = []; made = 0; floor = 1 }) first_state
 Shows-new text spelled fits = record {
   up = refl;
   last = refl;

@@ -2,7 +2,8 @@
 use Rattle.std.proofs.Common.{◌≡◌, ◌+◌, List, [], ◌∷◌, ◌++◌, Option, None, Some, refl, sym, subst, ◌∙◌, inl, inr, Bool, true, false, not, filter, append-nil}
 use Rattle.std.specs.Bool.{if◌then◌else◌}
 use Rattle.lsm_key.specs.declared.op.Op.{Op}
-use Rattle.lsm_coord.specs.State.{State, SnapId, last_seq, same_id}
+use Rattle.lsm_coord.specs.State.{State, last_seq, same_id}
+use Rattle.lsm_coord.specs.declared.snapshot.SnapId.{SnapId}
 use Rattle.lsm_coord.specs.Event.{Event, Refusal, Reply}
 use Rattle.lsm_coord.specs.Event as say
 use Rattle.lsm_coord.specs.Changes.{next_snapshot}

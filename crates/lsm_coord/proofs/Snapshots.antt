@@ -7,7 +7,9 @@ use Rattle.std.proofs.lemmas.Bool.{eqb-true}
 use Rattle.std.proofs.lemmas.List.{take-append-le}
 use Rattle.lsm_key.specs.declared.op.Op.{Op}
 use Rattle.lsm_key.specs.Writes.{answer, last_write, value_of}
-use Rattle.lsm_coord.specs.State.{State, Snapshot, SnapId, last_seq, same_id, snapshot_at, first_state}
+use Rattle.lsm_coord.specs.State.{State, last_seq, same_id, snapshot_at, first_state}
+use Rattle.lsm_coord.specs.declared.snapshot.SnapId.{SnapId}
+use Rattle.lsm_coord.specs.declared.snapshot.Snapshot.{Snapshot}
 use Rattle.lsm_coord.specs.Event.{Event, Reply}
 use Rattle.lsm_coord.specs.Event as say
 use Rattle.lsm_coord.specs.Changes.{next_snapshot}

@@ -4,17 +4,17 @@ use Rattle.std.specs.Prelude.{sum_by}
 use Rattle.std.specs.Option.{option_and_then}
 use Rattle.std.specs.List.Sorted.{IsPermutation}
 use Rattle.std.proofs.lemmas.List.{take-append-le}
-use Rattle.std.proofs.lemmas.List.Sorted.{IsPermutation-append, IsPermutation-refl, sum_by-IsPermutation}
+use Rattle.std.proofs.lemmas.List.Sorted.{IsPermutation-append, IsPermutation-refl, IsPermutation-sym, IsPermutation-trans, length_permutation, sum_by-IsPermutation}
+use Rattle.lsm_key.specs.declared.entry.Entry.{Entry}
 use Rattle.lsm_key.specs.declared.op.Op.{Op}
 use Rattle.lsm_key.specs.Limits.{total_weight, entry_weight}
 use Rattle.lsm_key.specs.Writes.{answer, last_write, value_of}
 use Rattle.lsm_key.specs.Places.{entries_after}
 use Rattle.lsm_key.proofs.Points.{drop-append_le}
-use Rattle.lsm_key.proofs.Writes.{entries_after-append, weight-entries_after}
-use Rattle.lsm_coord.specs.State.{State, active, last_flushed, active_start}
+use Rattle.lsm_key.proofs.Writes.{entries_after-append, length-entries_after, weight-entries_after}
+use Rattle.lsm_coord.specs.State.{State, active, last_seq, last_flushed, active_start}
 use Rattle.lsm_coord.specs.Value.{CoordValue, frozen_entries}
 use Rattle.lsm_coord.specs.Shows.{Shows}
-use Rattle.lsm_coord.specs.Calls.{written}
 
 -- a later write changes no earlier answer
 answer-append : (writes ops : List Op) (p : ℕ) (key : List ℕ) → p ≤ length writes → answer (writes ++ ops) p key ≡ answer writes p key
@@ -26,8 +26,16 @@ active_weight c s h =
     sym (weight-entries_after (active_start s) (drop (active_start s) s.writes))
     ∙ sum_by-IsPermutation entry_weight c.active (entries_after (active_start s) (drop (active_start s) s.writes)) h.memtables.active_is
 
-pub Shows-written : (c : CoordValue) (s : State) (ops : List Op) → Shows c s → Shows (written c ops) (record s { writes = s.writes ++ ops })
-Shows-written c s ops h =
+-- the active memtable has as many entries as there are writes after its beginning
+pub active_count : (c : CoordValue) (s : State) → Shows c s → length c.active + active_start s ≡ last_seq s
+active_count c s h =
+    let within = h.memtables.within in
+    omega (arith, length_permutation c.active (entries_after (active_start s) (drop (active_start s) s.writes)) h.memtables.active_is, length-entries_after (active_start s) (drop (active_start s) s.writes), length-drop (active_start s) s.writes)
+
+-- the entries of the memtable, in whatever order, and those of the batch
+pub Shows-written : (c : CoordValue) (entries : List Entry) (s : State) (ops : List Op) → IsPermutation (c.active ++ entries_after c.last ops) entries → Shows c s
+    → Shows (record c { active = entries; last = c.last + length ops }) (record s { writes = s.writes ++ ops })
+Shows-written c entries s ops perm h =
     let m = h.memtables in
     let within = m.within in
     let flushed = m.flushed in
@@ -55,7 +63,8 @@ Shows-written c s ops h =
       memtables = record {
         flushed = flushed;
         within = omega (arith, long);
-        active_is = rw fresh (IsPermutation-append c.active (entries_after start (drop start s.writes)) (entries_after c.last ops) (entries_after c.last ops) m.active_is (IsPermutation-refl (entries_after c.last ops)));
+        active_is = rw fresh (IsPermutation-trans entries (c.active ++ entries_after c.last ops) (entries_after start (drop start s.writes) ++ entries_after c.last ops) (IsPermutation-sym (c.active ++ entries_after c.last ops) entries perm)
+            (IsPermutation-append c.active (entries_after start (drop start s.writes)) (entries_after c.last ops) (entries_after c.last ops) m.active_is (IsPermutation-refl (entries_after c.last ops))));
         frozen_is = subst (λ (ws : List Op). IsPermutation (frozen_entries c.frozen) (entries_after (last_flushed s) (drop (last_flushed s) ws))) (sym (take-append-le start s.writes ops within)) m.frozen_is;
         kept = λ x live low key. m.kept x live low key ∙ sym (answer-append s.writes ops x.at key (omega arith));
         snapped = λ x live. let high = m.snapped x live in omega (arith, long);

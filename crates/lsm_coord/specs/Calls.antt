@@ -1,8 +1,11 @@
--- What each call of the coordinator refuses and makes, of the value that contracts see (LevelDB, db_impl.cc: Write, CompactMemTable, Get).
-use Rattle.std.specs.Prelude.{◌≡◌, ℕ, ◌+◌, ◌≤◌, List, ◌++◌, [], ◌∷◌, Option, None, Some, IsSome, length, sum_by, nat_eq, nat_lt, nat_le, ◌||◌, if◌then◌else◌}
+-- What each call of the coordinator refuses and makes, of the value that contracts see (LevelDB, db_impl.cc: Write, CompactMemTable, Get, GetSnapshot).
+use Rattle.std.specs.Prelude.{◌≡◌, ℕ, ◌+◌, ◌≤◌, Bool, not, List, ◌++◌, [], ◌∷◌, Option, None, Some, IsSome, length, filter, sum_by, is_none, is_some, nat_eq, nat_lt, nat_le, ◌&&◌, ◌||◌, ◌⊎◌, if◌then◌else◌}
+use Rattle.std.specs.List.Sorted.{IsPermutation}
+use Rattle.lsm_key.specs.declared.entry.Entry.{Entry}
 use Rattle.lsm_key.specs.declared.op.Op.{Op}
 use Rattle.lsm_key.specs.declared.limits.TheConstants.{MAX_MEMTABLE_WEIGHT, MAX_NUMBER}
 use Rattle.lsm_key.specs.declared.seq.TheConstants.Seq as seq
+use Rattle.lsm_key.specs.Sets.{IsIn}
 use Rattle.lsm_key.specs.Limits.{total_weight, entry_weight}
 use Rattle.lsm_key.specs.Places.{entries_after}
 use Rattle.lsm_key.specs.Writes.{answer}
@@ -14,10 +17,16 @@ use Rattle.lsm_edit.specs.Next.{flush_edit}
 use Rattle.lsm_edit.specs.Version.{apply_fault, applied}
 use Rattle.lsm_edit.specs.Served.{ServedValue, placed_of}
 use Rattle.lsm_coord.specs.declared.error.CoordError.{CoordError}
-use Rattle.lsm_coord.specs.declared.error.CoordError.TheVariants.{EmptyBatch, SequenceExhausted, MemtableFull, NothingToFlush, NumbersExhausted}
-use Rattle.lsm_coord.specs.State.{State, last_seq}
+use Rattle.lsm_coord.specs.declared.error.CoordError.TheVariants.{EmptyBatch, SequenceExhausted, MemtableFull, FrozenWaiting, NothingToFreeze, NothingToFlush, TooManySnapshots, NoSnapshot, NumbersExhausted}
+use Rattle.lsm_coord.specs.declared.frozen.Frozen.{Frozen}
+use Rattle.lsm_coord.specs.declared.snapshot.SnapId.{SnapId}
+use Rattle.lsm_coord.specs.declared.snapshot.Snapshot.{Snapshot}
+use Rattle.lsm_coord.specs.declared.snapshot.TheConstants.{MAX_SNAPSHOTS}
+use Rattle.lsm_coord.specs.State.{State, last_seq, same_id, snapshot_at}
 use Rattle.lsm_coord.specs.Value.{CoordValue}
 use Rattle.lsm_coord.specs.Shows.{Shows}
+
+-- ---- writes
 
 -- why a batch is not applied: the first reason that holds
 abbrev pub write_fault : CoordValue → List Op → Option CoordError
@@ -27,16 +36,43 @@ write_fault c ops =
     else if nat_lt MAX_MEMTABLE_WEIGHT (sum_by entry_weight c.active + total_weight ops) then Some MemtableFull
     else None
 
--- the entries of the batch, at the next sequences
-abbrev pub written : CoordValue → List Op → CoordValue
-written c ops = record c { active = c.active ++ entries_after c.last ops; last = c.last + length ops }
+-- the entries of the batch are in the active memtable, at the next sequences
+pub record IsWritten (old : CoordValue) (ops : List Op) (new : CoordValue) : Type 0 where
+  pub active : IsPermutation (old.active ++ entries_after old.last ops) new.active
+  pub rest : new ≡ record old { active = new.active; last = old.last + length ops }
+
+-- why nothing is frozen: the first reason that holds
+abbrev pub freeze_fault : CoordValue → Option CoordError
+freeze_fault c =
+    if is_some c.frozen then Some FrozenWaiting
+    else if nat_eq (length c.active) 0 then Some NothingToFreeze
+    else None
+
+-- the active memtable is frozen, and a new one is empty
+abbrev pub froze : CoordValue → CoordValue
+froze c = record c { active = []; frozen = Some (record { memtable = c.active; end = c.last }) }
+
+-- ---- flushes
 
 -- why nothing is flushed: the first reason that holds
 abbrev pub flush_fault : CoordValue → Option CoordError
 flush_fault c =
-    if nat_eq (length c.active) 0 then Some NothingToFlush
+    if is_none c.frozen && nat_eq (length c.active) 0 then Some NothingToFlush
     else if nat_le MAX_NUMBER c.served.version.number || nat_le MAX_NUMBER c.served.version.next_file then Some NumbersExhausted
     else None
+
+-- a flush takes the frozen memtable, or where none is frozen the active one
+abbrev pub taken_of : List Entry → ℕ → Option Frozen → Frozen
+taken_of active last None = record { memtable = active; end = last }
+taken_of active last (Some f) = f
+
+abbrev pub taken : CoordValue → Frozen
+taken c = taken_of c.active c.last c.frozen
+
+-- the active memtable after it: a new one, where it was taken
+abbrev pub active_after : List Entry → Option Frozen → List Entry
+active_after active None = []
+active_after active (Some f) = active
 
 -- the numbers of the next version and of the file after the next fit
 pub record CanNumber (c : CoordValue) : Type 0 where
@@ -47,17 +83,52 @@ pub record CanNumber (c : CoordValue) : Type 0 where
 abbrev pub extended : ServedValue → Edit → List Opened → ServedValue
 extended served e tables = record { version = applied served.version e; places = placed_of e.added tables ++ served.places }
 
--- the current version has one file more, its edit is the last of the list, and the memtable is empty
+-- the current version has one file more, its edit is the last of the list, and the memtable that was taken is gone
 pub record AddsTable (old : CoordValue) (file : FileMeta) (table : Opened) (new : CoordValue) : Type 0 where
-  pub applies : apply_fault old.served.version (flush_edit old.served.version old.last file) ≡ None
+  pub applies : apply_fault old.served.version (flush_edit old.served.version (taken old).end file) ≡ None
   pub text : List ℕ
-  pub spelled : IsSpelled text (flush_edit old.served.version old.last file)
-  pub new_is : new ≡ record old { active = []; served = extended old.served (flush_edit old.served.version old.last file) (table ∷ []); edits = old.edits ++ text ∷ [] }
+  pub spelled : IsSpelled text (flush_edit old.served.version (taken old).end file)
+  pub new_is : new ≡ record old { active = active_after old.active old.frozen; frozen = None; served = extended old.served (flush_edit old.served.version (taken old).end file) (table ∷ []); edits = old.edits ++ text ∷ [] }
 
--- the value of a key at the present, of each state that is shown
-abbrev pub Answers : CoordValue → List ℕ → Option (List ℕ) → Type 0
-Answers c key value = (s : State) → Shows c s → value ≡ answer s.writes (last_seq s) key
+-- ---- snapshots
 
--- the key has a value at the present, in each state that is shown
-abbrev pub HasValue : CoordValue → List ℕ → Type 0
-HasValue c key = (s : State) → Shows c s → IsSome (answer s.writes (last_seq s) key)
+-- why no snapshot is made: the first reason that holds
+abbrev pub snapshot_fault : CoordValue → Option CoordError
+snapshot_fault c =
+    if nat_le MAX_SNAPSHOTS (length c.snapshots) then Some TooManySnapshots
+    else if nat_le MAX_NUMBER c.made then Some NumbersExhausted
+    else None
+
+abbrev pub next_id : CoordValue → SnapId
+next_id c = record { epoch = c.served.version.epoch; number = c.made + 1 }
+
+-- one snapshot more, of the present
+abbrev pub snapped : CoordValue → CoordValue
+snapped c = record c { snapshots = c.snapshots ++ record { id = next_id c; at = c.last } ∷ []; made = c.made + 1 }
+
+-- a snapshot that is not live can't be let go
+abbrev pub release_fault : CoordValue → SnapId → Option CoordError
+release_fault c id = if is_none (snapshot_at c.snapshots id) then Some NoSnapshot else None
+
+-- the snapshots but this one
+abbrev pub released : CoordValue → SnapId → CoordValue
+released c id = record c { snapshots = filter (λ live. not (same_id live.id id)) c.snapshots }
+
+-- ---- reads
+
+-- the sequence of a read: the last one, or that of a live snapshot
+abbrev pub point_of : CoordValue → Option SnapId → Option ℕ
+point_of c None = Some c.last
+point_of c (Some id) = snapshot_at c.snapshots id
+
+-- the present, or a live snapshot's sequence
+abbrev pub IsPoint : CoordValue → ℕ → Type 0
+IsPoint c point = (point ≡ c.last) ⊎ ((x : Snapshot) × IsIn x c.snapshots × (x.at ≡ point))
+
+-- the value of a key at a sequence, of each state that is shown
+abbrev pub Answers : CoordValue → ℕ → List ℕ → Option (List ℕ) → Type 0
+Answers c point key value = (s : State) → Shows c s → value ≡ answer s.writes point key
+
+-- the key has a value at a sequence, in each state that is shown
+abbrev pub HasValue : CoordValue → ℕ → List ℕ → Type 0
+HasValue c point key = (s : State) → Shows c s → IsSome (answer s.writes point key)

@@ -4,7 +4,8 @@ use Rattle.std.specs.List.{list_any, range_with_len}
 use Rattle.std.specs.Option.{unwrap_or}
 use Rattle.lsm_key.specs.declared.limits.TheConstants.{MAX_NUMBER}
 use Rattle.lsm_key.specs.Sets.{IsIn}
-use Rattle.lsm_coord.specs.State.{State, Version, SnapId, Place, last_seq, last_flushed, current_version, current_files, snapshot_at, same_id}
+use Rattle.lsm_coord.specs.State.{State, Version, Place, last_seq, last_flushed, current_version, current_files, snapshot_at, same_id}
+use Rattle.lsm_coord.specs.declared.snapshot.SnapId.{SnapId}
 
 -- the sequence of a read: the present, or that of a live snapshot
 abbrev pub read_at : State → Option SnapId → ℕ

@@ -1,7 +1,8 @@
 -- What is asked of a store and its nodes, and what is answered (LevelDB, db.h; RocksDB wiki: remote compaction, secondary instances).
 use Rattle.std.specs.Prelude.{ℕ, List, Option}
 use Rattle.lsm_key.specs.declared.op.Op.{Op}
-use Rattle.lsm_coord.specs.State.{SnapId, Place}
+use Rattle.lsm_coord.specs.State.{Place}
+use Rattle.lsm_coord.specs.declared.snapshot.SnapId.{SnapId}
 
 -- workers and followers are numbered from 1
 pub data Node : Type 0 where

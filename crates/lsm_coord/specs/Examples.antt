@@ -1,7 +1,7 @@
 -- Runs of a new store, written out: what a reader can check by hand, and some that are none.
 use Rattle.std.specs.Prelude.{ℕ, List, [], ◌∷◌, None, Some}
 use Rattle.lsm_key.specs.declared.op.Op.TheVariants.{Put, Delete}
-use Rattle.lsm_coord.specs.State.{SnapId}
+use Rattle.lsm_coord.specs.declared.snapshot.SnapId.{SnapId}
 use Rattle.lsm_coord.specs.Event as say
 use Rattle.lsm_coord.specs.Run.{RunOfNew}
 

@@ -3,7 +3,8 @@ use Rattle.std.specs.Prelude.{◌≡◌, ℕ, ◌≤◌, List, ◌∷◌, ◌++�
 use Rattle.lsm_key.specs.declared.op.Op.{Op}
 use Rattle.lsm_key.specs.Sets.{IsIn}
 use Rattle.lsm_key.specs.Writes.{last_write, value_of}
-use Rattle.lsm_coord.specs.State.{State, Version, Place, SnapId, first_state, last_seq}
+use Rattle.lsm_coord.specs.State.{State, Version, Place, first_state, last_seq}
+use Rattle.lsm_coord.specs.declared.snapshot.SnapId.{SnapId}
 use Rattle.lsm_coord.specs.Event.{Event, Reply}
 use Rattle.lsm_coord.specs.Event as say
 use Rattle.lsm_coord.specs.Range.{IsRange}

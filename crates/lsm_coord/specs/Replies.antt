@@ -3,14 +3,19 @@ use Rattle.std.specs.Prelude.{ℕ, List, Option, Result, Ok, Err, map}
 use Rattle.lsm_edit.specs.declared.served.Listing.{Listing}
 use Rattle.lsm_coord.specs.declared.error.CoordError.{CoordError}
 use Rattle.lsm_coord.specs.declared.error.CoordError.TheVariants as error
-use Rattle.lsm_coord.specs.declared.coord.Flushed.{Flushed}
+use Rattle.lsm_coord.specs.declared.coord.flush.Flushed.{Flushed}
+use Rattle.lsm_coord.specs.declared.snapshot.SnapId.{SnapId}
 use Rattle.lsm_coord.specs.Event.{Refusal, Reply}
 use Rattle.lsm_coord.specs.Event as say
 use Rattle.lsm_coord.specs.Manifest.{place_of}
 
 abbrev pub refusal_of : CoordError → Refusal
 refusal_of error.SequenceExhausted = say.SequenceExhausted
+refusal_of error.FrozenWaiting = say.FrozenWaiting
+refusal_of error.NothingToFreeze = say.NothingToFreeze
 refusal_of error.NothingToFlush = say.NothingToFlush
+refusal_of error.TooManySnapshots = say.TooManySnapshots
+refusal_of error.NoSnapshot = say.NoSnapshot
 refusal_of error.MemtableFull = say.MemtableFull
 refusal_of error.EmptyBatch = say.EmptyBatch
 refusal_of error.NumbersExhausted = say.NumbersExhausted
@@ -20,9 +25,21 @@ abbrev pub write_reply : Result (ℕ × ℕ) CoordError → Reply
 write_reply (Ok r) = say.Wrote r.0 r.1
 write_reply (Err e) = say.Refused (refusal_of e)
 
+abbrev pub freeze_reply : Result ℕ CoordError → Reply
+freeze_reply (Ok seq) = say.Froze seq
+freeze_reply (Err e) = say.Refused (refusal_of e)
+
 abbrev pub flush_reply : Result Flushed CoordError → Reply
 flush_reply (Ok f) = say.Flushed f.number f.seq f.file
 flush_reply (Err e) = say.Refused (refusal_of e)
+
+abbrev pub snapshot_reply : Result (SnapId × ℕ) CoordError → Reply
+snapshot_reply (Ok r) = say.Snapped r.0 r.1
+snapshot_reply (Err e) = say.Refused (refusal_of e)
+
+abbrev pub release_reply : SnapId → Result (Unit {0}) CoordError → Reply
+release_reply id (Ok r) = say.Released id
+release_reply id (Err e) = say.Refused (refusal_of e)
 
 abbrev pub get_reply : Result (Option (List ℕ)) CoordError → Reply
 get_reply (Ok value) = say.Got value

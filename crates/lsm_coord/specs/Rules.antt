@@ -7,13 +7,11 @@ use Rattle.lsm_key.specs.declared.batch.KeyError.TheVariants as key_error
 use Rattle.lsm_key.specs.declared.limits.TheConstants.{MAX_NUMBER, MAX_MEMTABLE_WEIGHT}
 use Rattle.lsm_key.specs.declared.seq.TheConstants.Seq as seq
 use Rattle.lsm_key.specs.Limits.{batch_fault, total_weight}
-use Rattle.lsm_coord.specs.State.{State, SnapId, last_seq, current, last_flushed, active, snapshot_at}
+use Rattle.lsm_coord.specs.State.{State, last_seq, current, last_flushed, active, snapshot_at}
+use Rattle.lsm_coord.specs.declared.snapshot.SnapId.{SnapId}
+use Rattle.lsm_coord.specs.declared.snapshot.TheConstants.{MAX_SNAPSHOTS}
 use Rattle.lsm_coord.specs.Event.{Event, Refusal, Node}
 use Rattle.lsm_coord.specs.Event as say
-
--- as many as a store may have at a time
-abbrev pub MAX_SNAPSHOTS : ℕ
-MAX_SNAPSHOTS = 64
 
 -- a merge makes fewer files
 abbrev pub MAX_OUTPUTS : ℕ

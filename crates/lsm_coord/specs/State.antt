@@ -2,6 +2,8 @@
 use Rattle.std.specs.Prelude.{ℕ, ◌-◌, List, [], ◌∷◌, Option, None, Some, length, drop, Bool, true, nat_eq, get_or, if◌then◌else◌, ◌&&◌}
 use Rattle.std.specs.Option.{unwrap_or}
 use Rattle.lsm_key.specs.declared.op.Op.{Op}
+use Rattle.lsm_coord.specs.declared.snapshot.SnapId.{SnapId}
+use Rattle.lsm_coord.specs.declared.snapshot.Snapshot.{Snapshot}
 
 -- a file and the level that it stands in
 pub record Place : Type 0 where
@@ -12,16 +14,6 @@ pub record Place : Type 0 where
 pub record Version : Type 0 where
   pub flushed : ℕ
   pub files : List Place
-
--- the name of a snapshot: the epoch that made it, and its number there, from 1
-pub record SnapId : Type 0 where
-  pub epoch : ℕ
-  pub number : ℕ
-
--- a snapshot, and the sequence that it reads at
-pub record Snapshot : Type 0 where
-  pub id : SnapId
-  pub at : ℕ
 
 -- what the store has accepted, and what its nodes have made of it
 pub record State : Type 0 where

@@ -3,12 +3,8 @@ use Rattle.std.specs.Prelude.{ℕ, List, [], Option, None, Some}
 use Rattle.lsm_key.specs.declared.entry.Entry.{Entry}
 use Rattle.lsm_key.specs.Places.{all_entries}
 use Rattle.lsm_edit.specs.Served.{ServedValue, tables_of}
-use Rattle.lsm_coord.specs.State.{Snapshot}
-
--- a memtable that takes no more writes, and its last sequence
-pub record Frozen : Type 0 where
-  pub entries : List Entry
-  pub end : ℕ
+use Rattle.lsm_coord.specs.declared.frozen.Frozen.{Frozen}
+use Rattle.lsm_coord.specs.declared.snapshot.Snapshot.{Snapshot}
 
 pub record CoordValue : Type 0 where
   pub active : List Entry  -- the entries of the active memtable
@@ -22,7 +18,12 @@ pub record CoordValue : Type 0 where
 
 abbrev pub frozen_entries : Option Frozen → List Entry
 frozen_entries None = []
-frozen_entries (Some memtable) = memtable.entries
+frozen_entries (Some frozen) = frozen.memtable
+
+-- where the active memtable begins
+abbrev pub start_of : Option Frozen → ℕ → ℕ
+start_of None flushed = flushed
+start_of (Some frozen) flushed = frozen.end
 
 -- the entries of all tables of the current version
 abbrev pub stored : ServedValue → List Entry

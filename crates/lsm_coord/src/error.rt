@@ -8,8 +8,16 @@ use thiserror::Error;
 pub enum CoordError {
     #[error("the sequences are exhausted")]
     SequenceExhausted,
+    #[error("a frozen memtable waits")]
+    FrozenWaiting,
+    #[error("there is nothing to freeze")]
+    NothingToFreeze,
     #[error("there is nothing to flush")]
     NothingToFlush,
+    #[error("too many snapshots are live")]
+    TooManySnapshots,
+    #[error("no such snapshot is live")]
+    NoSnapshot,
     #[error("the memtable is full")]
     MemtableFull,
     #[error("the batch is empty")]

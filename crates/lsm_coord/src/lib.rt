@@ -3,14 +3,15 @@
 //! Its definitions say what a store has to answer: the abstract state, the events and replies, the refusals that a
 //! state forces, one step, and a run; the laws of runs are proved beside them. `Coord` is one store in memory, and each
 //! call promises that it follows them: of each state that the store shows before, the call and its answer are a step to
-//! a state that it shows after. It stands on `lsm_key` for writes and entries, `lsm_table` for tables, and `lsm_edit`
-//! for versions and the tables that they serve.
+//! a state that it shows after. It stands on `lsm_key` for writes and entries, `lsm_mem` for memtables, `lsm_table` for
+//! tables, and `lsm_edit` for versions and the tables that they serve.
 #![tactic(auto)]
 
 mod coord;
 mod error;
+mod frozen;
 mod laws;
-mod memory;
+mod snapshot;
 mod table;
 #[cfg(test)]
 mod tests;
@@ -21,3 +22,4 @@ pub use laws::{
     flushed_rises, followers_agree, get_gives_the_write, listings_agree, scans_are_determined,
     snapshots_agree, versions_stay, worked_runs, wrong_runs,
 };
+pub use snapshot::{MAX_SNAPSHOTS, SnapId};

@@ -3,45 +3,44 @@
 ghost use Rattle.std.specs.Prelude.{◌≡◌, ◌<◌, ◌≤◌, ◌++◌, ℕ, List, [], ◌∷◌, None, length, sum_by, IfOk, OnOk};
 ghost use Rattle.lsm_key.specs.Entries.{IsEntry, AreSound};
 ghost use Rattle.lsm_table.specs.Building.{add_fault, finish_fault};
-ghost use Rattle.std.specs.List.Sorted.{IsPermutation};
 ghost use Rattle.lsm_key.specs.declared.limits.TheConstants.{MAX_MEMTABLE_WEIGHT};
 ghost use Rattle.lsm_key.specs.Limits.{entry_weight};
 ghost use Rattle.lsm_key.specs.Order.{IsAscending};
-ghost use Rattle.lsm_coord.specs.Memory.{IsMemory};
 
-use crate::memory::{copy_of, sorted_copies};
 use lsm_key::Entry;
+use lsm_mem::Memtable;
 use lsm_table::{Table, TableBuilder};
 use std::alloc::{AllocError, Global};
 
 /// The table of the entries of a memtable, at least one.
-pub(crate) fn table_of(
-    alloc: Global,
-    entries: &[Entry],
-    weight: usize,
-    last: u64,
-) -> Result<Table, AllocError>
-    requires memory { IsMemory entries.now weight last }
-    requires some { 0 < length entries.now }
-    ensures { IfOk result (λ table. IsPermutation entries.now table.entries) }
+pub(crate) fn table_of(alloc: Global, memtable: &Memtable) -> Result<Table, AllocError>
+    requires { 0 < length memtable.now }
+    ensures { IfOk result (λ table. table.entries ≡ memtable.now) }
 {
-    let sorted = sorted_copies(alloc, entries)?;
-    built(alloc, sorted)
+    let entries = memtable.entries()?;
+    built(alloc, entries)
 }
 
 // A builder takes the entries of a memtable in their order, each of them.
-fn built(alloc: Global, sorted: Vec<Entry>) -> Result<Table, AllocError>
-    requires some { 0 < length sorted.items }
-    requires sound { AreSound sorted.items }
-    requires ascending { IsAscending sorted.items }
-    requires light { sum_by entry_weight sorted.items ≤ MAX_MEMTABLE_WEIGHT }
-    ensures { IfOk result (λ table. table.entries ≡ sorted.items) }
+fn built(alloc: Global, entries: Vec<Entry>) -> Result<Table, AllocError>
+    requires some { 0 < length entries.items }
+    requires sound { AreSound entries.items }
+    requires ascending { IsAscending entries.items }
+    requires light { sum_by entry_weight entries.items ≤ MAX_MEMTABLE_WEIGHT }
+    ensures { IfOk result (λ table. table.entries ≡ entries.items) }
 {
     let mut builder = TableBuilder::new(alloc);
-    for entry in &sorted {
+    for entry in &entries {
         put(&mut builder, copy_of(entry)?)?;
     }
     finished(builder)
+}
+
+// The same entry, sharing its bytes.
+fn copy_of(entry: &Entry) -> Result<Entry, AllocError>
+    ensures { IfOk result (λ copy. copy ≡ entry.now) }
+{
+    entry.clone()
 }
 
 // Adds an entry that the builder does not refuse: only memory can be wanting.

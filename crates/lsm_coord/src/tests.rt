@@ -33,7 +33,7 @@ fn the_way_of_a_write(rt: HostRuntime) -> Result<(), Fail> {
     };
     assert!(rt; coord.write(&batch)? == (first, first));
     assert!(rt; coord.flush()? == flushed);
-    match coord.get(b"a")? {
+    match coord.get(b"a", None)? {
         Some(value) => assert!(rt; value.as_slice() == b"1".as_slice()),
         None => assert!(rt; false, "no value"),
     }

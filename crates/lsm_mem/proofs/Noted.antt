@@ -27,7 +27,7 @@ up_to_last (x ∷ es) e m = elim m [
   | inr n ↦ (let low : e.ikey.seq ≤ last_sequence es = up_to_last es e n in omega arith)
 ]
 
-last_low : (es : List Entry) (n : ℕ) → ((e : Entry) → IsIn e es → e.ikey.seq ≤ n) → last_sequence es ≤ n
+pub last_low : (es : List Entry) (n : ℕ) → ((e : Entry) → IsIn e es → e.ikey.seq ≤ n) → last_sequence es ≤ n
 last_low [] n h = omega arith
 last_low (x ∷ es) n h = let own : x.ikey.seq ≤ n = h x (inl refl) in let rest : last_sequence es ≤ n = last_low es n (λ e m. h e (inr m)) in omega arith
 

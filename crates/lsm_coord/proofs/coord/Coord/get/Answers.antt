@@ -1,6 +1,6 @@
-use Rattle.std.proofs.Common.{refl}
-use Rattle.lsm_coord.proofs.Refusals.{get_may}
+use Rattle.std.proofs.Common.{◌∙◌, sym}
+use Rattle.lsm_coord.proofs.Snapping.{is_point}
 use Rattle.lsm_coord.proofs.coord.Coord.get.Goals as goal
 
-pub returns-clause-step : goal.returns-clause-step
-returns-clause-step c = λ s h. (s, (get_may s c.args.key.now h.up, (c.in_ok-value.ensures.ok s h, refl)), h)
+pub value_of-requires : goal.value_of-requires
+value_of-requires c = is_point c.args.self.now c.args.at c.in-Some.point (sym c.point_of.ensures ∙ c.in-Some.is)

@@ -1,49 +1,49 @@
-use Rattle.std.proofs.Common.{arith, ◌≡◌, ◌+◌, ◌<◌, ◌≤◌, ◌++◌, refl, ap, ◌∙◌, List, inl, length}
-use Rattle.std.proofs.lemmas.Bool.Decides.{nat_tests}
-use Rattle.lsm_key.specs.declared.limits.TheConstants.{MAX_MEMTABLE_WEIGHT}
-use Rattle.lsm_key.specs.declared.seq.TheConstants.Seq as seq
+use Rattle.std.proofs.Common.{◌≡◌, ℕ, ◌+◌, ◌≤◌, ◌-◌, None, Some, List, ◌++◌, length, sym, ap, subst, ◌∙◌, arith, refl}
+use Rattle.std.specs.List.Sorted.{IsPermutation}
+use Rattle.std.specs.Option.{option_map}
 use Rattle.lsm_key.specs.declared.op.Op.{Op}
-use Rattle.lsm_key.specs.declared.entry.Entry.{Entry}
-use Rattle.lsm_key.specs.Limits.{total_weight}
 use Rattle.lsm_key.specs.Places.{entries_after}
-use Rattle.lsm_coord.specs.State.{last_seq, active}
-use Rattle.lsm_coord.proofs.Refusals.{write_too_heavy, write_may}
-use Rattle.lsm_coord.proofs.Writing.{active_weight, Shows-written}
-use Rattle.lsm_coord.proofs.Memories.{after_write}
+use Rattle.lsm_coord.specs.declared.error.CoordError.{CoordError}
+use Rattle.lsm_coord.specs.State.{State, last_seq}
+use Rattle.lsm_coord.specs.Calls.{write_fault}
+use Rattle.lsm_coord.specs.Replies.{refusal_of}
+use Rattle.lsm_coord.specs.Rules.{refusal}
+use Rattle.lsm_coord.specs.Event as say
+use Rattle.lsm_coord.proofs.Faults.{write_forced, write_refused}
+use Rattle.lsm_coord.proofs.Memories.{last_below, after_write}
+use Rattle.lsm_coord.proofs.Writing.{Shows-written}
 use Rattle.lsm_coord.proofs.coord.Coord.write.Goals as goal
 
-pub returns-then-weight-gt-MAX_MEMTABLE_WEIGHT-clause-step : goal.returns-then-weight-gt-MAX_MEMTABLE_WEIGHT-clause-step
-returns-then-weight-gt-MAX_MEMTABLE_WEIGHT-clause-step c =
-    let ops = c.args.batch.now in
-    let some : 1 ≤ length ops = grind (arith, nat_tests) in
-    let count : length c.ops-ops.result.now ≡ length ops = ap (λ (x : List Op). length x) c.ops-ops.ensures.all in
-    rw (← c.self.view_is) (λ s h.
-    let fits : last_seq s + length ops ≤ seq.MAX = omega (arith, h.last, count, c.number-before.ensures.value) in
-    let heavy : MAX_MEMTABLE_WEIGHT < total_weight (active s) + total_weight ops = omega (arith, active_weight _ s h, c.self.invariant.memory.weighed, c.weight.ensures.value) in
-    (s, (inl (write_too_heavy s ops (record { up = h.up; good = c.ops-ops.ensures.within; some = some }) fits heavy), refl), h))
+pub returns-in-Some-clause-step : goal.returns-in-Some-clause-step
+returns-in-Some-clause-step c = λ s h.
+    let forced : refusal s (say.Write c.args.batch.now) ≡ Some (refusal_of c.in-Some.why) =
+    write_forced c.args.self.now s c.args.batch.now h c.ops.ensures.within ∙ ap (option_map refusal_of) (sym c.write_fault.ensures ∙ c.in-Some.is) in
+    (s, write_refused s c.args.batch.now (refusal_of c.in-Some.why) forced, h)
+
+pub apply-requires-clause-newer : goal.apply-requires-clause-newer
+apply-requires-clause-newer c =
+    let first : c.new-first.result ≡ c.self.inside.newest + 1 = omega (arith, c.new-first.ensures, c.number-before.ensures.value) in
+    rw first (last_below c.self.inside.active c.self.inside.frozen c.self.inside.newest c.self.inside.current c.self.invariant)
 
 pub invariant_of-self-2 : goal.invariant_of-self-2
 invariant_of-self-2 c =
     let ops = c.args.batch.now in
-    let items : c.append.new.self.items ≡ c.self.inside.memory.items ++ entries_after c.self.inside.newest ops =
-    c.in_ok-append.ensures.items ∙ ap (λ (es : List Entry). c.self.inside.memory.items ++ es) (c.in_ok-fresh.ensures ∙ ap (entries_after c.self.inside.newest) c.ops-ops.ensures.all) in
-    let count : length c.ops-ops.result.now ≡ length ops = ap (λ (x : List Op). length x) c.ops-ops.ensures.all in
+    let count : length c.ops.result.now ≡ length ops = ap (λ (x : List Op). length x) c.ops.ensures.all in
     let last : c.new-self-inside.result ≡ c.self.inside.newest + length ops = omega (arith, c.new-self-inside.ensures, count, c.number-before.ensures.value) in
-    let light : c.self.inside.weight + total_weight ops ≤ MAX_MEMTABLE_WEIGHT = omega (arith, c.weight.ensures.value) in
-    rw (items, c.weight.ensures.value, last) (after_write c.self.inside.memory.items c.self.inside.weight c.self.inside.newest c.self.inside.current ops c.self.invariant c.ops-ops.ensures.within light)
+    let before : c.new-first.result - 1 ≡ c.self.inside.newest = omega (arith, c.new-first.ensures, c.number-before.ensures.value) in
+    let perm : IsPermutation (c.self.inside.active ++ entries_after c.self.inside.newest ops) c.apply.new.self = subst (λ (n : ℕ). IsPermutation (c.self.inside.active ++ entries_after n ops) c.apply.new.self) before c.in_ok-apply.ensures.ok in
+    rw last (after_write c.self.inside.active c.apply.new.self c.self.inside.frozen c.self.inside.newest c.self.inside.current ops c.self.invariant perm)
 
 pub returns-clause-step : goal.returns-clause-step
 returns-clause-step c =
     let ops = c.args.batch.now in
-    let some : 1 ≤ length ops = grind (arith, nat_tests) in
-    let items : c.append.new.self.items ≡ c.self.inside.memory.items ++ entries_after c.self.inside.newest ops =
-    c.in_ok-append.ensures.items ∙ ap (λ (es : List Entry). c.self.inside.memory.items ++ es) (c.in_ok-fresh.ensures ∙ ap (entries_after c.self.inside.newest) c.ops-ops.ensures.all) in
-    let count : length c.ops-ops.result.now ≡ length ops = ap (λ (x : List Op). length x) c.ops-ops.ensures.all in
+    let count : length c.ops.result.now ≡ length ops = ap (λ (x : List Op). length x) c.ops.ensures.all in
     let last : c.new-self-inside.result ≡ c.self.inside.newest + length ops = omega (arith, c.new-self-inside.ensures, count, c.number-before.ensures.value) in
-    rw (← c.self.view_is, items, last) (λ s h.
-    let may = write_may s ops (record { up = h.up; good = c.ops-ops.ensures.within; some = some })
-    (omega (arith, h.last, count, c.number-before.ensures.value))
-    (omega (arith, active_weight _ s h, c.self.invariant.memory.weighed, c.weight.ensures.value)) in
-    let first : c.new.result ≡ last_seq s + 1 = omega (arith, h.last, c.new.ensures, c.number-before.ensures.value) in
+    let before : c.new-first.result - 1 ≡ c.self.inside.newest = omega (arith, c.new-first.ensures, c.number-before.ensures.value) in
+    let perm : IsPermutation (c.self.inside.active ++ entries_after c.self.inside.newest ops) c.apply.new.self = subst (λ (n : ℕ). IsPermutation (c.self.inside.active ++ entries_after n ops) c.apply.new.self) before c.in_ok-apply.ensures.ok in
+    let none : write_fault c.args.self.now ops ≡ None = sym c.write_fault.ensures ∙ c.in-None.is in
+    rw (← c.self.view_is, last) (λ s h.
+    let may : refusal s (say.Write ops) ≡ None = write_forced _ s ops h c.ops.ensures.within ∙ ap (option_map refusal_of) (ap (λ v. write_fault v ops) c.self.view_is ∙ none) in
+    let first : c.new-first.result ≡ last_seq s + 1 = omega (arith, h.last, c.new-first.ensures, c.number-before.ensures.value) in
     let end : c.self.inside.newest + length ops ≡ last_seq s + length ops = omega (arith, h.last) in
-    (record s { writes = s.writes ++ ops }, (may, (first, end, refl)), Shows-written _ s ops h))
+    (record s { writes = s.writes ++ ops }, (may, (first, end, refl)), Shows-written _ c.apply.new.self s ops perm h))

@@ -1,0 +1,121 @@
+-- What a snapshot and its release make of the states that a coordinator shows.
+use Rattle.std.proofs.Common.{◌≡◌, ℕ, ◌+◌, ◌≤◌, Bool, true, false, not, cond, List, [], ◌∷◌, ◌++◌, Option, None, Some, filter, refl, ap, subst, arith, inl, inr, ◌⊎◌, is_some, is_none}
+use Rattle.std.specs.Prelude.{if◌then◌else◌}
+use Rattle.lsm_coord.specs.declared.error.CoordError.TheVariants.{NoSnapshot}
+use Rattle.lsm_key.specs.Sets.{IsIn}
+use Rattle.lsm_key.specs.Visible.{value_at}
+use Rattle.lsm_key.specs.Writes.{answer}
+use Rattle.lsm_key.proofs.Sets.{IsIn-append_cases}
+use Rattle.lsm_coord.specs.declared.snapshot.SnapId.{SnapId}
+use Rattle.lsm_coord.specs.declared.snapshot.Snapshot.{Snapshot}
+use Rattle.lsm_coord.specs.State.{State, last_seq, last_flushed, same_id, snapshot_at}
+use Rattle.lsm_coord.specs.Changes.{with_snapshot, without_snapshot, next_snapshot}
+use Rattle.lsm_coord.specs.Value.{CoordValue, stored}
+use Rattle.lsm_coord.specs.Calls.{snapped, released, point_of, IsPoint}
+use Rattle.lsm_coord.specs.Shows.{Shows}
+
+pub Shows-snapped : (c : CoordValue) (s : State) → Shows c s → Shows (snapped c) (with_snapshot s)
+Shows-snapped c s h =
+    let m = h.memtables in
+    let flushed = m.flushed in
+    let within = m.within in
+    let fresh : Snapshot = record { id = next_snapshot s; at = last_seq s } in
+    record {
+      up = h.up;
+      last = h.last;
+      frozen = h.frozen;
+      snapshots = λ i. h.snapshots i ++ record { id = record { epoch = h.tables.epoch i; number = h.made i + 1 }; at = h.last i } ∷ [];
+      made = ap (λ (n : ℕ). n + 1) h.made;
+      floor = h.floor;
+      tables = record {
+        manifest = h.tables.manifest;
+        versions = h.tables.versions;
+        next_file = h.tables.next_file;
+        epoch = h.tables.epoch;
+        ordered = h.tables.ordered;
+        old = h.tables.old;
+        answers = h.tables.answers;
+      };
+      memtables = record {
+        flushed = m.flushed;
+        within = m.within;
+        active_is = m.active_is;
+        frozen_is = m.frozen_is;
+        kept = λ x live low key. elim (IsIn-append_cases x s.snapshots (fresh ∷ []) live) [
+          | inl old ↦ m.kept x old low key
+          | inr new ↦ elim new [
+            | inl e ↦
+                let at : x.at ≡ last_seq s = ap (λ (y : Snapshot). y.at) e in
+                let now : last_flushed s ≡ x.at = omega (arith, at, low) in
+                subst (λ (p : ℕ). value_at (stored c.served) key p ≡ answer s.writes p key) now (h.tables.answers key)
+            | inr none ↦ absurd none
+          ]
+        ];
+        snapped = λ x live. elim (IsIn-append_cases x s.snapshots (fresh ∷ []) live) [
+          | inl old ↦ m.snapped x old
+          | inr new ↦ elim new [ inl e ↦ (let at : x.at ≡ last_seq s = ap (λ (y : Snapshot). y.at) e in omega arith) | inr none ↦ absurd none ]
+        ];
+      };
+    }
+
+-- ---- a release
+
+kept_either : (b : Bool) (x y : Snapshot) (ys zs : List Snapshot) → (IsIn x ys → IsIn x zs) → IsIn x (cond b (y ∷ ys) ys) → (x ≡ y) ⊎ IsIn x zs
+kept_either true x y ys zs h m = elim m [ inl e ↦ inl e | inr n ↦ inr (h n) ]
+kept_either false x y ys zs h m = inr (h m)
+
+pub IsIn-filter : (test : Snapshot → Bool) (xs : List Snapshot) (x : Snapshot) → IsIn x (filter test xs) → IsIn x xs
+IsIn-filter test [] x m = absurd m
+IsIn-filter test (y ∷ xs) x m = kept_either (test y) x y (filter test xs) xs (IsIn-filter test xs x) m
+
+pub Shows-released : (c : CoordValue) (s : State) (id : SnapId) → Shows c s → Shows (released c id) (without_snapshot s id)
+Shows-released c s id h =
+    let m = h.memtables in
+    let others : Snapshot → Bool = λ live. not (same_id live.id id) in
+    record {
+      up = h.up;
+      last = h.last;
+      frozen = h.frozen;
+      snapshots = ap (filter others) h.snapshots;
+      made = h.made;
+      floor = h.floor;
+      tables = record {
+        manifest = h.tables.manifest;
+        versions = h.tables.versions;
+        next_file = h.tables.next_file;
+        epoch = h.tables.epoch;
+        ordered = h.tables.ordered;
+        old = h.tables.old;
+        answers = h.tables.answers;
+      };
+      memtables = record {
+        flushed = m.flushed;
+        within = m.within;
+        active_is = m.active_is;
+        frozen_is = m.frozen_is;
+        kept = λ x live low key. m.kept x (IsIn-filter others s.snapshots x live) low key;
+        snapped = λ x live. m.snapped x (IsIn-filter others s.snapshots x live);
+      };
+    }
+
+-- ---- the sequence of a read
+
+found_either : (b : Bool) (x : Snapshot) (xs : List Snapshot) (rest : Option ℕ) (at : ℕ) → (rest ≡ Some at → (y : Snapshot) × IsIn y xs × (y.at ≡ at)) → cond b (Some x.at) rest ≡ Some at
+    → (y : Snapshot) × IsIn y (x ∷ xs) × (y.at ≡ at)
+found_either true x xs rest at h e = (x, inl refl, cc)
+found_either false x xs rest at h e = let r = h e in (r.0, inr r.1, r.2)
+
+-- it is that of a live snapshot
+pub found_live : (xs : List Snapshot) (id : SnapId) (at : ℕ) → snapshot_at xs id ≡ Some at → (x : Snapshot) × IsIn x xs × (x.at ≡ at)
+found_live [] id at e = absurd cc
+found_live (x ∷ xs) id at e = found_either (same_id x.id id) x xs (snapshot_at xs id) at (found_live xs id at) e
+
+-- a read's sequence is a point
+pub is_point : (c : CoordValue) (at : Option SnapId) (p : ℕ) → point_of c at ≡ Some p → IsPoint c p
+is_point c None p e = inl (let same : p ≡ c.last = cc in same)
+is_point c (Some id) p e = inr (found_live c.snapshots id p e)
+
+-- a snapshot that lives can be let go
+pub releasable : (o : Option ℕ) → is_some o ≡ true → (if is_none o then Some NoSnapshot else None) ≡ None
+releasable None h = absurd cc
+releasable (Some at) h = refl

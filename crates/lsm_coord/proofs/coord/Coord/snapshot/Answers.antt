@@ -1,0 +1,26 @@
+use Rattle.std.proofs.Common.{◌≡◌, ◌+◌, None, Some, sym, ap, ◌∙◌, refl}
+use Rattle.std.specs.Option.{option_map}
+use Rattle.lsm_edit.specs.Version.{VersionValue}
+use Rattle.lsm_coord.specs.declared.snapshot.SnapId.{SnapId}
+use Rattle.lsm_coord.specs.Calls.{snapshot_fault}
+use Rattle.lsm_coord.specs.Changes.{with_snapshot, next_snapshot}
+use Rattle.lsm_coord.specs.Replies.{refusal_of}
+use Rattle.lsm_coord.specs.Rules.{refusal}
+use Rattle.lsm_coord.specs.Event as say
+use Rattle.lsm_coord.proofs.Faults.{snapshot_forced, snapshot_refused}
+use Rattle.lsm_coord.proofs.Snapping.{Shows-snapped}
+use Rattle.lsm_coord.proofs.coord.Coord.snapshot.Goals as goal
+
+pub returns-in-Some-clause-step : goal.returns-in-Some-clause-step
+returns-in-Some-clause-step c = λ s h.
+    let forced : refusal s say.Snap ≡ Some (refusal_of c.in-Some.why) = snapshot_forced c.args.self.now s h ∙ ap (option_map refusal_of) (sym c.snapshot_fault.ensures ∙ c.in-Some.is) in
+    (s, snapshot_refused s (refusal_of c.in-Some.why) forced, h)
+
+pub returns-clause-step : goal.returns-clause-step
+returns-clause-step c =
+    let none : snapshot_fault c.args.self.now ≡ None = sym c.snapshot_fault.ensures ∙ c.in-None.is in
+    let epoch : c.epoch.result ≡ c.self.inside.current.version.epoch = c.epoch.ensures.value ∙ ap (λ (v : VersionValue). v.epoch) c.version.ensures in
+    rw (c.in_ok-push.ensures.items, epoch, ← c.self.view_is) (λ s h.
+    let may : refusal s say.Snap ≡ None = snapshot_forced _ s h ∙ ap (option_map refusal_of) (ap snapshot_fault c.self.view_is ∙ none) in
+    let id : record { epoch = c.self.inside.current.version.epoch; number = c.self.inside.made + 1 } ≡ next_snapshot s = λ i. record { epoch = sym h.tables.epoch i; number = sym h.made i + 1 } in
+    (with_snapshot s, (may, (id, sym h.last, refl)), Shows-snapped _ s h))

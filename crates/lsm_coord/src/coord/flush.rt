@@ -1,0 +1,113 @@
+//! Flushes: a memtable becomes a table.
+
+ghost use Rattle.std.specs.Prelude.{◌≡◌, ◌<◌, None, Some, IfErr, OnOk, OnErr};
+ghost use Rattle.lsm_key.specs.Faults.{Refuses};
+ghost use Rattle.lsm_edit.specs.File.{IsFile};
+ghost use Rattle.lsm_edit.specs.Served.{IsAsRecorded};
+ghost use Rattle.lsm_coord.specs.Event.{Flush};
+ghost use Rattle.lsm_coord.specs.Shows.{Follows};
+ghost use Rattle.lsm_coord.specs.Calls.{AddsTable, CanNumber, flush_fault, taken};
+ghost use Rattle.lsm_coord.specs.Replies.{flush_reply};
+
+use super::{Coord, extend};
+use crate::CoordError;
+use crate::table::table_of;
+use lsm_edit::{Edit, FileMeta, encode_edit};
+use lsm_key::{MAX_NUMBER, Seq};
+use lsm_mem::Memtable;
+use lsm_table::Table;
+use std::alloc::AllocError;
+
+/// What a flush made.
+#[derive(Clone, Copy, Debug, PartialEq, Eq)]
+pub struct Flushed {
+    /// The version that it made.
+    pub number: u64,
+    /// Every write up to this sequence is in the version's tables.
+    pub seq: Seq,
+    /// The new table's file number.
+    pub file: u64,
+}
+
+impl Coord {
+    /// Makes the frozen memtable, or where none is frozen the active one, a table of level 0 of the next version. A
+    /// refusal changes nothing.
+    pub fn flush(&mut self) -> Result<Flushed, CoordError>
+        ensures step { Follows self.old Flush (flush_reply result) self.new }
+        ensures ok { OnOk result (flush_fault self.old ≡ None) }
+        ensures err { OnErr result (self.new ≡ self.old) }
+        ensures refused { IfErr result (Refuses CoordError.OutOfMemory (flush_fault self.old)) }
+    {
+        match self.flush_fault() {
+            Some(why) => return Err(why),
+            None => {}
+        }
+        let number = self.current.version().number() + 1;
+        let file = self.current.version().next_file();
+        let seq = self.flush_end();
+        let table = table_of(self.alloc, self.flushable())?;
+        let meta = FileMeta::of_table(file, 0, &table)?;
+        self.add_table(meta, table, seq)?;
+        Ok(Flushed { number, seq, file })
+    }
+
+    // Why nothing is flushed.
+    fn flush_fault(&self) -> Option<CoordError>
+        ensures { result ≡ flush_fault self.now }
+    {
+        if self.frozen.is_none() && self.active.is_empty() {
+            return Some(CoordError::NothingToFlush);
+        }
+        let version = self.current.version();
+        if version.number() >= MAX_NUMBER || version.next_file() >= MAX_NUMBER {
+            return Some(CoordError::NumbersExhausted);
+        }
+        None
+    }
+
+    // The memtable that a flush takes.
+    fn flushable(&self) -> &Memtable
+        ensures { result.now ≡ (taken self.now).memtable }
+    {
+        match &self.frozen {
+            Some(frozen) => &frozen.memtable,
+            None => &self.active,
+        }
+    }
+
+    // Its last sequence.
+    fn flush_end(&self) -> Seq
+        ensures { result ≡ (taken self.now).end }
+    {
+        match &self.frozen {
+            Some(frozen) => frozen.end,
+            None => self.newest,
+        }
+    }
+
+    // Appends the edit that adds a table, in which the entries of a memtable now are. A refusal changes nothing.
+    fn add_table(&mut self, meta: FileMeta, table: Table, end: Seq) -> Result<(), AllocError>
+        requires room { CanNumber self.old }
+        requires end { end ≡ (taken self.old).end }
+        requires newer { self.old.served.version.flushed < end }
+        requires sound { IsFile meta }
+        requires place { (meta.number ≡ self.old.served.version.next_file) × (meta.level ≡ 0) }
+        requires recorded { IsAsRecorded meta table }
+        ensures ok { OnOk result (AddsTable self.old meta table self.new) }
+        ensures err { OnErr result (self.new ≡ self.old) }
+    {
+        let edit = Edit::flush(self.alloc, self.current.version(), end, meta)?;
+        let text = encode_edit(self.alloc, &edit)?;
+        let mut tables = Vec::with_capacity(self.alloc, 1)?;
+        tables.push(table)?;
+        self.manifest.reserve(1)?;
+        extend(&mut self.current, &edit, tables)?;
+        self.manifest.push_reserved(text);
+        if self.frozen.is_some() {
+            self.frozen = None;
+            return Ok(());
+        }
+        self.active = Memtable::new(self.alloc);
+        Ok(())
+    }
+}

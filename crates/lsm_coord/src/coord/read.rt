@@ -1,0 +1,112 @@
+//! Reads of the store.
+
+ghost use Rattle.std.specs.Prelude.{◌≡◌, None, Some, IfOk, IfErr, IsSome, MatchOption};
+ghost use Rattle.std.specs.Option.{option_map, option_and_then};
+ghost use Rattle.lsm_key.specs.Visible.{visible, entry_value, lent};
+ghost use Rattle.lsm_coord.specs.State.{snapshot_at};
+ghost use Rattle.lsm_coord.specs.Event.{Get, Show, Coordinator};
+ghost use Rattle.lsm_coord.specs.Shows.{Follows};
+ghost use Rattle.lsm_coord.specs.Calls.{point_of, IsPoint, Answers, HasValue};
+ghost use Rattle.lsm_coord.specs.Value.{frozen_entries};
+ghost use Rattle.lsm_coord.specs.Replies.{get_reply, show_reply};
+
+use super::Coord;
+use crate::CoordError;
+use crate::snapshot::SnapId;
+use bytes::Bytes;
+use lsm_edit::Listing;
+use lsm_key::{EntryRef, Kind, Seq};
+use std::alloc::{AllocError, Global};
+
+impl Coord {
+    /// The value of a key at the present, or at a live snapshot, as a copy.
+    pub fn get(&mut self, key: &[u8], at: Option<SnapId>) -> Result<Option<Bytes>, CoordError>
+        ensures step { Follows self.old (Get key.now at) (get_reply result) self.new }
+        ensures same { self.new ≡ self.old }
+        // Only a value takes memory.
+        ensures refused { IfErr result (λ e. MatchOption (point_of self.old at) (e ≡ CoordError.NoSnapshot) (λ point. (e ≡ CoordError.OutOfMemory) × HasValue self.old point key.now)) }
+    {
+        let Some(point) = self.point_of(at) else {
+            return Err(CoordError::NoSnapshot);
+        };
+        let value = self.value_of(key, point)?;
+        Ok(value)
+    }
+
+    // The sequence of a read.
+    fn point_of(&self, at: Option<SnapId>) -> Option<Seq>
+        ensures { result ≡ point_of self.now at }
+    {
+        match at {
+            None => Some(self.newest),
+            Some(id) => self.seq_of(id),
+        }
+    }
+
+    // The sequence of a live snapshot.
+    pub(super) fn seq_of(&self, id: SnapId) -> Option<Seq>
+        ensures { result ≡ snapshot_at self.now.snapshots id }
+    {
+        for live in &self.live {
+            if live.id == id {
+                return Some(live.at);
+            }
+        }
+        None
+    }
+
+    // A copy of what a read of the key finds.
+    fn value_of(&self, key: &[u8], point: Seq) -> Result<Option<Bytes>, AllocError>
+        requires { IsPoint self.now point }
+        ensures ok { IfOk result (Answers self.now point key.now) }
+        ensures refused { IfErr result (λ _. HasValue self.now point key.now) }
+    {
+        match self.found(key, point) {
+            None => Ok(None),
+            Some(entry) => value_in(self.alloc, entry),
+        }
+    }
+
+    // The newest entry of the key.
+    fn found(&self, key: &[u8], point: Seq) -> Option<EntryRef<'_>>
+        requires { IsPoint self.now point }
+        ensures { Answers self.now point key.now (option_and_then entry_value (option_map lent result)) }
+    {
+        match self.active.get(key, point) {
+            Some(entry) => return Some(entry),
+            None => {}
+        }
+        match self.frozen_entry(key, point) {
+            Some(entry) => Some(entry),
+            None => self.current.get_at(key, point),
+        }
+    }
+
+    // The newest entry of the key in the frozen memtable.
+    fn frozen_entry(&self, key: &[u8], point: Seq) -> Option<EntryRef<'_>>
+        ensures { option_map lent result ≡ visible (frozen_entries self.now.frozen) key.now point }
+    {
+        match &self.frozen {
+            Some(frozen) => frozen.memtable.get(key, point),
+            None => None,
+        }
+    }
+
+    /// What the current version lists. It takes no memory.
+    pub fn show(&self) -> Listing<'_>
+        ensures { Follows self.now (Show Coordinator) (show_reply result) self.now }
+    {
+        self.current.listing()
+    }
+}
+
+// What a read gives that finds the entry.
+fn value_in(alloc: Global, entry: EntryRef<'_>) -> Result<Option<Bytes>, AllocError>
+    ensures ok { IfOk result (λ value. value ≡ entry_value (lent entry.entry)) }
+    ensures refused { IfErr result (λ _. IsSome (entry_value (lent entry.entry))) }
+{
+    match entry.kind {
+        Kind::Put => Ok(Some(Bytes::copy_from_slice(alloc, entry.value)?)),
+        Kind::Delete => Ok(None),
+    }
+}

@@ -1,0 +1,63 @@
+//! Snapshots of the store.
+
+ghost use Rattle.std.specs.Prelude.{◌≡◌, None, IfErr, OnOk, OnErr, Some};
+ghost use Rattle.lsm_key.specs.Faults.{Refuses};
+ghost use Rattle.lsm_coord.specs.Event.{Snap, Release};
+ghost use Rattle.lsm_coord.specs.Shows.{Follows};
+ghost use Rattle.lsm_coord.specs.Calls.{snapshot_fault, snapped, release_fault, released};
+ghost use Rattle.lsm_coord.specs.Replies.{snapshot_reply, release_reply};
+
+use super::Coord;
+use crate::CoordError;
+use crate::snapshot::{MAX_SNAPSHOTS, SnapId, Snapshot};
+use lsm_key::{MAX_NUMBER, Seq};
+
+impl Coord {
+    /// Makes a snapshot of the present, and answers its name and the sequence that it reads at. A refusal changes nothing.
+    pub fn snapshot(&mut self) -> Result<(SnapId, Seq), CoordError>
+        ensures step { Follows self.old Snap (snapshot_reply result) self.new }
+        ensures ok { OnOk result ((snapshot_fault self.old ≡ None) × (self.new ≡ snapped self.old)) }
+        ensures err { OnErr result (self.new ≡ self.old) }
+        ensures refused { IfErr result (Refuses CoordError.OutOfMemory (snapshot_fault self.old)) }
+    {
+        match self.snapshot_fault() {
+            Some(why) => return Err(why),
+            None => {}
+        }
+        let id = SnapId {
+            epoch: self.current.version().epoch(),
+            number: self.made + 1,
+        };
+        let at = self.newest;
+        self.live.push(Snapshot { id, at })?;
+        self.made += 1;
+        Ok((id, at))
+    }
+
+    /// Lets a snapshot go. It takes no memory. A refusal changes nothing.
+    pub fn release(&mut self, id: SnapId) -> Result<(), CoordError>
+        ensures step { Follows self.old (Release id) (release_reply id result) self.new }
+        ensures ok { OnOk result ((release_fault self.old id ≡ None) × (self.new ≡ released self.old id)) }
+        ensures err { OnErr result (self.new ≡ self.old) }
+        ensures refused { IfErr result (λ e. release_fault self.old id ≡ Some e) }
+    {
+        if self.seq_of(id).is_none() {
+            return Err(CoordError::NoSnapshot);
+        }
+        self.live.retain(|live| live.id != id);
+        Ok(())
+    }
+
+    // Why no snapshot is made.
+    fn snapshot_fault(&self) -> Option<CoordError>
+        ensures { result ≡ snapshot_fault self.now }
+    {
+        if self.live.len() >= MAX_SNAPSHOTS {
+            return Some(CoordError::TooManySnapshots);
+        }
+        if self.made >= MAX_NUMBER {
+            return Some(CoordError::NumbersExhausted);
+        }
+        None
+    }
+}

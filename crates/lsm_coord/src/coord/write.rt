@@ -1,0 +1,84 @@
+//! Writes, and the freezing of the memtable that they went to.
+
+ghost use Rattle.std.specs.Prelude.{◌≡◌, None, IfErr, OnOk, OnErr, Some};
+ghost use Rattle.lsm_key.specs.Faults.{Refuses};
+ghost use Rattle.lsm_coord.specs.Event.{Write, Freeze};
+ghost use Rattle.lsm_coord.specs.Shows.{Follows};
+ghost use Rattle.lsm_coord.specs.Calls.{write_fault, freeze_fault, IsWritten, froze};
+ghost use Rattle.lsm_coord.specs.Replies.{write_reply, freeze_reply};
+
+use super::Coord;
+use crate::CoordError;
+use crate::frozen::Frozen;
+use lsm_key::{Batch, MAX_MEMTABLE_WEIGHT, Seq};
+use lsm_mem::Memtable;
+use std::mem;
+
+impl Coord {
+    /// Applies a batch, and answers the first and the last of its sequences. A refusal changes nothing.
+    pub fn write(&mut self, batch: &Batch) -> Result<(Seq, Seq), CoordError>
+        ensures step { Follows self.old (Write batch.now) (write_reply result) self.new }
+        ensures ok { OnOk result ((write_fault self.old batch.now ≡ None) × IsWritten self.old batch.now self.new) }
+        ensures err { OnErr result (self.new ≡ self.old) }
+        ensures refused { IfErr result (Refuses CoordError.OutOfMemory (write_fault self.old batch.now)) }
+    {
+        let count = batch.ops().len() as u64;
+        match self.write_fault(batch) {
+            Some(why) => return Err(why),
+            None => {}
+        }
+        let before = self.newest.number();
+        let first = Seq::new(before + 1);
+        self.active.apply(first, batch)?;
+        self.newest = Seq::new(before + count);
+        Ok((first, self.newest))
+    }
+
+    // Why the batch is not applied.
+    fn write_fault(&self, batch: &Batch) -> Option<CoordError>
+        ensures { result ≡ write_fault self.now batch.now }
+    {
+        let ops = batch.ops();
+        if ops.is_empty() {
+            return Some(CoordError::EmptyBatch);
+        }
+        if ops.len() as u64 > Seq::MAX - self.newest.number() {
+            return Some(CoordError::SequenceExhausted);
+        }
+        if self.active.weight() + batch.weight() > MAX_MEMTABLE_WEIGHT {
+            return Some(CoordError::MemtableFull);
+        }
+        None
+    }
+
+    /// Freezes the active memtable, so that writes go to a new one, and answers its last sequence. It takes no memory. A
+    /// refusal changes nothing.
+    pub fn freeze(&mut self) -> Result<Seq, CoordError>
+        ensures step { Follows self.old Freeze (freeze_reply result) self.new }
+        ensures ok { OnOk result ((freeze_fault self.old ≡ None) × (self.new ≡ froze self.old)) }
+        ensures err { OnErr result (self.new ≡ self.old) }
+        ensures refused { IfErr result (λ e. freeze_fault self.old ≡ Some e) }
+    {
+        match self.freeze_fault() {
+            Some(why) => return Err(why),
+            None => {}
+        }
+        let memtable = mem::replace(&mut self.active, Memtable::new(self.alloc));
+        let end = self.newest;
+        self.frozen = Some(Frozen { memtable, end });
+        Ok(end)
+    }
+
+    // Why nothing is frozen.
+    fn freeze_fault(&self) -> Option<CoordError>
+        ensures { result ≡ freeze_fault self.now }
+    {
+        if self.frozen.is_some() {
+            return Some(CoordError::FrozenWaiting);
+        }
+        if self.active.is_empty() {
+            return Some(CoordError::NothingToFreeze);
+        }
+        None
+    }
+}

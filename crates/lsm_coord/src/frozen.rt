@@ -1,0 +1,12 @@
+//! The frozen memtable.
+
+use lsm_key::Seq;
+use lsm_mem::Memtable;
+
+/// A memtable that takes no more writes and waits for its flush.
+#[derive(Debug, Drop)]
+pub(crate) struct Frozen {
+    pub memtable: Memtable,
+    /// The last sequence when it was frozen.
+    pub end: Seq,
+}

@@ -1,0 +1,20 @@
+//! Snapshots: points of the past that reads can name.
+
+use lsm_key::Seq;
+
+/// As many snapshots as a store may have at a time.
+pub const MAX_SNAPSHOTS: usize = 64;
+
+/// The name of a snapshot: the epoch that made it, and its number there, from 1.
+#[derive(Clone, Copy, Debug, PartialEq, Eq)]
+pub struct SnapId {
+    pub epoch: u64,
+    pub number: u64,
+}
+
+/// A live snapshot, and the sequence that it reads at.
+#[derive(Clone, Copy, Debug)]
+pub(crate) struct Snapshot {
+    pub id: SnapId,
+    pub at: Seq,
+}
