@@ -1,12 +1,14 @@
 -- What contracts see of a coordinator (LevelDB, implementation notes: memtable, immutable memtable, versions).
 use Rattle.std.specs.Prelude.{ℕ, List, [], Option, None, Some}
 use Rattle.lsm_key.specs.declared.entry.Entry.{Entry}
+use Rattle.lsm_key.specs.declared.limits.Limits.{Limits}
 use Rattle.lsm_key.specs.Places.{all_entries}
 use Rattle.lsm_edit.specs.Served.{ServedValue, tables_of}
 use Rattle.lsm_coord.specs.declared.frozen.Frozen.{Frozen}
 use Rattle.lsm_coord.specs.declared.snapshot.Snapshot.{Snapshot}
 
 pub record CoordValue : Type 0 where
+  pub limits : Limits  -- when its levels are due
   pub active : List Entry  -- the entries of the active memtable
   pub frozen : Option Frozen
   pub served : ServedValue  -- the current version with its tables

@@ -44,19 +44,20 @@ impl Model for Coord {
 
     ghost Value = { CoordValue };
 
-    ghost view = { λ c. record { active = c.active; frozen = c.frozen; served = c.current; edits = c.manifest.items; last = c.newest; snapshots = c.live.items; made = c.made; floor = 1 } };
+    ghost view = { λ c. record { limits = c.limits; active = c.active; frozen = c.frozen; served = c.current; edits = c.manifest.items; last = c.newest; snapshots = c.live.items; made = c.made; floor = 1 } };
 
     ghost invariant = { λ c. IsCoord c.active c.frozen c.newest c.current };
 }
 
 impl Coord {
-    ghost use Rattle.std.specs.Prelude.{IfOk};
+    ghost use Rattle.std.specs.Prelude.{◌≡◌, IfOk};
     ghost use Rattle.lsm_coord.specs.State.{first_state};
     ghost use Rattle.lsm_coord.specs.Shows.{Shows};
 
     /// A new store, at version 1 of its first epoch.
     pub fn new(alloc: Global, limits: Limits) -> Result<Coord, AllocError>
-        ensures { IfOk result (λ c. Shows c first_state) }
+        ensures shown { IfOk result (λ c. Shows c first_state) }
+        ensures limits { IfOk result (λ c. c.limits ≡ limits) }
     {
         let mut current = Served::new(alloc);
         let edit = Edit::epoch(alloc, current.version());

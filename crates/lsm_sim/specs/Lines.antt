@@ -2,6 +2,7 @@
 use Rattle.std.specs.Prelude.{ℕ, ◌+◌, ◌/◌, ◌%◌, ◌==◌, ◌&&◌, ◌||◌, not, Bool, List, [], ◌∷◌, ◌++◌, Option, None, Some, codes, map, filter, nat_lt, if◌then◌else◌}
 use Rattle.std.specs.List.{flat_map, join_with_byte}
 use Rattle.std.specs.Fmt.{decimal}
+use Rattle.lsm_coord.specs.declared.snapshot.SnapId.{SnapId}
 use Rattle.lsm_coord.specs.State.{Place}
 use Rattle.lsm_coord.specs.Event as say
 use Rattle.lsm_sim.specs.Tokens.{is_between}
@@ -27,6 +28,19 @@ wrote first last = codes "seq " ++ decimal first ++ (if first == last then [] el
 
 abbrev pub flushed : ℕ → ℕ → ℕ → List ℕ
 flushed number seq file = codes "version " ++ decimal number ++ codes " flushed " ++ decimal seq ++ codes " file " ++ decimal file
+
+abbrev pub froze : ℕ → List ℕ
+froze seq = codes "frozen " ++ decimal seq
+
+-- a snapshot's epoch and number, with a point between them
+abbrev pub named : SnapId → List ℕ
+named id = decimal id.epoch ++ codes "." ++ decimal id.number
+
+abbrev pub snapped : SnapId → ℕ → List ℕ
+snapped id seq = codes "snapshot " ++ named id ++ codes " at " ++ decimal seq
+
+abbrev pub released : SnapId → List ℕ
+released id = codes "released " ++ named id
 
 abbrev pub got : Option (List ℕ) → List ℕ
 got None = codes "none"

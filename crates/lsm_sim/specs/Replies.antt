@@ -10,7 +10,7 @@ use Rattle.lsm_sim.specs.declared.reply.Refusal.{Refusal}
 use Rattle.lsm_sim.specs.declared.reply.Refusal.TheVariants as why
 use Rattle.lsm_sim.specs.declared.reply.Reply.{Reply}
 use Rattle.lsm_sim.specs.declared.reply.Reply.TheVariants as reply
-use Rattle.lsm_sim.specs.Lines.{wrote, flushed, got, listed, refused, ended}
+use Rattle.lsm_sim.specs.Lines.{wrote, froze, flushed, snapped, released, got, listed, refused, ended}
 
 abbrev pub place_at : Place → state.Place
 place_at p = record { level = p.level; file = p.file }
@@ -21,7 +21,10 @@ why_of (why.Coord error) = refusal_of error
 
 abbrev pub reply_of : Reply → say.Reply
 reply_of (reply.Wrote first last) = say.Wrote first last
+reply_of (reply.Froze seq) = say.Froze seq
 reply_of (reply.Flushed f) = say.Flushed f.number f.seq f.file
+reply_of (reply.Snapped id seq) = say.Snapped id seq
+reply_of (reply.Released id) = say.Released id
 reply_of (reply.Got value) = say.Got value
 reply_of (reply.Shown s) = say.Shown s.number s.flushed (map place_at s.files.items)
 reply_of (reply.Refused why) = say.Refused (why_of why)
@@ -29,7 +32,10 @@ reply_of (reply.Refused why) = say.Refused (why_of why)
 -- the text of a reply
 abbrev pub text_of : Reply → List ℕ
 text_of (reply.Wrote first last) = wrote first last
+text_of (reply.Froze seq) = froze seq
 text_of (reply.Flushed f) = flushed f.number f.seq f.file
+text_of (reply.Snapped id seq) = snapped id seq
+text_of (reply.Released id) = released id
 text_of (reply.Got value) = got value
 text_of (reply.Shown s) = listed s.number s.flushed (map place_at s.files.items)
 text_of (reply.Refused why) = refused (why_of why)

@@ -1,5 +1,5 @@
 -- What a script says: the events of its lines, or its first fault (the store's own script format, one command a line).
-use Rattle.std.specs.Prelude.{ℕ, ◌+◌, ◌==◌, ◌&&◌, ◌≤◌, Bool, true, false, List, [], ◌∷◌, ◌++◌, Option, None, Some, Result, Ok, Err, codes, option_to_list, nat_le, if◌then◌else◌}
+use Rattle.std.specs.Prelude.{ℕ, ◌+◌, ◌==◌, ◌&&◌, ◌≤◌, Bool, true, false, List, [], ◌∷◌, ◌++◌, Option, None, Some, Result, Ok, Err, codes, option_to_list, nat_le, take, drop, position, if◌then◌else◌}
 use Rattle.std.specs.Str.{bytes_eq}
 use Rattle.lsm_key.specs.declared.op.Op.{Op}
 use Rattle.lsm_key.specs.declared.op.Op.TheVariants as op
@@ -12,6 +12,7 @@ use Rattle.lsm_sim.specs.declared.fault.Fault.{Fault}
 use Rattle.lsm_sim.specs.Text.{lines, words}
 use Rattle.lsm_sim.specs.Numbers.{number}
 use Rattle.lsm_sim.specs.Tokens.{token}
+use Rattle.lsm_coord.specs.declared.snapshot.SnapId.{SnapId}
 use Rattle.lsm_coord.specs.Event as say
 
 -- the command of a name
@@ -19,7 +20,10 @@ unfoldable pub command_of : List ℕ → Option Command
 command_of word =
     if bytes_eq word (codes "put") then Some command.Put
     else if bytes_eq word (codes "del") then Some command.Delete
+    else if bytes_eq word (codes "freeze") then Some command.Freeze
     else if bytes_eq word (codes "flush") then Some command.Flush
+    else if bytes_eq word (codes "snap") then Some command.Snap
+    else if bytes_eq word (codes "release") then Some command.Release
     else if bytes_eq word (codes "get") then Some command.Get
     else if bytes_eq word (codes "show") then Some command.Show
     else None
@@ -42,6 +46,33 @@ abbrev pub is_follower : List ℕ → Bool
 is_follower [] = false
 is_follower (byte ∷ digits) = byte == 102 && is_from_one_to_four (number digits)
 
+abbrev pub is_point : ℕ → Bool
+is_point byte = byte == 46
+
+-- an epoch and a number
+abbrev pub paired : Option ℕ → Option ℕ → Option SnapId
+paired (Some epoch) (Some number) = Some (record { epoch = epoch; number = number })
+paired epoch number = None
+
+-- the word before the place of a point, and the word after it
+abbrev pub parted : List ℕ → Option ℕ → Option SnapId
+parted word None = None
+parted word (Some point) = paired (number (take point word)) (number (drop (point + 1) word))
+
+-- the name of a snapshot: its epoch and its number, with a point between them
+abbrev pub snapshot_of : List ℕ → Option SnapId
+snapshot_of word = parted word (position is_point word)
+
+-- the same after an at sign
+abbrev pub reading_at : List ℕ → Option SnapId
+reading_at [] = None
+reading_at (byte ∷ name) = if byte == 64 then snapshot_of name else None
+
+-- a word that is to name something
+abbrev pub named : Option SnapId → Result SnapId Reason
+named None = Err BadName
+named (Some id) = Ok id
+
 abbrev pub put : List (List ℕ) → Result say.Event Reason
 put (key ∷ value ∷ []) = do
   k ← key_or_value key
@@ -59,12 +90,29 @@ abbrev pub flush : List (List ℕ) → Result say.Event Reason
 flush [] = Ok say.Flush
 flush args = Err WrongWordCount
 
--- reads at a snapshot are not there yet
+abbrev pub freeze : List (List ℕ) → Result say.Event Reason
+freeze [] = Ok say.Freeze
+freeze args = Err WrongWordCount
+
+abbrev pub snap : List (List ℕ) → Result say.Event Reason
+snap [] = Ok say.Snap
+snap args = Err WrongWordCount
+
+abbrev pub release : List (List ℕ) → Result say.Event Reason
+release (name ∷ []) = do
+  id ← named (snapshot_of name)
+  Ok (say.Release id)
+release args = Err WrongWordCount
+
+-- a get names the snapshot that it reads at, or reads the present
 abbrev pub get : List (List ℕ) → Result say.Event Reason
 get (key ∷ []) = do
   k ← key_or_value key
   Ok (say.Get k None)
-get (key ∷ snapshot ∷ []) = Err UnknownCommand
+get (key ∷ name ∷ []) = do
+  k ← key_or_value key
+  id ← named (reading_at name)
+  Ok (say.Get k (Some id))
 get args = Err WrongWordCount
 
 -- listings of followers are not there yet
@@ -79,7 +127,10 @@ abbrev pub asked : Option Command → List (List ℕ) → Result say.Event Reaso
 asked None args = Err UnknownCommand
 asked (Some command.Put) args = put args
 asked (Some command.Delete) args = delete args
+asked (Some command.Freeze) args = freeze args
 asked (Some command.Flush) args = flush args
+asked (Some command.Snap) args = snap args
+asked (Some command.Release) args = release args
 asked (Some command.Get) args = get args
 asked (Some command.Show) args = show args
 

@@ -8,7 +8,10 @@ ghost use Rattle.lsm_sim.specs.Script.{command_of};
 pub enum Command {
     Put,
     Delete,
+    Freeze,
     Flush,
+    Snap,
+    Release,
     Get,
     Show,
 }

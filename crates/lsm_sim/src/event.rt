@@ -1,6 +1,7 @@
 //! What a script asks of the store.
 
 use bytes::Bytes;
+use lsm_coord::SnapId;
 use lsm_key::Op;
 
 /// One command of a script.
@@ -8,10 +9,16 @@ use lsm_key::Op;
 pub enum Event {
     /// Write these operations as one batch.
     Write(Vec<Op>),
-    /// Write the memtable as a table.
+    /// Take no more writes into the memtable.
+    Freeze,
+    /// Write a memtable as a table.
     Flush,
-    /// Read a key at present.
-    Get(Bytes),
+    /// Make a snapshot of the present.
+    Snap,
+    /// Let a snapshot go.
+    Release(SnapId),
+    /// Read a key, at present or at a snapshot.
+    Get(Bytes, Option<SnapId>),
     /// List the coordinator's version.
     Show,
 }

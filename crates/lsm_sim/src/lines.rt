@@ -4,13 +4,13 @@ ghost use Rattle.std.specs.Prelude.{◌≡◌, ◌++◌, OnOk, IfOk};
 ghost use Rattle.std.specs.Prelude.{map};
 ghost use Rattle.lsm_coord.specs.Rules.{key_refusal};
 ghost use Rattle.lsm_coord.specs.Replies.{refusal_of};
-ghost use Rattle.lsm_sim.specs.Lines.{wrote, flushed, got, files_of, level_text, levels_text, listed, name_of, refused};
+ghost use Rattle.lsm_sim.specs.Lines.{wrote, froze, flushed, named, snapped, released, got, files_of, level_text, levels_text, listed, name_of, refused};
 ghost use Rattle.lsm_sim.specs.Replies.{line, place_at, why_of};
 
 use crate::reply::{Place, Refusal, Reply, Shown};
 use crate::text::{put_bytes, put_line_end, put_number, put_numbers, put_text};
 use bytes::Bytes;
-use lsm_coord::{CoordError, Flushed};
+use lsm_coord::{CoordError, Flushed, SnapId};
 use lsm_key::{KeyError, Seq};
 use std::alloc::{AllocError, Global};
 
@@ -37,6 +37,41 @@ pub fn put_flushed(out: &mut Vec<u8>, number: u64, seq: Seq, file: u64) -> Resul
     put_number(out, seq.number())?;
     put_text(out, " file ")?;
     put_number(out, file)
+}
+
+/// `frozen S`
+pub fn put_froze(out: &mut Vec<u8>, seq: Seq) -> Result<(), AllocError>
+    ensures { OnOk result (out.new.items ≡ out.old.items ++ froze seq) }
+{
+    put_text(out, "frozen ")?;
+    put_number(out, seq.number())
+}
+
+/// `E.N`
+fn put_name(out: &mut Vec<u8>, id: SnapId) -> Result<(), AllocError>
+    ensures { OnOk result (out.new.items ≡ out.old.items ++ named id) }
+{
+    put_number(out, id.epoch)?;
+    put_text(out, ".")?;
+    put_number(out, id.number)
+}
+
+/// `snapshot E.N at S`
+pub fn put_snapped(out: &mut Vec<u8>, id: SnapId, seq: Seq) -> Result<(), AllocError>
+    ensures { OnOk result (out.new.items ≡ out.old.items ++ snapped id seq) }
+{
+    put_text(out, "snapshot ")?;
+    put_name(out, id)?;
+    put_text(out, " at ")?;
+    put_number(out, seq.number())
+}
+
+/// `released E.N`
+pub fn put_released(out: &mut Vec<u8>, id: SnapId) -> Result<(), AllocError>
+    ensures { OnOk result (out.new.items ≡ out.old.items ++ released id) }
+{
+    put_text(out, "released ")?;
+    put_name(out, id)
 }
 
 /// `value V`, or `none`
@@ -124,7 +159,11 @@ fn coord_name(error: CoordError) -> &'static str
 {
     match error {
         CoordError::SequenceExhausted => "SequenceExhausted",
+        CoordError::FrozenWaiting => "FrozenWaiting",
+        CoordError::NothingToFreeze => "NothingToFreeze",
         CoordError::NothingToFlush => "NothingToFlush",
+        CoordError::TooManySnapshots => "TooManySnapshots",
+        CoordError::NoSnapshot => "NoSnapshot",
         CoordError::MemtableFull => "MemtableFull",
         CoordError::EmptyBatch => "EmptyBatch",
         CoordError::NumbersExhausted => "NumbersExhausted",
@@ -149,7 +188,10 @@ pub fn put_line(alloc: Global, out: &mut Vec<u8>, reply: &Reply) -> Result<(), A
 {
     match reply {
         Reply::Wrote(first, last) => put_wrote(out, *first, *last)?,
+        Reply::Froze(seq) => put_froze(out, *seq)?,
         Reply::Flushed(Flushed { number, seq, file }) => put_flushed(out, *number, *seq, *file)?,
+        Reply::Snapped(id, seq) => put_snapped(out, *id, *seq)?,
+        Reply::Released(id) => put_released(out, *id)?,
         Reply::Got(value) => put_got(out, value)?,
         Reply::Shown(shown) => put_shown(alloc, out, shown)?,
         Reply::Refused(refusal) => put_refused(out, *refusal)?,

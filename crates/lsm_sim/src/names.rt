@@ -1,10 +1,11 @@
 //! Which words name commands and nodes.
 
-ghost use Rattle.std.specs.Prelude.{◌≡◌};
-ghost use Rattle.lsm_sim.specs.Script.{command_of, is_comment, is_follower};
+ghost use Rattle.std.specs.Prelude.{◌≡◌, position};
+ghost use Rattle.lsm_sim.specs.Script.{command_of, is_comment, is_follower, is_point, paired, snapshot_of, reading_at};
 
 use crate::command::Command;
 use crate::number::number_of;
+use lsm_coord::SnapId;
 
 /// The command of this name.
 #[tactic(auto, unfolding(crate::specs::Script::command_of))]
@@ -15,8 +16,14 @@ pub fn command_of(word: &[u8]) -> Option<Command>
         Some(Command::Put)
     } else if word == b"del".as_slice() {
         Some(Command::Delete)
+    } else if word == b"freeze".as_slice() {
+        Some(Command::Freeze)
     } else if word == b"flush".as_slice() {
         Some(Command::Flush)
+    } else if word == b"snap".as_slice() {
+        Some(Command::Snap)
+    } else if word == b"release".as_slice() {
+        Some(Command::Release)
     } else if word == b"get".as_slice() {
         Some(Command::Get)
     } else if word == b"show".as_slice() {
@@ -34,6 +41,44 @@ pub fn is_comment(word: &[u8]) -> bool
         Some(byte) => *byte == b'#',
         None => false,
     }
+}
+
+/// The snapshot that a word `E.N` names.
+pub fn snapshot_of(word: &[u8]) -> Option<SnapId>
+    ensures { result ≡ snapshot_of word.now }
+{
+    match point_in(word) {
+        None => None,
+        Some(point) => paired(number_of(&word[..point]), number_of(&word[point + 1..])),
+    }
+}
+
+// The place of the first point.
+fn point_in(word: &[u8]) -> Option<usize>
+    ensures { result ≡ position is_point word.now }
+{
+    word.iter().position(|byte| *byte == b'.')
+}
+
+// The snapshot of an epoch and a number.
+fn paired(epoch: Option<u64>, number: Option<u64>) -> Option<SnapId>
+    ensures { result ≡ paired epoch number }
+{
+    match (epoch, number) {
+        (Some(epoch), Some(number)) => Some(SnapId { epoch, number }),
+        _ => None,
+    }
+}
+
+/// The snapshot that a word `@E.N` names.
+pub fn reading_at(word: &[u8]) -> Option<SnapId>
+    ensures { result ≡ reading_at word.now }
+{
+    let (first, name) = word.split_first()?;
+    if *first != b'@' {
+        return None;
+    }
+    snapshot_of(name)
 }
 
 /// Whether the word is `f` and a number from 1 to 4.

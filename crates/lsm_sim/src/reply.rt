@@ -1,7 +1,7 @@
 //! What the store answers to a command.
 
 use bytes::Bytes;
-use lsm_coord::{CoordError, Flushed};
+use lsm_coord::{CoordError, Flushed, SnapId};
 use lsm_key::{KeyError, Seq};
 
 /// Why a command is refused.
@@ -33,7 +33,12 @@ pub struct Shown {
 pub enum Reply {
     /// The first and the last sequence of a batch.
     Wrote(Seq, Seq),
+    /// The last sequence of the frozen memtable.
+    Froze(Seq),
     Flushed(Flushed),
+    /// A new snapshot, and the sequence that it reads at.
+    Snapped(SnapId, Seq),
+    Released(SnapId),
     Got(Option<Bytes>),
     Shown(Shown),
     Refused(Refusal),

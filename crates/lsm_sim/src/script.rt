@@ -1,20 +1,21 @@
 //! Scripts: one command a line, words between spaces, tabs or carriage returns. A line without words and a comment, which
 //! begins with `#`, are skipped and counted.
 
-ghost use Rattle.std.specs.Prelude.{◌≡◌, map, IfOk};
+ghost use Rattle.std.specs.Prelude.{◌≡◌, ◌∷◌, [], map, IfOk};
 ghost use Rattle.std.specs.Option.{option_map};
 ghost use Rattle.lsm_key.specs.Reading.{Gives};
 ghost use Rattle.lsm_sim.specs.Events.{event_of};
 ghost use Rattle.lsm_sim.specs.Text.{words};
-ghost use Rattle.lsm_sim.specs.Script.{asked, key_or_value, event, script, put, delete, flush, get, show};
+ghost use Rattle.lsm_sim.specs.Script.{asked, key_or_value, named, event, script, put, delete, freeze, flush, snap, release, get, show};
 
 use crate::command::Command;
 use crate::event::Event;
 use crate::fault::{Fault, Reason};
-use crate::names::{command_of, is_comment, is_follower};
+use crate::names::{command_of, is_comment, is_follower, reading_at, snapshot_of};
 use crate::token::token_of;
 use crate::words::{Lines, Words};
 use bytes::Bytes;
+use lsm_coord::SnapId;
 use lsm_key::{Op, Refused};
 use std::alloc::Global;
 
@@ -48,6 +49,44 @@ fn delete(alloc: Global, mut args: Words<'_>) -> Result<Event, Refused<Reason>>
     Ok(Event::Write(vec![in alloc; Op::Delete(key)]?))
 }
 
+/// The snapshot that a word is to name.
+fn named(id: Option<SnapId>) -> Result<SnapId, Refused<Reason>>
+    ensures { Gives (λ id. id) result (named id) }
+{
+    id.ok_or(Refused::Fault(Reason::BadName))
+}
+
+/// `freeze`
+fn freeze(mut args: Words<'_>) -> Result<Event, Refused<Reason>>
+    ensures { Gives event_of result (freeze (words args.entry.rest.now)) }
+{
+    match args.next() {
+        None => Ok(Event::Freeze),
+        Some(_) => Err(Refused::Fault(Reason::WrongWordCount)),
+    }
+}
+
+/// `snap`
+fn snap(mut args: Words<'_>) -> Result<Event, Refused<Reason>>
+    ensures { Gives event_of result (snap (words args.entry.rest.now)) }
+{
+    match args.next() {
+        None => Ok(Event::Snap),
+        Some(_) => Err(Refused::Fault(Reason::WrongWordCount)),
+    }
+}
+
+/// `release E.N`
+fn release(mut args: Words<'_>) -> Result<Event, Refused<Reason>>
+    ensures { Gives event_of result (release (words args.entry.rest.now)) }
+{
+    let (Some(name), None) = (args.next(), args.next()) else {
+        return Err(Refused::Fault(Reason::WrongWordCount));
+    };
+    let id = named(snapshot_of(name))?;
+    Ok(Event::Release(id))
+}
+
 /// `flush`
 fn flush(mut args: Words<'_>) -> Result<Event, Refused<Reason>>
     ensures { Gives event_of result (flush (words args.entry.rest.now)) }
@@ -58,7 +97,7 @@ fn flush(mut args: Words<'_>) -> Result<Event, Refused<Reason>>
     }
 }
 
-/// `get K`
+/// `get K`, or `get K @E.N`
 fn get(alloc: Global, mut args: Words<'_>) -> Result<Event, Refused<Reason>>
     ensures { Gives event_of result (get (words args.entry.rest.now)) }
 {
@@ -66,10 +105,19 @@ fn get(alloc: Global, mut args: Words<'_>) -> Result<Event, Refused<Reason>>
         return Err(Refused::Fault(Reason::WrongWordCount));
     };
     match (args.next(), args.next()) {
-        (None, _) => Ok(Event::Get(key_or_value(alloc, key)?)),
-        (Some(_), None) => Err(Refused::Fault(Reason::UnknownCommand)),
+        (None, _) => Ok(Event::Get(key_or_value(alloc, key)?, None)),
+        (Some(name), None) => get_at(alloc, key, name),
         (Some(_), Some(_)) => Err(Refused::Fault(Reason::WrongWordCount)),
     }
+}
+
+/// `get K @E.N`, of the words after the first
+fn get_at(alloc: Global, key: &[u8], name: &[u8]) -> Result<Event, Refused<Reason>>
+    ensures { Gives event_of result (get (key.now ∷ name.now ∷ [])) }
+{
+    let key = key_or_value(alloc, key)?;
+    let id = named(reading_at(name))?;
+    Ok(Event::Get(key, Some(id)))
 }
 
 /// `show c`
@@ -96,7 +144,10 @@ fn asked(alloc: Global, command: Option<Command>, args: Words<'_>) -> Result<Eve
         None => Err(Refused::Fault(Reason::UnknownCommand)),
         Some(Command::Put) => put(alloc, args),
         Some(Command::Delete) => delete(alloc, args),
+        Some(Command::Freeze) => freeze(args),
         Some(Command::Flush) => flush(args),
+        Some(Command::Snap) => snap(args),
+        Some(Command::Release) => release(args),
         Some(Command::Get) => get(alloc, args),
         Some(Command::Show) => show(args),
     }

@@ -11,18 +11,14 @@ use std::io::{Read, Write};
 use std::test::Fail;
 
 /// A script, the line of its first fault, and the fault's text.
-const FAULTS: [(&str, u64, &str); 38] = [
+const FAULTS: [(&str, u64, &str); 50] = [
     ("fly", 1, "unknown command"),
     ("put a 1\nfly", 2, "unknown command"),
     ("\n# put\n\nfly", 4, "unknown command"),
     ("PUT a 1", 1, "unknown command"),
     ("put# a 1", 1, "unknown command"),
     ("batch put a 1", 1, "unknown command"),
-    ("freeze", 1, "unknown command"),
-    ("snap", 1, "unknown command"),
     ("restart c", 1, "unknown command"),
-    ("get a @1.1", 1, "unknown command"),
-    ("get %zz @1.1", 1, "unknown command"),
     ("show f1", 1, "unknown command"),
     ("show f04", 1, "unknown command"),
     ("put", 1, "wrong number of words"),
@@ -32,10 +28,25 @@ const FAULTS: [(&str, u64, &str); 38] = [
     ("del", 1, "wrong number of words"),
     ("del a b", 1, "wrong number of words"),
     ("flush a", 1, "wrong number of words"),
+    ("freeze a", 1, "wrong number of words"),
+    ("snap 1.1", 1, "wrong number of words"),
+    ("release", 1, "wrong number of words"),
+    ("release 1.1 1.2", 1, "wrong number of words"),
+    ("release x y", 1, "wrong number of words"),
     ("get", 1, "wrong number of words"),
     ("get a b c", 1, "wrong number of words"),
     ("show", 1, "wrong number of words"),
     ("show c c", 1, "wrong number of words"),
+    ("release 1", 1, "bad name"),
+    ("release 1.", 1, "bad name"),
+    ("release .1", 1, "bad name"),
+    ("release 1.2.3", 1, "bad name"),
+    ("release @1.1", 1, "bad name"),
+    ("release 1.18446744073709551616", 1, "bad name"),
+    ("get a 1.1", 1, "bad name"),
+    ("get a @", 1, "bad name"),
+    ("get a @1", 1, "bad name"),
+    ("get a @x.1", 1, "bad name"),
     ("show x", 1, "bad name"),
     ("show w1", 1, "bad name"),
     ("show f", 1, "bad name"),
@@ -43,6 +54,7 @@ const FAULTS: [(&str, u64, &str); 38] = [
     ("show f5", 1, "bad name"),
     ("show f000000000000000000001", 1, "bad name"),
     ("show f18446744073709551617", 1, "bad name"),
+    ("get %zz @1", 1, "bad token"),
     ("put % 1", 1, "bad token"),
     ("put %2 1", 1, "bad token"),
     ("put a %gg", 1, "bad token"),
@@ -70,13 +82,13 @@ fn the_first_fault_is_told(rt: HostRuntime) -> Result<(), Fail> {
 #[test]
 fn every_command_is_read(rt: HostRuntime) -> Result<(), Fail> {
     let script =
-        "\n # of nothing\n\tput a\t%41%7e\r\n#\nput \"\" \"\nflush\ndel %25\nget a=b\nshow c";
+        "\n # of nothing\n\tput a\t%41%7e\r\n#\nput \"\" \"\nflush\ndel %25\nget a=b\nshow c\nfreeze\nsnap\nrelease 1.2\nget a @0.18446744073709551615";
     let Ok(events) = parse(rt.alloc(), script.as_bytes()) else {
         return Err(Fail::from("a fault"));
     };
     let text = format!(in rt.alloc(); "{events:?}")?;
     let wanted =
-        "[Write([Put(b\"a\", b\"A~\")]), Write([Put(b\"\", b\"\\\"\")]), Flush, Write([Delete(b\"%\")]), Get(b\"a=b\"), Show]";
+        "[Write([Put(b\"a\", b\"A~\")]), Write([Put(b\"\", b\"\\\"\")]), Flush, Write([Delete(b\"%\")]), Get(b\"a=b\", None), Show, Freeze, Snap, Release(SnapId { epoch: 1, number: 2 }), Get(b\"a\", Some(SnapId { epoch: 0, number: 18446744073709551615 }))]";
     assert_eq!(rt; text.as_str(), wanted);
     Ok(())
 }
@@ -124,6 +136,28 @@ fn a_session(rt: HostRuntime) -> Result<(), Fail> {
         "show 1 flushed 0\nrefused NothingToFlush\nseq 1\nversion 2 flushed 1 file 1\nrefused EmptyKey\nseq 2\nversion 3 flushed 2 file 2\nnone\nseq 3\nversion 4 flushed 3 file 3\nvalue %25%22\nnone\nshow 4 flushed 3 L0 1,2,3\n";
     let lines = printed(&rt, script)?;
     assert_eq!(rt; lines.as_str(), wanted);
+    Ok(())
+}
+
+#[test]
+fn frozen_memtables_and_snapshots(rt: HostRuntime) -> Result<(), Fail> {
+    for (script, wanted) in [
+        (
+            "put a 1\nfreeze\nfreeze\nput b 2\nflush\nflush\nflush\nfreeze",
+            "seq 1\nfrozen 1\nrefused FrozenWaiting\nseq 2\nversion 2 flushed 1 file 1\nversion 3 flushed 2 file 2\nrefused NothingToFlush\nrefused NothingToFreeze\n",
+        ),
+        (
+            "snap\nrelease 1.1\nrelease 1.1\nget a @1.1",
+            "snapshot 1.1 at 0\nreleased 1.1\nrefused NoSnapshot\nrefused NoSnapshot\n",
+        ),
+        (
+            "put a 1\nflush\nput a 2\nsnap\nfreeze\ndel a\nget a @1.1\nget a\nflush\nflush\nget a @1.1\nget a",
+            "seq 1\nversion 2 flushed 1 file 1\nseq 2\nsnapshot 1.1 at 2\nfrozen 2\nseq 3\nvalue 2\nnone\nversion 3 flushed 2 file 2\nversion 4 flushed 3 file 3\nvalue 2\nnone\n",
+        ),
+    ] {
+        let lines = printed(&rt, script)?;
+        assert_eq!(rt; lines.as_str(), wanted);
+    }
     Ok(())
 }
 

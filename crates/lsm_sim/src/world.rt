@@ -80,11 +80,23 @@ pub fn step(alloc: Global, coord: &mut Coord, event: &Event) -> Reply
                 Ok((first, last)) => Reply::Wrote(first, last),
             },
         },
+        Event::Freeze => match coord.freeze() {
+            Err(error) => Reply::Refused(Refusal::Coord(error)),
+            Ok(seq) => Reply::Froze(seq),
+        },
         Event::Flush => match coord.flush() {
             Err(error) => Reply::Refused(Refusal::Coord(error)),
             Ok(flushed) => Reply::Flushed(flushed),
         },
-        Event::Get(key) => match coord.get(key.as_slice()) {
+        Event::Snap => match coord.snapshot() {
+            Err(error) => Reply::Refused(Refusal::Coord(error)),
+            Ok((id, seq)) => Reply::Snapped(id, seq),
+        },
+        Event::Release(id) => match coord.release(*id) {
+            Err(error) => Reply::Refused(Refusal::Coord(error)),
+            Ok(()) => Reply::Released(*id),
+        },
+        Event::Get(key, at) => match coord.get(key.as_slice(), *at) {
             Err(error) => Reply::Refused(Refusal::Coord(error)),
             Ok(value) => Reply::Got(value),
         },

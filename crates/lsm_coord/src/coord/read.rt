@@ -94,7 +94,8 @@ impl Coord {
 
     /// What the current version lists. It takes no memory.
     pub fn show(&self) -> Listing<'_>
-        ensures { Follows self.now (Show Coordinator) (show_reply result) self.now }
+        ensures step { Follows self.now (Show Coordinator) (show_reply result) self.now }
+        ensures files { result.files.now ≡ self.now.served.version.files }
     {
         self.current.listing()
     }

@@ -35,7 +35,7 @@ returns-then-is_some-clause-ok c =
       applies = subst (λ (e : Edit). apply_fault m.current.version e ≡ None) edit (subst (λ (v : VersionValue). apply_fault v c.in_ok-edit.edit ≡ None) c.version.ensures c.in_ok-edit.ensures.applies);
       text = c.in_ok-text.text;
       spelled = subst (IsSpelled c.in_ok-text.text) edit (record { sound = c.in_ok-edit.ensures.sound; spelled = c.in_ok-text.ensures });
-      new_is = λ i. record { active = active i; frozen = None; served = extended m.current (edit i) (tables i); edits = c.in_ok-reserve.ensures.items i ++ c.in_ok-text.text ∷ []; last = m.newest; snapshots = m.live.items; made = m.made; floor = 1 };
+      new_is = λ i. record { limits = m.limits; active = active i; frozen = None; served = extended m.current (edit i) (tables i); edits = c.in_ok-reserve.ensures.items i ++ c.in_ok-text.text ∷ []; last = m.newest; snapshots = m.live.items; made = m.made; floor = 1 };
     })
 
 pub returns-clause-ok : goal.returns-clause-ok
@@ -51,5 +51,5 @@ returns-clause-ok c =
       applies = subst (λ (e : Edit). apply_fault m.current.version e ≡ None) edit (subst (λ (v : VersionValue). apply_fault v c.in_ok-edit.edit ≡ None) c.version.ensures c.in_ok-edit.ensures.applies);
       text = c.in_ok-text.text;
       spelled = subst (IsSpelled c.in_ok-text.text) edit (record { sound = c.in_ok-edit.ensures.sound; spelled = c.in_ok-text.ensures });
-      new_is = λ i. record { active = active i; frozen = none i; served = extended m.current (edit i) (tables i); edits = c.in_ok-reserve.ensures.items i ++ c.in_ok-text.text ∷ []; last = m.newest; snapshots = m.live.items; made = m.made; floor = 1 };
+      new_is = λ i. record { limits = m.limits; active = active i; frozen = none i; served = extended m.current (edit i) (tables i); edits = c.in_ok-reserve.ensures.items i ++ c.in_ok-text.text ∷ []; last = m.newest; snapshots = m.live.items; made = m.made; floor = 1 };
     })

@@ -8,8 +8,8 @@ use Rattle.lsm_coord.proofs.States.{lists_current}
 use Rattle.lsm_coord.proofs.Manifests.{version_count, flushed_is, files_are}
 use Rattle.lsm_coord.proofs.coord.Coord.show.Goals as goal
 
-pub returns : goal.returns
-returns c =
+pub returns-clause-step : goal.returns-clause-step
+returns-clause-step c =
     rw (← c.self.view_is) (λ s h.
     let t = h.tables in
     let count = version_count c.self.inside.manifest.items c.self.inside.current s t in
