@@ -135,7 +135,8 @@ impl Served {
 
     /// The same at the version's flushed sequence, from which on it has no entry.
     pub fn get(&self, key: &[u8]) -> Option<EntryRef<'_>>
-        ensures { AreOrdered (tables_of self.now.places) → option_map lent result ≡ visible (all_entries (tables_of self.now.places)) key.now self.now.version.flushed }
+        ensures first { option_map lent result ≡ first_visible (tables_of self.now.places) key.now self.now.version.flushed }
+        ensures found { AreOrdered (tables_of self.now.places) → option_map lent result ≡ visible (all_entries (tables_of self.now.places)) key.now self.now.version.flushed }
     {
         self.get_at(key, self.current.flushed())
     }

@@ -26,7 +26,7 @@ pub use fields::{
 };
 pub use items::Items;
 pub use laws::{
-    an_earlier_place_is_newer, newest_is_the_greatest, order_does_not_matter,
+    an_earlier_place_is_newer, limits_are_these, newest_is_the_greatest, order_does_not_matter,
     visible_is_the_greatest,
 };
 pub use limits::{

@@ -241,3 +241,71 @@ fn streams_that_fail(rt: HostRuntime) -> Result<(), Fail> {
     }
     Ok(())
 }
+
+/// Is interrupted before each byte that it gives or takes, and holds what it takes back until it is flushed.
+#[derive(Drop)]
+struct Interrupted {
+    script: &'static [u8],
+    held: Vec<u8>,
+    given: Vec<u8>,
+    is_ready: bool,
+}
+
+impl Interrupted {
+    /// Whether this call is the one that is interrupted.
+    fn stops(&mut self) -> bool {
+        self.is_ready = !self.is_ready;
+        self.is_ready
+    }
+}
+
+impl Read for Interrupted {
+    fn read(&mut self, buf: &mut [u8]) -> io::Result<usize> {
+        if self.stops() {
+            return Err(io::Error::from(io::ErrorKind::Interrupted));
+        }
+        if self.script.is_empty() || buf.is_empty() {
+            return Ok(0);
+        }
+        buf[0] = self.script[0];
+        self.script = &self.script[1..];
+        Ok(1)
+    }
+}
+
+impl Write for Interrupted {
+    fn write(&mut self, buf: &[u8]) -> io::Result<usize> {
+        if self.stops() {
+            return Err(io::Error::from(io::ErrorKind::Interrupted));
+        }
+        if buf.is_empty() {
+            return Ok(0);
+        }
+        self.held.push(buf[0])?;
+        Ok(1)
+    }
+
+    fn flush(&mut self) -> io::Result<()> {
+        Ok(self.given.append(&mut self.held)?)
+    }
+}
+
+/// A stream of this script.
+fn interrupted(alloc: Global, script: &'static [u8]) -> Interrupted {
+    Interrupted {
+        script,
+        held: Vec::new(alloc),
+        given: Vec::new(alloc),
+        is_ready: false,
+    }
+}
+
+#[test]
+fn streams_that_are_interrupted(rt: HostRuntime) -> Result<(), Fail> {
+    let limits = Limits::new(4, 10_485_760).ok_or("no limits")?;
+    let mut reader = interrupted(rt.alloc(), b"put a 1\nget a\n");
+    let mut writer = interrupted(rt.alloc(), b"");
+    run_script(rt.alloc(), &mut reader, &mut writer, limits)?;
+    assert_eq!(rt; writer.given.as_slice(), b"seq 1\nvalue 1\n".as_slice());
+    Ok(())
+}
