@@ -1,6 +1,6 @@
 -- Why a coordinator refuses a call is what each state that it shows forces.
-use Rattle.std.proofs.Common.{◌≡◌, ℕ, ◌+◌, ◌<◌, Bool, true, false, cond, Option, None, Some, length, refl, sym, ap, ◌∙◌, arith, eqb, ltb, leb, List, ◌&&◌, ◌||◌, is_none, is_some, inl, inr}
-use Rattle.std.specs.Option.{option_map, option_and_then}
+use Rattle.std.proofs.Common.{◌≡◌, ℕ, ◌+◌, Bool, true, false, cond, Option, None, Some, length, refl, sym, ap, ◌∙◌, arith, eqb, ltb, leb, List, ◌&&◌, is_none, is_some, inl, inr}
+use Rattle.std.specs.Option.{option_map}
 use Rattle.std.proofs.lemmas.Bool.{cases_Bool, eqb-true, eqb-false, eq-eqb, ne_eqb, leb-true, leb-false, le-ltb, lt-ltb}
 use Rattle.lsm_key.specs.declared.op.Op.{Op}
 use Rattle.lsm_key.specs.Limits.{batch_fault}
@@ -15,7 +15,7 @@ use Rattle.lsm_coord.specs.Event as say
 use Rattle.lsm_coord.specs.Rules.{refusal}
 use Rattle.lsm_coord.specs.Step.{Step}
 use Rattle.lsm_coord.specs.Value.{CoordValue}
-use Rattle.lsm_coord.specs.Calls.{write_fault, freeze_fault, flush_fault, snapshot_fault, release_fault, point_of}
+use Rattle.lsm_coord.specs.Calls.{write_fault, freeze_fault, flush_fault, snapshot_fault, release_fault}
 use Rattle.lsm_coord.specs.Replies.{refusal_of}
 use Rattle.lsm_coord.specs.Shows.{Shows}
 use Rattle.lsm_coord.proofs.Manifests.{version_count}

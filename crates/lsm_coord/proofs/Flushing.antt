@@ -1,5 +1,5 @@
 -- What a flush makes of the states that a coordinator shows.
-use Rattle.std.proofs.Common.{◌≡◌, ℕ, ◌+◌, ◌≤◌, List, [], ◌∷◌, ◌++◌, Option, None, Some, refl, sym, ap, subst, ◌∙◌, arith, inl, inr, length, map, take, drop, unwrap_or}
+use Rattle.std.proofs.Common.{◌≡◌, ℕ, ◌+◌, ◌≤◌, List, [], ◌∷◌, ◌++◌, Option, None, Some, refl, sym, ap, subst, ◌∙◌, arith, length, map, take, drop, unwrap_or}
 use Rattle.std.specs.Option.{option_map}
 use Rattle.std.specs.List.Sorted.{IsPermutation}
 use Rattle.std.proofs.lemmas.List.{map-append, length-take}
@@ -8,18 +8,14 @@ use Rattle.std.proofs.lemmas.List.Sorted.{IsPermutation-refl}
 use Rattle.lsm_key.specs.declared.entry.Entry.{Entry}
 use Rattle.lsm_key.specs.Sets.{IsIn}
 use Rattle.lsm_key.specs.Visible.{value_at}
-use Rattle.lsm_key.specs.Writes.{answer}
 use Rattle.lsm_key.specs.Places.{IsAbove, entries_after}
-use Rattle.lsm_key.proofs.Sets.{IsIn-append_cases}
 use Rattle.lsm_edit.specs.declared.file.FileMeta.{FileMeta}
 use Rattle.lsm_edit.specs.Edit.{IsSpelled}
 use Rattle.lsm_edit.specs.Next.{flush_edit}
 use Rattle.lsm_edit.specs.Version.{VersionValue, first_version, apply_fault, applied, files_after}
-use Rattle.lsm_edit.specs.Served.{ServedValue}
 use Rattle.lsm_table.specs.Tables.{Opened}
 use Rattle.lsm_edit.proofs.VersionLaws.{files_after-is}
 use Rattle.lsm_coord.specs.declared.frozen.Frozen.{Frozen}
-use Rattle.lsm_coord.specs.declared.snapshot.Snapshot.{Snapshot}
 use Rattle.lsm_coord.specs.State.{State, Version, Place, last_seq, last_flushed, active_start, current_files}
 use Rattle.lsm_coord.specs.Changes.{after_flush, flush_end, flushed_version, with_version}
 use Rattle.lsm_coord.specs.Manifest.{listed, place_of, versions_from}

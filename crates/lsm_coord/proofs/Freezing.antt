@@ -1,5 +1,5 @@
 -- What a freeze makes of the states that a coordinator shows.
-use Rattle.std.proofs.Common.{◌≡◌, ℕ, ◌≤◌, List, Option, None, Some, sym, ap, subst, ◌∙◌, arith, length, take, drop, unwrap_or}
+use Rattle.std.proofs.Common.{◌≡◌, ℕ, List, Option, None, Some, sym, ap, subst, ◌∙◌, arith, take, drop, unwrap_or}
 use Rattle.std.specs.Option.{option_map}
 use Rattle.std.specs.List.Sorted.{IsPermutation}
 use Rattle.std.proofs.lemmas.List.{take_all}

@@ -1,5 +1,5 @@
 -- A search of the memtables and then of the tables gives what the list of writes gives.
-use Rattle.std.proofs.Common.{◌≡◌, ℕ, List, ◌∷◌, ◌++◌, Option, None, Some, is_some, ap, ◌∙◌, inl, inr, sym, subst}
+use Rattle.std.proofs.Common.{◌≡◌, ℕ, List, ◌∷◌, Option, None, Some, is_some, ap, ◌∙◌, inl, inr, sym, subst}
 use Rattle.std.specs.Prelude.{if◌then◌else◌}
 use Rattle.std.specs.Option.{option_and_then}
 use Rattle.lsm_key.specs.declared.entry.Entry.{Entry}

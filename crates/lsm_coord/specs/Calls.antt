@@ -1,5 +1,5 @@
 -- What each call of the coordinator refuses and makes, of the value that contracts see (LevelDB, db_impl.cc: Write, CompactMemTable, Get, GetSnapshot).
-use Rattle.std.specs.Prelude.{◌≡◌, ℕ, ◌+◌, ◌≤◌, Bool, not, List, ◌++◌, [], ◌∷◌, Option, None, Some, IsSome, length, filter, sum_by, is_none, is_some, nat_eq, nat_lt, nat_le, ◌&&◌, ◌||◌, ◌⊎◌, if◌then◌else◌}
+use Rattle.std.specs.Prelude.{◌≡◌, ℕ, ◌+◌, ◌≤◌, not, List, ◌++◌, [], ◌∷◌, Option, None, Some, IsSome, length, filter, sum_by, is_none, is_some, nat_eq, nat_lt, nat_le, ◌&&◌, ◌||◌, ◌⊎◌, if◌then◌else◌}
 use Rattle.std.specs.List.Sorted.{IsPermutation}
 use Rattle.lsm_key.specs.declared.entry.Entry.{Entry}
 use Rattle.lsm_key.specs.declared.op.Op.{Op}
@@ -22,7 +22,7 @@ use Rattle.lsm_coord.specs.declared.frozen.Frozen.{Frozen}
 use Rattle.lsm_coord.specs.declared.snapshot.SnapId.{SnapId}
 use Rattle.lsm_coord.specs.declared.snapshot.Snapshot.{Snapshot}
 use Rattle.lsm_coord.specs.declared.snapshot.TheConstants.{MAX_SNAPSHOTS}
-use Rattle.lsm_coord.specs.State.{State, last_seq, same_id, snapshot_at}
+use Rattle.lsm_coord.specs.State.{State, same_id, snapshot_at}
 use Rattle.lsm_coord.specs.Value.{CoordValue}
 use Rattle.lsm_coord.specs.Shows.{Shows}
 

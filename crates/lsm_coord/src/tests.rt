@@ -15,6 +15,29 @@ fn put_of(alloc: Global, len: usize) -> Result<Batch, Fail> {
     Ok(batch)
 }
 
+/// A batch of one operation.
+fn batch_of(alloc: Global, op: Op) -> Result<Batch, Fail> {
+    let mut batch = Batch::new(alloc);
+    batch.push(op)?;
+    Ok(batch)
+}
+
+fn put(key: &'static [u8], value: &'static [u8]) -> Op {
+    Op::Put(Bytes::from_static(key), Bytes::from_static(value))
+}
+
+/// What a get gives: the value's first byte as a letter, `empty`, or `none`.
+fn shown(alloc: Global, coord: &mut Coord, key: &[u8], at: Option<SnapId>) -> Result<String, Fail> {
+    let Some(value) = coord.get(key, at)? else {
+        return Ok(format!(in alloc; "none")?);
+    };
+    let Some(first) = value.as_slice().first() else {
+        return Ok(format!(in alloc; "empty")?);
+    };
+    let letter = char::from(*first);
+    Ok(format!(in alloc; "{letter}")?)
+}
+
 /// A new store.
 fn store_of(alloc: Global) -> Result<Coord, Fail> {
     let limits = Limits::new(4, 10_485_760).ok_or("no limits")?;
@@ -44,6 +67,88 @@ fn the_way_of_a_write(rt: HostRuntime) -> Result<(), Fail> {
     Ok(())
 }
 
+#[test]
+fn a_frozen_memtable_is_flushed_first(rt: HostRuntime) -> Result<(), Fail> {
+    let mut coord = store_of(rt.alloc())?;
+    assert!(rt; coord.freeze() == Err(CoordError::NothingToFreeze));
+    coord.write(&batch_of(rt.alloc(), put(b"a", b"1"))?)?;
+    assert!(rt; coord.freeze()? == Seq::new(1));
+    assert!(rt; coord.freeze() == Err(CoordError::FrozenWaiting));
+    coord.write(&batch_of(rt.alloc(), put(b"b", b"2"))?)?;
+    assert_eq!(rt; shown(rt.alloc(), &mut coord, b"a", None)?.as_str(), "1");
+    for (number, seq, file) in [(2, 1, 1), (3, 2, 2)] {
+        let seq = Seq::new(seq);
+        let wanted = Flushed { number, seq, file };
+        assert!(rt; coord.flush()? == wanted);
+    }
+    assert!(rt; coord.flush() == Err(CoordError::NothingToFlush));
+    assert!(rt; coord.freeze() == Err(CoordError::NothingToFreeze));
+    assert_eq!(rt; shown(rt.alloc(), &mut coord, b"a", None)?.as_str(), "1");
+    assert_eq!(rt; shown(rt.alloc(), &mut coord, b"b", None)?.as_str(), "2");
+    Ok(())
+}
+
+/// The reads of a at two snapshots, before and after its put, and at the present, after its deletion.
+fn read_all(
+    alloc: Global,
+    coord: &mut Coord,
+    before: SnapId,
+    after: SnapId,
+) -> Result<String, Fail> {
+    let first = shown(alloc, coord, b"a", Some(before))?;
+    let second = shown(alloc, coord, b"a", Some(after))?;
+    let present = shown(alloc, coord, b"a", None)?;
+    Ok(format!(in alloc; "{first} {second} {present}")?)
+}
+
+#[test]
+fn a_snapshot_reads_its_past(rt: HostRuntime) -> Result<(), Fail> {
+    let mut coord = store_of(rt.alloc())?;
+    let (before, at) = coord.snapshot()?;
+    let first = SnapId {
+        epoch: 1,
+        number: 1,
+    };
+    assert!(rt; before == first);
+    assert!(rt; at == Seq::ZERO);
+    coord.write(&batch_of(rt.alloc(), put(b"a", b"1"))?)?;
+    let (after, at) = coord.snapshot()?;
+    assert!(rt; after.number == 2);
+    assert!(rt; at == Seq::new(1));
+    coord.freeze()?;
+    coord.write(&batch_of(rt.alloc(), Op::Delete(Bytes::from_static(b"a")))?)?;
+    for _ in 0..2 {
+        let reads = read_all(rt.alloc(), &mut coord, before, after)?;
+        assert_eq!(rt; reads.as_str(), "none 1 none");
+        coord.flush()?;
+    }
+    let reads = read_all(rt.alloc(), &mut coord, before, after)?;
+    assert_eq!(rt; reads.as_str(), "none 1 none");
+    coord.release(after)?;
+    let absent = Some(CoordError::NoSnapshot);
+    assert!(rt; coord.get(b"a", Some(after)).err() == absent);
+    assert!(rt; coord.release(after) == Err(CoordError::NoSnapshot));
+    assert_eq!(rt;
+        shown(rt.alloc(), &mut coord, b"a", Some(before))?.as_str(),
+        "none"
+    );
+    Ok(())
+}
+
+#[test]
+fn a_store_has_64_snapshots(rt: HostRuntime) -> Result<(), Fail> {
+    let mut coord = store_of(rt.alloc())?;
+    let (first, _) = coord.snapshot()?;
+    for _ in 1..64 {
+        coord.snapshot()?;
+    }
+    assert!(rt; coord.snapshot() == Err(CoordError::TooManySnapshots));
+    coord.release(first)?;
+    let (last, _) = coord.snapshot()?;
+    assert!(rt; last.number == 65);
+    Ok(())
+}
+
 // An entry weighs 14 bytes beside its key and value, so that 122 of 65,551 bytes leave room for 2,778.
 #[test]
 fn a_full_memtable_takes_writes_again_after_a_flush(rt: HostRuntime) -> Result<(), Fail> {
@@ -67,7 +172,11 @@ fn a_full_memtable_takes_writes_again_after_a_flush(rt: HostRuntime) -> Result<(
 fn a_refusal_says_why(rt: HostRuntime) -> Result<(), Fail> {
     let texts = [
         (CoordError::SequenceExhausted, "the sequences are exhausted"),
+        (CoordError::FrozenWaiting, "a frozen memtable waits"),
+        (CoordError::NothingToFreeze, "there is nothing to freeze"),
         (CoordError::NothingToFlush, "there is nothing to flush"),
+        (CoordError::TooManySnapshots, "too many snapshots are live"),
+        (CoordError::NoSnapshot, "no such snapshot is live"),
         (CoordError::MemtableFull, "the memtable is full"),
         (CoordError::EmptyBatch, "the batch is empty"),
         (

@@ -1,7 +1,6 @@
 use Rattle.std.proofs.Common.{◌≡◌, None, Some, sym, ap, subst, ◌∙◌, refl}
 use Rattle.std.specs.Option.{option_map}
 use Rattle.lsm_coord.specs.State.{last_seq}
-use Rattle.lsm_coord.specs.Value.{CoordValue}
 use Rattle.lsm_coord.specs.Memory.{IsCoord}
 use Rattle.lsm_coord.specs.Calls.{freeze_fault}
 use Rattle.lsm_coord.specs.Replies.{refusal_of}

@@ -1,4 +1,4 @@
-use Rattle.std.proofs.Common.{◌≡◌, ◌∙◌, None, ap, sym, refl, rules, filter, not, is_some, true, List}
+use Rattle.std.proofs.Common.{◌≡◌, ◌∙◌, None, ap, sym, refl, rules, filter, not, is_some}
 use Rattle.std.specs.Option.{option_map}
 use Rattle.std.proofs.lemmas.Fn.{filter_same}
 use Rattle.lsm_coord.specs.declared.snapshot.Snapshot.{Snapshot}

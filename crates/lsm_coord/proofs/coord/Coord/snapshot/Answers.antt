@@ -1,7 +1,6 @@
 use Rattle.std.proofs.Common.{◌≡◌, ◌+◌, None, Some, sym, ap, ◌∙◌, refl}
 use Rattle.std.specs.Option.{option_map}
 use Rattle.lsm_edit.specs.Version.{VersionValue}
-use Rattle.lsm_coord.specs.declared.snapshot.SnapId.{SnapId}
 use Rattle.lsm_coord.specs.Calls.{snapshot_fault}
 use Rattle.lsm_coord.specs.Changes.{with_snapshot, next_snapshot}
 use Rattle.lsm_coord.specs.Replies.{refusal_of}

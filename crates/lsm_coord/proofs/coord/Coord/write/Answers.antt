@@ -1,10 +1,9 @@
-use Rattle.std.proofs.Common.{◌≡◌, ℕ, ◌+◌, ◌≤◌, ◌-◌, None, Some, List, ◌++◌, length, sym, ap, subst, ◌∙◌, arith, refl}
+use Rattle.std.proofs.Common.{◌≡◌, ℕ, ◌+◌, ◌-◌, None, Some, List, ◌++◌, length, sym, ap, subst, ◌∙◌, arith, refl}
 use Rattle.std.specs.List.Sorted.{IsPermutation}
 use Rattle.std.specs.Option.{option_map}
 use Rattle.lsm_key.specs.declared.op.Op.{Op}
 use Rattle.lsm_key.specs.Places.{entries_after}
-use Rattle.lsm_coord.specs.declared.error.CoordError.{CoordError}
-use Rattle.lsm_coord.specs.State.{State, last_seq}
+use Rattle.lsm_coord.specs.State.{last_seq}
 use Rattle.lsm_coord.specs.Calls.{write_fault}
 use Rattle.lsm_coord.specs.Replies.{refusal_of}
 use Rattle.lsm_coord.specs.Rules.{refusal}
