@@ -1,10 +1,10 @@
 -- The first line of a text and the first word of a line, and what is left.
-use Rattle.std.proofs.Common.{◌≡◌, ℕ, ◌+◌, ◌<◌, ◌≤◌, Bool, true, false, cond, not, List, [], ◌∷◌, length, take, drop, get_or, Option, Some, None, refl, sym, ap, subst, ◌∙◌, arith, inl, inr, one-add, filter, ltb, position, length-drop, ◌-◌}
+use Rattle.std.proofs.Common.{◌≡◌, ℕ, ◌<◌, Bool, true, false, cond, not, List, [], ◌∷◌, length, take, drop, Some, None, refl, sym, ap, subst, ◌∙◌, arith, one-add, filter, ltb, position, length-drop, ◌-◌}
 use Rattle.std.proofs.Math.Seq.{drop-nil, take-length}
-use Rattle.std.specs.List.{slice_split, onto_first, position_or_len, prefix_len}
+use Rattle.std.specs.List.{slice_split, onto_first, position_or_len}
 use Rattle.std.specs.Option.{unwrap_or}
 use Rattle.std.proofs.lemmas.List.Sums.{prefix_len-le-length}
-use Rattle.std.proofs.lemmas.Bool.{ltb-true, ltb-false}
+use Rattle.std.proofs.lemmas.Bool.{ltb-false}
 use Rattle.lsm_sim.specs.Text.{is_separator, is_line_feed, is_word, lines, words}
 
 -- a place that is the length where there is none

@@ -1,9 +1,8 @@
 -- Text that is put together piece by piece.
-use Rattle.std.proofs.Common.{◌≡◌, ℕ, suc, ◌+◌, ◌<◌, List, [], ◌∷◌, ◌++◌, length, drop, get_or, map, refl, sym, ap, ◌∙◌, append_assoc, append-nil, drop-cons, drop_of_length-le, ◌≤◌, add-one}
+use Rattle.std.proofs.Common.{◌≡◌, ℕ, suc, ◌+◌, ◌<◌, List, [], ◌∷◌, ◌++◌, length, drop, get_or, map, sym, ap, ◌∙◌, append_assoc, append-nil, drop-cons, drop_of_length-le, ◌≤◌, add-one}
 use Rattle.std.proofs.lemmas.List.{map-append}
 use Rattle.std.specs.List.{flat_map, join_with_byte}
 use Rattle.std.specs.Fmt.{decimal}
-use Rattle.lsm_sim.specs.Lines.{printed, printed_byte}
 
 -- a further number of a list
 abbrev pub after_comma : ℕ → List ℕ

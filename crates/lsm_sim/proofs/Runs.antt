@@ -3,7 +3,6 @@ use Rattle.std.proofs.Common.{◌≡◌, ℕ, ◌+◌, ◌<◌, List, [], ◌∷
 use Rattle.std.proofs.Common.{Result, Ok, Err, OnOk, ◌≤◌}
 use Rattle.std.proofs.lemmas.List.{take_more, map-append, take_all}
 use Rattle.lsm_sim.proofs.Known.{Appends-then, Appends-keep}
-use Rattle.std.specs.List.{flat_map}
 use Rattle.std.specs.Io.KnownBytes.{Appends, Keeps}
 use Rattle.lsm_coord.specs.State.{State, first_state}
 use Rattle.lsm_coord.specs.Event as say

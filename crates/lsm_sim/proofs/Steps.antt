@@ -1,9 +1,8 @@
 -- How the events of a script grow by a line.
-use Rattle.std.proofs.Common.{◌≡◌, ℕ, ◌+◌, ◌≤◌, List, [], ◌∷◌, ◌++◌, length, Option, Some, None, Result, Ok, Err, refl, sym, ap, ◌∙◌, append_assoc, append-nil, arith, map}
+use Rattle.std.proofs.Common.{◌≡◌, ℕ, ◌+◌, ◌≤◌, List, [], ◌∷◌, ◌++◌, length, Some, None, Result, Ok, Err, refl, sym, ap, append_assoc, append-nil, arith, map}
 use Rattle.std.proofs.lemmas.List.{map-append}
 use Rattle.std.proofs.lemmas.List.Splits.{length-slice_split}
 use Rattle.std.proofs.lemmas.List.Sums.{count_by-le-length}
-use Rattle.std.specs.List.{count_by}
 use Rattle.lsm_key.specs.Reading.{◌>>=◌}
 use Rattle.lsm_sim.specs.declared.event.Event.{Event}
 use Rattle.lsm_sim.specs.declared.fault.Reason.{Reason}
@@ -11,7 +10,7 @@ use Rattle.lsm_sim.specs.declared.fault.Fault.{Fault}
 use Rattle.lsm_sim.specs.Text.{lines, words, is_line_feed}
 use Rattle.lsm_sim.specs.Events.{event_of}
 use Rattle.lsm_coord.specs.Event as say
-use Rattle.lsm_sim.specs.Script.{event, numbered, at_line}
+use Rattle.lsm_sim.specs.Script.{event, numbered}
 
 abbrev good : List say.Event → Result (List say.Event) Fault
 good events = Ok events

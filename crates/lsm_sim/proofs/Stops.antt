@@ -11,7 +11,6 @@ use Rattle.lsm_coord.specs.Event as say
 use Rattle.lsm_sim.specs.declared.error.RunError.{RunError}
 use Rattle.lsm_sim.specs.declared.error.RunError.TheVariants.{WriteFault, OutOfMemory}
 use Rattle.lsm_sim.specs.declared.event.Event.{Event}
-use Rattle.lsm_sim.specs.declared.reply.Reply.{Reply}
 use Rattle.lsm_sim.specs.Events.{event_of}
 use Rattle.lsm_sim.specs.Replies.{reply_of, lines}
 use Rattle.lsm_sim.specs.Runs.{RunsAPart, PrintsAPart, StopsFor}

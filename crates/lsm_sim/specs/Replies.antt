@@ -1,5 +1,5 @@
 -- What the replies of the program are in the coordinator's definitions, and the lines that they print.
-use Rattle.std.specs.Prelude.{List, ℕ, ◌++◌, map}
+use Rattle.std.specs.Prelude.{List, ℕ, map}
 use Rattle.std.specs.List.{flat_map}
 use Rattle.lsm_coord.specs.State as state
 use Rattle.lsm_coord.specs.Event as say

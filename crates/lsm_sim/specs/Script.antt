@@ -1,7 +1,6 @@
 -- What a script says: the events of its lines, or its first fault (the store's own script format, one command a line).
-use Rattle.std.specs.Prelude.{ℕ, ◌+◌, ◌==◌, ◌&&◌, ◌≤◌, Bool, true, false, List, [], ◌∷◌, ◌++◌, Option, None, Some, Result, Ok, Err, codes, option_to_list, nat_le, take, drop, position, if◌then◌else◌}
+use Rattle.std.specs.Prelude.{ℕ, ◌+◌, ◌==◌, ◌&&◌, Bool, false, List, [], ◌∷◌, ◌++◌, Option, None, Some, Result, Ok, Err, codes, option_to_list, nat_le, take, drop, position, if◌then◌else◌}
 use Rattle.std.specs.Str.{bytes_eq}
-use Rattle.lsm_key.specs.declared.op.Op.{Op}
 use Rattle.lsm_key.specs.declared.op.Op.TheVariants as op
 use Rattle.lsm_key.specs.Reading.{◌>>=◌}
 use Rattle.lsm_sim.specs.declared.command.Command.{Command}

@@ -291,7 +291,7 @@ impl Write for Interrupted {
 }
 
 /// A stream of this script.
-fn interrupted(alloc: Global, script: &'static [u8]) -> Interrupted {
+fn stream_of(alloc: Global, script: &'static [u8]) -> Interrupted {
     Interrupted {
         script,
         held: Vec::new(alloc),
@@ -303,8 +303,8 @@ fn interrupted(alloc: Global, script: &'static [u8]) -> Interrupted {
 #[test]
 fn streams_that_are_interrupted(rt: HostRuntime) -> Result<(), Fail> {
     let limits = Limits::new(4, 10_485_760).ok_or("no limits")?;
-    let mut reader = interrupted(rt.alloc(), b"put a 1\nget a\n");
-    let mut writer = interrupted(rt.alloc(), b"");
+    let mut reader = stream_of(rt.alloc(), b"put a 1\nget a\n");
+    let mut writer = stream_of(rt.alloc(), b"");
     run_script(rt.alloc(), &mut reader, &mut writer, limits)?;
     assert_eq!(rt; writer.given.as_slice(), b"seq 1\nvalue 1\n".as_slice());
     Ok(())

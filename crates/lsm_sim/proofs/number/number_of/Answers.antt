@@ -1,4 +1,4 @@
-use Rattle.std.proofs.Common.{◌≡◌, ◌∙◌, sym, arith, rules}
+use Rattle.std.proofs.Common.{◌∙◌, sym, arith, rules}
 use Rattle.lsm_sim.proofs.Digits.{number_over, number_some}
 use Rattle.lsm_sim.proofs.number.number_of.Goals as goal
 

@@ -1,7 +1,7 @@
-use Rattle.std.proofs.Common.{◌≡◌, ◌++◌, ◌+◌, [], List, ℕ, refl, ap, rules}
+use Rattle.std.proofs.Common.{◌++◌, ◌+◌, [], refl, rules}
 use Rattle.lsm_sim.specs.Replies.{line}
 use Rattle.lsm_sim.proofs.Known.{Appends-none}
-use Rattle.lsm_sim.proofs.Runs.{IsSoFar, RunsTo-none, IsSoFar-step, IsSoFar-same, IsSoFar-written, IsSoFar-end, on_ok}
+use Rattle.lsm_sim.proofs.Runs.{RunsTo-none, IsSoFar-step, IsSoFar-same, IsSoFar-written, IsSoFar-end, on_ok}
 use Rattle.lsm_sim.proofs.Stops.{on_err, Keeps-same, IsSoFar-stops, IsSoFar-halts}
 use Rattle.lsm_sim.proofs.run.run.Goals as goal
 use Rattle.lsm_sim.proofs.run.run.Goals.{then-len-ge-BUFFER_BYTES+in_ok-write_all, else-len-ge-BUFFER_BYTES}

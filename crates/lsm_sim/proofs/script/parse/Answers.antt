@@ -1,5 +1,4 @@
-use Rattle.std.proofs.Common.{◌≡◌, ◌+◌, ◌≤◌, ◌∷◌, ◌++◌, [], ℕ, List, Option, Some, None, Result, Ok, Err, ap, sym, ◌∙◌, length, map, rules, arith}
-use Rattle.lsm_sim.specs.declared.fault.Fault.{Fault}
+use Rattle.std.proofs.Common.{◌≡◌, ◌+◌, ◌∷◌, ◌++◌, [], ℕ, List, Some, None, Ok, Err, ap, sym, ◌∙◌, length, map, rules, arith}
 use Rattle.lsm_sim.specs.Text.{words, lines, lines_left}
 use Rattle.lsm_sim.specs.Events.{event_of}
 use Rattle.lsm_coord.specs.Event as say

@@ -1,4 +1,4 @@
-use Rattle.std.proofs.Common.{◌≡◌, ◌≤◌, ℕ, drop, length, List, ap, ◌∙◌, rules, arith}
+use Rattle.std.proofs.Common.{◌≡◌, ◌≤◌, ℕ, drop, length, List, ap, ◌∙◌, rules}
 use Rattle.std.specs.Borrow.{Bor}
 use Rattle.lsm_sim.proofs.Cuts.{take_rest}
 use Rattle.lsm_sim.proofs.Known.{IsWritten-more, IsWritten-keep, IsWritten-same}

@@ -1,6 +1,4 @@
 -- a beginning is written, and the rest is left
-use Rattle.std.proofs.Common.{◌≡◌, ◌≤◌, ℕ, take, drop, length}
-use Rattle.std.specs.Io.KnownBytes.{Appends}
 use Rattle.lsm_sim.proofs.Known.{IsWritten}
 use Rattle.lsm_sim.proofs.streams.write_all.Given as goal
 

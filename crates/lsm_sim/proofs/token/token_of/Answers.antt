@@ -1,4 +1,4 @@
-use Rattle.std.proofs.Common.{◌≡◌, Some, ◌∙◌, ap, Option, ℕ, rules}
+use Rattle.std.proofs.Common.{◌∙◌, ap, Option, ℕ}
 use Rattle.lsm_sim.specs.Tokens.{onto, spelled}
 use Rattle.lsm_sim.proofs.Spelled.{spelled-more}
 use Rattle.lsm_sim.proofs.token.token_of.Goals as goal

@@ -1,4 +1,4 @@
-use Rattle.std.proofs.Common.{◌≡◌, map, refl}
+use Rattle.std.proofs.Common.{map, refl}
 use Rattle.lsm_coord.specs.Manifest.{place_of}
 use Rattle.lsm_sim.specs.declared.reply.Place.{Place}
 use Rattle.lsm_sim.specs.Replies.{place_at}

@@ -1,5 +1,4 @@
-use Rattle.std.proofs.Common.{◌≡◌, ◌∙◌, ℕ, List, ◌∷◌, ap, sym, length, Option, Some, rules, arith}
-use Rattle.std.specs.Borrow.{Bor}
+use Rattle.std.proofs.Common.{◌≡◌, ◌∙◌, ℕ, List, ◌∷◌, ap, sym, Some, rules}
 use Rattle.lsm_sim.specs.Text.{is_line_feed, lines, lines_left}
 use Rattle.lsm_sim.specs.declared.words.Lines.{Lines}
 use Rattle.lsm_sim.proofs.Cuts.{lines-call, lines-more, lines-end, take_rest, pieces_after}

@@ -1,5 +1,4 @@
-use Rattle.std.proofs.Common.{◌≡◌, ℕ, ◌-◌, ◌<◌, List, [], ◌∷◌, length, take, drop, rules, arith}
-use Rattle.lsm_sim.specs.Text.{words}
+use Rattle.std.proofs.Common.{ℕ, ◌-◌, List, length, take, drop, rules}
 use Rattle.lsm_sim.proofs.Cuts.{words-call, words-last, take_rest}
 use Rattle.lsm_sim.proofs.words.WordsIterator.next.Goals as goal
 
