@@ -39,7 +39,8 @@ impl Memtable {
     ghost use Rattle.lsm_key.specs.Limits.{entry_weight, total_weight};
     ghost use Rattle.lsm_key.specs.Places.{entries_after};
     ghost use Rattle.lsm_key.specs.Visible.{visible, lent};
-    ghost use Rattle.lsm_mem.specs.Memtable.{IsMemtable, last_sequence, is_between};
+    ghost use Rattle.lsm_mem.specs.Memtable.{IsMemtable, last_sequence};
+    ghost use Rattle.lsm_key.specs.Order.{is_between};
 
     /// No entry yet.
     pub fn new(alloc: Global) -> Memtable

@@ -1,7 +1,7 @@
 use Rattle.std.proofs.Common.{sym, ap, ◌∙◌}
 use Rattle.std.specs.List.{filter}
 use Rattle.std.proofs.lemmas.Result.{IfOk-weaker}
-use Rattle.lsm_mem.specs.Memtable.{is_between}
+use Rattle.lsm_key.specs.Order.{is_between}
 use Rattle.lsm_mem.proofs.Between.{between_chains}
 use Rattle.lsm_mem.proofs.memtable.Memtable.range.Goals as goal
 
