@@ -9,7 +9,6 @@ use Rattle.lsm_key.specs.declared.refused.Refused.TheVariants as refused
 use Rattle.lsm_key.specs.Reading.{◌>>=◌, Fails}
 use Rattle.lsm_sim.specs.declared.event.Event.{Event}
 use Rattle.lsm_sim.specs.declared.fault.Reason.{Reason}
-use Rattle.lsm_sim.specs.declared.fault.Fault.{Fault}
 use Rattle.lsm_sim.specs.Text.{lines, words, is_line_feed}
 use Rattle.lsm_sim.specs.Events.{event_of}
 use Rattle.lsm_coord.specs.Event as say
