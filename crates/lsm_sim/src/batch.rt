@@ -14,7 +14,8 @@ use crate::words::Words;
 use lsm_key::{Op, Refused};
 use std::alloc::Global;
 
-/// `batch`, and any number of `put K V` and `del K`
+/// `batch`, and any number of `put K V` and `del K`. None at all is no fault here, nor are more than a batch takes: the
+/// store refuses them by name. It takes one pass over the words.
 pub fn batch(alloc: Global, mut args: Words<'_>) -> Result<Event, Refused<Reason>>
     ensures { Gives event_of result (batch (words args.entry.rest.now)) }
 {
