@@ -1,8 +1,10 @@
 -- What a script says: the events of its lines, or its first fault (the store's own script format, one command a line).
-use Rattle.std.specs.Prelude.{ℕ, ◌+◌, ◌==◌, ◌&&◌, Bool, false, List, [], ◌∷◌, ◌++◌, Option, None, Some, Result, Ok, Err, codes, option_to_list, nat_le, take, drop, position, if◌then◌else◌}
+use Rattle.std.specs.Prelude.{◌≡◌, ℕ, ◌+◌, ◌==◌, ◌&&◌, Bool, false, List, [], ◌∷◌, ◌++◌, Option, None, Some, Result, Ok, Err, codes, option_to_list, nat_le, take, drop, position, if◌then◌else◌}
 use Rattle.std.specs.Str.{bytes_eq}
+use Rattle.lsm_key.specs.declared.op.Op.{Op}
 use Rattle.lsm_key.specs.declared.op.Op.TheVariants as op
-use Rattle.lsm_key.specs.Reading.{◌>>=◌}
+use Rattle.lsm_key.specs.declared.refused.Refused.{Refused}
+use Rattle.lsm_key.specs.Reading.{◌>>=◌, Fails}
 use Rattle.lsm_sim.specs.declared.command.Command.{Command}
 use Rattle.lsm_sim.specs.declared.command.Command.TheVariants as command
 use Rattle.lsm_sim.specs.declared.fault.Reason.{Reason}
@@ -19,6 +21,7 @@ unfoldable pub command_of : List ℕ → Option Command
 command_of word =
     if bytes_eq word (codes "put") then Some command.Put
     else if bytes_eq word (codes "del") then Some command.Delete
+    else if bytes_eq word (codes "batch") then Some command.Batch
     else if bytes_eq word (codes "freeze") then Some command.Freeze
     else if bytes_eq word (codes "flush") then Some command.Flush
     else if bytes_eq word (codes "snap") then Some command.Snap
@@ -85,6 +88,49 @@ delete (key ∷ []) = do
   Ok (say.Write (op.Delete k ∷ []))
 delete args = Err WrongWordCount
 
+-- an operation of a batch, before those that are read after it
+abbrev pub with_first : Op → Result (List Op) Reason → Result (List Op) Reason
+with_first first rest = do
+  ops ← rest
+  Ok (first ∷ ops)
+
+unfoldable mutual
+  -- the operations of a batch, read from left to right: a word that is wrong is told before one that is missing after it
+  pub operations : List (List ℕ) → Result (List Op) Reason
+  operations [] = Ok []
+  operations (name ∷ args) =
+      if bytes_eq name (codes "put") then after_put args
+      else if bytes_eq name (codes "del") then after_delete args
+      else Err BadName
+
+  -- a key, a value, and the operations after them
+  pub after_put : List (List ℕ) → Result (List Op) Reason
+  after_put [] = Err WrongWordCount
+  after_put (key ∷ []) = do
+    k ← key_or_value key
+    Err WrongWordCount
+  after_put (key ∷ value ∷ args) = do
+    k ← key_or_value key
+    v ← key_or_value value
+    with_first (op.Put k v) (operations args)
+
+  -- a key, and the operations after it
+  pub after_delete : List (List ℕ) → Result (List Op) Reason
+  after_delete [] = Err WrongWordCount
+  after_delete (key ∷ args) = do
+    k ← key_or_value key
+    with_first (op.Delete k) (operations args)
+
+-- what was read is the first operation of all, before those of the words that are left; or it is the fault of all, unless memory ran out
+abbrev pub GivesFirst : Result Op (Refused Reason) → Result (List Op) Reason → List (List ℕ) → Type 0
+GivesFirst (Ok first) all left = all ≡ with_first first (operations left)
+GivesFirst (Err e) all left = Fails e all
+
+abbrev pub batch : List (List ℕ) → Result say.Event Reason
+batch args = do
+  ops ← operations args
+  Ok (say.Write ops)
+
 abbrev pub flush : List (List ℕ) → Result say.Event Reason
 flush [] = Ok say.Flush
 flush args = Err WrongWordCount
@@ -126,6 +172,7 @@ abbrev pub asked : Option Command → List (List ℕ) → Result say.Event Reaso
 asked None args = Err UnknownCommand
 asked (Some command.Put) args = put args
 asked (Some command.Delete) args = delete args
+asked (Some command.Batch) args = batch args
 asked (Some command.Freeze) args = freeze args
 asked (Some command.Flush) args = flush args
 asked (Some command.Snap) args = snap args

@@ -8,6 +8,7 @@ ghost use Rattle.lsm_sim.specs.Script.{command_of};
 pub enum Command {
     Put,
     Delete,
+    Batch,
     Freeze,
     Flush,
     Snap,

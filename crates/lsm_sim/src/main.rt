@@ -1,6 +1,7 @@
 //! The program `lsmsim`: runs a script of writes, flushes and reads against the store and prints each reply.
 #![tactic(auto)]
 
+mod batch;
 mod command;
 mod error;
 mod event;

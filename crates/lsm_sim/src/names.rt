@@ -16,6 +16,8 @@ pub fn command_of(word: &[u8]) -> Option<Command>
         Some(Command::Put)
     } else if word == b"del".as_slice() {
         Some(Command::Delete)
+    } else if word == b"batch".as_slice() {
+        Some(Command::Batch)
     } else if word == b"freeze".as_slice() {
         Some(Command::Freeze)
     } else if word == b"flush".as_slice() {
