@@ -8,7 +8,7 @@ use Rattle.lsm_key.specs.Reading.{◌>>=◌, Fails}
 use Rattle.lsm_sim.specs.declared.command.Command.{Command}
 use Rattle.lsm_sim.specs.declared.command.Command.TheVariants as command
 use Rattle.lsm_sim.specs.declared.fault.Reason.{Reason}
-use Rattle.lsm_sim.specs.declared.fault.Reason.TheVariants.{UnknownCommand, WrongWordCount, BadName, BadToken}
+use Rattle.lsm_sim.specs.declared.fault.Reason.TheVariants.{UnknownCommand, WrongWordCount, BadNumber, BadName, BadToken}
 use Rattle.lsm_sim.specs.declared.fault.Fault.{Fault}
 use Rattle.lsm_sim.specs.Text.{lines, words}
 use Rattle.lsm_sim.specs.Numbers.{number}
@@ -27,6 +27,7 @@ command_of word =
     else if bytes_eq word (codes "snap") then Some command.Snap
     else if bytes_eq word (codes "release") then Some command.Release
     else if bytes_eq word (codes "get") then Some command.Get
+    else if bytes_eq word (codes "scan") then Some command.Scan
     else if bytes_eq word (codes "show") then Some command.Show
     else None
 
@@ -160,6 +161,28 @@ get (key ∷ name ∷ []) = do
   Ok (say.Get k (Some id))
 get args = Err WrongWordCount
 
+-- a word that is to be a number
+abbrev pub counted : Option ℕ → Result ℕ Reason
+counted None = Err BadNumber
+counted (Some n) = Ok n
+
+-- a scan of a range of keys, at the present or at a snapshot
+abbrev pub scan_at : List ℕ → List ℕ → List ℕ → Result (Option SnapId) Reason → Result say.Event Reason
+scan_at lo hi limit at = do
+  l ← key_or_value lo
+  h ← key_or_value hi
+  n ← counted (number limit)
+  id ← at
+  Ok (say.Scan l h id n)
+
+abbrev pub some_name : Result SnapId Reason → Result (Option SnapId) Reason
+some_name name = name >>= λ id. Ok (Some id)
+
+abbrev pub scan : List (List ℕ) → Result say.Event Reason
+scan (lo ∷ hi ∷ limit ∷ []) = scan_at lo hi limit (Ok None)
+scan (lo ∷ hi ∷ limit ∷ name ∷ []) = scan_at lo hi limit (some_name (named (reading_at name)))
+scan args = Err WrongWordCount
+
 -- listings of followers are not there yet
 abbrev pub show : List (List ℕ) → Result say.Event Reason
 show (node ∷ []) =
@@ -178,6 +201,7 @@ asked (Some command.Flush) args = flush args
 asked (Some command.Snap) args = snap args
 asked (Some command.Release) args = release args
 asked (Some command.Get) args = get args
+asked (Some command.Scan) args = scan args
 asked (Some command.Show) args = show args
 
 abbrev pub some_event : Result say.Event Reason → Result (Option say.Event) Reason

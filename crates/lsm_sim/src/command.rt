@@ -14,5 +14,6 @@ pub enum Command {
     Snap,
     Release,
     Get,
+    Scan,
     Show,
 }

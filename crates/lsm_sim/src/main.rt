@@ -12,6 +12,7 @@ mod number;
 mod options;
 mod reply;
 mod run;
+mod scan;
 mod script;
 mod streams;
 #[cfg(test)]

@@ -28,6 +28,8 @@ pub fn command_of(word: &[u8]) -> Option<Command>
         Some(Command::Release)
     } else if word == b"get".as_slice() {
         Some(Command::Get)
+    } else if word == b"scan".as_slice() {
+        Some(Command::Scan)
     } else if word == b"show".as_slice() {
         Some(Command::Show)
     } else {

@@ -13,6 +13,7 @@ use crate::command::Command;
 use crate::event::Event;
 use crate::fault::{Fault, Reason};
 use crate::names::{command_of, is_comment, is_follower, reading_at, snapshot_of};
+use crate::scan::scan;
 use crate::token::key_or_value;
 use crate::words::{Lines, Words};
 use lsm_coord::SnapId;
@@ -43,7 +44,7 @@ fn delete(alloc: Global, mut args: Words<'_>) -> Result<Event, Refused<Reason>>
 }
 
 /// The snapshot that a word is to name.
-fn named(id: Option<SnapId>) -> Result<SnapId, Refused<Reason>>
+pub fn named(id: Option<SnapId>) -> Result<SnapId, Refused<Reason>>
     ensures { Gives (λ id. id) result (named id) }
 {
     id.ok_or(Refused::Fault(Reason::BadName))
@@ -143,6 +144,7 @@ fn asked(alloc: Global, command: Option<Command>, args: Words<'_>) -> Result<Eve
         Some(Command::Snap) => snap(args),
         Some(Command::Release) => release(args),
         Some(Command::Get) => get(alloc, args),
+        Some(Command::Scan) => scan(alloc, args),
         Some(Command::Show) => show(args),
     }
 }
