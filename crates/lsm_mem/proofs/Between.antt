@@ -39,7 +39,7 @@ kept_or f x xs ys false false e rest = rest
 kept_or f x xs ys true false e rest = absurd cc
 kept_or f x xs ys false true e rest = absurd cc
 
-filter-map : {A B : Type 0} (f : A → B) (p : A → Bool) (q : B → Bool) → ((a : A) → p a ≡ q (f a)) → (xs : List A) → map f (filter p xs) ≡ filter q (map f xs)
+pub filter-map : {A B : Type 0} (f : A → B) (p : A → Bool) (q : B → Bool) → ((a : A) → p a ≡ q (f a)) → (xs : List A) → map f (filter p xs) ≡ filter q (map f xs)
 filter-map f p q same [] = refl
 filter-map f p q same (x ∷ xs) = kept_or f x (filter p xs) (filter q (map f xs)) (p x) (q (f x)) (same x) (filter-map f p q same xs)
 

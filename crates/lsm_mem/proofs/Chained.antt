@@ -1,5 +1,5 @@
 -- Chains in order, and the entries in them.
-use Rattle.std.proofs.Common.{◌≡◌, ℕ, zero, suc, ◌<◌, List, [], ◌∷◌, ◌++◌, length, get_or, Option, Some, None, refl, sym, ap, subst, ◌∙◌, inl, inr, arith, add-one, reverse, length-append}
+use Rattle.std.proofs.Common.{◌≡◌, ℕ, ◌<◌, List, [], ◌∷◌, ◌++◌, length, Option, Some, None, refl, sym, ap, subst, ◌∙◌, inl, inr, arith, reverse, length-append}
 use Rattle.std.specs.declared.cmp.Ordering.{Ordering}
 use Rattle.std.specs.declared.cmp.Ordering.TheVariants.{Less, Equal}
 use Rattle.std.specs.Ordering.{nat_cmp, ordering_then, is_lt}
@@ -11,7 +11,7 @@ use Rattle.lsm_key.specs.Sets.{IsIn}
 use Rattle.lsm_key.specs.Order.{Precedes, IsAscending}
 use Rattle.lsm_key.specs.Visible.{visible, is_seen, Latest}
 use Rattle.lsm_key.proofs.Falls.{Falls, falls-append, falls_ascend}
-use Rattle.lsm_key.proofs.Sets.{IsIn-append_cases, IsIn-append_left, IsIn-append_right, IsIn-at, IsIn-one, SameMembers-permutation}
+use Rattle.lsm_key.proofs.Sets.{IsIn-append_cases, IsIn-append_left, IsIn-append_right, IsIn-one, SameMembers-permutation}
 use Rattle.lsm_key.proofs.Order.{of_one_key, ascending_unique}
 use Rattle.lsm_key.proofs.Visible.{visible_one, latest-is, is_seen-key}
 use Rattle.lsm_mem.specs.Chains.{Chain, IsChain, AreChains, SequencesRise, entries_in}
@@ -44,7 +44,7 @@ pub is_chain : (cs : List Chain) → AreChains cs → (c : Chain) → IsIn c cs 
 is_chain [] up c m = absurd m
 is_chain (d ∷ cs) up c m = elim m [ inl e ↦ subst IsChain (sym e) up.0 | inr n ↦ is_chain cs up.2 c n ]
 
-not_both : (a b : List ℕ) → key_cmp a b ≡ Less → a ≡ b → ⊥
+pub not_both : (a b : List ℕ) → key_cmp a b ≡ Less → a ≡ b → ⊥
 not_both a b less same = let e : key_cmp a b ≡ Equal = subst (λ (x : List ℕ). key_cmp a x ≡ Equal) same (same_key a) in cc
 
 -- a key has one chain

@@ -5,3 +5,4 @@ pub mod Growing
 pub mod Taken
 pub mod Noted
 pub mod Between
+pub mod Keys

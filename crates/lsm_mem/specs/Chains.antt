@@ -27,6 +27,10 @@ chains_of pairs = map chain_of pairs
 abbrev pub entries_in : List Chain → List Entry
 entries_in chains = flat_map (λ c. reverse c.versions) chains
 
+-- the keys, one of each chain
+abbrev pub keys_in : List Chain → List (List ℕ)
+keys_in chains = map (λ c. c.key) chains
+
 -- each entry is older than those after it
 abbrev pub SequencesRise : List Entry → Type 0
 SequencesRise [] = Unit {0}

@@ -27,10 +27,11 @@ impl Model for Chains {
 }
 
 impl Chains {
-    ghost use Rattle.std.specs.Prelude.{◌≡◌, ◌≢◌, ◌≤◌, ◌+◌, ◌-◌, ℕ, List, [], length, IfOk, IsTrue, ◌↔◌, IfSome, IfNone, OnErr};
+    ghost use Rattle.std.specs.Prelude.{◌≡◌, ◌≢◌, ◌≤◌, ◌+◌, ◌-◌, ℕ, List, [], length, IfOk, IsTrue, ◌↔◌, IfSome, IfNone, OnErr, filter, slice_get};
     ghost use Rattle.lsm_key.specs.Sets.{IsIn};
+    ghost use Rattle.lsm_key.specs.Order.{key_le};
     ghost use Rattle.lsm_key.specs.Places.{entry_of, entries_after};
-    ghost use Rattle.lsm_mem.specs.Chains.{Chain, AreChains, entries_in, with_entry, with_entries, without_newest, chains_between};
+    ghost use Rattle.lsm_mem.specs.Chains.{Chain, AreChains, entries_in, with_entry, with_entries, without_newest, chains_between, keys_in};
 
     /// No key yet.
     pub(crate) fn new(alloc: Global) -> Chains
@@ -140,6 +141,17 @@ impl Chains {
             push_newest_first(&mut copies, versions.as_slice())?;
         }
         Ok(copies)
+    }
+
+    /// The key that stands `count` keys after the first one at or after `lo`, where there is one.
+    pub(crate) fn key_after(&self, lo: &[u8], count: usize) -> Result<Option<&[u8]>, AllocError>
+        ensures { IfOk result (λ found. option_copied found ≡ slice_get (filter (key_le lo.now) (keys_in self.now)) count) }
+    {
+        let from = lo.to_vec(self.alloc)?;
+        let Some((key, _)) = self.by_key.range(from..).nth(count) else {
+            return Ok(None);
+        };
+        Ok(Some(key.as_slice()))
     }
 }
 

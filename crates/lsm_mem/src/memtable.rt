@@ -30,8 +30,8 @@ impl Model for Memtable {
 }
 
 impl Memtable {
-    ghost use Rattle.std.specs.Prelude.{◌≡◌, [], ◌++◌, ◌<◌, ◌≤◌, ◌+◌, ◌-◌, ◌↔◌, IfOk, OnOk, OnErr, IsTrue, filter, length, sum_by};
-    ghost use Rattle.std.specs.Option.{option_map};
+    ghost use Rattle.std.specs.Prelude.{◌≡◌, [], ◌++◌, ◌<◌, ◌≤◌, ◌+◌, ◌-◌, ◌↔◌, IfOk, OnOk, OnErr, IsTrue, filter, length, slice_get, sum_by};
+    ghost use Rattle.std.specs.Option.{option_copied, option_map};
     ghost use Rattle.lsm_key.specs.declared.entry.Entry.{Entry};
     ghost use Rattle.lsm_key.specs.declared.limits.TheConstants.{MAX_MEMTABLE_WEIGHT};
     ghost use Rattle.lsm_key.specs.Sets.{IsIn};
@@ -39,8 +39,8 @@ impl Memtable {
     ghost use Rattle.lsm_key.specs.Limits.{entry_weight, total_weight};
     ghost use Rattle.lsm_key.specs.Places.{entries_after};
     ghost use Rattle.lsm_key.specs.Visible.{visible, lent};
-    ghost use Rattle.lsm_mem.specs.Memtable.{IsMemtable, last_sequence};
-    ghost use Rattle.lsm_key.specs.Order.{is_between};
+    ghost use Rattle.lsm_mem.specs.Memtable.{IsMemtable, keys_of, last_sequence};
+    ghost use Rattle.lsm_key.specs.Order.{is_between, key_le};
 
     /// No entry yet.
     pub fn new(alloc: Global) -> Memtable
@@ -105,6 +105,14 @@ impl Memtable {
         ensures sound { IsMemtable self.now }
     {
         self.chains.entries_between(lo, hi)
+    }
+
+    /// The key that stands `count` keys after the first one at or after `lo`, where there is one, or want of memory. It takes
+    /// as many comparisons as the count of keys has bits, and a step for each key that it passes over.
+    pub fn key_after(&self, lo: &[u8], count: usize) -> Result<Option<&[u8]>, AllocError>
+        ensures { IfOk result (λ found. option_copied found ≡ slice_get (filter (key_le lo.now) (keys_of self.now)) count) }
+    {
+        self.chains.key_after(lo, count)
     }
 
     /// The greatest sequence, 0 where there is no entry.

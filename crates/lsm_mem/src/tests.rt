@@ -142,6 +142,33 @@ fn a_range_leaves_out_its_end(rt: HostRuntime) -> Result<(), Fail> {
 }
 
 #[test]
+fn keys_are_counted_and_not_entries(rt: HostRuntime) -> Result<(), Fail> {
+    let mut batch = Batch::new(rt.alloc());
+    for key in [b"d", b"b", b"a", b"b"] {
+        batch.push(put_of(key, b"value"))?;
+    }
+    let mut memtable = Memtable::new(rt.alloc());
+    apply(&mut memtable, 1, &batch)?;
+    for (lo, count, want) in [
+        ("a", 0, Some("a")),
+        ("a", 1, Some("b")),
+        ("a", 2, Some("d")),
+        ("a", 3, None),
+        ("a", usize::MAX, None),
+        ("a1", 0, Some("b")),
+        ("c", 0, Some("d")),
+        ("c", 1, None),
+        ("", 0, Some("a")),
+        ("", 2, Some("d")),
+        ("e", 0, None),
+    ] {
+        let key = memtable.key_after(lo.as_bytes(), count)?;
+        assert_eq!(rt; key, want.map(str::as_bytes), "{count} after {lo}");
+    }
+    Ok(())
+}
+
+#[test]
 fn a_key_takes_a_thousand_versions(rt: HostRuntime) -> Result<(), Fail> {
     let mut batch = Batch::new(rt.alloc());
     for _ in 0..1000 {
