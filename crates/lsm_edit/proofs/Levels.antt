@@ -1,7 +1,7 @@
 -- A search of one level: all of its files but one miss the key.
 use Rattle.std.proofs.Common.{◌≡◌, ℕ, zero, suc, ◌+◌, ◌<◌, ◌≤◌, Bool, true, false, not, cond, ◌&&◌, List, [], ◌∷◌, length, get_or, Option, None, Some, is_some, refl, sym, ap, subst, ◌∙◌, arith, inl, inr, eqb, ltb}
 use Rattle.std.specs.List.{AllWithin}
-use Rattle.std.proofs.lemmas.Bool.{lt-ltb, ltb-true, ltb-false, eq-eqb, eqb-true, cases_order, cases_lt, or_cases, or_parts, and_parts, not-true, false_from_ne_true}
+use Rattle.std.proofs.lemmas.Bool.{lt-ltb, ltb-true, ltb-false, eq-eqb, eqb-true, cases_order, cases_lt, or_cases, or_parts, and_parts, not-true}
 use Rattle.std.proofs.lemmas.List.{get_or_default}
 use Rattle.std.specs.Option.{option_map, IfSome, IfNone}
 use Rattle.lsm_key.specs.declared.entry.Entry.{Entry}
@@ -61,11 +61,11 @@ pub left_is : (level : ℕ) (key : List ℕ) (p : Placed) → Left level key p.m
 left_is level key p (above lt) = or-left (ltb p.meta.level level) _ (lt-ltb p.meta.level level lt)
 left_is level key p (beside e k) = or-right (ltb p.meta.level level) _ (and-both (eqb p.meta.level level) _ (eq-eqb p.meta.level level e) (ap not k))
 
-not-false_is : (a : Bool) → not a ≡ false → a ≡ true
+pub not-false_is : (a : Bool) → not a ≡ false → a ≡ true
 not-false_is true h = refl
 not-false_is false h = absurd cc
 
-and-second : (a b : Bool) → a ≡ true → (a && b) ≡ false → b ≡ false
+pub and-second : (a b : Bool) → a ≡ true → (a && b) ≡ false → b ≡ false
 and-second true b h k = k
 and-second false b h k = absurd cc
 
@@ -82,7 +82,7 @@ left_before level key f g some whole (newer e z n) l = above (omega arith)
 left_before level key f g some whole (lesser e n a) (above b) = above (omega arith)
 left_before level key f g some whole (lesser e n a) (beside d k) = beside (e ∙ d) (above_trans key g.smallest f.largest (above_le key g.largest g.smallest k whole) a)
 
-whole_of : (f : FileMeta) (t : Opened) → IsAsRecorded f t → key_le f.smallest f.largest ≡ true
+pub whole_of : (f : FileMeta) (t : Opened) → IsAsRecorded f t → key_le f.smallest f.largest ≡ true
 whole_of f t is = rw (is.smallest, is.largest) (ap not (table_ends t.bytes t.entries is.table))
 
 module _ (ps : List Placed) (level : ℕ) (key : List ℕ) (some : 1 ≤ level) (rec : AllRecorded ps) (up : AreInSearchOrder ps) where
@@ -153,7 +153,7 @@ module _ (ps : List Placed) (level : ℕ) (key : List ℕ) (some : 1 ≤ level) 
 
 -- ---- level 0
 
-level_up : (f g : FileMeta) → Before f g → 0 < f.level → 0 < g.level
+pub level_up : (f g : FileMeta) → Before f g → 0 < f.level → 0 < g.level
 level_up f g (upper lt) h = omega arith
 level_up f g (newer e z n) h = omega arith
 level_up f g (lesser e n k) h = omega arith

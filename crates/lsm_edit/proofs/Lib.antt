@@ -7,4 +7,5 @@ pub mod NextLaws
 pub mod SearchOrder
 pub mod Rebase
 pub mod Ranges
+pub mod LevelRanges
 pub mod Levels

@@ -25,7 +25,7 @@ not_less Less e l = absurd cc
 not_less Equal e l = absurd cc
 not_less Greater e l = absurd cc
 
-turned : (x y : List ℕ) → key_le y x ≡ false → slice_cmp nat_cmp x y ≡ Less
+pub turned : (x y : List ℕ) → key_le y x ≡ false → slice_cmp nat_cmp x y ≡ Less
 turned x y e = nat_list_cmp_total.antisymm x y ∙ ap ordering_reverse (is_greater (slice_cmp nat_cmp y x) e)
 
 -- a key above one that is above a third

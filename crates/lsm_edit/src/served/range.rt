@@ -1,11 +1,17 @@
 //! Ranges of keys over all tables of a version.
 
-ghost use Rattle.std.specs.Prelude.{◌≡◌, All, IfOk, IsPermutation, filter, map};
-ghost use Rattle.lsm_key.specs.Order.{IsInOrder, is_between};
-ghost use Rattle.lsm_key.specs.Places.{all_entries};
-ghost use Rattle.lsm_edit.specs.Served.{AllRecorded, tables_of};
+#[cfg(test)]
+mod tests;
 
-use super::{Placed, Served};
+ghost use Rattle.std.specs.Prelude.{◌≡◌, ◌≤◌, ◌++◌, ◌&&◌, All, IfOk, OnOk, IsPermutation, filter, map, nat_eq, not};
+ghost use Rattle.lsm_key.specs.Order.{IsInOrder, is_between, key_le};
+ghost use Rattle.lsm_key.specs.Places.{all_entries};
+ghost use Rattle.lsm_key.specs.Sets.{IsIn};
+ghost use Rattle.lsm_edit.specs.declared.served.Placed.{Placed};
+ghost use Rattle.lsm_edit.specs.Served.{AllRecorded, AreInSearchOrder, tables_of};
+
+use super::{Placed, Served, place_in};
+use crate::file::MAX_LEVEL;
 use lsm_key::{Entry, merge_lists};
 use std::alloc::{AllocError, Global};
 
@@ -16,6 +22,8 @@ impl Served {
         ensures all { IfOk result (λ entries. IsPermutation (filter (is_between lo.now hi.now) (all_entries (tables_of self.now.places))) entries.items) }
         ensures order { IfOk result (λ entries. IsInOrder entries.items) }
     {
+        // That their levels are in range, as the proof wants to know.
+        let _files = self.current.files();
         let alloc = self.current.alloc();
         let lists = lists_of(alloc, &self.placed, lo, hi)?;
         let entries = merge_lists(alloc, lists)?;
@@ -23,23 +31,82 @@ impl Served {
     }
 }
 
-// The entries of the range in each table.
+// The entries of the range: a list for each table of level 0, and one for each deeper level.
 fn lists_of(
     alloc: Global,
     places: &[Placed],
     lo: &[u8],
     hi: &[u8],
 ) -> Result<Vec<Vec<Entry>>, AllocError>
-    requires { AllRecorded places.now }
+    requires recorded { AllRecorded places.now }
+    requires ordered { AreInSearchOrder places.now }
+    requires levels { (p : Placed) → IsIn p places.now → p.meta.level ≤ MAX_LEVEL }
     ensures all { IfOk result (λ lists. all_entries (map (λ list. list.items) lists.items) ≡ filter (is_between lo.now hi.now) (all_entries (tables_of places.now))) }
+    ensures order { IfOk result (λ lists. All IsInOrder (map (λ list. list.items) lists.items)) }
+{
+    let mut lists = lists_in_level_zero(alloc, places, lo, hi)?;
+    for level in 1..MAX_LEVEL + 1 {
+        let list = list_in_level(alloc, places, level, lo, hi)?;
+        lists.push(list)?;
+    }
+    Ok(lists)
+}
+
+// The entries of the range in each table of level 0.
+fn lists_in_level_zero(
+    alloc: Global,
+    places: &[Placed],
+    lo: &[u8],
+    hi: &[u8],
+) -> Result<Vec<Vec<Entry>>, AllocError>
+    requires recorded { AllRecorded places.now }
+    requires ordered { AreInSearchOrder places.now }
+    ensures all { IfOk result (λ lists. all_entries (map (λ list. list.items) lists.items) ≡ filter (is_between lo.now hi.now) (all_entries (tables_of (filter (λ p. nat_eq p.meta.level 0) places.now)))) }
     ensures order { IfOk result (λ lists. All IsInOrder (map (λ list. list.items) lists.items)) }
 {
     let mut lists = Vec::new(alloc);
     for placed in places {
+        if placed.meta.level > 0 {
+            return Ok(lists);
+        }
         let list = copies_of(alloc, placed.table.range(lo, hi))?;
         lists.push(list)?;
     }
     Ok(lists)
+}
+
+// The entries of the range in a deeper level, whose files are in order: those before the range are passed over by a
+// binary search, and none after it is looked at.
+fn list_in_level(
+    alloc: Global,
+    places: &[Placed],
+    level: u8,
+    lo: &[u8],
+    hi: &[u8],
+) -> Result<Vec<Entry>, AllocError>
+    requires recorded { AllRecorded places.now }
+    requires ordered { AreInSearchOrder places.now }
+    requires deeper { 1 ≤ level }
+    ensures all { IfOk result (λ list. list.items ≡ filter (is_between lo.now hi.now) (all_entries (tables_of (filter (λ p. nat_eq p.meta.level level) places.now)))) }
+    ensures order { IfOk result (λ list. IsInOrder list.items) }
+{
+    let start = place_in(places, level, lo);
+    prove!(start <= places.len());
+    let mut list = Vec::new(alloc);
+    for placed in &places[start..] {
+        if !begins_below(placed, level, hi) {
+            return Ok(list);
+        }
+        append_copies(&mut list, placed.table.range(lo, hi))?;
+    }
+    Ok(list)
+}
+
+// The file is of the level, and its smallest key is below the key.
+fn begins_below(placed: &Placed, level: u8, key: &[u8]) -> bool
+    ensures { result ≡ (nat_eq placed.now.meta.level level && not (key_le key.now placed.now.meta.smallest)) }
+{
+    placed.meta.level == level && key.cmp(placed.meta.smallest.as_slice()).is_gt()
 }
 
 // Copies of entries. They share the bytes.
@@ -48,4 +115,11 @@ fn copies_of(alloc: Global, entries: &[Entry]) -> Result<Vec<Entry>, AllocError>
 {
     let copies = entries.to_vec(alloc)?;
     Ok(copies)
+}
+
+// The same at the end of a list.
+fn append_copies(list: &mut Vec<Entry>, entries: &[Entry]) -> Result<(), AllocError>
+    ensures { OnOk result (list.new.items ≡ list.old.items ++ entries.now) }
+{
+    list.extend_from_slice(entries)
 }
