@@ -201,5 +201,7 @@ fn a_served_version_becomes_another(rt: HostRuntime) -> Result<(), Fail> {
     }
     assert!(rt; served.get_at(b"a", Seq::ZERO).is_none());
     assert!(rt; served.get(b"b").is_none());
+    assert_eq!(rt; served.range(b"a", b"b")?.len(), 1);
+    assert_eq!(rt; served.range(b"", b"a")?.len(), 0);
     Ok(())
 }
