@@ -4,6 +4,7 @@ mod flush;
 mod read;
 mod scan;
 mod snapshots;
+mod window;
 mod write;
 
 ghost use Rattle.std.specs.Prelude.{◌≡◌, None, OnOk, OnErr};

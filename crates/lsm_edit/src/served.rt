@@ -75,6 +75,13 @@ impl Served {
         &self.current
     }
 
+    /// The files with their tables, in the order of a search.
+    pub fn places(&self) -> &[Placed]
+        ensures { result.now ≡ self.now.places }
+    {
+        &self.placed
+    }
+
     /// What the version lists.
     pub fn listing(&self) -> Listing<'_>
         ensures number { result.number ≡ self.now.version.number }

@@ -1,6 +1,6 @@
 //! Scans of the store.
 
-ghost use Rattle.std.specs.Prelude.{◌≡◌, ◌≤◌, ◌++◌, None, true, IfOk, IfErr, IfSome, MatchOption, OnOk, IsPermutation, List, ℕ, filter, length, take};
+ghost use Rattle.std.specs.Prelude.{◌≡◌, ◌≤◌, ◌++◌, None, true, IfOk, IfErr, MatchOption, OnOk, IsPermutation, List, ℕ, filter, length, take};
 ghost use Rattle.std.specs.Borrow.{Bor};
 ghost use Rattle.std.specs.Option.{option_map};
 ghost use Rattle.lsm_key.specs.declared.entry.Entry.{Entry};
@@ -114,14 +114,6 @@ impl Coord {
             Some(frozen) => frozen.memtable.range(from, to),
             None => Ok(Vec::new(self.alloc)),
         }
-    }
-
-    // A key up to which the next window may go. Any one is right: it is chosen so that a window has some entries, and not
-    // many more than the scan may give.
-    fn window_end(&self, from: &[u8], hi: &[u8], limit: u64) -> Result<Option<Bytes>, AllocError>
-        ensures { IfOk result (λ found. IfSome found (λ end. (key_le from.now end ≡ true) × (key_le end hi.now ≡ true))) }
-    {
-        Ok(None)
     }
 }
 

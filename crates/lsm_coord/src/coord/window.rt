@@ -1,0 +1,117 @@
+//! Where a window of a scan ends. Any end is right: it is chosen so that a window has some entries, and of no source many
+//! more than the scan may still give. So only the bounds of an end have a contract.
+
+ghost use Rattle.std.specs.Prelude.{◌≡◌, true, IfOk, IfSome};
+ghost use Rattle.lsm_key.specs.Order.{key_le};
+
+use super::Coord;
+use bytes::Bytes;
+use lsm_edit::Placed;
+use lsm_key::Entry;
+use std::alloc::AllocError;
+
+/// How many keys or entries of a source a window has, at least and at most, where they have one version each.
+const FEWEST: u64 = 32;
+const MOST: u64 = 4_096;
+
+/// How often a window grows to twice its size before a scan takes all that is left at once.
+const MAX_GROWTHS: u32 = 32;
+
+impl Coord {
+    // The end of a window that begins at `from`, of a scan that may give so many pairs, where the window does not go as
+    // far as `hi`. A window that has versions of one key alone grows.
+    pub(super) fn window_end(
+        &self,
+        from: &[u8],
+        hi: &[u8],
+        wanted: u64,
+    ) -> Result<Option<Bytes>, AllocError>
+        ensures { IfOk result (λ found. IfSome found (λ end. (key_le from.now end ≡ true) × (key_le end hi.now ≡ true))) }
+    {
+        let mut count = wanted.clamp(FEWEST, MOST) as usize;
+        for _growth in 0..MAX_GROWTHS {
+            let Some(end) = self.key_after(from, count)? else {
+                return Ok(None);
+            };
+            if end.cmp(hi).is_ge() {
+                return Ok(None);
+            }
+            if end.cmp(from).is_gt() {
+                return Ok(Some(Bytes::copy_from_slice(self.alloc, end)?));
+            }
+            count = count.saturating_mul(2);
+        }
+        Ok(None)
+    }
+
+    // The least of the keys that so many others of their source come before, from `from` on.
+    fn key_after(&self, from: &[u8], count: usize) -> Result<Option<&[u8]>, AllocError> {
+        let mut least = self.active.key_after(from, count)?;
+        if let Some(frozen) = &self.frozen {
+            least = lesser(least, frozen.memtable.key_after(from, count)?);
+        }
+        let places = self.current.places();
+        for placed in places {
+            if placed.meta.level > 0 {
+                break;
+            }
+            least = lesser(least, key_in(placed.table.entries(), from, count));
+        }
+        for level in 1..7 {
+            least = lesser(least, key_in_level(places, level, from, count));
+        }
+        Ok(least)
+    }
+}
+
+// The lesser key of two.
+fn lesser<'a>(one: Option<&'a [u8]>, other: Option<&'a [u8]>) -> Option<&'a [u8]> {
+    match (one, other) {
+        (Some(a), Some(b)) => {
+            if b.cmp(a).is_lt() {
+                Some(b)
+            } else {
+                Some(a)
+            }
+        }
+        (None, found) => found,
+        (found, None) => found,
+    }
+}
+
+// The key of the entry so many entries after the first one at or after `from`.
+fn key_in<'a>(entries: &'a [Entry], from: &[u8], count: usize) -> Option<&'a [u8]> {
+    let first = entries.partition_point(|entry| entry.ikey.key.as_slice().cmp(from).is_lt());
+    let entry = entries.get(first.checked_add(count)?)?;
+    Some(entry.ikey.key.as_slice())
+}
+
+// The same over the tables of a deeper level.
+fn key_in_level<'a>(
+    places: &'a [Placed],
+    level: u8,
+    from: &[u8],
+    count: usize,
+) -> Option<&'a [u8]> {
+    let start = places.partition_point(|placed| ends_before(placed, level, from));
+    let mut left = count;
+    for placed in places.get(start..)? {
+        if placed.meta.level != level {
+            return None;
+        }
+        let entries = placed.table.entries();
+        match key_in(entries, from, left) {
+            Some(key) => return Some(key),
+            None => left = left.saturating_sub(entries.len()),
+        }
+    }
+    None
+}
+
+// The file is of an upper level, or of this one with all its keys before the key.
+fn ends_before(placed: &Placed, level: u8, key: &[u8]) -> bool {
+    if placed.meta.level != level {
+        return placed.meta.level < level;
+    }
+    placed.meta.largest.as_slice().cmp(key).is_lt()
+}
