@@ -7,22 +7,23 @@ use std::alloc::Global;
 use std::process::Abort;
 use std::test::Fail;
 
-fn hull_of(lo: &'static str, hi: &'static str) -> Result<Hull, Fail> {
+fn hull_of(rt: &impl Abort, lo: &'static str, hi: &'static str) -> Hull {
     let lo = Bytes::from_static(lo.as_bytes());
     let hi = Bytes::from_static(hi.as_bytes());
-    Hull::new(lo, hi).ok_or(Fail::from("an empty hull"))
+    Hull::new(lo, hi).expect(rt, "no hull")
 }
 
-/// A job of a level with these keys and two files.
-fn want_of(alloc: Global, level: u8, lo: &'static str, hi: &'static str) -> Result<Want, Fail> {
-    let mut files = Items::new(alloc);
-    files.push(7)?;
-    files.push(9)?;
-    let hull = hull_of(lo, hi)?;
-    Ok(Want { level, files, hull })
+/// A job of a level with these keys and two files. A claim can't be left behind by `?`, so that want of memory ends the test.
+fn want_of(rt: &impl Abort, alloc: Global, level: u8, lo: &'static str, hi: &'static str) -> Want {
+    let files = [7, 9].to_vec(alloc).expect(rt, "no files");
+    Want {
+        level,
+        files: Items::from_vec(files),
+        hull: hull_of(rt, lo, hi),
+    }
 }
 
-/// A claim of such a job. A claim can't be left behind by `?`, so that want of memory ends the test.
+/// A claim of such a job.
 fn claim_of(
     rt: &impl Abort,
     book: &mut ClaimBook,
@@ -31,7 +32,7 @@ fn claim_of(
     lo: &'static str,
     hi: &'static str,
 ) -> Claim {
-    let want = want_of(alloc, level, lo, hi).expect(rt, "no want");
+    let want = want_of(rt, alloc, level, lo, hi);
     book.claim(want).expect(rt, "no claim")
 }
 
@@ -44,7 +45,7 @@ fn refusal_of(
     lo: &'static str,
     hi: &'static str,
 ) -> Option<ClaimError> {
-    let want = want_of(alloc, level, lo, hi).expect(rt, "no want");
+    let want = want_of(rt, alloc, level, lo, hi);
     match book.claim(want) {
         Ok(claim) => {
             book.settle(claim, Ending::Returned);
@@ -116,8 +117,8 @@ fn a_claim_has_what_was_wanted(rt: HostRuntime) {
 }
 
 #[test]
-fn hulls_meet_at_their_ends(rt: HostRuntime) -> Result<(), Fail> {
-    let hull = hull_of("b", "d")?;
+fn hulls_meet_at_their_ends(rt: HostRuntime) {
+    let hull = hull_of(&rt, "b", "d");
     for (lo, hi, want) in [
         ("a", "az", false),
         ("a", "b", true),
@@ -132,9 +133,15 @@ fn hulls_meet_at_their_ends(rt: HostRuntime) -> Result<(), Fail> {
             "from {lo} to {hi}"
         );
     }
-    assert!(rt; hull_of("b", "b").is_ok());
-    assert!(rt; hull_of("b", "a").is_err());
-    Ok(())
+}
+
+#[test]
+fn a_hull_has_a_key(rt: HostRuntime) {
+    for (lo, hi, want) in [("a", "b", true), ("b", "b", true), ("b", "a", false)] {
+        let lo = Bytes::from_static(lo.as_bytes());
+        let hi = Bytes::from_static(hi.as_bytes());
+        assert_eq!(rt; Hull::new(lo, hi).is_some(), want);
+    }
 }
 
 #[test]
