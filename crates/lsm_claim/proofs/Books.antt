@@ -8,7 +8,7 @@ use Rattle.std.proofs.lemmas.Grind.{common_steps}
 use Rattle.lsm_key.specs.declared.limits.TheConstants.{MAX_NUMBER}
 use Rattle.lsm_key.specs.Sets.{IsIn}
 use Rattle.lsm_key.proofs.Sets.{IsIn-append_cases, IsIn-one}
-use Rattle.lsm_claim.specs.declared.book.TheConstants.{MAX_LIVE_CLAIMS}
+use Rattle.lsm_claim.specs.declared.job.TheConstants.{MAX_LIVE_CLAIMS}
 use Rattle.lsm_claim.specs.declared.ending.Ending.{Ending}
 use Rattle.lsm_claim.specs.declared.ending.Ending.TheVariants.{Installed, Returned}
 use Rattle.lsm_claim.specs.declared.error.ClaimError.{ClaimError}
@@ -16,10 +16,12 @@ use Rattle.lsm_claim.specs.declared.error.ClaimError.TheVariants.{Overlaps, Book
 use Rattle.lsm_claim.specs.declared.job.JobId.{JobId}
 use Rattle.lsm_claim.specs.declared.job.LiveJob.{LiveJob}
 use Rattle.lsm_claim.specs.declared.job.Want.{Want}
-use Rattle.lsm_claim.specs.Conflicts.{conflicts}
+use Rattle.lsm_claim.specs.Levels.{uses_level, shares_level}
+use Rattle.lsm_claim.specs.Conflicts.{conflicts, meets}
 use Rattle.lsm_claim.specs.Laws.{ConflictsGoBothWays}
-use Rattle.lsm_claim.specs.Jobs.{NumbersRise, AreApart, IsLeastConflict, first_conflict, same_id, without_job}
+use Rattle.lsm_claim.specs.Jobs.{NumbersRise, AreApart, ShareNoKey, IsLeastConflict, first_conflict, same_id, without_job}
 use Rattle.lsm_claim.specs.Book.{BookValue, IsBook, IsGiven, NamesLeast, claim_fault, fault_by, fault_without_conflict, next_job, claimed, holds, counted}
+use Rattle.lsm_claim.proofs.KeyRanges.{ranges_meet_from}
 
 pub conflicts_sym : ConflictsGoBothWays
 conflicts_sym w v = grind (arith, common_steps)
@@ -30,6 +32,17 @@ never false h n = cc
 
 some_same : (a b : JobId) → Some a ≡ Some b → a ≡ b
 some_same a b h = cc
+
+-- ---- jobs that are apart
+
+both_use : (a b level : ℕ) → uses_level a level ≡ true → uses_level b level ≡ true → shares_level a b ≡ true
+both_use a b level h k = grind (arith, common_steps)
+
+pub no_shared_key : (jobs : List LiveJob) → AreApart jobs → ShareNoKey jobs
+no_shared_key jobs apart j k mj mk level uj uk key ij ik =
+    let h = j.want.hull in
+    let g = k.want.hull in
+    apart j k mj mk (and_from (shares_level j.want.level k.want.level) (meets h g) (both_use j.want.level k.want.level level uj uk) (ranges_meet_from h.lo h.hi g.lo g.hi key ij ik))
 
 -- ---- a claim
 

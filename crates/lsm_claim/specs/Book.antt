@@ -4,7 +4,7 @@ use Rattle.std.specs.List.{list_any}
 use Rattle.std.specs.Option.{option_map}
 use Rattle.lsm_key.specs.declared.limits.TheConstants.{MAX_NUMBER}
 use Rattle.lsm_key.specs.Sets.{IsIn}
-use Rattle.lsm_claim.specs.declared.book.TheConstants.{MAX_LIVE_CLAIMS}
+use Rattle.lsm_claim.specs.declared.job.TheConstants.{MAX_LIVE_CLAIMS}
 use Rattle.lsm_claim.specs.declared.ending.Ending.{Ending}
 use Rattle.lsm_claim.specs.declared.ending.Ending.TheVariants.{Installed, Returned}
 use Rattle.lsm_claim.specs.declared.ending.Settled.{Settled}
@@ -47,12 +47,14 @@ pub record IsBook (b : BookValue) : Type 0 where
 
 -- ---- claims
 
+-- why no job is claimed, whatever its keys
 abbrev pub fault_without_conflict : BookValue → Option ClaimError
 fault_without_conflict b =
     if nat_le MAX_LIVE_CLAIMS (length b.live) then Some BookFull
     else if nat_le MAX_NUMBER b.made then Some NumbersExhausted
     else None
 
+-- a conflict is told first
 abbrev pub fault_by : Option JobId → BookValue → Option ClaimError
 fault_by None b = fault_without_conflict b
 fault_by (Some id) b = Some (Overlaps id)

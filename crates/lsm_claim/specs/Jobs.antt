@@ -5,16 +5,23 @@ use Rattle.lsm_key.specs.Sets.{IsIn}
 use Rattle.lsm_claim.specs.declared.job.JobId.{JobId}
 use Rattle.lsm_claim.specs.declared.job.LiveJob.{LiveJob}
 use Rattle.lsm_claim.specs.declared.job.Want.{Want}
-use Rattle.lsm_claim.specs.Conflicts.{conflicts}
+use Rattle.lsm_claim.specs.Conflicts.{is_in, conflicts}
+use Rattle.lsm_claim.specs.Levels.{uses_level}
 
 -- numbers rise from job to job
 abbrev pub NumbersRise : List LiveJob → Type 0
 NumbersRise [] = Unit {0}
 NumbersRise (j ∷ js) = ((k : LiveJob) → IsIn k js → j.id.number < k.id.number) × NumbersRise js
 
--- no two jobs conflict
+-- no two jobs conflict, by the tests of the code
 abbrev pub AreApart : List LiveJob → Type 0
 AreApart jobs = (j k : LiveJob) → IsIn j jobs → IsIn k jobs → conflicts j.want k.want ≡ true → j ≡ k
+
+-- no two jobs that use a level have a key in common
+abbrev pub ShareNoKey : List LiveJob → Type 0
+ShareNoKey jobs =
+    (j k : LiveJob) → IsIn j jobs → IsIn k jobs → (level : ℕ) → uses_level j.want.level level ≡ true → uses_level k.want.level level ≡ true
+    → (key : List ℕ) → is_in j.want.hull key ≡ true → is_in k.want.hull key ≡ true → j ≡ k
 
 -- of the jobs, which stand by number, the first that conflicts
 abbrev pub first_conflict : List LiveJob → Want → Option JobId

@@ -6,13 +6,11 @@
 ghost use Rattle.std.specs.Prelude.{◌≡◌};
 ghost use Rattle.lsm_claim.specs.Jobs.{without_job};
 
+use crate::job::MAX_LIVE_CLAIMS;
 use crate::{ClaimError, Ending, Hull, JobId, LiveJob, Settled, Want};
 use lsm_key::MAX_NUMBER;
 use std::alloc::Global;
 use std::marker::Model;
-
-/// As many claims as a book may have live at a time: one for each dispatcher.
-pub const MAX_LIVE_CLAIMS: usize = 4;
 
 /// The right to install the result of a job. It is neither `Drop` nor `Copy`: `ClaimBook::claim` makes it, and
 /// `ClaimBook::settle` alone ends it.
@@ -86,7 +84,7 @@ impl Model for ClaimBook {
 impl ClaimBook {
     ghost use Rattle.std.specs.Prelude.{◌≡◌, ◌≤◌, None, IfOk, IfErr, OnErr};
     ghost use Rattle.lsm_key.specs.Faults.{Refuses};
-    ghost use Rattle.lsm_claim.specs.Jobs.{first_conflict};
+    ghost use Rattle.lsm_claim.specs.Jobs.{ShareNoKey, first_conflict};
     ghost use Rattle.lsm_claim.specs.Book.{IsBook, NamesLeast, new_book, holds, claim_fault, next_job, claimed, settled, after_settling};
 
     /// A book of an epoch that has given no claim yet. It takes no memory.
@@ -136,6 +134,7 @@ impl ClaimBook {
     pub fn live(&self) -> &[LiveJob]
         ensures all { result.now ≡ self.now.live }
         ensures sound { IsBook self.now }
+        ensures disjoint { ShareNoKey self.now.live }
     {
         self.live.as_slice()
     }
@@ -156,9 +155,8 @@ impl ClaimBook {
         ensures refused { IfErr result (Refuses ClaimError.OutOfMemory (claim_fault self.old want)) }
         ensures least { IfErr result (NamesLeast self.old want) }
     {
-        match self.claim_fault(&want) {
-            Some(why) => return Err(why),
-            None => {}
+        if let Some(why) = self.claim_fault(&want) {
+            return Err(why);
         }
         let kept = want.copy(self.alloc)?;
         let id = JobId {

@@ -14,6 +14,6 @@ pub enum Ending {
 pub enum Settled {
     /// The book had it, and has it no more.
     Live,
-    /// The book did not have it: it was of another epoch.
+    /// The book did not have it, and stays as it was.
     Stale,
 }

@@ -10,7 +10,9 @@ use std::alloc::AllocError;
 /// is empty: one that has no key could still meet others by its ends, and would stand in their way for nothing.
 #[derive(Debug, Drop)]
 pub struct Hull {
+    /// Its least key.
     pub lo: Bytes,
+    /// Its greatest key.
     pub hi: Bytes,
     pub ghost proper: { key_le lo hi ≡ true },
 }

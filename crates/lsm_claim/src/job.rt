@@ -7,6 +7,9 @@ use crate::Hull;
 use lsm_key::Items;
 use std::alloc::{AllocError, Global};
 
+/// As many claims as may be live at a time: one for each dispatcher.
+pub const MAX_LIVE_CLAIMS: usize = 4;
+
 /// The name of a job: the epoch that gave it, and its number there, from 1.
 #[derive(Clone, Copy, Debug, PartialEq, Eq)]
 pub struct JobId {

@@ -14,11 +14,11 @@ mod laws;
 #[cfg(test)]
 mod tests;
 
-pub use book::{Claim, ClaimBook, MAX_LIVE_CLAIMS};
+pub use book::{Claim, ClaimBook};
 pub use ending::{Ending, Settled};
 pub use error::ClaimError;
 pub use hull::Hull;
-pub use job::{JobId, LiveJob, Want, shares_level};
+pub use job::{JobId, LiveJob, MAX_LIVE_CLAIMS, Want, shares_level};
 pub use laws::{
     conflicts_go_both_ways, hulls_meet_where_they_share_a_key, jobs_share_the_levels_that_both_use,
 };

@@ -5,7 +5,7 @@ use Rattle.lsm_claim.proofs.book.ClaimBook.claim.Goals as goal
 
 pub invariant_of-self-2 : goal.invariant_of-self-2
 invariant_of-self-2 c =
-    let free : claim_fault c.args.self.now c.args.want ≡ None = sym c.claim_fault.ensures ∙ c.in-None.is in
+    let free : claim_fault c.args.self.now c.args.want ≡ None = sym c.claim_fault.ensures ∙ c.in_default.is in
     let same = ap (λ (b : BookValue). claim_fault b c.args.want) c.self.view_is in
     rw (c.in_ok-push.ensures.items, c.in_ok-kept.ensures) (IsBook-claimed _ c.args.want (same ∙ free) c.self.invariant)
 
