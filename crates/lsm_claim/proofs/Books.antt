@@ -1,9 +1,9 @@
 -- What a claim and its end make of what a book keeps.
-use Rattle.std.proofs.Common.{◌≡◌, ℕ, ◌+◌, ◌<◌, ◌≤◌, Bool, true, false, not, cond, ◌&&◌, ◌||◌, List, [], ◌∷◌, ◌++◌, length, Option, None, Some, filter, refl, sym, ap, subst, ◌∙◌, arith, inl, inr, ◌⊎◌, nat_eq, eqb, length-append}
+use Rattle.std.proofs.Common.{◌≡◌, ℕ, ◌+◌, ◌<◌, ◌≤◌, Bool, true, false, not, cond, ◌||◌, List, [], ◌∷◌, ◌++◌, length, Option, None, Some, filter, refl, sym, ap, subst, ◌∙◌, arith, inl, inr, nat_eq, length-append}
 use Rattle.std.specs.List.{list_any, find}
 use Rattle.std.specs.Option.{option_map}
 use Rattle.std.specs.Prelude.{nat_le, if◌then◌else◌}
-use Rattle.std.proofs.lemmas.Bool.{and_parts, and_from, eqb-true, eq-eqb, or_cases, false_from_ne_true, leb-false}
+use Rattle.std.proofs.lemmas.Bool.{and_parts, and_from, eqb-true, leb-false}
 use Rattle.std.proofs.lemmas.Grind.{common_steps}
 use Rattle.lsm_key.specs.declared.limits.TheConstants.{MAX_NUMBER}
 use Rattle.lsm_key.specs.Sets.{IsIn}

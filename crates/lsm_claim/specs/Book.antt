@@ -1,7 +1,6 @@
 -- The book of claims: what it keeps, when it refuses, and what each call makes of it (RocksDB wiki, Remote Compaction: the primary hands out a job and alone installs its result).
-use Rattle.std.specs.Prelude.{◌≡◌, ℕ, ◌+◌, ◌<◌, ◌≤◌, Bool, true, not, ◌&&◌, List, [], ◌∷◌, ◌++◌, Option, None, Some, length, filter, find, nat_eq, nat_le, if◌then◌else◌}
+use Rattle.std.specs.Prelude.{◌≡◌, ℕ, ◌+◌, ◌≤◌, Bool, List, [], ◌∷◌, ◌++◌, Option, None, Some, length, nat_le, if◌then◌else◌}
 use Rattle.std.specs.List.{list_any}
-use Rattle.std.specs.Option.{option_map}
 use Rattle.lsm_key.specs.declared.limits.TheConstants.{MAX_NUMBER}
 use Rattle.lsm_key.specs.Sets.{IsIn}
 use Rattle.lsm_claim.specs.declared.job.TheConstants.{MAX_LIVE_CLAIMS}
@@ -14,7 +13,6 @@ use Rattle.lsm_claim.specs.declared.error.ClaimError.TheVariants.{Overlaps, Book
 use Rattle.lsm_claim.specs.declared.job.JobId.{JobId}
 use Rattle.lsm_claim.specs.declared.job.LiveJob.{LiveJob}
 use Rattle.lsm_claim.specs.declared.job.Want.{Want}
-use Rattle.lsm_claim.specs.Conflicts.{conflicts}
 use Rattle.lsm_claim.specs.Jobs.{NumbersRise, AreApart, IsLeastConflict, first_conflict, same_id, without_job}
 
 pub record BookValue : Type 0 where
