@@ -20,7 +20,7 @@ use Rattle.lsm_claim.specs.Levels.{uses_level, shares_level}
 use Rattle.lsm_claim.specs.Conflicts.{conflicts, meets}
 use Rattle.lsm_claim.specs.Laws.{ConflictsGoBothWays}
 use Rattle.lsm_claim.specs.Jobs.{NumbersRise, AreApart, ShareNoKey, IsLeastConflict, first_conflict, same_id, without_job}
-use Rattle.lsm_claim.specs.Book.{BookValue, IsBook, IsGiven, NamesLeast, claim_fault, fault_by, fault_without_conflict, next_job, claimed, holds, counted}
+use Rattle.lsm_claim.specs.Book.{BookValue, IsBook, IsGiven, NamesLeast, claim_fault, fault_by, fault_without_conflict, next_job, claimed, holds, with_ending}
 use Rattle.lsm_claim.proofs.KeyRanges.{ranges_meet_from}
 
 pub conflicts_sym : ConflictsGoBothWays
@@ -210,24 +210,24 @@ one_less id (j ∷ jobs) up live = by (same_id j.id id) refl (one_less id jobs u
     by false e rest h = (let one = rest h in omega (arith, one))
 
 -- how a job ended changes nothing but the counts
-IsBook-counted : (b : BookValue) (ending : Ending) → b.made ≡ b.installed + b.returned + length b.live + 1 → (b.made ≤ MAX_NUMBER) → (length b.live ≤ MAX_LIVE_CLAIMS)
-    → ((j : LiveJob) → IsIn j b.live → IsGiven b j.id) → NumbersRise b.live → AreApart b.live → IsBook (counted ending b)
-IsBook-counted b Installed count numbered few given rising apart = record { counted = omega (arith, count); numbered = numbered; few = few; given = given_by b given; rising = rising; apart = apart }
+IsBook-ended : (b : BookValue) (ending : Ending) → b.made ≡ b.installed + b.returned + length b.live + 1 → (b.made ≤ MAX_NUMBER) → (length b.live ≤ MAX_LIVE_CLAIMS)
+    → ((j : LiveJob) → IsIn j b.live → IsGiven b j.id) → NumbersRise b.live → AreApart b.live → IsBook (with_ending ending b)
+IsBook-ended b Installed count numbered few given rising apart = record { counted = omega (arith, count); numbered = numbered; few = few; given = given_by b given; rising = rising; apart = apart }
   where
-    given_by : (b : BookValue) → ((j : LiveJob) → IsIn j b.live → IsGiven b j.id) → (j : LiveJob) → IsIn j b.live → IsGiven (counted Installed b) j.id
+    given_by : (b : BookValue) → ((j : LiveJob) → IsIn j b.live → IsGiven b j.id) → (j : LiveJob) → IsIn j b.live → IsGiven (with_ending Installed b) j.id
     given_by b given j m = (let was = given j m in record { epoch = was.epoch; first = was.first; last = was.last })
-IsBook-counted b Returned count numbered few given rising apart = record { counted = omega (arith, count); numbered = numbered; few = few; given = given_by b given; rising = rising; apart = apart }
+IsBook-ended b Returned count numbered few given rising apart = record { counted = omega (arith, count); numbered = numbered; few = few; given = given_by b given; rising = rising; apart = apart }
   where
-    given_by : (b : BookValue) → ((j : LiveJob) → IsIn j b.live → IsGiven b j.id) → (j : LiveJob) → IsIn j b.live → IsGiven (counted Returned b) j.id
+    given_by : (b : BookValue) → ((j : LiveJob) → IsIn j b.live → IsGiven b j.id) → (j : LiveJob) → IsIn j b.live → IsGiven (with_ending Returned b) j.id
     given_by b given j m = (let was = given j m in record { epoch = was.epoch; first = was.first; last = was.last })
 
-pub IsBook-settled : (b : BookValue) (id : JobId) (ending : Ending) → holds b id ≡ true → IsBook b → IsBook (counted ending (record b { live = without_job id b.live }))
+pub IsBook-settled : (b : BookValue) (id : JobId) (ending : Ending) → holds b id ≡ true → IsBook b → IsBook (with_ending ending (record b { live = without_job id b.live }))
 IsBook-settled b id ending live is =
     let test : LiveJob → Bool = λ j. not (same_id j.id id) in
     let less : length (without_job id b.live) + 1 ≡ length b.live = one_less id b.live is.rising live in
     let count = is.counted in
     let few = is.few in
-    IsBook-counted (record b { live = without_job id b.live }) ending
+    IsBook-ended (record b { live = without_job id b.live }) ending
     (omega (arith, less, count))
     is.numbered
     (omega (arith, less, few))

@@ -83,12 +83,12 @@ abbrev pub settled : BookValue → JobId → Settled
 settled b id = if holds b id then Live else Stale
 
 -- one more of this ending
-abbrev pub counted : Ending → BookValue → BookValue
-counted Installed b = record b { installed = b.installed + 1 }
-counted Returned b = record b { returned = b.returned + 1 }
+abbrev pub with_ending : Ending → BookValue → BookValue
+with_ending Installed b = record b { installed = b.installed + 1 }
+with_ending Returned b = record b { returned = b.returned + 1 }
 
 -- a live job goes and its ending counts; else the book stays
 abbrev pub after_settling : BookValue → JobId → Ending → BookValue
 after_settling b id ending =
-    if holds b id then counted ending (record b { live = without_job id b.live })
+    if holds b id then with_ending ending (record b { live = without_job id b.live })
     else b

@@ -1,4 +1,4 @@
--- When two jobs get in each other's way (LevelDB, implementation notes: compactions; RocksDB wiki, Compaction: jobs that run at once have no file in common).
+-- When two jobs get in each other's way (LevelDB, implementation notes: compactions; RocksDB wiki, Leveled Compaction: compactions in parallel).
 use Rattle.std.specs.Prelude.{ℕ, Bool, ◌&&◌, List}
 use Rattle.lsm_key.specs.Order.{key_le}
 use Rattle.lsm_claim.specs.declared.hull.Hull.{Hull}
@@ -13,9 +13,11 @@ is_within lo hi key = key_le lo key && key_le key hi
 abbrev pub ranges_meet : List ℕ → List ℕ → List ℕ → List ℕ → Bool
 ranges_meet lo hi other_lo other_hi = key_le lo other_hi && key_le other_lo hi
 
-abbrev pub is_in : Hull → List ℕ → Bool
-is_in h key = is_within h.lo h.hi key
+-- the same of a hull
+abbrev pub covers : Hull → List ℕ → Bool
+covers h key = is_within h.lo h.hi key
 
+-- the same of two hulls, each of which has a key
 abbrev pub meets : Hull → Hull → Bool
 meets h g = ranges_meet h.lo h.hi g.lo g.hi
 

@@ -1,11 +1,11 @@
--- Lists of live jobs (RocksDB wiki, Compaction: jobs that run at the same time).
+-- Jobs that are live together (RocksDB wiki, Leveled Compaction: compactions in parallel).
 use Rattle.std.specs.Prelude.{◌≡◌, ℕ, ◌<◌, ◌≤◌, Bool, true, not, ◌&&◌, List, [], ◌∷◌, Option, filter, find, nat_eq}
 use Rattle.std.specs.Option.{option_map}
 use Rattle.lsm_key.specs.Sets.{IsIn}
 use Rattle.lsm_claim.specs.declared.job.JobId.{JobId}
 use Rattle.lsm_claim.specs.declared.job.LiveJob.{LiveJob}
 use Rattle.lsm_claim.specs.declared.job.Want.{Want}
-use Rattle.lsm_claim.specs.Conflicts.{is_in, conflicts}
+use Rattle.lsm_claim.specs.Conflicts.{covers, conflicts}
 use Rattle.lsm_claim.specs.Levels.{uses_level}
 
 -- numbers rise from job to job
@@ -13,7 +13,7 @@ abbrev pub NumbersRise : List LiveJob → Type 0
 NumbersRise [] = Unit {0}
 NumbersRise (j ∷ js) = ((k : LiveJob) → IsIn k js → j.id.number < k.id.number) × NumbersRise js
 
--- no two jobs conflict, by the tests of the code
+-- no two jobs conflict
 abbrev pub AreApart : List LiveJob → Type 0
 AreApart jobs = (j k : LiveJob) → IsIn j jobs → IsIn k jobs → conflicts j.want k.want ≡ true → j ≡ k
 
@@ -21,7 +21,7 @@ AreApart jobs = (j k : LiveJob) → IsIn j jobs → IsIn k jobs → conflicts j.
 abbrev pub ShareNoKey : List LiveJob → Type 0
 ShareNoKey jobs =
     (j k : LiveJob) → IsIn j jobs → IsIn k jobs → (level : ℕ) → uses_level j.want.level level ≡ true → uses_level k.want.level level ≡ true
-    → (key : List ℕ) → is_in j.want.hull key ≡ true → is_in k.want.hull key ≡ true → j ≡ k
+    → (key : List ℕ) → covers j.want.hull key ≡ true → covers k.want.hull key ≡ true → j ≡ k
 
 -- of the jobs, which stand by number, the first that conflicts
 abbrev pub first_conflict : List LiveJob → Want → Option JobId

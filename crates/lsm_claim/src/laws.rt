@@ -1,5 +1,8 @@
-//! Laws of conflicts, each the contract of a function that does nothing.
+//! What the tests for conflicts mean, and the limits as numbers. The functions do nothing: each is the proof of its contract.
 
+ghost use Rattle.std.specs.Prelude.{◌≡◌, ◌+◌, ◌^◌};
+ghost use Rattle.lsm_key.specs.declared.limits.TheConstants.{MAX_NUMBER};
+ghost use Rattle.lsm_claim.specs.declared.job.TheConstants.{MAX_LIVE_CLAIMS};
 ghost use Rattle.lsm_claim.specs.Laws.{ConflictsGoBothWays, HullsMeetWhereTheyShareAKey, JobsShareTheLevelsThatBothUse};
 
 /// Two hulls meet exactly where some key is in both.
@@ -15,4 +18,10 @@ pub fn jobs_share_the_levels_that_both_use()
 /// A job conflicts with another exactly where that one does with it.
 pub fn conflicts_go_both_ways()
     ensures { ConflictsGoBothWays }
+{}
+
+/// The limits of a book.
+pub fn claim_limits_are_these()
+    ensures live { MAX_LIVE_CLAIMS ≡ 4 }
+    ensures numbers { MAX_NUMBER + 1 ≡ 2 ^ 63 }
 {}

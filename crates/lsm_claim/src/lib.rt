@@ -20,5 +20,6 @@ pub use error::ClaimError;
 pub use hull::Hull;
 pub use job::{JobId, LiveJob, MAX_LIVE_CLAIMS, Want, shares_level};
 pub use laws::{
-    conflicts_go_both_ways, hulls_meet_where_they_share_a_key, jobs_share_the_levels_that_both_use,
+    claim_limits_are_these, conflicts_go_both_ways, hulls_meet_where_they_share_a_key,
+    jobs_share_the_levels_that_both_use,
 };
