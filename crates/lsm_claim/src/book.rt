@@ -146,7 +146,8 @@ impl ClaimBook {
         self.has(claim.job.id)
     }
 
-    /// Claims a job, under the next number of the epoch. A refusal changes nothing.
+    /// Claims a job, under the next number of the epoch. It refuses a job that conflicts with a live one, one past
+    /// `MAX_LIVE_CLAIMS`, and one whose number would pass `MAX_NUMBER`. A refusal changes nothing.
     pub fn claim(&mut self, want: Want) -> Result<Claim, ClaimError>
         ensures free { IfOk result (λ claim. claim_fault self.old want ≡ None) }
         ensures given { IfOk result (λ claim. claim ≡ next_job self.old want) }
