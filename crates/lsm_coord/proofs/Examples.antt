@@ -6,7 +6,7 @@ use Rattle.std.specs.Option.{option_and_then, unwrap_or}
 use Rattle.std.specs.Str.{bytes_eq}
 use Rattle.lsm_key.specs.declared.op.Op.{Op}
 use Rattle.lsm_key.specs.declared.op.Op.TheVariants.{Put, Delete}
-use Rattle.lsm_key.specs.Writes.{value_of}
+use Rattle.lsm_key.specs.Writes.{answer, value_of}
 use Rattle.lsm_coord.specs.Range.{IsRange}
 use Rattle.lsm_coord.specs.State.{Version, empty_version}
 use Rattle.lsm_coord.specs.Changes.{IsIndex}
@@ -34,11 +34,11 @@ only_b true is_b value h = absurd cc
 only_b false true value h = (refl, ap (λ (o : Option (List ℕ)). unwrap_or o []) h)
 only_b false false value h = absurd cc
 
-scanned : IsRange batch 3 none z 10 ((b, two) ∷ [])
+scanned : IsRange (answer batch 3) none z 10 ((b, two) ∷ [])
 scanned = record {
   few = omega arith;
   ascending = λ i j d x y. absurd (omega arith);
-  right = λ p m. elim m [ inl e ↦ rw e ((refl, refl), refl) | inr no_more ↦ absurd no_more ];
+  right = λ p m. elim m [ inl e ↦ rw e (refl, refl) | inr no_more ↦ absurd no_more ];
   whole = λ key value w h. let x = only_b (bytes_eq a key) (bytes_eq b key) value h in inl (inl (sym (ap (λ (k : List ℕ). (k, two)) ((bytes_eq-Decides b key).0 x.0) ∙ ap (λ (v : List ℕ). (key, v)) x.1)));
 }
 

@@ -2,7 +2,10 @@ pub mod Examples
 pub mod Effects
 pub mod Versions
 pub mod Runs
+pub mod Keys
 pub mod Ranges
+pub mod Passing
+pub mod Scanning
 pub mod Refusals
 pub mod States
 pub mod SnapshotEffects
@@ -15,6 +18,7 @@ pub mod Flushing
 pub mod Snapping
 pub mod Reading
 pub mod Faults
+pub mod Windows
 pub mod Building
 pub mod Memories
 pub mod Opening

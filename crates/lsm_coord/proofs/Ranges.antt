@@ -13,46 +13,20 @@ use Rattle.lsm_key.specs.Writes.{answer}
 use Rattle.lsm_key.proofs.Order.{keys_equal}
 use Rattle.lsm_coord.specs.Range.{IsBelow, IsWithin, IsRange}
 use Rattle.lsm_coord.specs.Laws.{ScansAreDetermined}
-
--- ---- the order of keys
-
-not_both : (o p : Ordering) → o ≡ ordering_reverse p → is_lt o ≡ true → is_lt p ≡ true → ⊥
-not_both Less Less e a b = absurd cc
-not_both Less Equal e a b = absurd cc
-not_both Less Greater e a b = absurd cc
-not_both Equal p e a b = absurd cc
-not_both Greater p e a b = absurd cc
-
-pub below_asym : (a b : List ℕ) → IsBelow a b → IsBelow b a → ⊥
-below_asym a b x y = not_both (slice_cmp nat_cmp a b) (slice_cmp nat_cmp b a) (nat_list_cmp_total.antisymm a b) x y
-
-pub below_irreflexive : (a b : List ℕ) → a ≡ b → IsBelow a b → ⊥
-below_irreflexive a b e x = below_asym a b x (subst (λ c. IsBelow b c) (sym e) (subst (λ c. IsBelow c b) e x))
-
-by_order : (o p : Ordering) → p ≡ ordering_reverse o → (is_lt o ≡ true) ⊎ ((o ≡ Equal) ⊎ (is_lt p ≡ true))
-by_order Less p e = inl refl
-by_order Equal p e = inr (inl refl)
-by_order Greater p e = inr (inr (ap is_lt e))
-
-pub key_cases : (a b : List ℕ) → IsBelow a b ⊎ ((a ≡ b) ⊎ IsBelow b a)
-key_cases a b =
-    elim (by_order (slice_cmp nat_cmp a b) (slice_cmp nat_cmp b a) (nat_list_cmp_total.antisymm b a)) [
-      | inl x ↦ inl x
-      | inr y ↦ elim y [ inl z ↦ inr (inl (keys_equal a b z)) | inr z ↦ inr (inr z) ]
-    ]
+use Rattle.lsm_coord.proofs.Keys.{below_asym, below_irreflexive, key_cases}
 
 -- ---- lists of pairs that ascend
 
-abbrev Pair : Type 0
+abbrev pub Pair : Type 0
 Pair = List ℕ × List ℕ
 
-abbrev AllAbove : Pair → List Pair → Type 0
+abbrev pub AllAbove : Pair → List Pair → Type 0
 AllAbove x xs = (p : Pair) → IsIn p xs → IsBelow x.0 p.0
 
 abbrev AllBelow : List Pair → Pair → Type 0
 AllBelow xs p = (x : Pair) → IsIn x xs → IsBelow x.0 p.0
 
-abbrev Ascends : List Pair → Type 0
+abbrev pub Ascends : List Pair → Type 0
 Ascends [] = Unit {0}
 Ascends (x ∷ xs) = AllAbove x xs × Ascends xs
 
@@ -64,7 +38,7 @@ place (x ∷ xs) p d h =
       | inr b ↦ let i = place xs p d b in (suc i.0, omega (arith, i.1), i.2)
     ]
 
-ascends : (xs : List Pair) → AllPairs (λ p q. IsBelow p.0 q.0) xs → Ascends xs
+pub ascends : (xs : List Pair) → AllPairs (λ p q. IsBelow p.0 q.0) xs → Ascends xs
 ascends [] h = tt
 ascends (x ∷ xs) h = (
   (λ p m. let i = place xs p x m in subst (λ (q : Pair). IsBelow x.0 q.0) i.2 (h 0 (suc i.0) x (omega arith) (omega (arith, i.1)))),
@@ -130,7 +104,7 @@ one_first S limit (x ∷ xs) (y ∷ ys) one f g =
       ]
     ]
 
-first_of : (writes : List Op) (at : ℕ) (lo hi : List ℕ) (limit : ℕ) (pairs : List Pair) → IsRange writes at lo hi limit pairs → IsFirst (λ p. IsWithin lo hi p.0 × (answer writes at p.0 ≡ Some p.1)) limit pairs
+first_of : (writes : List Op) (at : ℕ) (lo hi : List ℕ) (limit : ℕ) (pairs : List Pair) → IsRange (answer writes at) lo hi limit pairs → IsFirst (λ p. IsWithin lo hi p.0 × (answer writes at p.0 ≡ Some p.1)) limit pairs
 first_of writes at lo hi limit pairs h = record { few = h.few; up = ascends pairs h.ascending; right = h.right; whole = λ p s. h.whole p.0 p.1 s.0 s.1 }
 
 pub scans_are_determined : ScansAreDetermined

@@ -17,7 +17,7 @@ use Rattle.lsm_coord.specs.Shows.{Shows}
 use Rattle.lsm_coord.proofs.Answering.{AreStored, IsPoint, reads, active_first, frozen_above}
 
 -- a point of the coordinator is one of each state that it shows
-point_is : (c : CoordValue) (s : State) (p : ℕ) → Shows c s → calls.IsPoint c p → IsPoint s p
+pub point_is : (c : CoordValue) (s : State) (p : ℕ) → Shows c s → calls.IsPoint c p → IsPoint s p
 point_is c s p h (inl now) = inl (now ∙ sym h.last)
 point_is c s p h (inr live) = inr (live.0, subst (λ (xs : List Snapshot). IsIn live.0 xs) (sym h.snapshots) live.1, live.2)
 

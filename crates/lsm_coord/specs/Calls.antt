@@ -23,6 +23,7 @@ use Rattle.lsm_coord.specs.declared.snapshot.SnapId.{SnapId}
 use Rattle.lsm_coord.specs.declared.snapshot.Snapshot.{Snapshot}
 use Rattle.lsm_coord.specs.declared.snapshot.TheConstants.{MAX_SNAPSHOTS}
 use Rattle.lsm_coord.specs.State.{State, same_id, snapshot_at}
+use Rattle.lsm_coord.specs.Range.{IsRange}
 use Rattle.lsm_coord.specs.Value.{CoordValue}
 use Rattle.lsm_coord.specs.Shows.{Shows}
 
@@ -132,3 +133,7 @@ Answers c point key value = (s : State) → Shows c s → value ≡ answer s.wri
 -- the key has a value at a sequence, in each state that is shown
 abbrev pub HasValue : CoordValue → ℕ → List ℕ → Type 0
 HasValue c point key = (s : State) → Shows c s → IsSome (answer s.writes point key)
+
+-- the pairs of a scan at a sequence, of each state that is shown
+abbrev pub Scans : CoordValue → ℕ → List ℕ → List ℕ → ℕ → List (List ℕ × List ℕ) → Type 0
+Scans c point lo hi limit pairs = (s : State) → Shows c s → IsRange (answer s.writes point) lo hi limit pairs

@@ -2,7 +2,7 @@
 use Rattle.std.specs.Prelude.{◌≡◌, ℕ, ◌≤◌, List, ◌∷◌, ◌++◌, Option, None, Some, length, slice_get}
 use Rattle.lsm_key.specs.declared.op.Op.{Op}
 use Rattle.lsm_key.specs.Sets.{IsIn}
-use Rattle.lsm_key.specs.Writes.{last_write, value_of}
+use Rattle.lsm_key.specs.Writes.{answer, last_write, value_of}
 use Rattle.lsm_coord.specs.State.{State, Version, Place, first_state, last_seq}
 use Rattle.lsm_coord.specs.declared.snapshot.SnapId.{SnapId}
 use Rattle.lsm_coord.specs.Event.{Event, Reply}
@@ -62,7 +62,7 @@ GetGivesTheWrite = (s t : State) (before between after : List Event) (ops : List
 -- A scan can give one list only.
 abbrev pub ScansAreDetermined : Type 0
 ScansAreDetermined = (writes : List Op) (at : ℕ) (lo hi : List ℕ) (limit : ℕ) (pairs others : List (List ℕ × List ℕ))
-    → IsRange writes at lo hi limit pairs → IsRange writes at lo hi limit others → pairs ≡ others
+    → IsRange (answer writes at) lo hi limit pairs → IsRange (answer writes at) lo hi limit others → pairs ≡ others
 
 -- flushed sequences rise with the version number, up to the number of writes
 pub record IsOrderly (s : State) : Type 0 where

@@ -13,3 +13,4 @@ pub mod Shows
 pub mod Replies
 pub mod Memory
 pub mod Calls
+pub mod Scan

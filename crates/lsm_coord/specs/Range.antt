@@ -1,25 +1,22 @@
 -- What a scan gives (LevelDB, general documentation: iteration).
-use Rattle.std.specs.Prelude.{◌≡◌, ℕ, ◌≤◌, List, Some, length, true, false, ◌⊎◌}
+use Rattle.std.specs.Prelude.{◌≡◌, ℕ, ◌≤◌, List, Option, Some, length, true, ◌⊎◌}
 use Rattle.std.specs.List.{AllPairs}
-use Rattle.std.specs.Ordering.{nat_cmp, is_lt}
-use Rattle.std.specs.Cmp.Lexicographic.{slice_cmp}
-use Rattle.lsm_key.specs.declared.op.Op.{Op}
 use Rattle.lsm_key.specs.Sets.{IsIn}
-use Rattle.lsm_key.specs.Writes.{answer}
+use Rattle.lsm_key.specs.Order.{key_lt, key_between}
 
 -- the one key stands before the other, by its bytes
 abbrev pub IsBelow : List ℕ → List ℕ → Type 0
-IsBelow a b = is_lt (slice_cmp nat_cmp a b) ≡ true
+IsBelow a b = key_lt a b ≡ true
 
 -- the key stands at or after lo, and before hi
 abbrev pub IsWithin : List ℕ → List ℕ → List ℕ → Type 0
-IsWithin lo hi key = (is_lt (slice_cmp nat_cmp key lo) ≡ false) × IsBelow key hi
+IsWithin lo hi key = key_between lo hi key ≡ true
 
--- the first keys from lo up to but not including hi that have a value at a sequence, ascending, each with its value
-pub record IsRange (writes : List Op) (at : ℕ) (lo hi : List ℕ) (limit : ℕ) (pairs : List (List ℕ × List ℕ)) : Type 0 where
+-- the first keys from lo up to but not including hi that have a value, ascending, each with its value
+pub record IsRange (value_of : List ℕ → Option (List ℕ)) (lo hi : List ℕ) (limit : ℕ) (pairs : List (List ℕ × List ℕ)) : Type 0 where
   pub few : length pairs ≤ limit
   pub ascending : AllPairs (λ p q. IsBelow p.0 q.0) pairs
-  pub right : (p : List ℕ × List ℕ) → IsIn p pairs → IsWithin lo hi p.0 × (answer writes at p.0 ≡ Some p.1)
+  pub right : (p : List ℕ × List ℕ) → IsIn p pairs → IsWithin lo hi p.0 × (value_of p.0 ≡ Some p.1)
   -- a key that is left out has no value, or comes after as many as were asked for
-  pub whole : (key value : List ℕ) → IsWithin lo hi key → answer writes at key ≡ Some value
+  pub whole : (key value : List ℕ) → IsWithin lo hi key → value_of key ≡ Some value
       → IsIn (key, value) pairs ⊎ ((length pairs ≡ limit) × ((p : List ℕ × List ℕ) → IsIn p pairs → IsBelow p.0 key))

@@ -1,5 +1,5 @@
 -- The coordinator's answers as replies.
-use Rattle.std.specs.Prelude.{ℕ, List, Option, Result, Ok, Err, map}
+use Rattle.std.specs.Prelude.{ℕ, Vec, List, Option, Result, Ok, Err, map}
 use Rattle.lsm_edit.specs.declared.served.Listing.{Listing}
 use Rattle.lsm_coord.specs.declared.error.CoordError.{CoordError}
 use Rattle.lsm_coord.specs.declared.error.CoordError.TheVariants as error
@@ -44,6 +44,10 @@ release_reply id (Err e) = say.Refused (refusal_of e)
 abbrev pub get_reply : Result (Option (List ℕ)) CoordError → Reply
 get_reply (Ok value) = say.Got value
 get_reply (Err e) = say.Refused (refusal_of e)
+
+abbrev pub scan_reply : {Z : Type 0} → Result (Vec (List ℕ × List ℕ) Z) CoordError → Reply
+scan_reply (Ok pairs) = say.Scanned pairs.items
+scan_reply (Err e) = say.Refused (refusal_of e)
 
 abbrev pub show_reply : Listing → Reply
 show_reply l = say.Shown l.number l.flushed (map place_of l.files.now)

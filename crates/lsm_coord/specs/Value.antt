@@ -1,5 +1,5 @@
 -- What contracts see of a coordinator (LevelDB, implementation notes: memtable, immutable memtable, versions).
-use Rattle.std.specs.Prelude.{ℕ, List, [], Option, None, Some}
+use Rattle.std.specs.Prelude.{ℕ, List, [], ◌++◌, Option, None, Some}
 use Rattle.lsm_key.specs.declared.entry.Entry.{Entry}
 use Rattle.lsm_key.specs.declared.limits.Limits.{Limits}
 use Rattle.lsm_key.specs.Places.{all_entries}
@@ -30,3 +30,7 @@ start_of (Some frozen) flushed = frozen.end
 -- the entries of all tables of the current version
 abbrev pub stored : ServedValue → List Entry
 stored served = all_entries (tables_of served.places)
+
+-- all entries
+abbrev pub everything : CoordValue → List Entry
+everything c = c.active ++ (frozen_entries c.frozen ++ stored c.served)

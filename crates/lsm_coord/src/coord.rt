@@ -2,6 +2,7 @@
 
 mod flush;
 mod read;
+mod scan;
 mod snapshots;
 mod write;
 

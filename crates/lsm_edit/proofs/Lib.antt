@@ -6,4 +6,5 @@ pub mod Advance
 pub mod NextLaws
 pub mod SearchOrder
 pub mod Rebase
+pub mod Ranges
 pub mod Levels

@@ -1,5 +1,7 @@
 //! A version with its tables: what is read of it.
 
+mod range;
+
 ghost use Rattle.std.specs.Prelude.{◌≡◌, ◌+◌, ◌<◌, ◌≤◌, ◌++◌, ◌∷◌, length, take, drop, slice_index_or, true, false, OnOk, OnErr, IfOk, IfErr, IfSome, IfNone, None};
 ghost use Rattle.std.specs.List.Sorted.{IsPartitionPoint};
 ghost use Rattle.std.specs.Option.{option_map, option_copied, option_to_list};

@@ -25,7 +25,7 @@ pair_cmp a b = place_cmp a.0 a.1 b.0 b.1
 pub pair_total : IsTotalOrder pair_cmp
 pair_total = then_total (on_total (λ (p : List ℕ × ℕ). p.0) nat_list_cmp_total) (back_total (on_total (λ (p : List ℕ × ℕ). p.1) nat_cmp_total))
 
-is_less : (o : Ordering) → is_lt o ≡ true → o ≡ Less
+pub is_less : (o : Ordering) → is_lt o ≡ true → o ≡ Less
 is_less Less e = refl
 is_less Equal e = absurd cc
 is_less Greater e = absurd cc

@@ -12,6 +12,7 @@ mod items;
 mod laws;
 mod limits;
 mod lookup;
+mod merge;
 mod op;
 mod refused;
 mod seq;
@@ -33,7 +34,8 @@ pub use limits::{
     DEFAULT_BASE, DEFAULT_L0, ENTRY_OVERHEAD, Limits, MAX_BASE, MAX_BATCH_OPS, MAX_BATCH_WEIGHT,
     MAX_KEY_BYTES, MAX_L0, MAX_MEMTABLE_WEIGHT, MAX_NUMBER, MAX_TABLE_BYTES, MAX_VALUE_BYTES,
 };
-pub use lookup::{compare_place, seek_in};
+pub use lookup::{compare_place, range_in, seek_in};
+pub use merge::merge_lists;
 pub use op::Op;
 pub use refused::Refused;
 pub use seq::Seq;

@@ -13,7 +13,7 @@ use Rattle.std.proofs.lemmas.List.Elements.{filter-append}
 use Rattle.lsm_key.specs.declared.entry.Entry.{Entry}
 use Rattle.lsm_key.specs.Sets.{IsIn}
 use Rattle.lsm_mem.specs.Chains.{Chain, AreChains, chain_of, chains_of, entries_in, chains_between}
-use Rattle.lsm_mem.specs.Memtable.{key_between, is_between}
+use Rattle.lsm_key.specs.Order.{key_between, is_between}
 use Rattle.lsm_mem.proofs.Pairs.{key_cmp, vec_cmp}
 use Rattle.lsm_mem.proofs.Chained.{from_reverse}
 

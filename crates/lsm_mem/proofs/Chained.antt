@@ -10,6 +10,7 @@ use Rattle.lsm_key.specs.declared.entry.Entry.{Entry}
 use Rattle.lsm_key.specs.Sets.{IsIn}
 use Rattle.lsm_key.specs.Order.{Precedes, IsAscending}
 use Rattle.lsm_key.specs.Visible.{visible, is_seen, Latest}
+use Rattle.lsm_key.proofs.Falls.{Falls, falls-append, falls_ascend}
 use Rattle.lsm_key.proofs.Sets.{IsIn-append_cases, IsIn-append_left, IsIn-append_right, IsIn-at, IsIn-one, SameMembers-permutation}
 use Rattle.lsm_key.proofs.Order.{of_one_key, ascending_unique}
 use Rattle.lsm_key.proofs.Visible.{visible_one, latest-is, is_seen-key}
@@ -68,26 +69,6 @@ own_chain cs up c f m h same =
     subst (λ (x : Chain). IsIn f x.versions) d_is r.2
 
 -- ---- the order of the entries
-
--- each entry stands before all that follow
-abbrev pub Falls : List Entry → Type 0
-Falls [] = Unit {0}
-Falls (e ∷ es) = ((f : Entry) → IsIn f es → Precedes e f) × Falls es
-
-falls-append : (xs ys : List Entry) → Falls xs → Falls ys → ((e f : Entry) → IsIn e xs → IsIn f ys → Precedes e f) → Falls (xs ++ ys)
-falls-append [] ys a b apart = b
-falls-append (x ∷ xs) ys a b apart = (
-  λ f m. elim (IsIn-append_cases f xs ys m) [ inl i ↦ a.0 f i | inr j ↦ apart x f (inl refl) j ],
-  falls-append xs ys a.1 b (λ e f i j. apart e f (inr i) j),
-)
-
-falls_next : (es : List Entry) → Falls es → (k : ℕ) (d : Entry) → suc k < length es → Precedes (get_or es k d) (get_or es (suc k) d)
-falls_next [] h k d lt = absurd (omega arith)
-falls_next (e ∷ es) h zero d lt = h.0 (get_or es 0 d) (IsIn-at es 0 d (omega arith))
-falls_next (e ∷ es) h (suc k) d lt = falls_next es h.1 k d (omega arith)
-
-falls_ascend : (es : List Entry) → Falls es → IsAscending es
-falls_ascend es h k d lt = subst (λ (n : ℕ). Precedes (get_or es k d) (get_or es n d)) (sym (add-one k)) (falls_next es h k d (omega arith))
 
 newer_precedes : (key : List ℕ) (e f : Entry) → e.ikey.key ≡ key → f.ikey.key ≡ key → f.ikey.seq < e.ikey.seq → Precedes e f
 newer_precedes key e f ek fk lt = rw (ek, fk) (of_one_key key e.ikey.seq f.ikey.seq ∙ lt-ltb f.ikey.seq e.ikey.seq lt)

@@ -9,7 +9,8 @@ use Rattle.lsm_key.specs.declared.limits.TheConstants.{MAX_MEMTABLE_WEIGHT}
 use Rattle.lsm_key.specs.Sets.{IsIn}
 use Rattle.lsm_key.specs.Limits.{entry_weight}
 use Rattle.lsm_key.specs.Entries.{AreSound}
-use Rattle.lsm_mem.specs.Memtable.{last_sequence, SequencesDiffer, key_between}
+use Rattle.lsm_key.specs.Order.{key_between}
+use Rattle.lsm_mem.specs.Memtable.{last_sequence, SequencesDiffer}
 
 -- a key with its versions, the oldest first
 pub record Chain : Type 0 where

@@ -39,7 +39,8 @@ impl Memtable {
     ghost use Rattle.lsm_key.specs.Limits.{entry_weight, total_weight};
     ghost use Rattle.lsm_key.specs.Places.{entries_after};
     ghost use Rattle.lsm_key.specs.Visible.{visible, lent};
-    ghost use Rattle.lsm_mem.specs.Memtable.{IsMemtable, last_sequence, is_between};
+    ghost use Rattle.lsm_mem.specs.Memtable.{IsMemtable, last_sequence};
+    ghost use Rattle.lsm_key.specs.Order.{is_between};
 
     /// No entry yet.
     pub fn new(alloc: Global) -> Memtable
@@ -100,7 +101,8 @@ impl Memtable {
     /// memory. They share the bytes. It takes as many comparisons as the count of keys has bits, and a step for each entry
     /// that it gives.
     pub fn range(&self, lo: &[u8], hi: &[u8]) -> Result<Vec<Entry>, AllocError>
-        ensures { IfOk result (λ copies. copies.items ≡ filter (is_between lo.now hi.now) self.now) }
+        ensures all { IfOk result (λ copies. copies.items ≡ filter (is_between lo.now hi.now) self.now) }
+        ensures sound { IsMemtable self.now }
     {
         self.chains.entries_between(lo, hi)
     }

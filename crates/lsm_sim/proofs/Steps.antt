@@ -1,30 +1,32 @@
--- How the events of a script grow by a line.
-use Rattle.std.proofs.Common.{◌≡◌, ℕ, ◌+◌, ◌≤◌, List, [], ◌∷◌, ◌++◌, length, Some, None, Result, Ok, Err, refl, sym, ap, append_assoc, append-nil, arith, map}
+-- How the events of a script grow by a line, and the operations of a batch by one.
+use Rattle.std.proofs.Common.{◌≡◌, ℕ, ◌+◌, ◌≤◌, List, [], ◌∷◌, ◌++◌, length, Some, None, Result, Ok, Err, refl, sym, ap, ◌∙◌, append_assoc, append-nil, arith, map}
 use Rattle.std.proofs.lemmas.List.{map-append}
 use Rattle.std.proofs.lemmas.List.Splits.{length-slice_split}
 use Rattle.std.proofs.lemmas.List.Sums.{count_by-le-length}
-use Rattle.lsm_key.specs.Reading.{◌>>=◌}
+use Rattle.lsm_key.specs.declared.op.Op.{Op}
+use Rattle.lsm_key.specs.declared.refused.Refused.{Refused}
+use Rattle.lsm_key.specs.declared.refused.Refused.TheVariants as refused
+use Rattle.lsm_key.specs.Reading.{◌>>=◌, Fails}
 use Rattle.lsm_sim.specs.declared.event.Event.{Event}
 use Rattle.lsm_sim.specs.declared.fault.Reason.{Reason}
-use Rattle.lsm_sim.specs.declared.fault.Fault.{Fault}
 use Rattle.lsm_sim.specs.Text.{lines, words, is_line_feed}
 use Rattle.lsm_sim.specs.Events.{event_of}
 use Rattle.lsm_coord.specs.Event as say
-use Rattle.lsm_sim.specs.Script.{event, numbered}
+use Rattle.lsm_sim.specs.Script.{event, numbered, with_first, operations, batch}
 
-abbrev good : List say.Event → Result (List say.Event) Fault
-good events = Ok events
+abbrev good : {A F : Type 0} → List A → Result (List A) F
+good items = Ok items
 
--- events that are done, before those of the rest
-abbrev pub after : List say.Event → Result (List say.Event) Fault → Result (List say.Event) Fault
-after done rest = rest >>= λ events. Ok (done ++ events)
+-- what is done, before the rest
+abbrev pub after : {A F : Type 0} → List A → Result (List A) F → Result (List A) F
+after done rest = rest >>= λ items. Ok (done ++ items)
 
-pub after_none : (rest : Result (List say.Event) Fault) → after [] rest ≡ rest
-after_none (Ok events) = refl
+pub after_none : {A F : Type 0} (rest : Result (List A) F) → after [] rest ≡ rest
+after_none (Ok items) = refl
 after_none (Err fault) = refl
 
-after_after : (done : List say.Event) (one : List say.Event) (rest : Result (List say.Event) Fault) → after done (after one rest) ≡ after (done ++ one) rest
-after_after done one (Ok events) = ap good (sym (append_assoc done one events))
+after_after : {A F : Type 0} (done : List A) (one : List A) (rest : Result (List A) F) → after done (after one rest) ≡ after (done ++ one) rest
+after_after done one (Ok items) = ap good (sym (append_assoc done one items))
 after_after done one (Err fault) = refl
 
 pub skipped : (n : ℕ) (line : List ℕ) (ls : List (List ℕ)) → event (words line) ≡ Ok None → numbered n (line ∷ ls) ≡ numbered (n + 1) ls
@@ -45,6 +47,20 @@ at_end n done = ap good (append-nil done)
 
 pub events-push : (events : List Event) (e : Event) → map event_of (events ++ e ∷ []) ≡ map event_of events ++ event_of e ∷ []
 events-push events e = map-append event_of events (e ∷ [])
+
+-- an operation is read, and goes to the end of those that are done
+pub one_operation : (done : List Op) (op : Op) (all rest : Result (List Op) Reason) → all ≡ with_first op rest → after done all ≡ after (done ++ op ∷ []) rest
+one_operation done op all rest is = ap (after done) is ∙ after_after done (op ∷ []) rest
+
+-- the fault of the operations that are left is that of the batch
+pub batch_fails : (args left : List (List ℕ)) (done : List Op) (e : Refused Reason) → operations args ≡ after done (operations left) → Fails e (operations left) → Fails e (batch args)
+batch_fails args left done refused.OutOfMemory so fails = tt
+batch_fails args left done (refused.Fault reason) so fails = rw (so, fails) refl
+
+-- with no words left the operations are those that are done
+pub batch_ends : (args left : List (List ℕ)) (done : List Op) → operations args ≡ after done (operations left) → left ≡ [] → batch args ≡ Ok (say.Write done)
+unfolding operations
+batch_ends args left done so none = rw (so, none, append-nil) refl
 
 -- a text has no more lines than bytes, and one
 pub lines-few : (text : List ℕ) → length (lines text) ≤ length text + 1

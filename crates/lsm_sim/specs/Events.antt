@@ -10,4 +10,5 @@ event_of event.Flush = say.Flush
 event_of event.Snap = say.Snap
 event_of (event.Release id) = say.Release id
 event_of (event.Get key at) = say.Get key at
+event_of (event.Scan lo hi at limit) = say.Scan lo hi at limit
 event_of event.Show = say.Show say.Coordinator

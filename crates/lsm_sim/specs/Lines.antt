@@ -1,5 +1,5 @@
 -- The lines that replies print (the store's own output format, one line a reply).
-use Rattle.std.specs.Prelude.{ℕ, ◌+◌, ◌/◌, ◌%◌, ◌==◌, ◌&&◌, ◌||◌, not, Bool, List, [], ◌∷◌, ◌++◌, Option, None, Some, codes, map, filter, nat_lt, if◌then◌else◌}
+use Rattle.std.specs.Prelude.{ℕ, ◌+◌, ◌/◌, ◌%◌, ◌==◌, ◌&&◌, ◌||◌, not, Bool, List, [], ◌∷◌, ◌++◌, Option, None, Some, codes, length, map, filter, nat_lt, if◌then◌else◌}
 use Rattle.std.specs.List.{flat_map, join_with_byte}
 use Rattle.std.specs.Fmt.{decimal}
 use Rattle.lsm_coord.specs.declared.snapshot.SnapId.{SnapId}
@@ -45,6 +45,14 @@ released id = codes "released " ++ named id
 abbrev pub got : Option (List ℕ) → List ℕ
 got None = codes "none"
 got (Some value) = codes "value " ++ printed value
+
+-- a key and its value
+abbrev pub pair_text : List ℕ × List ℕ → List ℕ
+pair_text pair = codes " " ++ printed pair.0 ++ codes "=" ++ printed pair.1
+
+-- how many there are, and each of them
+abbrev pub scanned : List (List ℕ × List ℕ) → List ℕ
+scanned pairs = codes "range " ++ decimal (length pairs) ++ flat_map pair_text pairs
 
 -- the files of a level, in the order of the listing
 abbrev pub files_of : ℕ → List Place → List ℕ

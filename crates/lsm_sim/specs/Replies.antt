@@ -10,7 +10,7 @@ use Rattle.lsm_sim.specs.declared.reply.Refusal.{Refusal}
 use Rattle.lsm_sim.specs.declared.reply.Refusal.TheVariants as why
 use Rattle.lsm_sim.specs.declared.reply.Reply.{Reply}
 use Rattle.lsm_sim.specs.declared.reply.Reply.TheVariants as reply
-use Rattle.lsm_sim.specs.Lines.{wrote, froze, flushed, snapped, released, got, listed, refused, ended}
+use Rattle.lsm_sim.specs.Lines.{wrote, froze, flushed, snapped, released, got, scanned, listed, refused, ended}
 
 abbrev pub place_at : Place → state.Place
 place_at p = record { level = p.level; file = p.file }
@@ -26,6 +26,7 @@ reply_of (reply.Flushed f) = say.Flushed f.number f.seq f.file
 reply_of (reply.Snapped id seq) = say.Snapped id seq
 reply_of (reply.Released id) = say.Released id
 reply_of (reply.Got value) = say.Got value
+reply_of (reply.Scanned pairs) = say.Scanned pairs.items
 reply_of (reply.Shown s) = say.Shown s.number s.flushed (map place_at s.files.items)
 reply_of (reply.Refused why) = say.Refused (why_of why)
 
@@ -37,6 +38,7 @@ text_of (reply.Flushed f) = flushed f.number f.seq f.file
 text_of (reply.Snapped id seq) = snapped id seq
 text_of (reply.Released id) = released id
 text_of (reply.Got value) = got value
+text_of (reply.Scanned pairs) = scanned pairs.items
 text_of (reply.Shown s) = listed s.number s.flushed (map place_at s.files.items)
 text_of (reply.Refused why) = refused (why_of why)
 

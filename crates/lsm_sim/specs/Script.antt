@@ -1,12 +1,14 @@
 -- What a script says: the events of its lines, or its first fault (the store's own script format, one command a line).
-use Rattle.std.specs.Prelude.{ℕ, ◌+◌, ◌==◌, ◌&&◌, Bool, false, List, [], ◌∷◌, ◌++◌, Option, None, Some, Result, Ok, Err, codes, option_to_list, nat_le, take, drop, position, if◌then◌else◌}
+use Rattle.std.specs.Prelude.{◌≡◌, ℕ, ◌+◌, ◌==◌, ◌&&◌, Bool, false, List, [], ◌∷◌, ◌++◌, Option, None, Some, Result, Ok, Err, codes, option_to_list, nat_le, take, drop, position, if◌then◌else◌}
 use Rattle.std.specs.Str.{bytes_eq}
+use Rattle.lsm_key.specs.declared.op.Op.{Op}
 use Rattle.lsm_key.specs.declared.op.Op.TheVariants as op
-use Rattle.lsm_key.specs.Reading.{◌>>=◌}
+use Rattle.lsm_key.specs.declared.refused.Refused.{Refused}
+use Rattle.lsm_key.specs.Reading.{◌>>=◌, Fails}
 use Rattle.lsm_sim.specs.declared.command.Command.{Command}
 use Rattle.lsm_sim.specs.declared.command.Command.TheVariants as command
 use Rattle.lsm_sim.specs.declared.fault.Reason.{Reason}
-use Rattle.lsm_sim.specs.declared.fault.Reason.TheVariants.{UnknownCommand, WrongWordCount, BadName, BadToken}
+use Rattle.lsm_sim.specs.declared.fault.Reason.TheVariants.{UnknownCommand, WrongWordCount, BadNumber, BadName, BadToken}
 use Rattle.lsm_sim.specs.declared.fault.Fault.{Fault}
 use Rattle.lsm_sim.specs.Text.{lines, words}
 use Rattle.lsm_sim.specs.Numbers.{number}
@@ -19,11 +21,13 @@ unfoldable pub command_of : List ℕ → Option Command
 command_of word =
     if bytes_eq word (codes "put") then Some command.Put
     else if bytes_eq word (codes "del") then Some command.Delete
+    else if bytes_eq word (codes "batch") then Some command.Batch
     else if bytes_eq word (codes "freeze") then Some command.Freeze
     else if bytes_eq word (codes "flush") then Some command.Flush
     else if bytes_eq word (codes "snap") then Some command.Snap
     else if bytes_eq word (codes "release") then Some command.Release
     else if bytes_eq word (codes "get") then Some command.Get
+    else if bytes_eq word (codes "scan") then Some command.Scan
     else if bytes_eq word (codes "show") then Some command.Show
     else None
 
@@ -85,6 +89,49 @@ delete (key ∷ []) = do
   Ok (say.Write (op.Delete k ∷ []))
 delete args = Err WrongWordCount
 
+-- an operation of a batch, before those that are read after it
+abbrev pub with_first : Op → Result (List Op) Reason → Result (List Op) Reason
+with_first first rest = do
+  ops ← rest
+  Ok (first ∷ ops)
+
+unfoldable mutual
+  -- the operations of a batch, read from left to right: a word that is wrong is told before one that is missing after it
+  pub operations : List (List ℕ) → Result (List Op) Reason
+  operations [] = Ok []
+  operations (name ∷ args) =
+      if bytes_eq name (codes "put") then after_put args
+      else if bytes_eq name (codes "del") then after_delete args
+      else Err BadName
+
+  -- a key, a value, and the operations after them
+  pub after_put : List (List ℕ) → Result (List Op) Reason
+  after_put [] = Err WrongWordCount
+  after_put (key ∷ []) = do
+    k ← key_or_value key
+    Err WrongWordCount
+  after_put (key ∷ value ∷ args) = do
+    k ← key_or_value key
+    v ← key_or_value value
+    with_first (op.Put k v) (operations args)
+
+  -- a key, and the operations after it
+  pub after_delete : List (List ℕ) → Result (List Op) Reason
+  after_delete [] = Err WrongWordCount
+  after_delete (key ∷ args) = do
+    k ← key_or_value key
+    with_first (op.Delete k) (operations args)
+
+-- what was read is the first operation of all, before those of the words that are left; or it is the fault of all, unless memory ran out
+abbrev pub GivesFirst : Result Op (Refused Reason) → Result (List Op) Reason → List (List ℕ) → Type 0
+GivesFirst (Ok first) all left = all ≡ with_first first (operations left)
+GivesFirst (Err e) all left = Fails e all
+
+abbrev pub batch : List (List ℕ) → Result say.Event Reason
+batch args = do
+  ops ← operations args
+  Ok (say.Write ops)
+
 abbrev pub flush : List (List ℕ) → Result say.Event Reason
 flush [] = Ok say.Flush
 flush args = Err WrongWordCount
@@ -114,6 +161,28 @@ get (key ∷ name ∷ []) = do
   Ok (say.Get k (Some id))
 get args = Err WrongWordCount
 
+-- a word that is to be a number
+abbrev pub counted : Option ℕ → Result ℕ Reason
+counted None = Err BadNumber
+counted (Some n) = Ok n
+
+-- a scan of a range of keys, at the present or at a snapshot
+abbrev pub scan_at : List ℕ → List ℕ → List ℕ → Result (Option SnapId) Reason → Result say.Event Reason
+scan_at lo hi limit at = do
+  l ← key_or_value lo
+  h ← key_or_value hi
+  n ← counted (number limit)
+  id ← at
+  Ok (say.Scan l h id n)
+
+abbrev pub some_name : Result SnapId Reason → Result (Option SnapId) Reason
+some_name name = name >>= λ id. Ok (Some id)
+
+abbrev pub scan : List (List ℕ) → Result say.Event Reason
+scan (lo ∷ hi ∷ limit ∷ []) = scan_at lo hi limit (Ok None)
+scan (lo ∷ hi ∷ limit ∷ name ∷ []) = scan_at lo hi limit (some_name (named (reading_at name)))
+scan args = Err WrongWordCount
+
 -- listings of followers are not there yet
 abbrev pub show : List (List ℕ) → Result say.Event Reason
 show (node ∷ []) =
@@ -126,11 +195,13 @@ abbrev pub asked : Option Command → List (List ℕ) → Result say.Event Reaso
 asked None args = Err UnknownCommand
 asked (Some command.Put) args = put args
 asked (Some command.Delete) args = delete args
+asked (Some command.Batch) args = batch args
 asked (Some command.Freeze) args = freeze args
 asked (Some command.Flush) args = flush args
 asked (Some command.Snap) args = snap args
 asked (Some command.Release) args = release args
 asked (Some command.Get) args = get args
+asked (Some command.Scan) args = scan args
 asked (Some command.Show) args = show args
 
 abbrev pub some_event : Result say.Event Reason → Result (Option say.Event) Reason

@@ -8,10 +8,12 @@ ghost use Rattle.lsm_sim.specs.Script.{command_of};
 pub enum Command {
     Put,
     Delete,
+    Batch,
     Freeze,
     Flush,
     Snap,
     Release,
     Get,
+    Scan,
     Show,
 }

@@ -19,6 +19,9 @@ pub enum Event {
     Release(SnapId),
     /// Read a key, at present or at a snapshot.
     Get(Bytes, Option<SnapId>),
+    /// Read a range of keys, from the first up to but not including the second, at present or at a snapshot: so many of
+    /// those that have a value.
+    Scan(Bytes, Bytes, Option<SnapId>, u64),
     /// List the coordinator's version.
     Show,
 }

@@ -4,7 +4,7 @@ ghost use Rattle.std.specs.Prelude.{◌≡◌, ◌++◌, OnOk, IfOk};
 ghost use Rattle.std.specs.Prelude.{map};
 ghost use Rattle.lsm_coord.specs.Rules.{key_refusal};
 ghost use Rattle.lsm_coord.specs.Replies.{refusal_of};
-ghost use Rattle.lsm_sim.specs.Lines.{wrote, froze, flushed, named, snapped, released, got, files_of, level_text, levels_text, listed, name_of, refused};
+ghost use Rattle.lsm_sim.specs.Lines.{wrote, froze, flushed, named, snapped, released, got, pair_text, scanned, files_of, level_text, levels_text, listed, name_of, refused};
 ghost use Rattle.lsm_sim.specs.Replies.{line, place_at, why_of};
 
 use crate::reply::{Place, Refusal, Reply, Shown};
@@ -85,6 +85,28 @@ pub fn put_got(out: &mut Vec<u8>, value: &Option<Bytes>) -> Result<(), AllocErro
             put_bytes(out, value.as_slice())
         }
     }
+}
+
+/// ` K=V`
+fn put_pair(out: &mut Vec<u8>, pair: &(Bytes, Bytes)) -> Result<(), AllocError>
+    ensures { OnOk result (out.new.items ≡ out.old.items ++ pair_text pair.now) }
+{
+    put_text(out, " ")?;
+    put_bytes(out, pair.0.as_slice())?;
+    put_text(out, "=")?;
+    put_bytes(out, pair.1.as_slice())
+}
+
+/// `range C`, and ` K=V` for each of the C pairs
+pub fn put_scanned(out: &mut Vec<u8>, pairs: &[(Bytes, Bytes)]) -> Result<(), AllocError>
+    ensures { OnOk result (out.new.items ≡ out.old.items ++ scanned pairs.now) }
+{
+    put_text(out, "range ")?;
+    put_number(out, pairs.len() as u64)?;
+    for pair in pairs {
+        put_pair(out, pair)?;
+    }
+    Ok(())
 }
 
 /// ` L0 F,F,..`, or nothing for a level without files
@@ -193,6 +215,7 @@ pub fn put_line(alloc: Global, out: &mut Vec<u8>, reply: &Reply) -> Result<(), A
         Reply::Snapped(id, seq) => put_snapped(out, *id, *seq)?,
         Reply::Released(id) => put_released(out, *id)?,
         Reply::Got(value) => put_got(out, value)?,
+        Reply::Scanned(pairs) => put_scanned(out, pairs)?,
         Reply::Shown(shown) => put_shown(alloc, out, shown)?,
         Reply::Refused(refusal) => put_refused(out, *refusal)?,
     }

@@ -1,6 +1,7 @@
 //! The program `lsmsim`: runs a script of writes, flushes and reads against the store and prints each reply.
 #![tactic(auto)]
 
+mod batch;
 mod command;
 mod error;
 mod event;
@@ -11,6 +12,7 @@ mod number;
 mod options;
 mod reply;
 mod run;
+mod scan;
 mod script;
 mod streams;
 #[cfg(test)]

@@ -16,6 +16,8 @@ pub fn command_of(word: &[u8]) -> Option<Command>
         Some(Command::Put)
     } else if word == b"del".as_slice() {
         Some(Command::Delete)
+    } else if word == b"batch".as_slice() {
+        Some(Command::Batch)
     } else if word == b"freeze".as_slice() {
         Some(Command::Freeze)
     } else if word == b"flush".as_slice() {
@@ -26,6 +28,8 @@ pub fn command_of(word: &[u8]) -> Option<Command>
         Some(Command::Release)
     } else if word == b"get".as_slice() {
         Some(Command::Get)
+    } else if word == b"scan".as_slice() {
+        Some(Command::Scan)
     } else if word == b"show".as_slice() {
         Some(Command::Show)
     } else {

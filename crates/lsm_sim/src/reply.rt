@@ -40,6 +40,8 @@ pub enum Reply {
     Snapped(SnapId, Seq),
     Released(SnapId),
     Got(Option<Bytes>),
+    /// The keys of a range, each with its value.
+    Scanned(Vec<(Bytes, Bytes)>),
     Shown(Shown),
     Refused(Refusal),
 }

@@ -6,25 +6,19 @@ ghost use Rattle.std.specs.Option.{option_map};
 ghost use Rattle.lsm_key.specs.Reading.{Gives};
 ghost use Rattle.lsm_sim.specs.Events.{event_of};
 ghost use Rattle.lsm_sim.specs.Text.{words};
-ghost use Rattle.lsm_sim.specs.Script.{asked, key_or_value, named, event, script, put, delete, freeze, flush, snap, release, get, show};
+ghost use Rattle.lsm_sim.specs.Script.{asked, named, event, script, put, delete, freeze, flush, snap, release, get, show};
 
+use crate::batch::batch;
 use crate::command::Command;
 use crate::event::Event;
 use crate::fault::{Fault, Reason};
 use crate::names::{command_of, is_comment, is_follower, reading_at, snapshot_of};
-use crate::token::token_of;
+use crate::scan::scan;
+use crate::token::key_or_value;
 use crate::words::{Lines, Words};
-use bytes::Bytes;
 use lsm_coord::SnapId;
 use lsm_key::{Op, Refused};
 use std::alloc::Global;
-
-/// The bytes of a key or value word.
-fn key_or_value(alloc: Global, word: &[u8]) -> Result<Bytes, Refused<Reason>>
-    ensures { Gives (λ bytes. bytes) result (key_or_value word.now) }
-{
-    token_of(alloc, word)?.ok_or(Refused::Fault(Reason::BadToken))
-}
 
 /// `put K V`
 fn put(alloc: Global, mut args: Words<'_>) -> Result<Event, Refused<Reason>>
@@ -50,7 +44,7 @@ fn delete(alloc: Global, mut args: Words<'_>) -> Result<Event, Refused<Reason>>
 }
 
 /// The snapshot that a word is to name.
-fn named(id: Option<SnapId>) -> Result<SnapId, Refused<Reason>>
+pub fn named(id: Option<SnapId>) -> Result<SnapId, Refused<Reason>>
     ensures { Gives (λ id. id) result (named id) }
 {
     id.ok_or(Refused::Fault(Reason::BadName))
@@ -144,11 +138,13 @@ fn asked(alloc: Global, command: Option<Command>, args: Words<'_>) -> Result<Eve
         None => Err(Refused::Fault(Reason::UnknownCommand)),
         Some(Command::Put) => put(alloc, args),
         Some(Command::Delete) => delete(alloc, args),
+        Some(Command::Batch) => batch(alloc, args),
         Some(Command::Freeze) => freeze(args),
         Some(Command::Flush) => flush(args),
         Some(Command::Snap) => snap(args),
         Some(Command::Release) => release(args),
         Some(Command::Get) => get(alloc, args),
+        Some(Command::Scan) => scan(alloc, args),
         Some(Command::Show) => show(args),
     }
 }

@@ -1,5 +1,7 @@
 //! What no contract says: the texts of faults, and that calls succeed.
 
+mod batches;
+
 use crate::error::RunError;
 use crate::fault::Fault;
 use crate::run::run_script;
@@ -17,7 +19,7 @@ const FAULTS: [(&str, u64, &str); 50] = [
     ("\n# put\n\nfly", 4, "unknown command"),
     ("PUT a 1", 1, "unknown command"),
     ("put# a 1", 1, "unknown command"),
-    ("batch put a 1", 1, "unknown command"),
+    ("pick 1", 1, "unknown command"),
     ("restart c", 1, "unknown command"),
     ("show f1", 1, "unknown command"),
     ("show f04", 1, "unknown command"),
@@ -64,17 +66,22 @@ const FAULTS: [(&str, u64, &str); 50] = [
     ("flush\r\nput a \u{0}\nfly", 2, "bad token"),
 ];
 
+/// The line of a script's first fault, and the fault's text.
+fn fault_of(rt: &HostRuntime, script: &str) -> Result<(u64, String), Fail> {
+    match parse(rt.alloc(), script.as_bytes()) {
+        Err(Refused::Fault(Fault { line, reason })) => {
+            Ok((line, format!(in rt.alloc(); "{reason}")?))
+        }
+        _ => Err(Fail::from("no fault")),
+    }
+}
+
 #[test]
 fn the_first_fault_is_told(rt: HostRuntime) -> Result<(), Fail> {
     for (script, at, why) in FAULTS {
-        match parse(rt.alloc(), script.as_bytes()) {
-            Err(Refused::Fault(Fault { line, reason })) => {
-                let text = format!(in rt.alloc(); "{reason}")?;
-                assert_eq!(rt; line, at, "in {script:?}");
-                assert_eq!(rt; text.as_str(), why, "in {script:?}");
-            }
-            _ => assert!(rt; false, "{script:?} is no fault"),
-        }
+        let (line, text) = fault_of(&rt, script)?;
+        assert_eq!(rt; line, at, "in {script:?}");
+        assert_eq!(rt; text.as_str(), why, "in {script:?}");
     }
     Ok(())
 }

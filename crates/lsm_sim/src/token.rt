@@ -2,9 +2,13 @@
 //! byte, and any other byte from `!` to `~` is itself.
 
 ghost use Rattle.std.specs.Prelude.{◌≡◌, ◌<◌, IfOk, length};
+ghost use Rattle.lsm_key.specs.Reading.{Gives};
 ghost use Rattle.lsm_sim.specs.Tokens.{hex, escape, literal, onto, spelled, token};
+ghost use Rattle.lsm_sim.specs.Script.{key_or_value};
 
+use crate::fault::Reason;
 use bytes::Bytes;
+use lsm_key::Refused;
 use std::alloc::{AllocError, Global};
 
 /// The value of a hexadecimal digit.
@@ -71,4 +75,11 @@ pub fn token_of(alloc: Global, word: &[u8]) -> Result<Option<Bytes>, AllocError>
         rest = after;
     }
     Ok(Some(Bytes::from_vec(bytes)?))
+}
+
+/// The bytes of a word that is to be a key or a value.
+pub fn key_or_value(alloc: Global, word: &[u8]) -> Result<Bytes, Refused<Reason>>
+    ensures { Gives (λ bytes. bytes) result (key_or_value word.now) }
+{
+    token_of(alloc, word)?.ok_or(Refused::Fault(Reason::BadToken))
 }

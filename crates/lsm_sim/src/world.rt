@@ -100,6 +100,10 @@ pub fn step(alloc: Global, coord: &mut Coord, event: &Event) -> Reply
             Err(error) => Reply::Refused(Refusal::Coord(error)),
             Ok(value) => Reply::Got(value),
         },
+        Event::Scan(lo, hi, at, limit) => match coord.scan(lo, hi, *at, *limit) {
+            Err(error) => Reply::Refused(Refusal::Coord(error)),
+            Ok(pairs) => Reply::Scanned(pairs),
+        },
         Event::Show => match shown(alloc, coord.show()) {
             Err(_) => Reply::Refused(Refusal::Coord(CoordError::OutOfMemory)),
             Ok(shown) => Reply::Shown(shown),

@@ -34,7 +34,7 @@ impl Coord {
     }
 
     // The sequence of a read.
-    fn point_of(&self, at: Option<SnapId>) -> Option<Seq>
+    pub(super) fn point_of(&self, at: Option<SnapId>) -> Option<Seq>
         ensures { result ≡ point_of self.now at }
     {
         match at {

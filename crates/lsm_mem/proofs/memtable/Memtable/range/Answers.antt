@@ -1,11 +1,15 @@
 use Rattle.std.proofs.Common.{sym, ap, ◌∙◌}
 use Rattle.std.specs.List.{filter}
 use Rattle.std.proofs.lemmas.Result.{IfOk-weaker}
-use Rattle.lsm_mem.specs.Memtable.{is_between}
+use Rattle.lsm_key.specs.Order.{is_between}
+use Rattle.lsm_mem.proofs.Noted.{noted_sound}
 use Rattle.lsm_mem.proofs.Between.{between_chains}
 use Rattle.lsm_mem.proofs.memtable.Memtable.range.Goals as goal
 
-pub returns : goal.returns
-returns c =
+pub returns-clause-all : goal.returns-clause-all
+returns-clause-all c =
     let between = between_chains c.args.lo.now c.args.hi.now c.self.inside.chains c.self.invariant.chained in
     IfOk-weaker c.entries_between.result _ _ (λ copies is. is ∙ sym between ∙ ap (filter (is_between c.args.lo.now c.args.hi.now)) c.self.view_is) c.entries_between.ensures
+
+pub returns-clause-sound : goal.returns-clause-sound
+returns-clause-sound c = rw (← c.self.view_is) (noted_sound c.self.inside.chains c.self.inside.weight c.self.inside.count c.self.inside.last c.self.invariant)

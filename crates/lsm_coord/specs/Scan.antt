@@ -1,0 +1,25 @@
+-- What entries in order show at a point, key after key: the pass of a scan.
+use Rattle.std.specs.Prelude.{ℕ, Bool, not, false, ◌||◌, List, [], ◌∷◌, ◌++◌, Option, None, Some, nat_le, if◌then◌else◌}
+use Rattle.std.specs.Option.{option_map, option_to_list}
+use Rattle.lsm_key.specs.declared.entry.Entry.{Entry}
+use Rattle.lsm_key.specs.Visible.{has_key, entry_value}
+
+-- the entry is of the key of the one before
+abbrev pub is_again : Option Entry → Entry → Bool
+is_again None e = false
+is_again (Some before) e = has_key before.ikey.key e
+
+-- the point does not see it, or saw a newer one of its key
+abbrev pub is_hidden : ℕ → Option Entry → Entry → Bool
+is_hidden point before e = not (nat_le e.ikey.seq point) || is_again before e
+
+-- the key and its value, where it has one
+abbrev pub pair_of : Entry → List (List ℕ × List ℕ)
+pair_of e = option_to_list (option_map (λ (value : List ℕ). (e.ikey.key, value)) (entry_value e))
+
+-- the pairs of the keys that have a value, after an entry that was seen before
+abbrev pub shown_pairs : ℕ → Option Entry → List Entry → List (List ℕ × List ℕ)
+shown_pairs point before [] = []
+shown_pairs point before (e ∷ es) =
+    if is_hidden point before e then shown_pairs point before es
+    else pair_of e ++ shown_pairs point (Some e) es

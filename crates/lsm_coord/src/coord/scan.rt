@@ -1,0 +1,197 @@
+//! Scans of the store.
+
+ghost use Rattle.std.specs.Prelude.{◌≡◌, ◌≤◌, ◌++◌, None, true, IfOk, IfErr, IfSome, MatchOption, OnOk, IsPermutation, List, ℕ, filter, length, take};
+ghost use Rattle.std.specs.Borrow.{Bor};
+ghost use Rattle.std.specs.Option.{option_map};
+ghost use Rattle.lsm_key.specs.declared.entry.Entry.{Entry};
+ghost use Rattle.lsm_key.specs.Order.{IsAscending, IsInOrder, is_between, key_le};
+ghost use Rattle.lsm_edit.specs.Served.{IsServed};
+ghost use Rattle.lsm_coord.specs.Event.{Scan};
+ghost use Rattle.lsm_coord.specs.Shows.{Follows};
+ghost use Rattle.lsm_coord.specs.Calls.{point_of, IsPoint, Scans};
+ghost use Rattle.lsm_coord.specs.Value.{everything, frozen_entries};
+ghost use Rattle.lsm_coord.specs.Replies.{scan_reply};
+ghost use Rattle.lsm_coord.specs.Scan.{is_hidden, pair_of, shown_pairs};
+
+use super::Coord;
+use crate::CoordError;
+use crate::snapshot::SnapId;
+use bytes::Bytes;
+use lsm_key::{Entry, Kind, Seq, merge_lists};
+use std::alloc::{AllocError, Global};
+
+impl Coord {
+    /// The first `limit` keys at or after `lo`, and before `hi`, that have a value at the present, or at a live snapshot:
+    /// ascending, each with its value. They share the bytes. It takes as long as the entries that it gives and passes
+    /// over, whatever else is in the range.
+    pub fn scan(
+        &mut self,
+        lo: &[u8],
+        hi: &[u8],
+        at: Option<SnapId>,
+        limit: u64,
+    ) -> Result<Vec<(Bytes, Bytes)>, CoordError>
+        ensures step { Follows self.old (Scan lo.now hi.now at limit) (scan_reply result) self.new }
+        ensures same { self.new ≡ self.old }
+        ensures refused { IfErr result (λ e. MatchOption (point_of self.old at) (e ≡ CoordError.NoSnapshot) (λ _. e ≡ CoordError.OutOfMemory)) }
+    {
+        let Some(point) = self.point_of(at) else {
+            return Err(CoordError::NoSnapshot);
+        };
+        let pairs = self.pairs_between(lo, hi, point, limit)?;
+        Ok(pairs)
+    }
+
+    // What a scan gives, window after window.
+    fn pairs_between(
+        &self,
+        lo: &[u8],
+        hi: &[u8],
+        point: Seq,
+        limit: u64,
+    ) -> Result<Vec<(Bytes, Bytes)>, AllocError>
+        requires { IsPoint self.now point }
+        ensures { IfOk result (λ pairs. Scans self.now point lo.now hi.now limit pairs.items) }
+    {
+        let mut pairs = Vec::new(self.alloc);
+        if lo.cmp(hi).is_ge() {
+            return Ok(pairs);
+        }
+        let mut from = Bytes::copy_from_slice(self.alloc, lo)?;
+        for _window in 0..u64::MAX {
+            if pairs.len() as u64 >= limit {
+                return Ok(pairs);
+            }
+            let Some(end) = self.window_end(&from, hi, limit)? else {
+                break;
+            };
+            self.go_on(&mut pairs, &from, &end, point, limit)?;
+            from = end;
+        }
+        self.go_on(&mut pairs, &from, hi, point, limit)?;
+        Ok(pairs)
+    }
+
+    // Goes on with a scan that came up to `from`, up to `to`.
+    fn go_on(
+        &self,
+        pairs: &mut Vec<(Bytes, Bytes)>,
+        from: &[u8],
+        to: &[u8],
+        point: Seq,
+        limit: u64,
+    ) -> Result<(), AllocError>
+        requires point { IsPoint self.now point }
+        requires onward { key_le from.now to.now ≡ true }
+        requires few { length pairs.old.items ≤ limit }
+        ensures more { (lo : List ℕ) → key_le lo from.now ≡ true → Scans self.now point lo from.now limit pairs.old.items → OnOk result (Scans self.now point lo to.now limit pairs.new.items) }
+        ensures few { OnOk result (length pairs.new.items ≤ limit) }
+    {
+        let entries = self.entries_between(from, to)?;
+        push_shown(pairs, &entries, point, limit)
+    }
+
+    // Copies of all entries of a window, in order.
+    fn entries_between(&self, from: &[u8], to: &[u8]) -> Result<Vec<Entry>, AllocError>
+        ensures all { IfOk result (λ entries. IsPermutation (filter (is_between from.now to.now) (everything self.now)) entries.items) }
+        ensures order { IfOk result (λ entries. IsInOrder entries.items) }
+        ensures sound { IsServed self.now.served }
+    {
+        // That its tables are sound, as the proof wants to know.
+        let _listing = self.current.listing();
+        let active = self.active.range(from, to)?;
+        let frozen = self.frozen_between(from, to)?;
+        let stored = self.current.range(from, to)?;
+        merged(self.alloc, active, frozen, stored)
+    }
+
+    // Those of the frozen memtable.
+    fn frozen_between(&self, from: &[u8], to: &[u8]) -> Result<Vec<Entry>, AllocError>
+        ensures all { IfOk result (λ entries. entries.items ≡ filter (is_between from.now to.now) (frozen_entries self.now.frozen)) }
+        ensures sound { IsAscending (frozen_entries self.now.frozen) }
+    {
+        match &self.frozen {
+            Some(frozen) => frozen.memtable.range(from, to),
+            None => Ok(Vec::new(self.alloc)),
+        }
+    }
+
+    // A key up to which the next window may go. Any one is right: it is chosen so that a window has some entries, and not
+    // many more than the scan may give.
+    fn window_end(&self, from: &[u8], hi: &[u8], limit: u64) -> Result<Option<Bytes>, AllocError>
+        ensures { IfOk result (λ found. IfSome found (λ end. (key_le from.now end ≡ true) × (key_le end hi.now ≡ true))) }
+    {
+        Ok(None)
+    }
+}
+
+// The entries of three lists, in order.
+fn merged(
+    alloc: Global,
+    active: Vec<Entry>,
+    frozen: Vec<Entry>,
+    stored: Vec<Entry>,
+) -> Result<Vec<Entry>, AllocError>
+    requires { IsInOrder active.items × IsInOrder frozen.items × IsInOrder stored.items }
+    ensures all { IfOk result (λ entries. IsPermutation (active.items ++ (frozen.items ++ stored.items)) entries.items) }
+    ensures order { IfOk result (λ entries. IsInOrder entries.items) }
+{
+    let mut lists = Vec::with_capacity(alloc, 3)?;
+    lists.push(active)?;
+    lists.push(frozen)?;
+    lists.push(stored)?;
+    let entries = merge_lists(alloc, lists)?;
+    Ok(entries)
+}
+
+// Adds what entries in order show at the point, up to the limit.
+fn push_shown(
+    pairs: &mut Vec<(Bytes, Bytes)>,
+    entries: &[Entry],
+    point: Seq,
+    limit: u64,
+) -> Result<(), AllocError>
+    requires { length pairs.old.items ≤ limit }
+    ensures { OnOk result (pairs.new.items ≡ take limit (pairs.old.items ++ shown_pairs point None entries.now)) }
+{
+    let mut before: Option<&Entry> = None;
+    for entry in entries {
+        if pairs.len() as u64 >= limit {
+            return Ok(());
+        }
+        if hides(point, before, entry) {
+            continue;
+        }
+        push_pair(pairs, entry)?;
+        before = Some(entry);
+    }
+    Ok(())
+}
+
+// Adds the key and the value of a put.
+fn push_pair(pairs: &mut Vec<(Bytes, Bytes)>, entry: &Entry) -> Result<(), AllocError>
+    ensures { OnOk result (pairs.new.items ≡ pairs.old.items ++ pair_of entry.now) }
+{
+    match entry.ikey.kind {
+        Kind::Put => {
+            let key = entry.ikey.key.clone()?;
+            let value = entry.value.clone()?;
+            pairs.push((key, value))?;
+        }
+        Kind::Delete => {}
+    }
+    Ok(())
+}
+
+// The point does not see the entry, or saw a newer one of its key before.
+fn hides(point: Seq, before: Option<&Entry>, entry: &Entry) -> bool
+    ensures { result ≡ is_hidden point (option_map (λ (r : Bor Entry). r.now) before.entry) entry.now }
+{
+    if entry.ikey.seq > point {
+        return true;
+    }
+    match before {
+        None => false,
+        Some(seen) => seen.ikey.key == entry.ikey.key,
+    }
+}
