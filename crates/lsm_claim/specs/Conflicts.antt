@@ -1,0 +1,26 @@
+-- When two jobs get in each other's way (LevelDB, implementation notes: compactions; RocksDB wiki, Leveled Compaction: compactions in parallel).
+use Rattle.std.specs.Prelude.{ℕ, Bool, ◌&&◌, List}
+use Rattle.lsm_key.specs.Order.{key_le}
+use Rattle.lsm_claim.specs.declared.hull.Hull.{Hull}
+use Rattle.lsm_claim.specs.declared.job.Want.{Want}
+use Rattle.lsm_claim.specs.Levels.{shares_level}
+
+-- the key is one of those from lo to hi, both in them
+abbrev pub is_within : List ℕ → List ℕ → List ℕ → Bool
+is_within lo hi key = key_le lo key && key_le key hi
+
+-- the keys from lo to hi and those from other_lo to other_hi have one in common, where there are any of each
+abbrev pub ranges_meet : List ℕ → List ℕ → List ℕ → List ℕ → Bool
+ranges_meet lo hi other_lo other_hi = key_le lo other_hi && key_le other_lo hi
+
+-- the same of a hull
+abbrev pub covers : Hull → List ℕ → Bool
+covers h key = is_within h.lo h.hi key
+
+-- the same of two hulls, each of which has a key
+abbrev pub meets : Hull → Hull → Bool
+meets h g = ranges_meet h.lo h.hi g.lo g.hi
+
+-- two jobs share a level, and have a key in common
+abbrev pub conflicts : Want → Want → Bool
+conflicts w v = shares_level w.level v.level && meets w.hull v.hull

@@ -1,0 +1,5 @@
+pub mod Levels
+pub mod Conflicts
+pub mod Jobs
+pub mod Book
+pub mod Laws

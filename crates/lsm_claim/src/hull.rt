@@ -1,0 +1,55 @@
+//! Hulls: the keys of a job.
+
+ghost use Rattle.std.specs.Prelude.{◌≡◌, true};
+ghost use Rattle.lsm_key.specs.Order.{key_le};
+
+use bytes::Bytes;
+use std::alloc::AllocError;
+
+/// The keys of a job, from its least one to its greatest one, both in it. Its type keeps the two in order, so that no hull
+/// is empty: one that has no key could still meet others by its ends, and would stand in their way for nothing.
+#[derive(Debug, Drop)]
+pub struct Hull {
+    /// Its least key.
+    pub lo: Bytes,
+    /// Its greatest key.
+    pub hi: Bytes,
+    pub ghost proper: { key_le lo hi ≡ true },
+}
+
+impl Hull {
+    ghost use Rattle.std.specs.Prelude.{◌≡◌, ◌↔◌, true, IsSome, IfSome};
+    ghost use Rattle.lsm_key.specs.Order.{key_le};
+    ghost use Rattle.lsm_claim.specs.Conflicts.{ranges_meet};
+
+    /// The keys from `lo` to `hi`, or `None` where `lo` stands after `hi`.
+    pub fn new(lo: Bytes, hi: Bytes) -> Option<Hull>
+        ensures proper { IsSome result ↔ (key_le lo hi ≡ true) }
+        ensures kept { IfSome result (λ hull. (hull.lo ≡ lo) × (hull.hi ≡ hi)) }
+    {
+        if lo.as_slice().cmp(hi.as_slice()).is_gt() {
+            return None;
+        }
+        Some(Hull { lo, hi })
+    }
+
+    /// Whether it has a key in common with the keys from `lo` to `hi`, both in them, where there are any.
+    pub fn meets(&self, lo: &[u8], hi: &[u8]) -> bool
+        ensures { result ≡ ranges_meet self.now.lo self.now.hi lo.now hi.now }
+    {
+        self.lo.as_slice().cmp(hi).is_le() && lo.cmp(self.hi.as_slice()).is_le()
+    }
+}
+
+impl Clone for Hull {
+    ghost use Rattle.std.specs.Prelude.{◌≡◌};
+
+    ghost is_clone = { λ hull copy. copy ≡ hull };
+
+    /// The same hull. It shares the bytes.
+    fn clone(&self) -> Result<Hull, AllocError> {
+        let lo = self.lo.clone()?;
+        let hi = self.hi.clone()?;
+        Ok(Hull { lo, hi })
+    }
+}

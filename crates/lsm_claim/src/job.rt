@@ -1,0 +1,75 @@
+//! Jobs: what a merge works on, and under which name.
+
+ghost use Rattle.std.specs.Prelude.{◌≡◌};
+ghost use Rattle.lsm_claim.specs.Levels.{shares_level, uses_level};
+
+use crate::Hull;
+use lsm_key::Items;
+use std::alloc::{AllocError, Global};
+
+/// As many claims as may be live at a time: one for each dispatcher.
+pub const MAX_LIVE_CLAIMS: usize = 4;
+
+/// The name of a job: the epoch that gave it, and its number there, from 1.
+#[derive(Clone, Copy, Debug, PartialEq, Eq)]
+pub struct JobId {
+    pub epoch: u64,
+    pub number: u64,
+}
+
+/// What a job is to merge: files of a level and of the next one, and the keys that these have.
+#[derive(Debug, Drop)]
+pub struct Want {
+    /// The upper one of its two levels.
+    pub level: u8,
+    /// The numbers of its input files.
+    pub files: Items<u64>,
+    pub hull: Hull,
+}
+
+/// A job whose claim has not been settled.
+#[derive(Debug, Drop)]
+pub struct LiveJob {
+    pub id: JobId,
+    pub want: Want,
+}
+
+impl Want {
+    ghost use Rattle.std.specs.Prelude.{◌≡◌, IfOk};
+    ghost use Rattle.lsm_claim.specs.Conflicts.{conflicts};
+
+    /// Whether two jobs get in each other's way: they share a level, and have a key in common.
+    pub fn conflicts_with(&self, other: &Want) -> bool
+        ensures { result ≡ conflicts self.now other.now }
+    {
+        let hull = &other.hull;
+        shares_level(self.level, other.level)
+            && self.hull.meets(hull.lo.as_slice(), hull.hi.as_slice())
+    }
+
+    /// The same want. Its keys share the bytes.
+    pub fn copy(&self, alloc: Global) -> Result<Want, AllocError>
+        ensures { IfOk result (λ want. want ≡ self.now) }
+    {
+        let files = self.files.as_slice().to_vec(alloc)?;
+        Ok(Want {
+            level: self.level,
+            files: Items::from_vec(files),
+            hull: self.hull.clone()?,
+        })
+    }
+}
+
+/// Whether jobs of these levels share one: a job uses its level and the next.
+pub fn shares_level(a: u8, b: u8) -> bool
+    ensures { result ≡ shares_level a b }
+{
+    uses_level(a, b) || uses_level(b, a)
+}
+
+// A job of a level uses that level and the next.
+fn uses_level(job: u8, level: u8) -> bool
+    ensures { result ≡ uses_level job level }
+{
+    level == job || level as u16 == job as u16 + 1
+}

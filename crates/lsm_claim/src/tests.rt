@@ -1,0 +1,181 @@
+//! What no clause says: that calls succeed, and that conflicts, names and counts are the ones that are meant.
+
+use crate::{Claim, ClaimBook, ClaimError, Ending, Hull, JobId, Settled, Want, shares_level};
+use bytes::Bytes;
+use lsm_key::Items;
+use std::alloc::Global;
+use std::process::Abort;
+use std::test::Fail;
+
+fn hull_of(rt: &impl Abort, lo: &'static str, hi: &'static str) -> Hull {
+    let lo = Bytes::from_static(lo.as_bytes());
+    let hi = Bytes::from_static(hi.as_bytes());
+    Hull::new(lo, hi).expect(rt, "no hull")
+}
+
+/// A job of a level with these keys and two files. A claim can't be left behind by `?`, so that want of memory ends the test.
+fn want_of(rt: &impl Abort, alloc: Global, level: u8, lo: &'static str, hi: &'static str) -> Want {
+    let files = [7, 9].to_vec(alloc).expect(rt, "no files");
+    Want {
+        level,
+        files: Items::from_vec(files),
+        hull: hull_of(rt, lo, hi),
+    }
+}
+
+/// A claim of such a job.
+fn claim_of(
+    rt: &impl Abort,
+    book: &mut ClaimBook,
+    alloc: Global,
+    level: u8,
+    lo: &'static str,
+    hi: &'static str,
+) -> Claim {
+    let want = want_of(rt, alloc, level, lo, hi);
+    book.claim(want).expect(rt, "no claim")
+}
+
+/// Why such a job is not claimed, if it is not.
+fn refusal_of(
+    rt: &impl Abort,
+    book: &mut ClaimBook,
+    alloc: Global,
+    level: u8,
+    lo: &'static str,
+    hi: &'static str,
+) -> Option<ClaimError> {
+    let want = want_of(rt, alloc, level, lo, hi);
+    match book.claim(want) {
+        Ok(claim) => {
+            book.settle(claim, Ending::Returned);
+            None
+        }
+        Err(why) => Some(why),
+    }
+}
+
+fn id(epoch: u64, number: u64) -> JobId {
+    JobId { epoch, number }
+}
+
+#[test]
+fn jobs_that_share_a_level_and_a_key_wait_for_each_other(rt: HostRuntime) {
+    let alloc = rt.alloc();
+    let mut book = ClaimBook::new(alloc, 1);
+    let first = claim_of(&rt, &mut book, alloc, 0, "a", "c");
+    assert_eq!(rt; first.id(), id(1, 1));
+    let met = Some(ClaimError::Overlaps(id(1, 1)));
+    assert_eq!(rt; refusal_of(&rt, &mut book, alloc, 1, "b", "d"), met);
+    let second = claim_of(&rt, &mut book, alloc, 2, "b", "d");
+    assert_eq!(rt; second.id(), id(1, 2));
+    assert_eq!(rt; refusal_of(&rt, &mut book, alloc, 1, "b", "d"), met);
+    let third = claim_of(&rt, &mut book, alloc, 0, "d", "e");
+    let fourth = claim_of(&rt, &mut book, alloc, 2, "e", "f");
+    let full = Some(ClaimError::BookFull);
+    assert_eq!(rt; refusal_of(&rt, &mut book, alloc, 5, "a", "z"), full);
+    assert_eq!(rt; refusal_of(&rt, &mut book, alloc, 1, "b", "d"), met);
+    assert_eq!(rt; book.live().len(), 4);
+
+    assert_eq!(rt; book.settle(third, Ending::Installed), Settled::Live);
+    assert_eq!(rt; book.settle(first, Ending::Returned), Settled::Live);
+    let met = Some(ClaimError::Overlaps(id(1, 2)));
+    assert_eq!(rt; refusal_of(&rt, &mut book, alloc, 1, "b", "d"), met);
+    assert_eq!(rt; book.settle(fourth, Ending::Installed), Settled::Live);
+    assert_eq!(rt; book.settle(second, Ending::Installed), Settled::Live);
+    assert_eq!(rt; (book.made(), book.installed(), book.returned()), (4, 3, 1));
+    assert_eq!(rt; book.live().len(), 0);
+}
+
+#[test]
+fn a_claim_of_another_epoch_is_stale(rt: HostRuntime) {
+    let alloc = rt.alloc();
+    let mut old = ClaimBook::new(alloc, 1);
+    let mut new = ClaimBook::new(alloc, 2);
+    let held = claim_of(&rt, &mut old, alloc, 0, "a", "c");
+    let live = claim_of(&rt, &mut new, alloc, 0, "a", "c");
+    assert_eq!(rt; (held.id(), live.id()), (id(1, 1), id(2, 1)));
+    assert!(rt; old.holds(&held) && new.holds(&live));
+    assert!(rt; !old.holds(&live) && !new.holds(&held));
+    assert_eq!(rt; new.settle(held, Ending::Installed), Settled::Stale);
+    assert_eq!(rt; (new.made(), new.installed(), new.returned()), (1, 0, 0));
+    assert_eq!(rt; new.settle(live, Ending::Returned), Settled::Live);
+    assert_eq!(rt; (new.made(), new.installed(), new.returned()), (1, 0, 1));
+    assert_eq!(rt; (new.epoch(), old.live().len()), (2, 1));
+}
+
+#[test]
+fn a_claim_has_what_was_wanted(rt: HostRuntime) {
+    let alloc = rt.alloc();
+    let mut book = ClaimBook::new(alloc, 3);
+    let claim = claim_of(&rt, &mut book, alloc, 4, "k", "p");
+    assert_eq!(rt; claim.level(), 4);
+    assert_eq!(rt; claim.inputs(), [7, 9].as_slice());
+    assert_eq!(rt; claim.hull().lo.as_slice(), b"k".as_slice());
+    assert_eq!(rt; claim.hull().hi.as_slice(), b"p".as_slice());
+    assert_eq!(rt; book.settle(claim, Ending::Installed), Settled::Live);
+}
+
+#[test]
+fn hulls_meet_at_their_ends(rt: HostRuntime) {
+    let hull = hull_of(&rt, "b", "d");
+    for (lo, hi, want) in [
+        ("a", "az", false),
+        ("a", "b", true),
+        ("c", "c", true),
+        ("a", "z", true),
+        ("d", "e", true),
+        ("d\0", "e", false),
+    ] {
+        assert_eq!(rt;
+            hull.meets(lo.as_bytes(), hi.as_bytes()),
+            want,
+            "from {lo} to {hi}"
+        );
+    }
+}
+
+#[test]
+fn a_hull_has_a_key(rt: HostRuntime) {
+    for (lo, hi, want) in [("a", "b", true), ("b", "b", true), ("b", "a", false)] {
+        let lo = Bytes::from_static(lo.as_bytes());
+        let hi = Bytes::from_static(hi.as_bytes());
+        assert_eq!(rt; Hull::new(lo, hi).is_some(), want);
+    }
+}
+
+#[test]
+fn a_job_uses_its_level_and_the_next(rt: HostRuntime) {
+    for (a, b, want) in [
+        (0, 0, true),
+        (0, 1, true),
+        (1, 0, true),
+        (0, 2, false),
+        (2, 0, false),
+        (5, 6, true),
+        (255, 255, true),
+        (255, 0, false),
+    ] {
+        assert_eq!(rt; shares_level(a, b), want, "levels {a} and {b}");
+    }
+}
+
+#[test]
+fn refusals_have_texts(rt: HostRuntime) -> Result<(), Fail> {
+    for (why, want) in [
+        (
+            ClaimError::Overlaps(id(3, 14)),
+            "the live job 3.14 shares a level, and has a key in common",
+        ),
+        (ClaimError::BookFull, "four claims are live"),
+        (
+            ClaimError::NumbersExhausted,
+            "the job numbers are exhausted",
+        ),
+        (ClaimError::OutOfMemory, "out of memory"),
+    ] {
+        let text = format!(in rt.alloc(); "{why}")?;
+        assert_eq!(rt; text.as_str(), want);
+    }
+    Ok(())
+}
