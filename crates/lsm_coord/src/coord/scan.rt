@@ -62,7 +62,8 @@ impl Coord {
             if pairs.len() as u64 >= limit {
                 return Ok(pairs);
             }
-            let Some(end) = self.window_end(&from, hi, limit)? else {
+            let wanted = limit - pairs.len() as u64;
+            let Some(end) = self.window_end(&from, hi, wanted)? else {
                 break;
             };
             self.go_on(&mut pairs, &from, &end, point, limit)?;
