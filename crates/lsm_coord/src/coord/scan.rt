@@ -149,7 +149,7 @@ fn push_shown(
 {
     let mut before: Option<&Entry> = None;
     for entry in entries {
-        if pairs.len() as u64 >= limit {
+        if limit <= pairs.len() as u64 {
             return Ok(());
         }
         if hides(point, before, entry) {
