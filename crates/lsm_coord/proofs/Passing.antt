@@ -176,6 +176,7 @@ module _ (p : ℕ) (e : Entry) (es : List Entry) where
         after_here : (before : Option Entry) (x : Pair) → x.0 ≡ e.ikey.key → After before e.ikey.key → After before x.0
         after_here None x k a = tt
         after_here (Some l) x k a = subst (λ (key : List ℕ). IsBelow l.ikey.key key) (sym k) a
+
         after_there : (before : Option Entry) (x : Pair) → After before e.ikey.key → IsBelow e.ikey.key x.0 → After before x.0
         after_there None x a b = tt
         after_there (Some l) x a b = below_trans l.ikey.key e.ikey.key x.0 a b

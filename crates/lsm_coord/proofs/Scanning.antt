@@ -104,14 +104,14 @@ module _ (value_of : List ℕ → Option (List ℕ)) where
       ascending = ascending (take limit (old ++ more)) (ascends-take limit (old ++ more) joined);
       right = λ p m. right_of p (in_front limit (old ++ more) p m);
       whole = λ key value inside v.
-      let parts = within_parts lo to key inside in
-      elim (key_or key from) [
-        | inl below ↦ elim (r.whole key value (within_from lo from key parts.0 below) v) [
-          | inl i ↦ first_of (key, value) (IsIn-append_left (key, value) old more i)
-          | inr out ↦ inr (rw (only_old out.0) out)
-        ]
-        | inr after ↦ first_of (key, value) (IsIn-append_right (key, value) old more (w.whole key value (within_from from to key after parts.1) v))
-      ];
+          let parts = within_parts lo to key inside in
+          elim (key_or key from) [
+            | inl below ↦ elim (r.whole key value (within_from lo from key parts.0 below) v) [
+              | inl i ↦ first_of (key, value) (IsIn-append_left (key, value) old more i)
+              | inr out ↦ inr (rw (only_old out.0) out)
+            ]
+            | inr after ↦ first_of (key, value) (IsIn-append_right (key, value) old more (w.whole key value (within_from from to key after parts.1) v))
+          ];
     }
 
 -- only the values count

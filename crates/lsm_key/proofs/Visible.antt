@@ -1,13 +1,12 @@
 -- What is latest of a list, as a fact on a set.
-use Rattle.std.proofs.Common.{◌≡◌, ℕ, ◌<◌, ◌≤◌, Bool, true, false, cond, ◌&&◌, ◌⊎◌, List, [], ◌∷◌, ◌++◌, Option, Some, None, MatchOption, refl, sym, ap, ◌∙◌, subst, inl, inr, arith, ltb}
-use Rattle.std.proofs.lemmas.Bool.{true≢false, and_parts, and_from, ltb-true, ltb-false, leb-true, le-leb, lt-ltb, le-ltb}
+use Rattle.std.proofs.Common.{◌≡◌, ℕ, ◌<◌, ◌≤◌, Bool, true, false, cond, List, [], ◌∷◌, ◌++◌, Option, Some, None, refl, sym, ap, ◌∙◌, subst, inl, inr, arith, ltb}
+use Rattle.std.proofs.lemmas.Bool.{true≢false, and_parts, and_from, ltb-true, ltb-false, leb-true, le-leb}
 use Rattle.std.proofs.lemmas.Bool.Decides.{nat_tests}
 use Rattle.std.specs.Bool.{nat_le}
-use Rattle.std.specs.Str.{bytes_eq}
 use Rattle.std.specs.Cmp.Lexicographic.{bytes_decides}
 use Rattle.lsm_key.specs.declared.entry.Entry.{Entry}
 use Rattle.lsm_key.specs.Sets.{IsIn, SameMembers}
-use Rattle.lsm_key.specs.Visible.{has_key, is_seen, newer, latest, visible, newest, IsLatest, Latest, IsUnique}
+use Rattle.lsm_key.specs.Visible.{has_key, is_seen, newer, latest, visible, IsLatest, Latest, IsUnique}
 
 pub has_key-is : (key : List ℕ) (e : Entry) → has_key key e ≡ true → e.ikey.key ≡ key
 has_key-is key e h = (bytes_decides e.ikey.key key).0 h

@@ -12,6 +12,7 @@ use std::alloc::AllocError;
 
 /// How many keys or entries of a source a window has, at least and at most, where they have one version each.
 const FEWEST: u64 = 32;
+
 const MOST: u64 = 4_096;
 
 /// How often a window grows to twice its size before a scan takes all that is left at once.
@@ -67,13 +68,7 @@ impl Coord {
 // The lesser key of two.
 fn lesser<'a>(one: Option<&'a [u8]>, other: Option<&'a [u8]>) -> Option<&'a [u8]> {
     match (one, other) {
-        (Some(a), Some(b)) => {
-            if b.cmp(a).is_lt() {
-                Some(b)
-            } else {
-                Some(a)
-            }
-        }
+        (Some(a), Some(b)) => { if b.cmp(a).is_lt() { Some(b) } else { Some(a) } }
         (None, found) => found,
         (found, None) => found,
     }

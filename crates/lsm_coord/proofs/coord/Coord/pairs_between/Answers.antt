@@ -31,8 +31,7 @@ loop-window-preserved c =
     let start : key_le c.args.lo.now c.deref-in-loop-window.result.now ≡ true = rw c.deref-in-loop-window.ensures i.2 in
     let before : Scans c.args.self.now c.args.point c.args.lo.now c.deref-in-loop-window.result.now c.args.limit c.loop-window.pairs.items = rw c.deref-in-loop-window.ensures i.0 in
     let after = c.in_ok-go_on.ensures.more c.args.lo.now start before in
-    let next : key_le c.loop-window.from c.in-Some.end ≡ true = subst (λ (k : List ℕ). key_le k c.in-Some.end ≡ true) c.deref.ensures ends.0 in
-    (
+    let next : key_le c.loop-window.from c.in-Some.end ≡ true = subst (λ (k : List ℕ). key_le k c.in-Some.end ≡ true) c.deref.ensures ends.0 in (
       subst (λ (k : List ℕ). Scans c.args.self.now c.args.point c.args.lo.now k c.args.limit c.go_on.new.pairs.items) c.deref-in-loop-window-2.ensures after,
       c.in_ok-go_on.ensures.few,
       upto_trans c.args.lo.now c.loop-window.from c.in-Some.end i.2 next,

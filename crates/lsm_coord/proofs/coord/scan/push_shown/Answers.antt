@@ -38,12 +38,11 @@ loop-entry-preserved c =
     let here : drop i es ≡ e ∷ rest = drop_more es i e c.loop-entry-test.true ∙ ap (λ (x : Entry). x ∷ rest) (sym c.entry-item.is) in
     let seen : is_hidden c.args.point before e ≡ false = sym c.hides.ensures ∙ c.if-hides.false in
     let step = pass_seen c.args.point before e rest seen in
-    let pushed = c.in_ok-push_pair.ensures in
-    (
+    let pushed = c.in_ok-push_pair.ensures in (
       ap (λ (ps : List Pair). ps ++ shown_pairs c.args.point (Some e) rest) pushed
-      ∙ append_assoc old (pair_of e) (shown_pairs c.args.point (Some e) rest)
-      ∙ ap (λ (ps : List Pair). old ++ ps) (sym step ∙ ap (λ (xs : List Entry). shown_pairs c.args.point before xs) (sym here))
-      ∙ c.loop-entry.invariant.0,
+          ∙ append_assoc old (pair_of e) (shown_pairs c.args.point (Some e) rest)
+          ∙ ap (λ (ps : List Pair). old ++ ps) (sym step ∙ ap (λ (xs : List Entry). shown_pairs c.args.point before xs) (sym here))
+          ∙ c.loop-entry.invariant.0,
       omega (arith, ap length pushed, length-append old (pair_of e), one_pair e, c.loop-entry.pairs.ok.0, c.len.ensures, c.if-limit-len.false),
     )
 
