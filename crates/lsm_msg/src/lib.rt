@@ -9,8 +9,12 @@
 mod job;
 mod laws;
 mod lists;
+mod message;
+mod node;
 mod rules;
 
 pub use job::{Job, JobParts, JobResult, KeyRange};
 pub use laws::{hidden_entries_go, job_limits_are_these, kept_are_inputs, worked_merges};
+pub use message::{Body, Message};
+pub use node::{MAX_NODES, Node, NodeIndex};
 pub use rules::{MAX_DEEPER, MAX_INPUTS, MAX_JOB_LEVEL, MAX_POINTS};
