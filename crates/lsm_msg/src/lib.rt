@@ -12,6 +12,8 @@ mod lists;
 mod message;
 mod node;
 mod rules;
+#[cfg(test)]
+mod tests;
 
 pub use job::{Job, JobParts, JobResult, KeyRange};
 pub use laws::{hidden_entries_go, job_limits_are_these, kept_are_inputs, worked_merges};
