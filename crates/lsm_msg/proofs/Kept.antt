@@ -10,7 +10,7 @@ use Rattle.lsm_msg.specs.Merge.{IsNeeded, IsKept, may_go}
 use Rattle.lsm_msg.specs.Laws.{KeptAreInputs, HiddenEntriesGo, ASnapshotKeepsBoth, BothGo, ADeeperFileKeepsTheDeletion, put, deleted, over_a}
 
 -- the newest is the latest of its key
-at_newest : (es : List Entry) (key : List ℕ) (e : Entry) → newest es key ≡ Some e → IsLatest (has_key key) es e
+pub at_newest : (es : List Entry) (key : List ℕ) (e : Entry) → newest es key ≡ Some e → IsLatest (has_key key) es e
 at_newest es key e h = subst (Latest (has_key key) es) h (latest-is (has_key key) es)
 
 pub kept_input : KeptAreInputs

@@ -1,8 +1,10 @@
 -- What the definition of a merge comes to, in general and in cases that a reader can check by hand (LevelDB, db_impl.cc, DoCompactionWork).
 use Rattle.std.specs.Prelude.{◌≡◌, ℕ, ◌<◌, ◌≤◌, List, [], ◌∷◌}
+use Rattle.std.specs.Option.{option_and_then}
 use Rattle.lsm_key.specs.declared.entry.Entry.{Entry}
 use Rattle.lsm_key.specs.declared.entry.Kind.TheVariants.{Delete, Put}
 use Rattle.lsm_key.specs.Sets.{IsIn}
+use Rattle.lsm_key.specs.Visible.{IsUnique, newest, entry_value, value_at}
 use Rattle.lsm_msg.specs.declared.job.KeyRange.{KeyRange}
 use Rattle.lsm_msg.specs.Merge.{IsKept, HoldsKept}
 
@@ -16,6 +18,14 @@ HiddenEntriesGo =
     (inputs : List Entry) (points : List ℕ) (deeper : List KeyRange) (older later : Entry) → IsIn later inputs → older.ikey.key ≡ later.ikey.key
     → older.ikey.seq < later.ikey.seq → ((p : ℕ) → IsIn p points → older.ikey.seq ≤ p → later.ikey.seq ≤ p)
     → IsKept inputs points deeper older → ⊥
+
+-- reads of the outputs, at the end and at each point, give what reads of the inputs gave
+abbrev pub ReadsStay : Type 0
+ReadsStay =
+    (inputs outputs : List Entry) (points : List ℕ) (deeper : List KeyRange) → IsUnique inputs → HoldsKept inputs points deeper outputs
+    → (key : List ℕ)
+    → (option_and_then entry_value (newest outputs key) ≡ option_and_then entry_value (newest inputs key))
+    × ((p : ℕ) → IsIn p points → value_at outputs key p ≡ value_at inputs key p)
 
 -- the text a, by its byte
 abbrev pub a : List ℕ

@@ -3,7 +3,7 @@
 
 ghost use Rattle.std.specs.Prelude.{◌≡◌};
 ghost use Rattle.lsm_msg.specs.declared.rules.TheConstants.{MAX_DEEPER, MAX_INPUTS, MAX_JOB_LEVEL, MAX_POINTS};
-ghost use Rattle.lsm_msg.specs.Laws.{KeptAreInputs, HiddenEntriesGo, ASnapshotKeepsBoth, BothGo, ADeeperFileKeepsTheDeletion};
+ghost use Rattle.lsm_msg.specs.Laws.{KeptAreInputs, HiddenEntriesGo, ReadsStay, ASnapshotKeepsBoth, BothGo, ADeeperFileKeepsTheDeletion};
 
 /// A merge makes no entry: what is kept was there.
 pub fn kept_are_inputs()
@@ -13,6 +13,12 @@ pub fn kept_are_inputs()
 /// Of two entries of a key the older goes where no point sees it alone.
 pub fn hidden_entries_go()
     ensures { HiddenEntriesGo }
+{}
+
+/// Reads of what is kept, at the end and at each point, give what reads of the inputs gave, where no two inputs have one key
+/// and sequence.
+pub fn reads_stay()
+    ensures { ReadsStay }
 {}
 
 /// A put and its deletion, merged with a snapshot between them, with none, and with a deeper file that may have the key.

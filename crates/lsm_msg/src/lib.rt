@@ -16,7 +16,9 @@ mod rules;
 mod tests;
 
 pub use job::{Job, JobParts, JobResult, KeyRange};
-pub use laws::{hidden_entries_go, job_limits_are_these, kept_are_inputs, worked_merges};
+pub use laws::{
+    hidden_entries_go, job_limits_are_these, kept_are_inputs, reads_stay, worked_merges,
+};
 pub use message::{Body, Message};
 pub use node::{MAX_NODES, Node, NodeIndex};
 pub use rules::{MAX_DEEPER, MAX_INPUTS, MAX_JOB_LEVEL, MAX_POINTS};
