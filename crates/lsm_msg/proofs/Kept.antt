@@ -1,12 +1,12 @@
 -- What is kept, for any inputs and in the worked cases.
-use Rattle.std.proofs.Common.{◌≡◌, ℕ, ◌<◌, ◌≤◌, true, false, List, [], ◌∷◌, Some, refl, sym, ap, subst, ◌∙◌, inl, inr, arith}
+use Rattle.std.proofs.Common.{◌≡◌, ℕ, ◌≤◌, List, [], ◌∷◌, Some, refl, sym, subst, inl, inr, arith}
 use Rattle.std.proofs.lemmas.Bool.{true≢false}
 use Rattle.lsm_key.specs.declared.entry.Entry.{Entry}
 use Rattle.lsm_key.specs.Sets.{IsIn}
-use Rattle.lsm_key.specs.Visible.{Latest, IsLatest, has_key, is_seen, visible, newest}
+use Rattle.lsm_key.specs.Visible.{Latest, IsLatest, has_key, newest}
 use Rattle.lsm_key.proofs.Visible.{latest-is, at_visible, has_key-at, is_seen-from, is_seen-low}
 use Rattle.lsm_msg.specs.declared.job.KeyRange.{KeyRange}
-use Rattle.lsm_msg.specs.Merge.{IsNeeded, IsKept, may_go}
+use Rattle.lsm_msg.specs.Merge.{IsKept}
 use Rattle.lsm_msg.specs.Laws.{KeptAreInputs, HiddenEntriesGo, ASnapshotKeepsBoth, BothGo, ADeeperFileKeepsTheDeletion, put, deleted, over_a}
 
 -- the newest is the latest of its key

@@ -1,6 +1,5 @@
 -- What the outputs of a merge show, against what its inputs showed.
-use Rattle.std.proofs.Common.{◌≡◌, ℕ, ◌≤◌, Bool, true, false, ◌&&◌, not, List, [], ◌∷◌, Option, Some, None, refl, sym, ap, subst, ◌∙◌, inl, inr, arith, leb}
-use Rattle.std.specs.List.{list_all}
+use Rattle.std.proofs.Common.{◌≡◌, ℕ, ◌≤◌, Bool, true, ◌&&◌, not, List, [], ◌∷◌, Option, Some, None, refl, sym, ap, subst, ◌∙◌, inl, inr, arith, leb}
 use Rattle.std.specs.Option.{option_and_then}
 use Rattle.std.proofs.lemmas.Bool.{true≢false, cases_Bool, and_parts, leb-true}
 use Rattle.lsm_key.specs.declared.entry.Entry.{Entry}
@@ -69,6 +68,17 @@ module _ (inputs outputs : List Entry) (points : List ℕ) (deeper : List KeyRan
           | inr stay ↦ ap (option_and_then entry_value) (stays x top (record { needed = needs x (of_key x top.passes) e; stays = stay }))
         ]
 
+-- where every input is seen, the newest is what is seen
+all_seen : (inputs : List Entry) (key : List ℕ) (p : ℕ) → IsUnique inputs → ((e : Entry) → IsIn e inputs → e.ikey.seq ≤ p) → (x : Entry) → latest (is_seen key p) inputs ≡ Some x → latest (has_key key) inputs ≡ Some x
+all_seen inputs key p unique low x e =
+    let top = at_visible inputs key p x e in
+    let apart : AreApart (has_key key) inputs = λ y z my mz ty tz s. unique y z my mz (has_key-is key y ty ∙ sym (has_key-is key z tz)) s in
+    latest_one (has_key key) inputs apart (latest (has_key key) inputs) (Some x) (latest-is (has_key key) inputs) (record {
+      member = top.member;
+      passes = has_key-at key x (is_seen-key key p x top.passes);
+      greatest = λ y m ty. top.greatest y m (is_seen-from key p y (has_key-is key y ty) (low y m));
+    })
+
 pub reads_stay : ReadsStay
 reads_stay inputs outputs points deeper unique kept key = (
   gives inputs outputs points deeper unique kept key (has_key key) (has_key-is key)
@@ -76,5 +86,8 @@ reads_stay inputs outputs points deeper unique kept key = (
       (latest (has_key key) inputs) refl,
   λ p m. gives inputs outputs points deeper unique kept key (is_seen key p) (is_seen-key key p)
       (λ x same e. inr (p, m, ap (λ (c : List ℕ). latest (is_seen c p) inputs) same ∙ e))
+      (latest (is_seen key p) inputs) refl,
+  λ p low. gives inputs outputs points deeper unique kept key (is_seen key p) (is_seen-key key p)
+      (λ x same e. inl (ap (λ (c : List ℕ). latest (has_key c) inputs) same ∙ all_seen inputs key p unique low x e))
       (latest (is_seen key p) inputs) refl,
 )

@@ -19,13 +19,14 @@ HiddenEntriesGo =
     → older.ikey.seq < later.ikey.seq → ((p : ℕ) → IsIn p points → older.ikey.seq ≤ p → later.ikey.seq ≤ p)
     → IsKept inputs points deeper older → ⊥
 
--- reads of the outputs, at the end and at each point, give what reads of the inputs gave
+-- reads of the outputs give what reads of the inputs gave: at the end, at each point, and where every input is seen
 abbrev pub ReadsStay : Type 0
 ReadsStay =
     (inputs outputs : List Entry) (points : List ℕ) (deeper : List KeyRange) → IsUnique inputs → HoldsKept inputs points deeper outputs
     → (key : List ℕ)
     → (option_and_then entry_value (newest outputs key) ≡ option_and_then entry_value (newest inputs key))
     × ((p : ℕ) → IsIn p points → value_at outputs key p ≡ value_at inputs key p)
+    × ((p : ℕ) → ((e : Entry) → IsIn e inputs → e.ikey.seq ≤ p) → value_at outputs key p ≡ value_at inputs key p)
 
 -- the text a, by its byte
 abbrev pub a : List ℕ

@@ -12,7 +12,9 @@ use std::marker::Model;
 /// The keys from one to another, both in it: those of a file, as its record says. Within the rules or not.
 #[derive(Debug, Drop, Clone)]
 pub struct KeyRange {
+    /// Its least key.
     pub lo: Bytes,
+    /// Its greatest key.
     pub hi: Bytes,
 }
 

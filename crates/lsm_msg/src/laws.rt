@@ -15,8 +15,8 @@ pub fn hidden_entries_go()
     ensures { HiddenEntriesGo }
 {}
 
-/// Reads of what is kept, at the end and at each point, give what reads of the inputs gave, where no two inputs have one key
-/// and sequence.
+/// Reads of what is kept give what reads of the inputs gave, at the end, at each point and where every input is seen. No two
+/// inputs may have one key and sequence.
 pub fn reads_stay()
     ensures { ReadsStay }
 {}

@@ -63,3 +63,9 @@ pub(crate) fn same_points(ps: &[Seq], qs: &[Seq]) -> bool
 {
     ps == qs
 }
+
+pub(crate) fn same_numbers(a: &[u64], b: &[u64]) -> bool
+    ensures { IsTrue result ↔ a.now ≡ b.now }
+{
+    a == b
+}

@@ -2,7 +2,7 @@
 
 ghost use Rattle.std.specs.Prelude.{◌≡◌, ◌↔◌, IfOk, IsTrue};
 
-use crate::lists::same_files;
+use crate::lists::{same_files, same_numbers};
 use crate::{Job, JobResult, Node};
 use bytes::Bytes;
 use lsm_edit::Edit;
@@ -122,10 +122,4 @@ fn are_same(a: &Edit, b: &Edit) -> bool
         && a.next_file == b.next_file
         && same_numbers(a.removed.as_slice(), b.removed.as_slice())
         && same_files(a.added.as_slice(), b.added.as_slice())
-}
-
-fn same_numbers(a: &[u64], b: &[u64]) -> bool
-    ensures { IsTrue result ↔ a.now ≡ b.now }
-{
-    a == b
 }
