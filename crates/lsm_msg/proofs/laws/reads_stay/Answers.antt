@@ -1,0 +1,5 @@
+use Rattle.lsm_msg.proofs.Showing.{reads_stay}
+use Rattle.lsm_msg.proofs.laws.reads_stay.Goals as goal
+
+pub returns : goal.returns
+returns c = reads_stay

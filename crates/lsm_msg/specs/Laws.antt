@@ -1,0 +1,55 @@
+-- What the definition of a merge comes to, in general and in cases that a reader can check by hand (LevelDB, db_impl.cc, DoCompactionWork).
+use Rattle.std.specs.Prelude.{◌≡◌, ℕ, ◌<◌, ◌≤◌, List, [], ◌∷◌}
+use Rattle.std.specs.Option.{option_and_then}
+use Rattle.lsm_key.specs.declared.entry.Entry.{Entry}
+use Rattle.lsm_key.specs.declared.entry.Kind.TheVariants.{Delete, Put}
+use Rattle.lsm_key.specs.Sets.{IsIn}
+use Rattle.lsm_key.specs.Visible.{IsUnique, newest, entry_value, value_at}
+use Rattle.lsm_msg.specs.declared.job.KeyRange.{KeyRange}
+use Rattle.lsm_msg.specs.Merge.{IsKept, HoldsKept}
+
+-- a merge makes no entry
+abbrev pub KeptAreInputs : Type 0
+KeptAreInputs = (inputs : List Entry) (points : List ℕ) (deeper : List KeyRange) (e : Entry) → IsKept inputs points deeper e → IsIn e inputs
+
+-- of two entries of a key the older goes where no point sees it alone
+abbrev pub HiddenEntriesGo : Type 0
+HiddenEntriesGo =
+    (inputs : List Entry) (points : List ℕ) (deeper : List KeyRange) (older later : Entry) → IsIn later inputs → older.ikey.key ≡ later.ikey.key
+    → older.ikey.seq < later.ikey.seq → ((p : ℕ) → IsIn p points → older.ikey.seq ≤ p → later.ikey.seq ≤ p)
+    → IsKept inputs points deeper older → ⊥
+
+-- reads of the outputs give what reads of the inputs gave: at the end, at each point, and where every input is seen
+abbrev pub ReadsStay : Type 0
+ReadsStay =
+    (inputs outputs : List Entry) (points : List ℕ) (deeper : List KeyRange) → IsUnique inputs → HoldsKept inputs points deeper outputs
+    → (key : List ℕ)
+    → (option_and_then entry_value (newest outputs key) ≡ option_and_then entry_value (newest inputs key))
+    × ((p : ℕ) → IsIn p points → value_at outputs key p ≡ value_at inputs key p)
+    × ((p : ℕ) → ((e : Entry) → IsIn e inputs → e.ikey.seq ≤ p) → value_at outputs key p ≡ value_at inputs key p)
+
+-- the text a, by its byte
+abbrev pub a : List ℕ
+a = 97 ∷ []
+
+abbrev pub over_a : KeyRange
+over_a = record { lo = a; hi = a }
+
+-- the key a is put at sequence 1, and deleted at sequence 2
+abbrev pub put : Entry
+put = record { ikey = record { key = a; seq = 1; kind = Put }; value = 49 ∷ [] }
+
+abbrev pub deleted : Entry
+deleted = record { ikey = record { key = a; seq = 2; kind = Delete }; value = [] }
+
+-- a snapshot at sequence 1 keeps both
+abbrev pub ASnapshotKeepsBoth : Type 0
+ASnapshotKeepsBoth = HoldsKept (deleted ∷ put ∷ []) (1 ∷ []) [] (deleted ∷ put ∷ [])
+
+-- with no snapshot and no deeper file both go
+abbrev pub BothGo : Type 0
+BothGo = HoldsKept (deleted ∷ put ∷ []) [] [] []
+
+-- a deeper file that may have the key keeps the deletion
+abbrev pub ADeeperFileKeepsTheDeletion : Type 0
+ADeeperFileKeepsTheDeletion = HoldsKept (deleted ∷ put ∷ []) [] (over_a ∷ []) (deleted ∷ [])

@@ -1,0 +1,4 @@
+pub mod Rules
+pub mod Jobs
+pub mod Merge
+pub mod Laws
