@@ -4,9 +4,9 @@ use Rattle.std.specs.Ordering.{nat_cmp, is_lt, is_gt, is_ge, ordering_reverse}
 use Rattle.std.specs.Cmp.Lexicographic.{slice_cmp}
 use Rattle.std.specs.declared.cmp.Ordering.{Ordering}
 use Rattle.std.specs.declared.cmp.Ordering.TheVariants.{Less, Equal, Greater}
-use Rattle.std.proofs.lemmas.Bool.{and_parts, not-true, false_from_ne_true}
+use Rattle.std.proofs.lemmas.Bool.{and_parts, false_from_ne_true}
 use Rattle.std.proofs.lemmas.Cmp.{nat_list_cmp_total}
-use Rattle.lsm_key.specs.Order.{key_le, key_lt, key_between}
+use Rattle.lsm_key.specs.Order.{key_le, key_lt}
 use Rattle.lsm_key.proofs.Order.{keys_equal, is_less}
 use Rattle.lsm_key.proofs.Ranges.{not_before}
 use Rattle.lsm_coord.specs.Range.{IsBelow, IsWithin}

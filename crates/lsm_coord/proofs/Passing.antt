@@ -1,5 +1,5 @@
 -- A pass over entries in order gives the pairs of the keys that have a value.
-use Rattle.std.proofs.Common.{◌≡◌, ℕ, ◌<◌, ◌≤◌, Bool, true, false, not, cond, ◌||◌, ◌&&◌, List, [], ◌∷◌, ◌++◌, Option, None, Some, refl, sym, ap, subst, ◌∙◌, inl, inr, ◌⊎◌, arith, ltb, leb}
+use Rattle.std.proofs.Common.{◌≡◌, ℕ, ◌<◌, ◌≤◌, Bool, true, false, not, cond, ◌||◌, ◌&&◌, List, [], ◌∷◌, ◌++◌, Option, None, Some, refl, sym, ap, subst, ◌∙◌, inl, inr, arith, ltb, leb}
 use Rattle.std.specs.Option.{option_and_then, option_map, option_to_list}
 use Rattle.std.specs.Ordering.{nat_cmp, is_lt, ordering_then, ordering_reverse}
 use Rattle.std.specs.Cmp.Lexicographic.{slice_cmp}
@@ -9,17 +9,17 @@ use Rattle.std.proofs.lemmas.Bool.{ltb-false, ltb-true, false_from_ne_true}
 use Rattle.std.proofs.lemmas.Cmp.{nat_list_cmp_total}
 use Rattle.lsm_key.specs.declared.entry.Entry.{Entry}
 use Rattle.lsm_key.specs.Sets.{IsIn}
-use Rattle.lsm_key.specs.Order.{place_cmp, precedes, IsInOrder, key_lt}
-use Rattle.lsm_key.specs.Visible.{visible, newer, is_seen, has_key, entry_value, value_at}
+use Rattle.lsm_key.specs.Order.{place_cmp, precedes, IsInOrder}
+use Rattle.lsm_key.specs.Visible.{visible, newer, has_key, entry_value, value_at}
 use Rattle.lsm_key.proofs.Sets.{IsIn-append_cases, IsIn-append_left, IsIn-append_right, IsIn-one}
 use Rattle.lsm_key.proofs.Order.{keys_equal, of_one_key}
 use Rattle.lsm_key.proofs.Points.{and-false}
 use Rattle.lsm_key.proofs.Falls.{first_in_order, rest_in_order}
-use Rattle.lsm_key.proofs.Visible.{at_visible, has_key-is, has_key-at, is_seen-key, is_seen-low}
+use Rattle.lsm_key.proofs.Visible.{at_visible, has_key-is, has_key-at, is_seen-key}
 use Rattle.lsm_coord.specs.Range.{IsBelow}
-use Rattle.lsm_coord.specs.Scan.{is_again, is_hidden, pair_of, shown_pairs}
-use Rattle.lsm_coord.proofs.Keys.{below_irreflexive, below_trans, key_cases, below_asym}
-use Rattle.lsm_coord.proofs.Ranges.{Pair, AllAbove, Ascends}
+use Rattle.lsm_coord.specs.Scan.{is_again, pair_of, shown_pairs}
+use Rattle.lsm_coord.proofs.Keys.{below_irreflexive, below_trans, key_cases}
+use Rattle.lsm_coord.proofs.Ranges.{Pair, Ascends}
 
 -- ---- an entry after another
 

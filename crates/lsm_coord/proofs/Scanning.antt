@@ -1,21 +1,21 @@
 -- A scan goes on from window to window.
-use Rattle.std.proofs.Common.{◌≡◌, ℕ, zero, suc, ◌<◌, ◌≤◌, Bool, true, false, cond, List, [], ◌∷◌, ◌++◌, Option, None, Some, refl, sym, ap, subst, ◌∙◌, inl, inr, ◌⊎◌, arith, length, take, get_or}
+use Rattle.std.proofs.Common.{◌≡◌, ℕ, zero, suc, ◌≤◌, Bool, true, false, cond, List, [], ◌∷◌, ◌++◌, Option, None, Some, refl, sym, ap, subst, ◌∙◌, inl, inr, ◌⊎◌, arith, length, take, get_or}
 use Rattle.std.specs.List.{AllPairs, filter}
 use Rattle.std.specs.List.Sorted.{IsPermutation}
 use Rattle.std.specs.Option.{option_and_then, option_map, option_to_list}
 use Rattle.std.proofs.lemmas.List.{length-take, take_all, take-append-le}
 use Rattle.lsm_key.specs.declared.entry.Entry.{Entry}
 use Rattle.lsm_key.specs.Sets.{IsIn}
-use Rattle.lsm_key.specs.Order.{IsInOrder, key_le, key_lt, is_between}
-use Rattle.lsm_key.specs.Visible.{visible, newer, is_seen, has_key, entry_value, value_at, IsUnique}
+use Rattle.lsm_key.specs.Order.{IsInOrder, key_le, is_between}
+use Rattle.lsm_key.specs.Visible.{visible, newer, is_seen, entry_value, value_at, IsUnique}
 use Rattle.lsm_key.proofs.Sets.{IsIn-append_cases, IsIn-append_left, IsIn-append_right, IsIn-at, SameMembers-permutation}
 use Rattle.lsm_key.proofs.Falls.{IsIn-filter}
-use Rattle.lsm_key.proofs.Visible.{visible_same, at_visible, has_key-is, is_seen-key}
+use Rattle.lsm_key.proofs.Visible.{visible_same, at_visible, is_seen-key}
 use Rattle.lsm_coord.specs.Range.{IsBelow, IsWithin, IsRange}
 use Rattle.lsm_coord.specs.Scan.{shown_pairs, is_hidden, pair_of}
-use Rattle.lsm_coord.proofs.Keys.{below_upto, below_trans, upto_trans, below_is_upto, key_or, within_parts, within_from, none_within}
-use Rattle.lsm_coord.proofs.Ranges.{Pair, AllAbove, Ascends, ascends}
-use Rattle.lsm_coord.proofs.Passing.{Passes, pass_is}
+use Rattle.lsm_coord.proofs.Keys.{below_upto, upto_trans, key_or, within_parts, within_from, none_within}
+use Rattle.lsm_coord.proofs.Ranges.{Pair, Ascends, ascends}
+use Rattle.lsm_coord.proofs.Passing.{pass_is}
 
 -- ---- lists of pairs that ascend
 

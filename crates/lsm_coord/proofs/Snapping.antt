@@ -1,5 +1,5 @@
 -- What a snapshot and its release make of the states that a coordinator shows.
-use Rattle.std.proofs.Common.{◌≡◌, ℕ, ◌+◌, Bool, true, false, not, cond, List, [], ◌∷◌, ◌++◌, Option, None, Some, filter, refl, ap, subst, arith, inl, inr, ◌⊎◌, is_some, is_none}
+use Rattle.std.proofs.Common.{◌≡◌, ℕ, ◌+◌, Bool, true, false, not, cond, List, [], ◌∷◌, ◌++◌, Option, None, Some, filter, refl, ap, subst, arith, inl, inr, is_some, is_none}
 use Rattle.std.specs.Prelude.{if◌then◌else◌}
 use Rattle.lsm_coord.specs.declared.error.CoordError.TheVariants.{NoSnapshot}
 use Rattle.lsm_key.proofs.Falls.{IsIn-filter}

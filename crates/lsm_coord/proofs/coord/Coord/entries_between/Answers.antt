@@ -1,8 +1,8 @@
-use Rattle.std.proofs.Common.{◌≡◌, ap, sym, ◌∙◌, subst, IsPermutation}
+use Rattle.std.proofs.Common.{ap, sym, ◌∙◌}
 use Rattle.std.specs.List.{filter}
 use Rattle.std.proofs.lemmas.Result.{IfOk-weaker}
 use Rattle.lsm_key.specs.Order.{is_between}
-use Rattle.lsm_coord.specs.Value.{CoordValue, everything, frozen_entries, stored}
+use Rattle.lsm_coord.specs.Value.{CoordValue, frozen_entries, stored}
 use Rattle.lsm_coord.proofs.Windows.{part_in_order, parts_together}
 use Rattle.lsm_coord.proofs.coord.Coord.entries_between.Goals as goal
 

@@ -1,4 +1,4 @@
-use Rattle.std.proofs.Common.{◌≡◌, ◌≤◌, ◌++◌, List, None, length, take, subst, sym, ap, arith}
+use Rattle.std.proofs.Common.{◌++◌, List, None, length, subst, sym, ap, arith}
 use Rattle.std.proofs.lemmas.List.{length-take}
 use Rattle.std.proofs.lemmas.Result.{on_ok_weaker}
 use Rattle.lsm_coord.specs.Calls.{Scans}

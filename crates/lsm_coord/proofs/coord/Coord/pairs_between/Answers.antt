@@ -1,6 +1,5 @@
-use Rattle.std.proofs.Common.{◌≡◌, ◌≤◌, List, ℕ, Option, true, false, length, subst, sym, ap, ◌∙◌, arith}
-use Rattle.std.specs.Ordering.{is_ge, nat_cmp}
-use Rattle.std.specs.Cmp.Lexicographic.{slice_cmp}
+use Rattle.std.proofs.Common.{◌≡◌, List, ℕ, Option, true, subst, sym, ap, ◌∙◌, arith}
+use Rattle.std.specs.Ordering.{is_ge}
 use Rattle.std.specs.Option.{IfSome}
 use Rattle.lsm_key.specs.Order.{key_le}
 use Rattle.lsm_coord.specs.Calls.{Scans}
