@@ -79,6 +79,14 @@ upto_back a b h = ap (λ (o : Ordering). not (is_gt o)) (nat_list_cmp_total.anti
     by Equal e = refl
     by Greater e = refl
 
+pub upto_after : (a b : List ℕ) → is_gt (slice_cmp nat_cmp a b) ≡ true → key_le b a ≡ true
+upto_after a b h = upto_back a b (by (slice_cmp nat_cmp a b) h)
+  where
+    by : (o : Ordering) → is_gt o ≡ true → is_ge o ≡ true
+    by Less e = absurd cc
+    by Equal e = absurd cc
+    by Greater e = refl
+
 pub upto_on : (a b : List ℕ) → is_ge (slice_cmp nat_cmp a b) ≡ false → key_le a b ≡ true
 upto_on a b h = by (slice_cmp nat_cmp a b) h
   where

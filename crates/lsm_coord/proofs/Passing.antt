@@ -13,6 +13,7 @@ use Rattle.lsm_key.specs.Order.{place_cmp, precedes, IsInOrder, key_lt}
 use Rattle.lsm_key.specs.Visible.{visible, newer, is_seen, has_key, entry_value, value_at}
 use Rattle.lsm_key.proofs.Sets.{IsIn-append_cases, IsIn-append_left, IsIn-append_right, IsIn-one}
 use Rattle.lsm_key.proofs.Order.{keys_equal, of_one_key}
+use Rattle.lsm_key.proofs.Points.{and-false}
 use Rattle.lsm_key.proofs.Falls.{first_in_order, rest_in_order}
 use Rattle.lsm_key.proofs.Visible.{at_visible, has_key-is, has_key-at, is_seen-key, is_seen-low}
 use Rattle.lsm_coord.specs.Range.{IsBelow}
@@ -58,13 +59,9 @@ module _ (e : Entry) (es : List Entry) (p : ℕ) where
       let no : has_key key e ≡ false = false_from_ne_true (has_key key e) (λ t. h (has_key-is key e t)) in
       ap (λ (b : Bool). newer (cond (b && leb e.ikey.seq p) (Some e) None) (visible es key p)) no
 
-  and_false : (a b : Bool) → b ≡ false → (a && b) ≡ false
-  and_false true b h = h
-  and_false false b h = refl
-
   -- too late to be seen
   too_late : (key : List ℕ) → leb e.ikey.seq p ≡ false → visible (e ∷ es) key p ≡ visible es key p
-  too_late key h = ap (λ (b : Bool). newer (cond b (Some e) None) (visible es key p)) (and_false (has_key key e) (leb e.ikey.seq p) h)
+  too_late key h = ap (λ (b : Bool). newer (cond b (Some e) None) (visible es key p)) (and-false (has_key key e) (leb e.ikey.seq p) h)
 
   stays_first : AllLater e es → (o : Option Entry) → visible es e.ikey.key p ≡ o → newer (Some e) o ≡ Some e
   stays_first all None found = refl

@@ -3,6 +3,7 @@ use Rattle.std.proofs.Common.{◌≡◌, ℕ, ◌+◌, ◌<◌, ◌≤◌, List,
 use Rattle.std.specs.Bool.{nat_lt}
 use Rattle.std.proofs.lemmas.Bool.{lt-ltb, le-ltb, le-leb, lt-leb, ne_eqb}
 use Rattle.std.proofs.lemmas.Bool.Decides.{Decides-eqb}
+use Rattle.lsm_key.proofs.Points.{and-false}
 use Rattle.lsm_key.specs.declared.op.Op.{Op}
 use Rattle.lsm_key.specs.declared.batch.KeyError.{KeyError}
 use Rattle.lsm_key.specs.declared.limits.TheConstants.{MAX_NUMBER, MAX_MEMTABLE_WEIGHT}
@@ -66,17 +67,13 @@ flush_of_nothing s up frozen none = rw (up, frozen, none, same (last_flushed s))
 abbrev pub IsFlushable : State → Type 0
 IsFlushable s = ((z : ℕ) × (s.frozen ≡ Some z)) ⊎ (last_flushed s < last_seq s)
 
-and-false : (b : Bool) → (b && false) ≡ false
-and-false true = refl
-and-false false = refl
-
 or-true : (b : Bool) → (b || true) ≡ true
 or-true true = refl
 or-true false = refl
 
 flushable : (s : State) → IsFlushable s → (is_none s.frozen && nat_eq (last_seq s) (last_flushed s)) ≡ false
 flushable s (inl frozen) = rw frozen.1 refl
-flushable s (inr some) = rw (ne_eqb (last_seq s) (last_flushed s) (λ e. omega arith)) (and-false (is_none s.frozen))
+flushable s (inr some) = rw (ne_eqb (last_seq s) (last_flushed s) (λ e. omega arith)) (and-false (is_none s.frozen) false refl)
 
 past_one : (a b : ℕ) → (MAX_NUMBER < a) ⊎ (MAX_NUMBER < b) → (nat_lt MAX_NUMBER a || nat_lt MAX_NUMBER b) ≡ true
 past_one a b (inl h) = rw (lt-ltb MAX_NUMBER a h) refl

@@ -2,6 +2,7 @@
 use Rattle.std.proofs.Common.{◌≡◌, ℕ, ◌+◌, Bool, true, false, not, cond, List, [], ◌∷◌, ◌++◌, Option, None, Some, filter, refl, ap, subst, arith, inl, inr, ◌⊎◌, is_some, is_none}
 use Rattle.std.specs.Prelude.{if◌then◌else◌}
 use Rattle.lsm_coord.specs.declared.error.CoordError.TheVariants.{NoSnapshot}
+use Rattle.lsm_key.proofs.Falls.{IsIn-filter}
 use Rattle.lsm_key.specs.Sets.{IsIn}
 use Rattle.lsm_key.specs.Visible.{value_at}
 use Rattle.lsm_key.specs.Writes.{answer}
@@ -60,14 +61,6 @@ Shows-snapped c s h =
 
 -- ---- a release
 
-kept_either : (b : Bool) (x y : Snapshot) (ys zs : List Snapshot) → (IsIn x ys → IsIn x zs) → IsIn x (cond b (y ∷ ys) ys) → (x ≡ y) ⊎ IsIn x zs
-kept_either true x y ys zs h m = elim m [ inl e ↦ inl e | inr n ↦ inr (h n) ]
-kept_either false x y ys zs h m = inr (h m)
-
-pub IsIn-filter : (test : Snapshot → Bool) (xs : List Snapshot) (x : Snapshot) → IsIn x (filter test xs) → IsIn x xs
-IsIn-filter test [] x m = absurd m
-IsIn-filter test (y ∷ xs) x m = kept_either (test y) x y (filter test xs) xs (IsIn-filter test xs x) m
-
 pub Shows-released : (c : CoordValue) (s : State) (id : SnapId) → Shows c s → Shows (released c id) (without_snapshot s id)
 Shows-released c s id h =
     let m = h.memtables in
@@ -93,8 +86,8 @@ Shows-released c s id h =
         within = m.within;
         active_is = m.active_is;
         frozen_is = m.frozen_is;
-        kept = λ x live low key. m.kept x (IsIn-filter others s.snapshots x live) low key;
-        snapped = λ x live. m.snapped x (IsIn-filter others s.snapshots x live);
+        kept = λ x live low key. m.kept x (IsIn-filter others x s.snapshots live).0 low key;
+        snapped = λ x live. m.snapped x (IsIn-filter others x s.snapshots live).0;
       };
     }
 

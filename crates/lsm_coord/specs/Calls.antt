@@ -1,5 +1,5 @@
 -- What each call of the coordinator refuses and makes, of the value that contracts see (LevelDB, db_impl.cc: Write, CompactMemTable, Get, GetSnapshot).
-use Rattle.std.specs.Prelude.{◌≡◌, ℕ, ◌+◌, ◌≤◌, not, List, ◌++◌, [], ◌∷◌, Option, None, Some, IsSome, length, filter, sum_by, is_none, is_some, nat_eq, nat_lt, nat_le, ◌&&◌, ◌||◌, ◌⊎◌, if◌then◌else◌}
+use Rattle.std.specs.Prelude.{◌≡◌, ℕ, ◌+◌, ◌≤◌, not, List, ◌++◌, [], ◌∷◌, Option, None, Some, IsSome, MatchOption, length, filter, sum_by, is_none, is_some, nat_eq, nat_lt, nat_le, ◌&&◌, ◌||◌, ◌⊎◌, if◌then◌else◌}
 use Rattle.std.specs.List.Sorted.{IsPermutation}
 use Rattle.lsm_key.specs.declared.entry.Entry.{Entry}
 use Rattle.lsm_key.specs.declared.op.Op.{Op}
@@ -17,7 +17,7 @@ use Rattle.lsm_edit.specs.Next.{flush_edit}
 use Rattle.lsm_edit.specs.Version.{apply_fault, applied}
 use Rattle.lsm_edit.specs.Served.{ServedValue, placed_of}
 use Rattle.lsm_coord.specs.declared.error.CoordError.{CoordError}
-use Rattle.lsm_coord.specs.declared.error.CoordError.TheVariants.{EmptyBatch, SequenceExhausted, MemtableFull, FrozenWaiting, NothingToFreeze, NothingToFlush, TooManySnapshots, NoSnapshot, NumbersExhausted}
+use Rattle.lsm_coord.specs.declared.error.CoordError.TheVariants.{EmptyBatch, SequenceExhausted, MemtableFull, FrozenWaiting, NothingToFreeze, NothingToFlush, TooManySnapshots, NoSnapshot, NumbersExhausted, OutOfMemory}
 use Rattle.lsm_coord.specs.declared.frozen.Frozen.{Frozen}
 use Rattle.lsm_coord.specs.declared.snapshot.SnapId.{SnapId}
 use Rattle.lsm_coord.specs.declared.snapshot.Snapshot.{Snapshot}
@@ -91,6 +91,10 @@ pub record AddsTable (old : CoordValue) (file : FileMeta) (table : Opened) (new 
   pub spelled : IsSpelled text (flush_edit old.served.version (taken old).end file)
   pub new_is : new ≡ record old { active = active_after old.active old.frozen; frozen = None; served = extended old.served (flush_edit old.served.version (taken old).end file) (table ∷ []); edits = old.edits ++ text ∷ [] }
 
+-- one file more, whichever it is
+abbrev pub Adds : CoordValue → CoordValue → Type 0
+Adds old new = (file : FileMeta) × (table : Opened) × AddsTable old file table new
+
 -- ---- snapshots
 
 -- why no snapshot is made: the first reason that holds
@@ -133,6 +137,14 @@ Answers c point key value = (s : State) → Shows c s → value ≡ answer s.wri
 -- the key has a value at a sequence, in each state that is shown
 abbrev pub HasValue : CoordValue → ℕ → List ℕ → Type 0
 HasValue c point key = (s : State) → Shows c s → IsSome (answer s.writes point key)
+
+-- a get is refused where its snapshot is absent, or where there is a value to copy and memory is wanting
+abbrev pub GetRefuses : CoordValue → List ℕ → Option SnapId → CoordError → Type 0
+GetRefuses c key at e = MatchOption (point_of c at) (e ≡ NoSnapshot) (λ point. (e ≡ OutOfMemory) × HasValue c point key)
+
+-- a scan where its snapshot is absent, or memory is wanting
+abbrev pub ScanRefuses : CoordValue → Option SnapId → CoordError → Type 0
+ScanRefuses c at e = MatchOption (point_of c at) (e ≡ NoSnapshot) (λ point. e ≡ OutOfMemory)
 
 -- the pairs of a scan at a sequence, of each state that is shown
 abbrev pub Scans : CoordValue → ℕ → List ℕ → List ℕ → ℕ → List (List ℕ × List ℕ) → Type 0

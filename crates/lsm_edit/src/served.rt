@@ -79,7 +79,7 @@ impl Served {
     pub fn places(&self) -> &[Placed]
         ensures { result.now ≡ self.now.places }
     {
-        &self.placed
+        self.placed.as_slice()
     }
 
     /// What the version lists.

@@ -6,7 +6,7 @@ ghost use Rattle.lsm_edit.specs.File.{IsFile};
 ghost use Rattle.lsm_edit.specs.Served.{IsAsRecorded};
 ghost use Rattle.lsm_coord.specs.Event.{Flush};
 ghost use Rattle.lsm_coord.specs.Shows.{Follows};
-ghost use Rattle.lsm_coord.specs.Calls.{AddsTable, CanNumber, flush_fault, taken};
+ghost use Rattle.lsm_coord.specs.Calls.{Adds, AddsTable, CanNumber, flush_fault, taken};
 ghost use Rattle.lsm_coord.specs.Replies.{flush_reply};
 
 use super::{Coord, extend};
@@ -34,7 +34,7 @@ impl Coord {
     /// refusal changes nothing.
     pub fn flush(&mut self) -> Result<Flushed, CoordError>
         ensures step { Follows self.old Flush (flush_reply result) self.new }
-        ensures ok { OnOk result (flush_fault self.old ≡ None) }
+        ensures ok { OnOk result ((flush_fault self.old ≡ None) × Adds self.old self.new) }
         ensures err { OnErr result (self.new ≡ self.old) }
         ensures refused { IfErr result (Refuses CoordError.OutOfMemory (flush_fault self.old)) }
     {

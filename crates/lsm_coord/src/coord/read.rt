@@ -1,12 +1,12 @@
 //! Reads of the store.
 
-ghost use Rattle.std.specs.Prelude.{◌≡◌, None, Some, IfOk, IfErr, IsSome, MatchOption};
+ghost use Rattle.std.specs.Prelude.{◌≡◌, None, Some, IfOk, IfErr, IsSome};
 ghost use Rattle.std.specs.Option.{option_map, option_and_then};
 ghost use Rattle.lsm_key.specs.Visible.{visible, entry_value, lent};
 ghost use Rattle.lsm_coord.specs.State.{snapshot_at};
 ghost use Rattle.lsm_coord.specs.Event.{Get, Show, Coordinator};
 ghost use Rattle.lsm_coord.specs.Shows.{Follows};
-ghost use Rattle.lsm_coord.specs.Calls.{point_of, IsPoint, Answers, HasValue};
+ghost use Rattle.lsm_coord.specs.Calls.{point_of, GetRefuses, IsPoint, Answers, HasValue};
 ghost use Rattle.lsm_coord.specs.Value.{frozen_entries};
 ghost use Rattle.lsm_coord.specs.Replies.{get_reply, show_reply};
 
@@ -23,8 +23,7 @@ impl Coord {
     pub fn get(&mut self, key: &[u8], at: Option<SnapId>) -> Result<Option<Bytes>, CoordError>
         ensures step { Follows self.old (Get key.now at) (get_reply result) self.new }
         ensures same { self.new ≡ self.old }
-        // Only a value takes memory.
-        ensures refused { IfErr result (λ e. MatchOption (point_of self.old at) (e ≡ CoordError.NoSnapshot) (λ point. (e ≡ CoordError.OutOfMemory) × HasValue self.old point key.now)) }
+        ensures refused { IfErr result (GetRefuses self.old key.now at) }
     {
         let Some(point) = self.point_of(at) else {
             return Err(CoordError::NoSnapshot);

@@ -1,6 +1,6 @@
 //! Scans of the store.
 
-ghost use Rattle.std.specs.Prelude.{◌≡◌, ◌≤◌, ◌++◌, None, true, IfOk, IfErr, MatchOption, OnOk, IsPermutation, List, ℕ, filter, length, take};
+ghost use Rattle.std.specs.Prelude.{◌≡◌, ◌≤◌, ◌++◌, None, true, IfOk, IfErr, OnOk, IsPermutation, List, ℕ, filter, length, take};
 ghost use Rattle.std.specs.Borrow.{Bor};
 ghost use Rattle.std.specs.Option.{option_map};
 ghost use Rattle.lsm_key.specs.declared.entry.Entry.{Entry};
@@ -8,7 +8,7 @@ ghost use Rattle.lsm_key.specs.Order.{IsAscending, IsInOrder, is_between, key_le
 ghost use Rattle.lsm_edit.specs.Served.{IsServed};
 ghost use Rattle.lsm_coord.specs.Event.{Scan};
 ghost use Rattle.lsm_coord.specs.Shows.{Follows};
-ghost use Rattle.lsm_coord.specs.Calls.{point_of, IsPoint, Scans};
+ghost use Rattle.lsm_coord.specs.Calls.{IsPoint, ScanRefuses, Scans};
 ghost use Rattle.lsm_coord.specs.Value.{everything, frozen_entries};
 ghost use Rattle.lsm_coord.specs.Replies.{scan_reply};
 ghost use Rattle.lsm_coord.specs.Scan.{is_hidden, pair_of, shown_pairs};
@@ -33,7 +33,7 @@ impl Coord {
     ) -> Result<Vec<(Bytes, Bytes)>, CoordError>
         ensures step { Follows self.old (Scan lo.now hi.now at limit) (scan_reply result) self.new }
         ensures same { self.new ≡ self.old }
-        ensures refused { IfErr result (λ e. MatchOption (point_of self.old at) (e ≡ CoordError.NoSnapshot) (λ _. e ≡ CoordError.OutOfMemory)) }
+        ensures refused { IfErr result (ScanRefuses self.old at) }
     {
         let Some(point) = self.point_of(at) else {
             return Err(CoordError::NoSnapshot);
@@ -62,7 +62,8 @@ impl Coord {
             if pairs.len() as u64 >= limit {
                 return Ok(pairs);
             }
-            let Some(end) = self.window_end(&from, hi, limit)? else {
+            let wanted = limit - pairs.len() as u64;
+            let Some(end) = self.window_end(&from, hi, wanted)? else {
                 break;
             };
             self.go_on(&mut pairs, &from, &end, point, limit)?;
@@ -148,7 +149,7 @@ fn push_shown(
 {
     let mut before: Option<&Entry> = None;
     for entry in entries {
-        if pairs.len() as u64 >= limit {
+        if limit <= pairs.len() as u64 {
             return Ok(());
         }
         if hides(point, before, entry) {

@@ -11,8 +11,8 @@ use Rattle.lsm_coord.proofs.coord.scan.push_shown.Goals as goal
 pub loop-entry-init : goal.loop-entry-init
 loop-entry-init c = (refl, c.requires)
 
-pub returns-then-len-limit : goal.returns-then-len-limit
-returns-then-len-limit c =
+pub returns-then-limit-len : goal.returns-then-limit-len
+returns-then-limit-len c =
     let full : c.args.limit ≤ length c.loop-entry.pairs.items = omega (arith, c.loop-entry.pairs.ok.0, c.len.ensures) in
     sym (full_front c.args.limit c.loop-entry.pairs.items _ full c.loop-entry.invariant.1) ∙ ap (λ (ps : List Pair). take c.args.limit ps) c.loop-entry.invariant.0
 
@@ -44,7 +44,7 @@ loop-entry-preserved c =
       ∙ append_assoc old (pair_of e) (shown_pairs c.args.point (Some e) rest)
       ∙ ap (λ (ps : List Pair). old ++ ps) (sym step ∙ ap (λ (xs : List Entry). shown_pairs c.args.point before xs) (sym here))
       ∙ c.loop-entry.invariant.0,
-      omega (arith, ap length pushed, length-append old (pair_of e), one_pair e, c.loop-entry.pairs.ok.0, c.len.ensures, c.if-len-limit.false),
+      omega (arith, ap length pushed, length-append old (pair_of e), one_pair e, c.loop-entry.pairs.ok.0, c.len.ensures, c.if-limit-len.false),
     )
 
 pub returns : goal.returns
