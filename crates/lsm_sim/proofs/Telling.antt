@@ -10,7 +10,7 @@ use Rattle.lsm_coord.specs.State.{State, snapshot_at}
 use Rattle.lsm_coord.specs.Event.{Event, Reply, Refusal}
 use Rattle.lsm_coord.specs.Event as say
 use Rattle.lsm_coord.specs.Rules.{refusal, key_refusal, unless_down, read_refusal}
-use Rattle.lsm_coord.specs.Calls.{write_fault, freeze_fault, flush_fault, snapshot_fault, release_fault, point_of}
+use Rattle.lsm_coord.specs.Calls.{write_fault, freeze_fault, flush_fault, snapshot_fault, release_fault, point_of, GetRefuses, ScanRefuses}
 use Rattle.lsm_coord.specs.Replies.{refusal_of}
 use Rattle.lsm_coord.specs.Shows.{Shows}
 use Rattle.lsm_coord.specs.Value.{CoordValue}
@@ -63,11 +63,11 @@ read_forced c s (Some id) e P why h = rw (h.up, h.snapshots) (by (snapshot_at c.
     by None is = rw is refl
     by (Some point) is = tt
 
-pub get_told : (c : CoordValue) (s : State) (key : List ℕ) (at : Option SnapId) (e : CoordError) (P : ℕ → Type 0) → MatchOption (point_of c at) (e ≡ error.NoSnapshot) P → Shows c s → Tells s (say.Get key at) (say.Refused (refusal_of e))
-get_told c s key at e P why h = read_forced c s at e P why h
+pub get_told : (c : CoordValue) (s : State) (key : List ℕ) (at : Option SnapId) (e : CoordError) → GetRefuses c key at e → Shows c s → Tells s (say.Get key at) (say.Refused (refusal_of e))
+get_told c s key at e why h = read_forced c s at e _ why h
 
-pub scan_told : (c : CoordValue) (s : State) (lo hi : List ℕ) (at : Option SnapId) (limit : ℕ) (e : CoordError) (P : ℕ → Type 0) → MatchOption (point_of c at) (e ≡ error.NoSnapshot) P → Shows c s → Tells s (say.Scan lo hi at limit) (say.Refused (refusal_of e))
-scan_told c s lo hi at limit e P why h = read_forced c s at e P why h
+pub scan_told : (c : CoordValue) (s : State) (lo hi : List ℕ) (at : Option SnapId) (limit : ℕ) (e : CoordError) → ScanRefuses c at e → Shows c s → Tells s (say.Scan lo hi at limit) (say.Refused (refusal_of e))
+scan_told c s lo hi at limit e why h = read_forced c s at e _ why h
 
 pub show_told : (c : CoordValue) (s : State) (reply : Reply) → Shows c s → Tells s (say.Show say.Coordinator) reply
 show_told c s reply h = rw h.up tt
