@@ -6,3 +6,4 @@ pub mod Joins
 pub mod Known
 pub mod Runs
 pub mod Stops
+pub mod Telling

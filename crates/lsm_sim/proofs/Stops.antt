@@ -1,10 +1,9 @@
 -- What a run that stops has run and written.
 use Rattle.std.proofs.Common.{◌≡◌, ◌⊎◌, inl, inr, ℕ, ◌+◌, List, [], ◌++◌, Option, Some, None, IfSome, Result, Ok, Err, OnErr, IfErr, refl, sym, ap, subst, ◌∙◌, length, take, map}
-use Rattle.std.proofs.Math.Seq.{take-append-add}
+use Rattle.std.proofs.Math.Seq.{take-append-add, take-append_seam}
 use Rattle.std.proofs.lemmas.List.{take-map}
 use Rattle.std.specs.Io.KnownBytes.{Appends, Keeps}
 use Rattle.lsm_coord.specs.State.{first_state}
-use Rattle.lsm_coord.specs.Run.{RunOfNew}
 use Rattle.lsm_coord.specs.Shows.{Shows}
 use Rattle.lsm_coord.specs.Value.{CoordValue}
 use Rattle.lsm_coord.specs.Event as say
@@ -13,7 +12,7 @@ use Rattle.lsm_sim.specs.declared.error.RunError.TheVariants.{WriteFault, OutOfM
 use Rattle.lsm_sim.specs.declared.event.Event.{Event}
 use Rattle.lsm_sim.specs.Events.{event_of}
 use Rattle.lsm_sim.specs.Replies.{reply_of, lines}
-use Rattle.lsm_sim.specs.Runs.{RunsAPart, PrintsAPart, StopsFor}
+use Rattle.lsm_sim.specs.Runs.{RunsTo, RunsAPart, PrintsAPart, StopsFor, TellingRun}
 use Rattle.lsm_sim.specs.Script.{script}
 use Rattle.lsm_sim.proofs.Known.{Appends-none, Appends-then, Appends-keep}
 use Rattle.lsm_sim.proofs.Runs.{IsSoFar}
@@ -23,16 +22,17 @@ on_err (Ok x) P p = tt
 on_err (Err e) P p = p
 
 -- a beginning of what waits was written
-pub IsSoFar-stops : (old now : CoordValue) (events : List Event) (i : ℕ) (was held last : Option (List ℕ)) (out bytes : List ℕ) → IsSoFar old now (take i events) was held out → bytes ≡ out → (k : ℕ) × Appends held last (take k bytes) → RunsAPart old events now was last
-IsSoFar-stops old now events i was held last out bytes so whole wrote =
+pub IsSoFar-stops : (old now : CoordValue) (events rest all : List Event) (was held last : Option (List ℕ)) (out bytes : List ℕ) → events ++ rest ≡ all → IsSoFar old now events was held out → bytes ≡ out → (k : ℕ) × Appends held last (take k bytes) → RunsAPart old all now was last
+IsSoFar-stops old now events rest all was held last out bytes parts so whole wrote =
     let k = wrote.0 in
     let more : Appends held last (take k out) = subst (λ (x : List ℕ). Appends held last (take k x)) whole wrote.1 in
     let text : so.done ++ take k out ≡ take (length so.done + k) (lines so.replies) = sym (ap (take (length so.done + k)) so.text ∙ take-append-add so.done out k) in
-    (i, so.replies, length so.done + k, so.runs, subst (λ (x : List ℕ). Appends was last x) text (Appends-then was held last so.done (take k out) so.wrote more))
+    let first : events ≡ take (length events) all = sym (ap (take (length events)) (sym parts) ∙ take-append_seam events rest) in
+    (length events, so.replies, length so.done + k, subst (λ (es : List Event). RunsTo old es so.replies now) first so.runs, subst (λ (x : List ℕ). Appends was last x) text (Appends-then was held last so.done (take k out) so.wrote more))
 
 -- of what waits nothing was written
-pub IsSoFar-halts : (old now : CoordValue) (events : List Event) (i : ℕ) (was held last : Option (List ℕ)) (out : List ℕ) → IsSoFar old now (take i events) was held out → Keeps held last → RunsAPart old events now was last
-IsSoFar-halts old now events i was held last out so keeps = IsSoFar-stops old now events i was held last out out so refl (0, Appends-keep held held last [] (Appends-none held) keeps)
+pub IsSoFar-halts : (old now : CoordValue) (events rest all : List Event) (was held last : Option (List ℕ)) (out : List ℕ) → events ++ rest ≡ all → IsSoFar old now events was held out → Keeps held last → RunsAPart old all now was last
+IsSoFar-halts old now events rest all was held last out parts so keeps = IsSoFar-stops old now events rest all was held last out out parts so refl (0, Appends-keep held held last [] (Appends-none held) keeps)
 
 pub Keeps-same : (a : Option (List ℕ)) → Keeps a a
 Keeps-same None = tt
@@ -44,8 +44,8 @@ prints_a_part c last events bytes None was held shows says read ran = tt
 prints_a_part c last events bytes (Some xs) was held shows says read ran =
     let end = ran.3 first_state shows in
     let part : map event_of (take ran.0 events) ≡ take ran.0 (map event_of events) = sym (take-map event_of ran.0 events) in
-    let runs : RunOfNew (take ran.0 (map event_of events)) (map reply_of ran.1) = subst (λ (es : List say.Event). RunOfNew es (map reply_of ran.1)) part (end.0, end.1) in
-    (map event_of events, ap script (sym read) ∙ says, ran.0, lines ran.1, ran.2, (ran.1, runs, refl), ran.4)
+    let runs : TellingRun first_state (take ran.0 (map event_of events)) (map reply_of ran.1) end.0 = subst (λ (es : List say.Event). TellingRun first_state es (map reply_of ran.1) end.0) part end.1 in
+    (map event_of events, ap script (sym read) ∙ says, ran.0, lines ran.1, ran.2, (ran.1, end.0, runs, refl), ran.4)
 
 -- a run that stops, stops for a fault of the writer or of memory
 pub stops_in_run : {A : Type 0} (c last : CoordValue) (events : List Event) (bytes : List ℕ) (r : Result A RunError) (known was held : Option (List ℕ)) → Shows c first_state → script bytes ≡ Ok (map event_of events) → IfSome known (λ xs. bytes ≡ xs) → OnErr r (RunsAPart c events last was held) → IfErr r (λ e. (e ≡ WriteFault) ⊎ (e ≡ OutOfMemory)) → IfErr r (λ e. StopsFor e known was held)

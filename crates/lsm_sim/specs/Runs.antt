@@ -1,9 +1,10 @@
 -- What running a script reads and writes.
-use Rattle.std.specs.Prelude.{◌≡◌, ◌⊎◌, ℕ, List, Option, IfSome, Ok, Err, map, take}
+use Rattle.std.specs.Prelude.{◌≡◌, ◌⊎◌, ℕ, List, [], ◌∷◌, Option, IfSome, Ok, Err, map, take}
 use Rattle.std.specs.Io.KnownBytes.{Appends}
-use Rattle.lsm_coord.specs.State.{State}
+use Rattle.lsm_coord.specs.State.{State, first_state}
 use Rattle.lsm_coord.specs.Event as say
-use Rattle.lsm_coord.specs.Run.{Run, RunOfNew}
+use Rattle.lsm_coord.specs.Rules.{refusal}
+use Rattle.lsm_coord.specs.Step.{Step}
 use Rattle.lsm_coord.specs.Shows.{Shows}
 use Rattle.lsm_coord.specs.Value.{CoordValue}
 use Rattle.lsm_key.specs.declared.refused.Refused.{Refused}
@@ -22,13 +23,29 @@ abbrev pub error_of : Refused Fault → RunError
 error_of refused.OutOfMemory = OutOfMemory
 error_of (refused.Fault fault) = Script fault.line fault.reason
 
--- Of each state that is shown before, the events and their replies are a run to one that is shown after.
-abbrev pub RunsTo : CoordValue → List Event → List Reply → CoordValue → Type 0
-RunsTo old events replies new = (s : State) → Shows old s → (t : State) × Run s (map event_of events) (map reply_of replies) t × Shows new t
+-- the refusal that the state forces, where it forces one, is what is told
+abbrev pub Tells : State → say.Event → say.Reply → Type 0
+Tells s event reply = IfSome (refusal s event) (λ why. reply ≡ say.Refused why)
 
--- the events and some replies are a run of a new store, and these are the replies' lines
+-- A run in which each refusal that is forced is told: want of memory is answered only where none is.
+abbrev pub TellingRun : State → List say.Event → List say.Reply → State → Type 0
+TellingRun s [] [] new = new ≡ s
+TellingRun s (event ∷ events) (reply ∷ replies) new = (next : State) × Step s event reply next × Tells s event reply × TellingRun next events replies new
+TellingRun s [] (reply ∷ replies) new = ⊥
+TellingRun s (event ∷ events) [] new = ⊥
+
+-- a write, whose operations are put together before it is asked
+abbrev pub IsWrite : say.Event → Type 0
+IsWrite (say.Write ops) = Unit {0}
+IsWrite event = ⊥
+
+-- Of each state that is shown before, the events and their replies are a telling run to one that is shown after.
+abbrev pub RunsTo : CoordValue → List Event → List Reply → CoordValue → Type 0
+RunsTo old events replies new = (s : State) → Shows old s → (t : State) × TellingRun s (map event_of events) (map reply_of replies) t × Shows new t
+
+-- the events and some replies are a telling run of a new store, and these are the replies' lines
 abbrev pub Prints : List say.Event → List ℕ → Type 0
-Prints events text = (replies : List Reply) × RunOfNew events (map reply_of replies) × (text ≡ lines replies)
+Prints events text = (replies : List Reply) × (last : State) × TellingRun first_state events (map reply_of replies) last × (text ≡ lines replies)
 
 -- what was written after what a writer held is what the events of the script print
 abbrev pub PrintsScript : List ℕ → Option (List ℕ) → Option (List ℕ) → Type 0

@@ -34,24 +34,25 @@ pub fn run_script<R: Read, W: Write>(
     let text = read_all(alloc, reader)?;
     let events = parse(alloc, &text)?;
     let mut coord = Coord::new(alloc, limits)?;
-    run(alloc, &mut coord, &events, writer)
+    run(alloc, &mut coord, events, writer)
 }
 
 /// Runs the events in order, and writes a line for each reply.
 fn run<W: Write>(
     alloc: Global,
     coord: &mut Coord,
-    events: &[Event],
+    events: Vec<Event>,
     writer: &mut W,
 ) -> Result<(), RunError>
-    ensures ok { OnOk result ((replies : List Reply) × RunsTo coord.old events.now replies coord.new × Appends (W.contents writer.old) (W.contents writer.new) (lines replies)) }
-    ensures err { OnErr result (RunsAPart coord.old events.now coord.new (W.contents writer.old) (W.contents writer.new)) }
+    ensures ok { OnOk result ((replies : List Reply) × RunsTo coord.old events.items replies coord.new × Appends (W.contents writer.old) (W.contents writer.new) (lines replies)) }
+    ensures err { OnErr result (RunsAPart coord.old events.items coord.new (W.contents writer.old) (W.contents writer.new)) }
     ensures errors { IfErr result (λ e. (e ≡ RunError.WriteFault) ⊎ (e ≡ RunError.OutOfMemory)) }
 {
     let mut out = Vec::new(alloc);
     for event in events {
-        let reply = step(alloc, coord, event);
+        let reply = step(alloc, coord, event)?;
         put_line(alloc, &mut out, &reply)?;
+        drop(reply);
         if out.len() >= BUFFER_BYTES {
             write_all(writer, &out)?;
             out.clear();

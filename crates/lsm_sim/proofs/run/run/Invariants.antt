@@ -1,7 +1,10 @@
 -- the events so far ran, and their lines are written or wait to be
-use Rattle.std.proofs.Common.{take}
+use Rattle.std.proofs.Common.{◌≡◌, ◌++◌}
 use Rattle.lsm_sim.proofs.Runs.{IsSoFar}
 use Rattle.lsm_sim.proofs.run.run.Given as goal
 
 abbrev pub invariant-loop-event : goal.invariant-loop-event
-invariant-loop-event g l = IsSoFar l.fn.coord l.coord (take l.event-index l.events) (g.W.Write.contents l.fn.writer) (g.W.Write.contents l.writer) l.out.items
+invariant-loop-event g l = record {
+  all : l.yielded ++ l.event-iterator.rest.items ≡ l.fn.events.items;
+  so : IsSoFar l.fn.coord l.coord l.yielded (g.W.Write.contents l.fn.writer) (g.W.Write.contents l.writer) l.out.items;
+}

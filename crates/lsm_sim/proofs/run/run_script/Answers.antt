@@ -1,6 +1,4 @@
-use Rattle.std.proofs.Common.{List, OnErr, subst, rules}
-use Rattle.lsm_sim.specs.declared.event.Event.{Event}
-use Rattle.lsm_sim.specs.Runs.{RunsAPart}
+use Rattle.std.proofs.Common.{rules}
 use Rattle.lsm_sim.proofs.Runs.{prints_script, OnOk-weaker}
 use Rattle.lsm_sim.proofs.Stops.{stops_in_run}
 use Rattle.lsm_sim.proofs.run.run_script.Goals as goal
@@ -12,5 +10,4 @@ pub returns-clause-err : goal.returns-clause-err
 returns-clause-err g c =
     let was = g.W.Write.contents c.args.writer.now in
     let held = g.W.Write.contents c.run.new.writer in
-    let ran = subst (λ (es : List Event). OnErr c.run.result (RunsAPart c.in_ok-coord.coord es c.run.new.coord was held)) c.deref-2.ensures.value c.run.ensures.err in
-    stops_in_run c.in_ok-coord.coord c.run.new.coord c.in_ok-events.events.items c.in_ok-text.text.items c.run.result (g.R.Read.remaining c.args.reader.now) was held c.in_ok-coord.ensures.shown (search rules) c.in_ok-text.ensures.bytes ran c.run.ensures.errors
+    stops_in_run c.in_ok-coord.coord c.run.new.coord c.in_ok-events.events.items c.in_ok-text.text.items c.run.result (g.R.Read.remaining c.args.reader.now) was held c.in_ok-coord.ensures.shown (search rules) c.in_ok-text.ensures.bytes c.run.ensures.err c.run.ensures.errors
