@@ -8,6 +8,7 @@ mod window;
 mod write;
 
 ghost use Rattle.std.specs.Prelude.{◌≡◌, None, OnOk, OnErr};
+ghost use Rattle.lsm_edit.specs.declared.edit.EditKind.TheVariants.{Install};
 ghost use Rattle.lsm_edit.specs.Edit.{IsEdit};
 ghost use Rattle.lsm_edit.specs.Version.{apply_fault};
 ghost use Rattle.lsm_edit.specs.Served.{AreAsRecorded};
@@ -86,6 +87,7 @@ fn extend(served: &mut Served, edit: &Edit, tables: Vec<Table>) -> Result<(), Al
     requires sound { IsEdit edit.now }
     requires recorded { AreAsRecorded edit.now.added tables.items }
     requires applies { apply_fault served.old.version edit.now ≡ None }
+    requires plain { edit.now.kind ≡ Install → ⊥ }
     ensures ok { OnOk result (served.new ≡ extended served.old edit.now tables.items) }
     ensures err { OnErr result (served.new ≡ served.old) }
 {

@@ -1,3 +1,4 @@
+pub mod InTurn
 pub mod EditLaws
 pub mod Joins
 pub mod VersionLaws
@@ -9,3 +10,4 @@ pub mod Rebase
 pub mod Ranges
 pub mod LevelRanges
 pub mod Levels
+pub mod AfterEdit

@@ -1,8 +1,8 @@
 -- The files of a version with their tables, put in the order of a search.
-use Rattle.std.proofs.Common.{◌≡◌, ℕ, suc, ◌+◌, ◌<◌, ◌≤◌, Bool, true, false, cond, List, [], ◌∷◌, ◌++◌, length, length-append, append_assoc, map, take, drop, get_or, refl, sym, ap, subst, ◌∙◌, arith, inl, inr, ◌⊎◌}
+use Rattle.std.proofs.Common.{◌≡◌, ℕ, suc, ◌+◌, ◌<◌, ◌≤◌, Bool, true, false, cond, List, [], ◌∷◌, ◌++◌, length, length-append, append_assoc, map, take, drop, get_or, reverse, refl, sym, ap, subst, ◌∙◌, arith, inl, inr, ◌⊎◌}
 use Rattle.std.specs.List.{list_any}
 use Rattle.std.proofs.lemmas.Bool.{or_parts}
-use Rattle.std.proofs.lemmas.List.{drop_more, drop_all, take_more}
+use Rattle.std.proofs.lemmas.List.{drop_more, drop_all, take_more, reverse-append}
 use Rattle.lsm_key.specs.Sets.{IsIn, SameMembers}
 use Rattle.lsm_key.proofs.Sets.{IsIn-map, IsIn-mapped}
 use Rattle.lsm_key.specs.Order.{key_le}
@@ -10,7 +10,7 @@ use Rattle.lsm_table.specs.Tables.{Opened}
 use Rattle.lsm_edit.specs.declared.file.FileMeta.{FileMeta}
 use Rattle.lsm_edit.specs.declared.served.Placed.{Placed}
 use Rattle.lsm_edit.specs.Version.{VersionValue, IsVersion, NumbersRise, has_overlap, clashes}
-use Rattle.lsm_edit.specs.Served.{IsAsRecorded, AreAsRecorded, AllRecorded, is_before, AreInSearchOrder, placed_of, put_in_order, in_order, IsServed}
+use Rattle.lsm_edit.specs.Served.{IsAsRecorded, AreAsRecorded, AllRecorded, is_before, AreInSearchOrder, placed_of, put_in_order, put_all, in_order, IsServed}
 use Rattle.lsm_edit.proofs.SearchOrder.{Apart, apart, before_of, before_is, before_trans}
 
 -- ---- a place put among others in order
@@ -68,7 +68,7 @@ ordered_either : (b : Bool) (rs ss : List Placed) → (b ≡ true → AreInSearc
 ordered_either true rs ss h k = h refl
 ordered_either false rs ss h k = k refl
 
-put_ordered : (p : Placed) (qs : List Placed) → AreWhole qs → StandsApart p qs → AreInSearchOrder qs → AreInSearchOrder (put_in_order p qs)
+pub put_ordered : (p : Placed) (qs : List Placed) → AreWhole qs → StandsApart p qs → AreInSearchOrder qs → AreInSearchOrder (put_in_order p qs)
 put_ordered p [] whole out up = (λ q m. absurd m, tt)
 put_ordered p (q ∷ qs) whole out up =
     let rest = put_ordered p qs (λ r m. whole r (inr m)) (λ r m. out r (inr m)) up.1 in
@@ -95,28 +95,28 @@ in_order-ordered (p ∷ ps) whole out =
 
 -- ---- the files of a version with their tables
 
-placed_meta : (fs : List FileMeta) (ts : List Opened) (p : Placed) → IsIn p (placed_of fs ts) → IsIn p.meta fs
+pub placed_meta : (fs : List FileMeta) (ts : List Opened) (p : Placed) → IsIn p (placed_of fs ts) → IsIn p.meta fs
 placed_meta [] ts p m = absurd m
 placed_meta (f ∷ fs) [] p m = absurd m
 placed_meta (f ∷ fs) (t ∷ ts) p m = elim m [ inl e ↦ inl (ap (λ (x : Placed). x.meta) e) | inr n ↦ inr (placed_meta fs ts p n) ]
 
-placed_in : (fs : List FileMeta) (ts : List Opened) (f : FileMeta) → AreAsRecorded fs ts → IsIn f fs → IsIn f (map (λ (p : Placed). p.meta) (placed_of fs ts))
+pub placed_in : (fs : List FileMeta) (ts : List Opened) (f : FileMeta) → AreAsRecorded fs ts → IsIn f fs → IsIn f (map (λ (p : Placed). p.meta) (placed_of fs ts))
 placed_in [] ts f rec m = absurd m
 placed_in (g ∷ fs) [] f rec m = absurd rec
 placed_in (g ∷ fs) (t ∷ ts) f rec m = elim m [ inl e ↦ inl e | inr n ↦ inr (placed_in fs ts f rec.1 n) ]
 
-placed_recorded : (fs : List FileMeta) (ts : List Opened) → AreAsRecorded fs ts → AllRecorded (placed_of fs ts)
+pub placed_recorded : (fs : List FileMeta) (ts : List Opened) → AreAsRecorded fs ts → AllRecorded (placed_of fs ts)
 placed_recorded [] ts rec p m = absurd m
 placed_recorded (f ∷ fs) [] rec p m = absurd m
 placed_recorded (f ∷ fs) (t ∷ ts) rec p m = elim m [ inl e ↦ subst (λ (x : Placed). IsAsRecorded x.meta x.table) (sym e) rec.0 | inr n ↦ placed_recorded fs ts rec.1 p n ]
 
-clear_of : (f : FileMeta) (fs : List FileMeta) → list_any (clashes f) fs ≡ false → (g : FileMeta) → IsIn g fs → clashes f g ≡ false
+pub clear_of : (f : FileMeta) (fs : List FileMeta) → list_any (clashes f) fs ≡ false → (g : FileMeta) → IsIn g fs → clashes f g ≡ false
 clear_of f [] h g m = absurd m
 clear_of f (x ∷ fs) h g m =
     let parts = or_parts (clashes f x) (list_any (clashes f) fs) h in
     elim m [ inl e ↦ subst (λ (y : FileMeta). clashes f y ≡ false) (sym e) parts.0 | inr n ↦ clear_of f fs parts.1 g n ]
 
-placed_apart : (fs : List FileMeta) (ts : List Opened) → NumbersRise fs → has_overlap fs ≡ false → AreApart (placed_of fs ts)
+pub placed_apart : (fs : List FileMeta) (ts : List Opened) → NumbersRise fs → has_overlap fs ≡ false → AreApart (placed_of fs ts)
 placed_apart [] ts up none = tt
 placed_apart (f ∷ fs) [] up none = tt
 placed_apart (f ∷ fs) (t ∷ ts) up none =
@@ -165,9 +165,9 @@ module _ (fs : List FileMeta) (all ts rest us : List Opened) (t : Opened) (rec :
   pub is_shorter : length rest < length fs
   is_shorter = omega (arith, as_many fs all rec, ap length split_there, length-append rest (t ∷ us))
 
-  pub place_put : (n : ℕ) (f : FileMeta) (old new : List Placed) → n ≡ length rest → f ≡ get_or fs n f → old ≡ in_order (drop (length ts) (placed_of fs all)) → new ≡ put_in_order (record { meta = f; table = t }) old
-      → new ≡ in_order (drop (length rest) (placed_of fs all))
-  place_put n f old new len is before put =
+  pub place_more : (n : ℕ) (f : FileMeta) (old new : List Placed) → n ≡ length rest → f ≡ get_or fs n f → old ≡ reverse (drop (length ts) (placed_of fs all)) → new ≡ old ++ record { meta = f; table = t } ∷ []
+      → new ≡ reverse (drop (length rest) (placed_of fs all))
+  place_more n f old new len is before put =
       let p : Placed = record { meta = f; table = t } in
       let there : f ≡ get_or fs (length rest) f = subst (λ (i : ℕ). f ≡ get_or fs i f) len is in
       let at : drop (length rest) (placed_of fs (rest ++ t ∷ us)) ≡ p ∷ drop (suc (length rest)) (placed_of fs (rest ++ t ∷ us)) = one_more_place fs rest us t f (subst (AreAsRecorded fs) split_there rec) there in
@@ -175,9 +175,24 @@ module _ (fs : List FileMeta) (all ts rest us : List Opened) (t : Opened) (rec :
       let after : drop (length ts) (placed_of fs all) ≡ drop (suc (length rest)) (placed_of fs (rest ++ t ∷ us)) =
       ap (λ (i : ℕ). drop i (placed_of fs all)) longer ∙ ap (λ (xs : List Opened). drop (suc (length rest)) (placed_of fs xs)) split_there in
       put
-      ∙ ap (put_in_order p) (before ∙ ap in_order after)
-      ∙ ap in_order (sym at)
-      ∙ ap (λ (xs : List Opened). in_order (drop (length rest) (placed_of fs xs))) (sym split_there)
+      ∙ ap (λ (ps : List Placed). ps ++ p ∷ []) (before ∙ ap reverse after)
+      ∙ sym (reverse-append (p ∷ []) (drop (suc (length rest)) (placed_of fs (rest ++ t ∷ us))))
+      ∙ ap reverse (sym at)
+      ∙ ap (λ (xs : List Opened). reverse (drop (length rest) (placed_of fs xs))) (sym split_there)
+
+-- ---- places put one after another
+
+pub put_all-last : (ps : List Placed) (p : Placed) (qs : List Placed) → put_all (ps ++ p ∷ []) qs ≡ put_all ps (put_in_order p qs)
+put_all-last [] p qs = refl
+put_all-last (x ∷ ps) p qs = ap (put_in_order x) (put_all-last ps p qs)
+
+put_length-if : (b : Bool) (p q : Placed) (qs rs : List Placed) → length rs ≡ suc (length qs) → length (cond b (p ∷ q ∷ qs) (q ∷ rs)) ≡ suc (suc (length qs))
+put_length-if true p q qs rs h = refl
+put_length-if false p q qs rs h = ap suc h
+
+pub put_length : (p : Placed) (qs : List Placed) → length (put_in_order p qs) ≡ suc (length qs)
+put_length p [] = refl
+put_length p (q ∷ qs) = put_length-if (is_before p.meta q.meta) p q qs (put_in_order p qs) (put_length p qs)
 
 -- ---- the place where a search is to meet a file
 

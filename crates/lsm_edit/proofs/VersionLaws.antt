@@ -3,16 +3,17 @@ use Rattle.std.proofs.Common.{◌≡◌, ℕ, ◌+◌, ◌<◌, ◌≤◌, Bool,
 use Rattle.std.specs.List.{list_any}
 use Rattle.std.proofs.lemmas.Bool.{or_from, or_parts, ltb-false, leb-false, not-false, eqb-true, cases_Bool}
 use Rattle.lsm_key.specs.Sets.{IsIn}
+use Rattle.lsm_key.proofs.Falls.{IsIn-filter}
 use Rattle.lsm_key.proofs.Sets.{IsIn-append_cases}
+use Rattle.std.proofs.lemmas.List.Folds.{list_any-append}
 use Rattle.lsm_edit.specs.declared.file.FileMeta.{FileMeta}
 use Rattle.lsm_edit.specs.declared.edit.Edit.{Edit}
 use Rattle.lsm_edit.specs.declared.edit.EditKind.{EditKind}
-use Rattle.lsm_edit.specs.declared.edit.EditKind.TheVariants.{Flush, Epoch}
+use Rattle.lsm_edit.specs.declared.edit.EditKind.TheVariants.{Flush, Install, Epoch}
 use Rattle.lsm_edit.specs.declared.version.ApplyError.{ApplyError}
-use Rattle.lsm_edit.specs.declared.version.ApplyError.TheVariants.{BadCounter}
 use Rattle.lsm_edit.specs.File.{IsFile}
-use Rattle.lsm_edit.specs.Edit.{IsEdit, AreAdded}
-use Rattle.lsm_edit.specs.Version.{VersionValue, IsVersion, NumbersRise, without, has_number, files_after, clashes, meets, has_overlap, apply_fault, plain_fault, applied, goes_back, miscounts, is_low}
+use Rattle.lsm_edit.specs.Edit.{IsEdit, AreAdded, AreInTurn, IsFileFrom, after_file, shape}
+use Rattle.lsm_edit.specs.Version.{VersionValue, IsVersion, NumbersRise, without, has_number, files_after, clashes, meets, has_overlap, apply_fault, applied, goes_back, miscounts, is_low}
 
 -- ---- the files after an edit that removes none
 
@@ -29,7 +30,7 @@ and-false : (a b : Bool) → b ≡ false → (a && b) ≡ false
 and-false true b h = h
 and-false false b h = refl
 
-young : (f g : FileMeta) → g.level ≡ 0 → clashes f g ≡ false
+pub young : (f g : FileMeta) → g.level ≡ 0 → clashes f g ≡ false
 young f g zero_level = elim (cases_Bool (eqb f.level g.level)) [
   | inl same ↦
       let level : f.level ≡ 0 = eqb-true f.level g.level same ∙ zero_level in
@@ -41,57 +42,83 @@ any-push : (test : FileMeta → Bool) (files : List FileMeta) (g : FileMeta) →
 any-push test [] g none own = or_from (test g) false own refl
 any-push test (f ∷ files) g none own = let parts = or_parts (test f) (list_any test files) none in or_from (test f) (list_any test (files ++ g ∷ [])) parts.0 (any-push test files g parts.1 own)
 
-overlap-push : (files : List FileMeta) (g : FileMeta) → g.level ≡ 0 → has_overlap files ≡ false → has_overlap (files ++ g ∷ []) ≡ false
+pub overlap-push : (files : List FileMeta) (g : FileMeta) → g.level ≡ 0 → has_overlap files ≡ false → has_overlap (files ++ g ∷ []) ≡ false
 overlap-push [] g level h = refl
 overlap-push (f ∷ files) g level h =
     let parts = or_parts (list_any (clashes f) files) (has_overlap files) h in
     or_from (list_any (clashes f) (files ++ g ∷ [])) (has_overlap (files ++ g ∷ [])) (any-push (clashes f) files g parts.0 (young f g level)) (overlap-push files g level parts.1)
 
--- ---- each kind of edit
+-- ---- overlaps of the files after an edit
 
-append-nothing : (files : List FileMeta) → files ++ [] ≡ files
-append-nothing [] = refl
-append-nothing (f ∷ files) = ap (λ (fs : List FileMeta). f ∷ fs) (append-nothing files)
+-- a file stays
+abbrev pub stays : List ℕ → FileMeta → Bool
+stays numbers f = not (list_any (λ n. has_number n f) numbers)
 
-still_disjoint : (kind : EditKind) (files added : List FileMeta) → AreAdded kind added → has_overlap files ≡ false → has_overlap (files ++ added) ≡ false
-still_disjoint Epoch files [] is h = ap has_overlap (append-nothing files) ∙ h
-still_disjoint Epoch files (f ∷ added) is h = absurd is
-still_disjoint Flush files [] is h = absurd is
-still_disjoint Flush files (f ∷ []) is h = overlap-push files f is.1 h
-still_disjoint Flush files (f ∷ g ∷ added) is h = absurd is
+any-if : (b : Bool) (test : FileMeta → Bool) (f : FileMeta) (kept : List FileMeta) → test f ≡ false → list_any test kept ≡ false → list_any test (cond b (f ∷ kept) kept) ≡ false
+any-if true test f kept own rest = or_from (test f) (list_any test kept) own rest
+any-if false test f kept own rest = rest
 
-added_is : (kind : EditKind) (added : List FileMeta) → AreAdded kind added → (f : FileMeta) → IsIn f added → IsFile f
-added_is Epoch [] is f m = absurd m
-added_is Epoch (x ∷ added) is f m = absurd is
-added_is Flush [] is f m = absurd is
-added_is Flush (x ∷ []) is f m = elim m [ inl e ↦ subst IsFile (sym e) is.0 | inr n ↦ absurd n ]
-added_is Flush (x ∷ y ∷ added) is f m = absurd is
+any-without : (test : FileMeta → Bool) (numbers : List ℕ) (files : List FileMeta) → list_any test files ≡ false → list_any test (without numbers files) ≡ false
+any-without test numbers [] h = refl
+any-without test numbers (f ∷ files) h =
+    let parts = or_parts (test f) (list_any test files) h in
+    any-if (stays numbers f) test f (without numbers files) parts.0 (any-without test numbers files parts.1)
 
-rise-push : (files : List FileMeta) (g : FileMeta) → NumbersRise files → ((f : FileMeta) → IsIn f files → f.number < g.number) → NumbersRise (files ++ g ∷ [])
-rise-push [] g up above = (λ h m. absurd m, tt)
-rise-push (f ∷ files) g up above = (
-  λ h m. elim (IsIn-append_cases h files (g ∷ []) m) [ inl a ↦ up.0 h a | inr b ↦ elim b [ inl e ↦ subst (λ (x : FileMeta). f.number < x.number) (sym e) (above f (inl refl)) | inr n ↦ absurd n ] ],
-  rise-push files g up.1 (λ h m. above h (inr m)),
+or-assoc : (a b c : Bool) → (a || (b || c)) ≡ ((a || b) || c)
+or-assoc true b c = refl
+or-assoc false b c = refl
+
+overlap-if : (b : Bool) (f : FileMeta) (kept added : List FileMeta) (meet : Bool) → list_any (clashes f) kept ≡ false → has_overlap (kept ++ added) ≡ (meet || has_overlap added)
+    → has_overlap (cond b (f ∷ kept) kept ++ added) ≡ (((b && list_any (clashes f) added) || meet) || has_overlap added)
+overlap-if true f kept added meet own rest =
+    ap (λ (x : Bool). x || has_overlap (kept ++ added)) (list_any-append (clashes f) kept added ∙ ap (λ (x : Bool). x || list_any (clashes f) added) own)
+    ∙ ap (λ (x : Bool). list_any (clashes f) added || x) rest
+    ∙ or-assoc (list_any (clashes f) added) meet (has_overlap added)
+overlap-if false f kept added meet own rest = rest
+
+-- among files that are disjoint, an overlap is one of a file that comes
+pub overlap-after : (numbers : List ℕ) (files added : List FileMeta) → has_overlap files ≡ false
+    → has_overlap (without numbers files ++ added) ≡ (list_any (λ f. stays numbers f && list_any (clashes f) added) files || has_overlap added)
+overlap-after numbers [] added h = refl
+overlap-after numbers (f ∷ files) added h =
+    let parts = or_parts (list_any (clashes f) files) (has_overlap files) h in
+    overlap-if (stays numbers f) f (without numbers files) added (list_any (λ f. stays numbers f && list_any (clashes f) added) files) (any-without (clashes f) numbers files parts.0) (overlap-after numbers files added parts.1)
+
+-- ---- the files that are added
+
+pub added_each : (from : ℕ × ℕ × ℕ) (files : List FileMeta) → AreInTurn IsFileFrom after_file from files → (f : FileMeta) → IsIn f files → IsFileFrom from f
+added_each from [] is f m = absurd m
+added_each from (x ∷ files) is f m = elim m [
+  | inl e ↦ subst (λ (y : FileMeta). IsFileFrom from y) (sym e) is.0
+  | inr n ↦ let later = added_each (after_file x) files is.1 f n in (later.0, (let a = later.1 in let b = is.0.1 in omega arith), (let a = later.2 in let b = is.0.2 in omega arith), (let a = later.3 in let b = is.0.3 in omega arith))
+]
+
+pub added_rise : (from : ℕ × ℕ × ℕ) (files : List FileMeta) → AreInTurn IsFileFrom after_file from files → NumbersRise files
+added_rise from [] is = tt
+added_rise from (f ∷ files) is = (λ g m. let later = added_each (after_file f) files is.1 g m in (let a = later.1 in omega arith), added_rise (after_file f) files is.1)
+
+pub added_is : (edit : Edit) → IsEdit edit → (f : FileMeta) → IsIn f edit.added → IsFile f
+added_is edit ok f m = (added_each (1, (shape edit.kind).lowest, (shape edit.kind).deepest) edit.added ok.added.2 f m).0
+
+pub added_rises : (edit : Edit) → IsEdit edit → NumbersRise edit.added
+added_rises edit ok = added_rise (1, (shape edit.kind).lowest, (shape edit.kind).deepest) edit.added ok.added.2
+
+rise-if : (b : Bool) (f : FileMeta) (kept : List FileMeta) → ((g : FileMeta) → IsIn g kept → f.number < g.number) → NumbersRise kept → NumbersRise (cond b (f ∷ kept) kept)
+rise-if true f kept first up = (first, up)
+rise-if false f kept first up = up
+
+rise-without : (numbers : List ℕ) (files : List FileMeta) → NumbersRise files → NumbersRise (without numbers files)
+rise-without numbers [] up = tt
+rise-without numbers (f ∷ files) up = rise-if (stays numbers f) f (without numbers files) (λ g m. up.0 g (IsIn-filter (stays numbers) g files m).0) (rise-without numbers files up.1)
+
+rise-append : (files added : List FileMeta) (limit : ℕ) → NumbersRise files → NumbersRise added → ((f : FileMeta) → IsIn f files → f.number < limit) → ((f : FileMeta) → IsIn f added → limit ≤ f.number) → NumbersRise (files ++ added)
+rise-append [] added limit up more below above = more
+rise-append (f ∷ files) added limit up more below above = (
+  λ g m. elim (IsIn-append_cases g files added m) [ inl a ↦ up.0 g a | inr b ↦ let low = below f (inl refl) in let high = above g b in omega arith ],
+  rise-append files added limit up.1 more (λ g m. below g (inr m)) above,
 )
 
-still_rising : (kind : EditKind) (files added : List FileMeta) (limit : ℕ) → AreAdded kind added → NumbersRise files → ((f : FileMeta) → IsIn f files → f.number < limit) → ((f : FileMeta) → IsIn f added → limit ≤ f.number) → NumbersRise (files ++ added)
-still_rising Epoch files [] limit is up below above = subst NumbersRise (sym (append-nothing files)) up
-still_rising Epoch files (f ∷ added) limit is up below above = absurd is
-still_rising Flush files [] limit is up below above = absurd is
-still_rising Flush files (f ∷ []) limit is up below above = rise-push files f up (λ g m. let a = below g m in let b = above f (inl refl) in omega arith)
-still_rising Flush files (f ∷ g ∷ added) limit is up below above = absurd is
-
 -- ---- the faults
-
-two_tests : (a b : Bool) (x : ApplyError) → cond a (Some x) (cond b (Some x) None) ≡ cond (a || b) (Some x) None
-two_tests true b x = refl
-two_tests false b x = refl
-
-pub plain_is : (v : VersionValue) (edit : Edit) → IsVersion v → IsEdit edit → plain_fault v edit ≡ apply_fault v edit
-plain_is v edit is ok =
-    let none : list_any (λ n. not (list_any (has_number n) v.files)) edit.removed ≡ false = ap (λ (numbers : List ℕ). list_any (λ n. not (list_any (has_number n) v.files)) numbers) ok.removed in
-    let apart : has_overlap (files_after v.files edit) ≡ false = ap has_overlap (files_after-is v.files edit ok.removed) ∙ still_disjoint edit.kind v.files edit.added ok.added is.disjoint in
-    rw (none, apart, two_tests (is_low v edit) (miscounts edit.kind v.epoch edit.epoch) BadCounter) refl
 
 pub none_below : (limit : ℕ) (files : List FileMeta) → list_any (λ f. ltb f.number limit) files ≡ false → (f : FileMeta) → IsIn f files → limit ≤ f.number
 none_below limit [] h f m = absurd m
@@ -108,7 +135,9 @@ none_from limit (x ∷ files) h f m =
 -- what an edit that applies has passed
 pub record Passes (v : VersionValue) (edit : Edit) : Type 0 where
   pub number : edit.number ≡ v.number + 1
+  pub present : list_any (λ n. not (list_any (has_number n) v.files)) edit.removed ≡ false
   pub fresh : list_any (λ f. ltb f.number v.next_file) edit.added ≡ false
+  pub disjoint : has_overlap (files_after v.files edit) ≡ false
   pub flushed : goes_back edit.kind v.flushed edit.flushed ≡ false
   pub counted : is_low v edit ≡ false
   pub epoch : miscounts edit.kind v.epoch edit.epoch ≡ false
@@ -117,33 +146,40 @@ pub none_passed : (a : Bool) (x : ApplyError) (r : Option ApplyError) → cond a
 none_passed true x r h = absurd cc
 none_passed false x r h = (refl, h)
 
-pub passes : (v : VersionValue) (edit : Edit) → plain_fault v edit ≡ None → Passes v edit
+pub passes : (v : VersionValue) (edit : Edit) → apply_fault v edit ≡ None → Passes v edit
 passes v edit h =
     let a = none_passed _ _ _ h in
     let b = none_passed _ _ _ a.1 in
     let c = none_passed _ _ _ b.1 in
     let d = none_passed _ _ _ c.1 in
     let e = none_passed _ _ _ d.1 in
-    record { number = eqb-true edit.number (v.number + 1) (not-false (eqb edit.number (v.number + 1)) a.0); fresh = b.0; flushed = c.0; counted = d.0; epoch = e.0 }
+    let f = none_passed _ _ _ e.1 in
+    let counts = or_parts (is_low v edit) (miscounts edit.kind v.epoch edit.epoch) f.0 in
+    record { number = eqb-true edit.number (v.number + 1) (not-false (eqb edit.number (v.number + 1)) a.0); present = b.0; fresh = c.0; disjoint = d.0; flushed = e.0; counted = counts.0; epoch = counts.1 }
+
+-- the files that an edit adds are new
+pub fresh_added : (v : VersionValue) (edit : Edit) → apply_fault v edit ≡ None → (f : FileMeta) → IsIn f edit.added → v.next_file ≤ f.number
+fresh_added v edit none = none_below v.next_file edit.added (passes v edit none).fresh
 
 -- the version after an edit that applies
-pub applied_is : (v : VersionValue) (edit : Edit) → IsVersion v → IsEdit edit → plain_fault v edit ≡ None → IsVersion (applied v edit)
+pub applied_is : (v : VersionValue) (edit : Edit) → IsVersion v → IsEdit edit → apply_fault v edit ≡ None → IsVersion (applied v edit)
 applied_is v edit is ok h =
     let p = passes v edit h in
     let counts = or_parts (ltb edit.next_file v.next_file) (list_any (λ f. leb edit.next_file f.number) edit.added) p.counted in
     let rises : v.next_file ≤ edit.next_file = ltb-false edit.next_file v.next_file counts.0 in
-    let files : files_after v.files edit ≡ v.files ++ edit.added = files_after-is v.files edit ok.removed in
+    let kept = without edit.removed v.files in
     record {
       number = ok.last;
       flushed = ok.flushed;
       epoch = ok.epoch;
       some_file = ok.some_file;
       next_file = ok.next_file;
-      files = λ f m. elim (IsIn-append_cases f v.files edit.added (subst (λ (fs : List FileMeta). IsIn f fs) files m)) [ inl a ↦ is.files f a | inr b ↦ added_is edit.kind edit.added ok.added f b ];
-      below = λ f m. elim (IsIn-append_cases f v.files edit.added (subst (λ (fs : List FileMeta). IsIn f fs) files m)) [
-        | inl a ↦ let lt = is.below f a in omega arith
+      files = λ f m. elim (IsIn-append_cases f kept edit.added m) [ inl a ↦ is.files f (IsIn-filter (stays edit.removed) f v.files a).0 | inr b ↦ added_is edit ok f b ];
+      below = λ f m. elim (IsIn-append_cases f kept edit.added m) [
+        | inl a ↦ let lt = is.below f (IsIn-filter (stays edit.removed) f v.files a).0 in omega arith
         | inr b ↦ none_from edit.next_file edit.added counts.1 f b
       ];
-      rising = subst NumbersRise (sym files) (still_rising edit.kind v.files edit.added v.next_file ok.added is.rising is.below (none_below v.next_file edit.added p.fresh));
-      disjoint = subst (λ (fs : List FileMeta). has_overlap fs ≡ false) (sym files) (still_disjoint edit.kind v.files edit.added ok.added is.disjoint);
+      rising = rise-append kept edit.added v.next_file (rise-without edit.removed v.files is.rising) (added_rises edit ok)
+          (λ f m. is.below f (IsIn-filter (stays edit.removed) f v.files m).0) (none_below v.next_file edit.added p.fresh);
+      disjoint = p.disjoint;
     }

@@ -1,5 +1,5 @@
 -- Edits: what they may say, and how they are spelled (LevelDB, version edits).
-use Rattle.std.specs.Prelude.{◌≡◌, ℕ, ◌<◌, ◌≤◌, ◌-◌, ◌^◌, List, [], ◌∷◌, ◌++◌, length, Result, Ok, Err, ◌==◌, if◌then◌else◌}
+use Rattle.std.specs.Prelude.{◌≡◌, ℕ, zero, suc, ◌+◌, ◌<◌, ◌≤◌, ◌-◌, ◌^◌, List, [], ◌∷◌, ◌++◌, length, Result, Ok, Err, ◌==◌, if◌then◌else◌}
 use Rattle.std.specs.Int.{w8, w32, w64, to_be_bytes}
 use Rattle.std.specs.List.{flat_map}
 use Rattle.lsm_key.specs.declared.limits.TheConstants.{MAX_NUMBER}
@@ -7,25 +7,50 @@ use Rattle.lsm_key.specs.Reading.{◌>>=◌, number_at, within_at}
 use Rattle.lsm_edit.specs.declared.file.FileMeta.{FileMeta}
 use Rattle.lsm_edit.specs.declared.edit.Edit.{Edit}
 use Rattle.lsm_edit.specs.declared.edit.EditKind.{EditKind}
-use Rattle.lsm_edit.specs.declared.edit.EditKind.TheVariants.{Flush, Epoch}
+use Rattle.lsm_edit.specs.declared.edit.Shape.{Shape}
+use Rattle.lsm_edit.specs.declared.edit.EditKind.TheVariants.{Flush, Install, Epoch}
 use Rattle.lsm_edit.specs.declared.format.FormatFault.{FormatFault}
 use Rattle.lsm_edit.specs.declared.format.FormatFault.TheVariants.{Truncated, BadField, TrailingBytes}
 use Rattle.lsm_edit.specs.File.{IsFile, file, file_at}
 
 abbrev pub kind_code : EditKind → ℕ
 kind_code Flush = 1
+kind_code Install = 2
 kind_code Epoch = 3
 
--- a flush adds one file
-abbrev pub added_count : EditKind → ℕ
-added_count Flush = 1
-added_count Epoch = 0
+-- a flush adds one file to level 0, an install replaces files by ones of a deeper level, an opening does neither
+abbrev pub shape : EditKind → Shape
+shape Flush = record { least_removed = 0; most_removed = 0; least_added = 1; most_added = 1; lowest = 0; deepest = 0 }
+shape Install = record { least_removed = 1; most_removed = 4294967295; least_added = 0; most_added = 4294967295; lowest = 1; deepest = 6 }
+shape Epoch = record { least_removed = 0; most_removed = 0; least_added = 0; most_added = 0; lowest = 0; deepest = 0 }
 
--- the files that an edit of the kind may add
+-- each item is as the one before it asks for
+abbrev pub AreInTurn : {S X : Type 0} → (S → X → Type 0) → (X → S) → S → List X → Type 0
+AreInTurn Is next s [] = Unit {0}
+AreInTurn Is next s (x ∷ xs) = Is s x × AreInTurn Is next (next x) xs
+
+-- a file's number, of at least another
+abbrev pub IsNumberFrom : ℕ → ℕ → Type 0
+IsNumberFrom least n = (least ≤ n) × (n ≤ MAX_NUMBER)
+
+abbrev pub after_number : ℕ → ℕ
+after_number n = n + 1
+
+-- numbers of files, ascending
+abbrev pub AreRemoved : EditKind → List ℕ → Type 0
+AreRemoved kind numbers = ((shape kind).least_removed ≤ length numbers) × (length numbers ≤ (shape kind).most_removed) × AreInTurn IsNumberFrom after_number 1 numbers
+
+-- a file of at least a number, and of a level within two
+abbrev pub IsFileFrom : ℕ × ℕ × ℕ → FileMeta → Type 0
+IsFileFrom from f = IsFile f × (from.0 ≤ f.number) × (from.1 ≤ f.level) × (f.level ≤ from.2)
+
+-- a greater number, at the same level
+abbrev pub after_file : FileMeta → ℕ × ℕ × ℕ
+after_file f = (f.number + 1, f.level, f.level)
+
+-- files of one level, with ascending numbers
 abbrev pub AreAdded : EditKind → List FileMeta → Type 0
-AreAdded Flush (f ∷ []) = IsFile f × (f.level ≡ 0)
-AreAdded Epoch [] = Unit {0}
-AreAdded kind files = ⊥
+AreAdded kind files = ((shape kind).least_added ≤ length files) × (length files ≤ (shape kind).most_added) × AreInTurn IsFileFrom after_file (1, (shape kind).lowest, (shape kind).deepest) files
 
 pub record IsEdit (e : Edit) : Type 0 where
   pub first : 1 ≤ e.number
@@ -35,7 +60,7 @@ pub record IsEdit (e : Edit) : Type 0 where
   pub epoch : e.epoch ≤ MAX_NUMBER
   pub some_file : 1 ≤ e.next_file
   pub next_file : e.next_file ≤ MAX_NUMBER
-  pub removed : e.removed ≡ []
+  pub removed : AreRemoved e.kind e.removed
   pub added : AreAdded e.kind e.added
 
 -- a count, and each number
@@ -59,7 +84,7 @@ pub record IsSpelled (bytes : List ℕ) (e : Edit) : Type 0 where
   pub spelled : bytes ≡ edit e
 
 abbrev pub kind_from : ℕ → Result EditKind FormatFault
-kind_from n = if n == 1 then Ok Flush else if n == 3 then Ok Epoch else Err BadField
+kind_from n = if n == 1 then Ok Flush else if n == 2 then Ok Install else if n == 3 then Ok Epoch else Err BadField
 
 abbrev pub kind_at : List ℕ → Result (EditKind × List ℕ) FormatFault
 kind_at bytes = do
@@ -67,17 +92,31 @@ kind_at bytes = do
   kind ← kind_from code.0
   Ok (kind, code.1)
 
--- the files of an edit of the kind, after their count: at level 0
-unfoldable pub files_at : EditKind → List ℕ → Result (List FileMeta × List ℕ) FormatFault
-files_at Epoch bytes = Ok ([], bytes)
-files_at Flush bytes = do
-  file ← file_at 0 0 bytes
-  Ok (file.0 ∷ [], file.1)
+-- so many items, each read as the one before it asks for
+abbrev pub items_at : {S X F : Type 0} → (S → List ℕ → Result (X × List ℕ) F) → (X → S) → ℕ → S → List ℕ → Result (List X × List ℕ) F
+items_at read next zero s bytes = Ok ([], bytes)
+items_at read next (suc n) s bytes = do
+  x ← read s bytes
+  xs ← items_at read next n (next x.0) x.1
+  Ok (x.0 ∷ xs.0, xs.1)
+
+-- so many numbers of files, ascending
+abbrev pub numbers_at : ℕ → ℕ → List ℕ → Result (List ℕ × List ℕ) FormatFault
+numbers_at count least bytes = items_at (λ from. within_at Truncated BadField w64 from MAX_NUMBER) after_number count least bytes
+
+-- so many files of one level, with ascending numbers
+abbrev pub files_at : ℕ → ℕ × ℕ × ℕ → List ℕ → Result (List FileMeta × List ℕ) FormatFault
+files_at count from bytes = items_at (λ from. file_at from.0 from.1 from.2) after_file count from bytes
+
+unfoldable pub removed_at : EditKind → List ℕ → Result (List ℕ × List ℕ) FormatFault
+removed_at kind bytes = do
+  count ← within_at Truncated BadField w32 (shape kind).least_removed (shape kind).most_removed bytes
+  numbers_at count.0 1 count.1
 
 unfoldable pub added_at : EditKind → List ℕ → Result (List FileMeta × List ℕ) FormatFault
 added_at kind bytes = do
-  count ← within_at Truncated BadField w32 (added_count kind) (added_count kind) bytes
-  files_at kind count.1
+  count ← within_at Truncated BadField w32 (shape kind).least_added (shape kind).most_added bytes
+  files_at count.0 (1, (shape kind).lowest, (shape kind).deepest) count.1
 
 -- an edit from the front
 unfoldable pub fields_at : List ℕ → Result (Edit × List ℕ) FormatFault
@@ -87,9 +126,9 @@ fields_at bytes = do
   flushed ← within_at Truncated BadField w64 0 (2 ^ 56 - 1) kind.1
   epoch ← within_at Truncated BadField w64 1 MAX_NUMBER flushed.1
   next_file ← within_at Truncated BadField w64 1 MAX_NUMBER epoch.1
-  removed ← within_at Truncated BadField w32 0 0 next_file.1
+  removed ← removed_at kind.0 next_file.1
   added ← added_at kind.0 removed.1
-  Ok (record { number = number.0; kind = kind.0; flushed = flushed.0; epoch = epoch.0; next_file = next_file.0; removed = []; added = added.0 }, added.1)
+  Ok (record { number = number.0; kind = kind.0; flushed = flushed.0; epoch = epoch.0; next_file = next_file.0; removed = removed.0; added = added.0 }, added.1)
 
 -- an edit, all of the bytes
 unfoldable pub edit_of : List ℕ → Result Edit FormatFault

@@ -25,10 +25,10 @@ pub record IsFile (f : FileMeta) : Type 0 where
 abbrev pub file : FileMeta → List ℕ
 file f = to_be_bytes w64 f.number ++ to_be_bytes w8 f.level ++ key f.smallest ++ key f.largest ++ to_be_bytes w32 f.bytes ++ to_be_bytes w32 f.entries
 
--- a record of a file of these levels
-unfoldable pub file_at : ℕ → ℕ → List ℕ → Result (FileMeta × List ℕ) FormatFault
-file_at lowest deepest bytes = do
-  number ← within_at Truncated BadField w64 1 MAX_NUMBER bytes
+-- a record of a file of at least a number, and of these levels
+unfoldable pub file_at : ℕ → ℕ → ℕ → List ℕ → Result (FileMeta × List ℕ) FormatFault
+file_at least lowest deepest bytes = do
+  number ← within_at Truncated BadField w64 least MAX_NUMBER bytes
   level ← within_at Truncated BadField w8 lowest deepest number.1
   smallest ← key_at MAX_KEY_BYTES Truncated BadField level.1
   largest ← key_at MAX_KEY_BYTES Truncated BadField smallest.1

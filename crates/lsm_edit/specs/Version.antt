@@ -7,7 +7,7 @@ use Rattle.lsm_key.specs.Order.{key_le}
 use Rattle.lsm_edit.specs.declared.file.FileMeta.{FileMeta}
 use Rattle.lsm_edit.specs.declared.edit.Edit.{Edit}
 use Rattle.lsm_edit.specs.declared.edit.EditKind.{EditKind}
-use Rattle.lsm_edit.specs.declared.edit.EditKind.TheVariants.{Flush, Epoch}
+use Rattle.lsm_edit.specs.declared.edit.EditKind.TheVariants.{Flush, Install, Epoch}
 use Rattle.lsm_edit.specs.declared.version.ApplyError.{ApplyError}
 use Rattle.lsm_edit.specs.declared.version.ApplyError.TheVariants.{WrongNumber, NoSuchFile, FileExists, Overlap, FlushedBack, BadCounter}
 use Rattle.lsm_edit.specs.File.{IsFile}
@@ -49,11 +49,13 @@ has_overlap (f ∷ fs) = list_any (clashes f) fs || has_overlap fs
 -- a flush moves the flushed sequence on, another edit leaves it
 abbrev pub goes_back : EditKind → ℕ → ℕ → Bool
 goes_back Flush old new = nat_le new old
+goes_back Install old new = not (nat_eq new old)
 goes_back Epoch old new = not (nat_eq new old)
 
 -- an opening begins the next epoch, another edit stays in it
 abbrev pub miscounts : EditKind → ℕ → ℕ → Bool
 miscounts Flush old new = not (nat_eq new old)
+miscounts Install old new = not (nat_eq new old)
 miscounts Epoch old new = not (nat_eq new (old + 1))
 
 -- the next file number falls back, or is not above an added file's
@@ -69,16 +71,6 @@ apply_fault v edit =
     else if has_overlap (files_after v.files edit) then Some Overlap
     else if goes_back edit.kind v.flushed edit.flushed then Some FlushedBack
     else if is_low v edit || miscounts edit.kind v.epoch edit.epoch then Some BadCounter
-    else None
-
--- the same of an edit that removes no file and adds none below level 0
-abbrev pub plain_fault : VersionValue → Edit → Option ApplyError
-plain_fault v edit =
-    if not (nat_eq edit.number (v.number + 1)) then Some WrongNumber
-    else if list_any (λ f. nat_lt f.number v.next_file) edit.added then Some FileExists
-    else if goes_back edit.kind v.flushed edit.flushed then Some FlushedBack
-    else if is_low v edit then Some BadCounter
-    else if miscounts edit.kind v.epoch edit.epoch then Some BadCounter
     else None
 
 abbrev pub applied : VersionValue → Edit → VersionValue

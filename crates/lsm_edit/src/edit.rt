@@ -1,16 +1,16 @@
 //! Edits: what one version adds to the one before it.
 //!
-//! An edit is spelled as: u64 number, u8 kind (1 flush, 3 epoch), u64 flushed, u64 epoch, u64 next_file, u32 count of
+//! An edit is spelled as: u64 number, u8 kind (1 flush, 2 install, 3 epoch), u64 flushed, u64 epoch, u64 next_file, u32 count of
 //! removed files and u64 each, u32 count of added files and a file record each; all numbers are big-endian.
 
-ghost use Rattle.std.specs.Prelude.{◌≡◌, ◌++◌, All, IfOk, OnOk, Ok};
+ghost use Rattle.std.specs.Prelude.{◌≡◌, ◌≤◌, ◌<◌, ◌^◌, ◌++◌, length, All, IfOk, OnOk, Ok};
 ghost use Rattle.std.specs.List.{flat_map};
 ghost use Rattle.lsm_edit.specs.File.{IsFile, file};
 ghost use Rattle.lsm_key.specs.Reading.{Gives};
 ghost use Rattle.lsm_edit.specs.declared.edit.Edit.{Edit};
-ghost use Rattle.lsm_edit.specs.Edit.{IsEdit, IsSpelled, edit, head, edit_of, fields_at, kind_at, kind_code, added_at, added_count};
+ghost use Rattle.lsm_edit.specs.Edit.{IsEdit, IsSpelled, edit, head, edit_of, fields_at, kind_at, kind_code, shape, removed, removed_at, added_at, numbers_at, files_at};
 
-use crate::file::{file_of, put_file};
+use crate::file::{MAX_LEVEL, file_of, put_file};
 use crate::{FileMeta, FormatError, FormatFault};
 use bytes::{BufMut, Bytes, BytesMut};
 use lsm_key::{
@@ -24,6 +24,8 @@ use std::alloc::{AllocError, Global};
 pub enum EditKind {
     /// A memtable became a table of level 0.
     Flush,
+    /// Files were merged into others of a deeper level.
+    Install,
     /// A coordinator opened the store.
     Epoch,
 }
@@ -45,6 +47,17 @@ pub struct Edit {
     pub added: Items<FileMeta>,
 }
 
+/// How many files an edit removes and adds, and from which level to which those are that it adds.
+#[derive(Clone, Copy)]
+pub(crate) struct Shape {
+    least_removed: u32,
+    most_removed: u32,
+    least_added: u32,
+    most_added: u32,
+    lowest: u8,
+    deepest: u8,
+}
+
 const SHORT: FormatFault = FormatFault::Truncated;
 
 const BAD: FormatFault = FormatFault::BadField;
@@ -56,17 +69,38 @@ impl EditKind {
     {
         match self {
             EditKind::Flush => 1,
+            EditKind::Install => 2,
             EditKind::Epoch => 3,
         }
     }
 
-    /// How many files such an edit adds.
-    fn added(self) -> u32
-        ensures { result ≡ added_count self }
+    /// What such an edit may say.
+    fn shape(self) -> Shape
+        ensures { result ≡ shape self }
     {
+        let plain = Shape {
+            least_removed: 0,
+            most_removed: 0,
+            least_added: 0,
+            most_added: 0,
+            lowest: 0,
+            deepest: 0,
+        };
         match self {
-            EditKind::Flush => 1,
-            EditKind::Epoch => 0,
+            EditKind::Flush => Shape {
+                least_added: 1,
+                most_added: 1,
+                ..plain
+            },
+            EditKind::Install => Shape {
+                least_removed: 1,
+                most_removed: u32::MAX,
+                least_added: 0,
+                most_added: u32::MAX,
+                lowest: 1,
+                deepest: MAX_LEVEL,
+            },
+            EditKind::Epoch => plain,
         }
     }
 }
@@ -76,23 +110,65 @@ fn kind_of(rest: &mut Bytes) -> Result<EditKind, FormatError>
 {
     match u8_of(rest, SHORT)? {
         1 => Ok(EditKind::Flush),
+        2 => Ok(EditKind::Install),
         3 => Ok(EditKind::Epoch),
         _ => Err(Refused::Fault(BAD)),
     }
 }
 
-#[tactic(auto, unfolding(crate::specs::Edit::added_at, crate::specs::Edit::files_at))]
-fn added_of(alloc: Global, kind: EditKind, rest: &mut Bytes) -> Result<Items<FileMeta>, FormatError>
-    ensures { Gives (λ files. (files, rest.new)) result (added_at kind rest.old) }
+// So many numbers of files, ascending.
+fn numbers_of(alloc: Global, count: u32, rest: &mut Bytes) -> Result<Items<u64>, FormatError>
+    ensures { Gives (λ numbers. (numbers, rest.new)) result (numbers_at count 1 rest.old) }
 {
-    let count = kind.added();
-    u32_within(rest, count, count, SHORT, BAD)?;
+    let mut numbers = Items::new(alloc);
+    let mut least = 1;
+    for _place in 0..count {
+        let number = u64_within(rest, least, MAX_NUMBER, SHORT, BAD)?;
+        numbers.push(number)?;
+        least = number + 1;
+    }
+    Ok(numbers)
+}
+
+// The files that an edit of the kind removes.
+#[tactic(auto, unfolding(crate::specs::Edit::removed_at))]
+fn removed_of(alloc: Global, kind: EditKind, rest: &mut Bytes) -> Result<Items<u64>, FormatError>
+    ensures { Gives (λ numbers. (numbers, rest.new)) result (removed_at kind rest.old) }
+{
+    let shape = kind.shape();
+    let count = u32_within(rest, shape.least_removed, shape.most_removed, SHORT, BAD)?;
+    numbers_of(alloc, count, rest)
+}
+
+// So many files of one level, from `lowest` to `deepest`, with ascending numbers.
+fn files_of(
+    alloc: Global,
+    count: u32,
+    lowest: u8,
+    deepest: u8,
+    rest: &mut Bytes,
+) -> Result<Items<FileMeta>, FormatError>
+    requires { deepest ≤ MAX_LEVEL }
+    ensures { Gives (λ files. (files, rest.new)) result (files_at count (1, lowest, deepest) rest.old) }
+{
     let mut files = Items::new(alloc);
-    if kind == EditKind::Flush {
-        let file = file_of(rest, 0, 0)?;
+    let (mut least, mut lowest, mut deepest) = (1, lowest, deepest);
+    for _place in 0..count {
+        let file = file_of(rest, least, lowest, deepest)?;
+        (least, lowest, deepest) = (file.number + 1, file.level, file.level);
         files.push(file)?;
     }
     Ok(files)
+}
+
+// The files that an edit of the kind adds.
+#[tactic(auto, unfolding(crate::specs::Edit::added_at))]
+fn added_of(alloc: Global, kind: EditKind, rest: &mut Bytes) -> Result<Items<FileMeta>, FormatError>
+    ensures { Gives (λ files. (files, rest.new)) result (added_at kind rest.old) }
+{
+    let shape = kind.shape();
+    let count = u32_within(rest, shape.least_added, shape.most_added, SHORT, BAD)?;
+    files_of(alloc, count, shape.lowest, shape.deepest, rest)
 }
 
 #[tactic(auto, unfolding(crate::specs::Edit::fields_at))]
@@ -104,7 +180,7 @@ fn fields_of(alloc: Global, rest: &mut Bytes) -> Result<Edit, FormatError>
     let flushed = u64_within(rest, 0, Seq::MAX, SHORT, BAD)?;
     let epoch = u64_within(rest, 1, MAX_NUMBER, SHORT, BAD)?;
     let next_file = u64_within(rest, 1, MAX_NUMBER, SHORT, BAD)?;
-    u32_within(rest, 0, 0, SHORT, BAD)?;
+    let removed = removed_of(alloc, kind, rest)?;
     let added = added_of(alloc, kind, rest)?;
     Ok(Edit {
         number,
@@ -112,7 +188,7 @@ fn fields_of(alloc: Global, rest: &mut Bytes) -> Result<Edit, FormatError>
         flushed: Seq::new(flushed),
         epoch,
         next_file,
-        removed: Items::new(alloc),
+        removed,
         added,
     })
 }
@@ -159,7 +235,19 @@ fn put_head(out: &mut BytesMut, e: &Edit) -> Result<(), AllocError>
     out.put_u64(e.flushed.number())?;
     out.put_u64(e.epoch)?;
     out.put_u64(e.next_file)?;
-    out.put_u32(e.removed.len() as u32)?;
+    put_numbers(out, e.removed.as_slice())?;
+    Ok(())
+}
+
+// Adds a count of numbers, and each.
+fn put_numbers(out: &mut BytesMut, numbers: &[u64]) -> Result<(), AllocError>
+    requires { length numbers.now < 2 ^ 32 }
+    ensures { OnOk result (out.new.items ≡ out.old.items ++ removed numbers.now) }
+{
+    out.put_u32(numbers.len() as u32)?;
+    for number in numbers {
+        out.put_u64(*number)?;
+    }
     Ok(())
 }
 

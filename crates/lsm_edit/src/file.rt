@@ -40,12 +40,12 @@ const SHORT: FormatFault = FormatFault::Truncated;
 
 const BAD: FormatFault = FormatFault::BadField;
 
-/// A record of a file of level `lowest` to `deepest` from the front.
+/// A record from the front, of a file of number `least` or more, and of level `lowest` to `deepest`.
 #[tactic(auto, unfolding(crate::specs::File::file_at))]
-pub(crate) fn file_of(rest: &mut Bytes, lowest: u8, deepest: u8) -> Result<FileMeta, FormatError>
-    ensures { Gives (λ f. (f, rest.new)) result (file_at lowest deepest rest.old) }
+pub(crate) fn file_of(rest: &mut Bytes, least: u64, lowest: u8, deepest: u8) -> Result<FileMeta, FormatError>
+    ensures { Gives (λ f. (f, rest.new)) result (file_at least lowest deepest rest.old) }
 {
-    let number = u64_within(rest, 1, MAX_NUMBER, SHORT, BAD)?;
+    let number = u64_within(rest, least, MAX_NUMBER, SHORT, BAD)?;
     let level = u8_within(rest, lowest, deepest, SHORT, BAD)?;
     let smallest = key_of(rest, MAX_KEY_BYTES, SHORT, BAD)?;
     let largest = key_of(rest, MAX_KEY_BYTES, SHORT, BAD)?;

@@ -1,10 +1,14 @@
 //! The edits that follow a version.
 
-ghost use Rattle.std.specs.Prelude.{◌≡◌, ◌+◌, ◌<◌, ◌≤◌, IfOk, None};
+ghost use Rattle.std.specs.Prelude.{◌≡◌, ℕ, ◌+◌, ◌<◌, ◌≤◌, ◌++◌, true, false, IfOk, None};
+ghost use Rattle.std.specs.List.{list_any};
+ghost use Rattle.lsm_key.specs.Sets.{IsIn};
+ghost use Rattle.lsm_edit.specs.declared.file.FileMeta.{FileMeta};
+ghost use Rattle.lsm_edit.specs.declared.edit.EditKind.TheVariants.{Install};
 ghost use Rattle.lsm_edit.specs.File.{IsFile};
-ghost use Rattle.lsm_edit.specs.Edit.{IsEdit};
-ghost use Rattle.lsm_edit.specs.Version.{apply_fault};
-ghost use Rattle.lsm_edit.specs.Next.{flush_edit, epoch_edit};
+ghost use Rattle.lsm_edit.specs.Edit.{IsEdit, AreRemoved, AreAdded};
+ghost use Rattle.lsm_edit.specs.Version.{apply_fault, has_number, has_overlap, without};
+ghost use Rattle.lsm_edit.specs.Next.{flush_edit, epoch_edit, install_edit, number_after};
 ghost use Rattle.lsm_edit.specs.Served.{IsAsRecorded};
 ghost use Rattle.lsm_table.specs.Tables.{IsTable};
 
@@ -74,6 +78,36 @@ impl Edit {
         })
     }
 
+    /// The edit by which new files take the place of others, as a merge makes them: at least one goes, and those that
+    /// come are of one level from 1 to 6, with new numbers in ascending order. The next file number is the one after
+    /// the last of them, or stays where none comes.
+    pub fn install(version: &Version, removed: Items<u64>, added: Items<FileMeta>) -> Edit
+        requires number { version.now.number + 1 ≤ MAX_NUMBER }
+        requires epoch { 1 ≤ version.now.epoch }
+        requires removed { AreRemoved Install removed }
+        requires present { (n : ℕ) → IsIn n removed → list_any (has_number n) version.now.files ≡ true }
+        requires added { AreAdded Install added }
+        requires fresh { (f : FileMeta) → IsIn f added → version.now.next_file ≤ f.number }
+        requires room { number_after version.now.next_file added ≤ MAX_NUMBER }
+        requires disjoint { has_overlap (without removed version.now.files ++ added) ≡ false }
+        ensures edit { result ≡ install_edit version.now removed added }
+        ensures sound { IsEdit result }
+        ensures applies { apply_fault version.now result ≡ None }
+    {
+        // That the version is sound, as the proof wants to know.
+        let _files = version.files();
+        let next_file = number_past(added.as_slice(), version.next_file());
+        Edit {
+            number: version.number() + 1,
+            kind: EditKind::Install,
+            flushed: version.flushed(),
+            epoch: version.epoch(),
+            next_file,
+            removed,
+            added,
+        }
+    }
+
     /// The edit that begins the next epoch.
     pub fn epoch(alloc: Global, version: &Version) -> Edit
         requires number { version.now.number + 1 ≤ MAX_NUMBER }
@@ -93,6 +127,17 @@ impl Edit {
             removed: Items::new(alloc),
             added: Items::new(alloc),
         }
+    }
+}
+
+// The number after those of files with ascending numbers, or the one given.
+fn number_past(files: &[FileMeta], least: u64) -> u64
+    requires { number_after least files.now ≤ MAX_NUMBER }
+    ensures { result ≡ number_after least files.now }
+{
+    match files.last() {
+        Some(file) => file.number + 1,
+        None => least,
     }
 }
 

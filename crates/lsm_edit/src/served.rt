@@ -2,7 +2,7 @@
 
 mod range;
 
-ghost use Rattle.std.specs.Prelude.{◌≡◌, ◌+◌, ◌<◌, ◌≤◌, ◌++◌, ◌∷◌, length, take, drop, slice_index_or, true, false, OnOk, OnErr, IfOk, IfErr, IfSome, IfNone, None};
+ghost use Rattle.std.specs.Prelude.{◌≡◌, ◌+◌, ◌<◌, ◌≤◌, ◌++◌, ◌∷◌, length, take, drop, slice_index_or, vec_capacity, true, false, OnOk, OnErr, IfOk, IfErr, IfSome, IfNone, None};
 ghost use Rattle.std.specs.List.Sorted.{IsPartitionPoint};
 ghost use Rattle.std.specs.Option.{option_map, option_copied, option_to_list};
 ghost use Rattle.lsm_key.specs.Faults.{Refuses};
@@ -12,9 +12,10 @@ ghost use Rattle.lsm_edit.specs.declared.served.Placed.{Placed};
 ghost use Rattle.lsm_key.specs.Places.{AreOrdered, all_entries, first_visible};
 ghost use Rattle.lsm_edit.specs.Edit.{IsEdit};
 ghost use Rattle.lsm_edit.specs.Version.{apply_fault};
-ghost use Rattle.lsm_edit.specs.Served.{AllRecorded, AreAsRecorded, AreInSearchOrder, UpperShowNone, comes_left, IsAsRecorded, is_before, is_covered, placed_of, put_in_order, in_order, tables_of};
+ghost use Rattle.lsm_edit.specs.Served.{AllRecorded, AreAsRecorded, AreInSearchOrder, UpperShowNone, comes_left, IsAsRecorded, is_before, is_covered, placed_of, put_in_order, put_all, in_order, tables_of};
 
 use crate::file::MAX_LEVEL;
+use crate::version::is_among;
 use crate::{ApplyError, Edit, FileMeta, Version};
 use lsm_key::{EntryRef, Seq};
 use lsm_table::Table;
@@ -109,13 +110,13 @@ impl Served {
             Some(fault) => return Err(fault),
             None => {}
         }
-        self.placed.reserve(1)?;
-        let added = placed_for(edit, tables)?;
+        let added = placed_for(self.current.alloc(), edit.added.as_slice(), tables)?;
+        self.placed.reserve(added.len())?;
         self.current.apply(edit)?;
-        match added {
-            Some(placed) => self.placed.insert(0, placed).unwrap(),
-            None => {}
-        }
+        let removed = edit.removed.as_slice();
+        self.placed
+            .retain(|placed| !is_among(removed, placed.meta.number));
+        put_each(&mut self.placed, added);
         Ok(())
     }
 
@@ -163,21 +164,23 @@ impl Served {
     }
 }
 
-// The file that the edit adds, if any, with its table.
-fn placed_for(edit: &Edit, tables: Vec<Table>) -> Result<Option<Placed>, AllocError>
-    requires sound { IsEdit edit.now }
-    requires recorded { AreAsRecorded edit.now.added tables.items }
-    ensures { IfOk result (λ placed. placed_of edit.now.added tables.items ≡ option_to_list placed) }
+// The files with their tables.
+fn placed_for(
+    alloc: Global,
+    files: &[FileMeta],
+    tables: Vec<Table>,
+) -> Result<Vec<Placed>, AllocError>
+    requires { AreAsRecorded files.now tables.items }
+    ensures { IfOk result (λ placed. placed.items ≡ placed_of files.now tables.items) }
 {
     let mut tables = tables;
-    let Some(meta) = edit.added.as_slice().first() else {
-        return Ok(None);
-    };
-    let Some(table) = tables.pop() else {
-        return Ok(None);
-    };
-    let meta = meta.clone()?;
-    Ok(Some(Placed { meta, table }))
+    let mut placed = Vec::with_capacity(alloc, files.len())?;
+    while let Some(table) = tables.pop() {
+        let meta = copy_at(files, tables.len())?;
+        placed.push(Placed { meta, table })?;
+    }
+    placed.reverse();
+    Ok(placed)
 }
 
 // The files with their tables, in the order of a search.
@@ -189,12 +192,9 @@ fn places_of(
     requires { AreAsRecorded files.now tables.items }
     ensures { IfOk result (λ places. places.items ≡ in_order (placed_of files.now tables.items)) }
 {
-    let mut tables = tables;
-    let mut places = Vec::with_capacity(alloc, files.len())?;
-    while let Some(table) = tables.pop() {
-        let meta = copy_at(files, tables.len())?;
-        put_in(&mut places, Placed { meta, table })?;
-    }
+    let placed = placed_for(alloc, files, tables)?;
+    let mut places = Vec::with_capacity(alloc, placed.len())?;
+    put_each(&mut places, placed);
     Ok(places)
 }
 
@@ -205,13 +205,25 @@ fn copy_at(files: &[FileMeta], index: usize) -> Result<FileMeta, AllocError>
     files[index].clone()
 }
 
-// Puts a place before the first one that it is searched before.
-fn put_in(places: &mut Vec<Placed>, placed: Placed) -> Result<(), AllocError>
-    ensures { OnOk result (places.new.items ≡ put_in_order placed places.old.items) }
+// Puts places among others that are in the order of a search, which have room for them.
+fn put_each(places: &mut Vec<Placed>, placed: Vec<Placed>)
+    requires { length places.old.items + length placed.items ≤ vec_capacity places.old }
+    ensures { places.new.items ≡ put_all placed.items places.old.items }
+{
+    let mut left = placed;
+    while let Some(placed) = left.pop() {
+        put_in(places, placed);
+    }
+}
+
+// Puts a place before the first one that it is searched before, where there is room.
+fn put_in(places: &mut Vec<Placed>, placed: Placed)
+    requires { length places.old.items < vec_capacity places.old }
+    ensures items { places.new.items ≡ put_in_order placed places.old.items }
+    ensures room { vec_capacity places.old ≤ vec_capacity places.new }
 {
     let spot = spot_of(places.as_slice(), &placed.meta);
-    places.insert(spot, placed)?;
-    Ok(())
+    places.insert(spot, placed).unwrap();
 }
 
 // How many places stand before the first one that the file is searched before.

@@ -1,9 +1,9 @@
 //! Versions: the files that a store has after each edit.
 
-ghost use Rattle.std.specs.Prelude.{◌≡◌, ◌≤◌, None, OnOk, OnErr, IfOk, IfErr, nat_lt, nat_le};
+ghost use Rattle.std.specs.Prelude.{◌≡◌, ◌≤◌, ◌&&◌, ◌||◌, ◌++◌, false, not, None, OnOk, OnErr, IfOk, IfErr, nat_eq, nat_lt, nat_le};
 ghost use Rattle.std.specs.List.{list_any};
 ghost use Rattle.lsm_key.specs.Faults.{Refuses};
-ghost use Rattle.lsm_edit.specs.Version.{goes_back, miscounts};
+ghost use Rattle.lsm_edit.specs.Version.{clashes, goes_back, has_number, has_overlap, is_low, miscounts, without};
 
 use crate::{Edit, EditKind, FileMeta};
 use lsm_key::{MAX_NUMBER, Seq};
@@ -76,7 +76,7 @@ impl Model for Version {
 
 impl Version {
     ghost use Rattle.lsm_edit.specs.Edit.{IsEdit};
-    ghost use Rattle.lsm_edit.specs.Version.{IsVersion, first_version, applied, apply_fault, plain_fault};
+    ghost use Rattle.lsm_edit.specs.Version.{IsVersion, first_version, applied, apply_fault};
 
     /// Version 0: before the first edit.
     pub fn new(alloc: Global) -> Version
@@ -142,8 +142,11 @@ impl Version {
             Some(fault) => return Err(fault),
             None => {}
         }
+        let removed = edit.removed.as_slice();
         let mut added = copies_of(self.alloc, edit.added.as_slice())?;
-        self.listed.append(&mut added)?;
+        self.listed.reserve(added.len())?;
+        self.listed.retain(|file| !is_among(removed, file.number));
+        self.listed.append(&mut added).unwrap();
         self.number = edit.number;
         self.flushed = edit.flushed;
         self.epoch = edit.epoch;
@@ -158,26 +161,108 @@ impl Version {
 
     // Why the edit does not apply.
     pub(crate) fn fault_of(&self, edit: &Edit) -> Option<ApplyError>
-        ensures fault { result ≡ plain_fault self.now edit.now }
+        ensures fault { result ≡ apply_fault self.now edit.now }
         ensures sound { IsVersion self.now }
     {
+        let (removed, added) = (edit.removed.as_slice(), edit.added.as_slice());
         if edit.number != self.number + 1 {
             return Some(ApplyError::WrongNumber);
         }
-        if has_below(edit.added.as_slice(), self.next_file) {
+        if lacks(&self.listed, removed) {
+            return Some(ApplyError::NoSuchFile);
+        }
+        if has_below(added, self.next_file) {
             return Some(ApplyError::FileExists);
+        }
+        if overlaps_after(&self.listed, removed, added) {
+            return Some(ApplyError::Overlap);
         }
         if is_back(edit.kind, self.flushed, edit.flushed) {
             return Some(ApplyError::FlushedBack);
         }
-        if edit.next_file < self.next_file || reaches(edit.added.as_slice(), edit.next_file) {
-            return Some(ApplyError::BadCounter);
-        }
-        if is_miscounted(edit.kind, self.epoch, edit.epoch) {
+        if self.miscounts(edit) {
             return Some(ApplyError::BadCounter);
         }
         None
     }
+
+    // The next file number or the epoch is wrong.
+    fn miscounts(&self, edit: &Edit) -> bool
+        ensures { result ≡ (is_low self.now edit.now || miscounts edit.now.kind self.now.epoch edit.now.epoch) }
+    {
+        edit.next_file < self.next_file
+            || reaches(edit.added.as_slice(), edit.next_file)
+            || is_miscounted(edit.kind, self.epoch, edit.epoch)
+    }
+}
+
+// The number is one of these.
+pub(crate) fn is_among(numbers: &[u64], number: u64) -> bool
+    ensures { result ≡ list_any (λ n. nat_eq number n) numbers.now }
+{
+    numbers.contains(&number)
+}
+
+// One of the numbers is no file's.
+fn lacks(files: &[FileMeta], numbers: &[u64]) -> bool
+    ensures { result ≡ list_any (λ n. not (list_any (has_number n) files.now)) numbers.now }
+{
+    numbers.iter().any(|number| !has_file(files, *number))
+}
+
+// The number is a file's.
+fn has_file(files: &[FileMeta], number: u64) -> bool
+    ensures { result ≡ list_any (has_number number) files.now }
+{
+    files.iter().any(|file| file.number == number)
+}
+
+// Two of the files overlap, once these are removed and added.
+fn overlaps_after(files: &[FileMeta], removed: &[u64], added: &[FileMeta]) -> bool
+    requires { has_overlap files.now ≡ false }
+    ensures { result ≡ has_overlap (without removed.now files.now ++ added.now) }
+{
+    meets_kept(files, removed, added) || overlaps(added)
+}
+
+// A file that stays overlaps one that comes.
+fn meets_kept(files: &[FileMeta], removed: &[u64], added: &[FileMeta]) -> bool
+    ensures { result ≡ list_any (λ f. not (list_any (λ n. has_number n f) removed.now) && list_any (clashes f) added.now) files.now }
+{
+    files
+        .iter()
+        .any(|file| !is_among(removed, file.number) && has_clash(file, added))
+}
+
+// Two of the files overlap.
+fn overlaps(files: &[FileMeta]) -> bool
+    ensures { result ≡ has_overlap files.now }
+{
+    let mut rest = files;
+    while let Some((file, others)) = rest.split_first() {
+        if has_clash(file, others) {
+            return true;
+        }
+        rest = others;
+    }
+    false
+}
+
+// The file overlaps one of the others.
+fn has_clash(file: &FileMeta, others: &[FileMeta]) -> bool
+    ensures { result ≡ list_any (clashes file.now) others.now }
+{
+    others.iter().any(|other| clash(file, other))
+}
+
+// Two files of a level from 1 up have a key in common, by their ranges.
+fn clash(file: &FileMeta, other: &FileMeta) -> bool
+    ensures { result ≡ clashes file.now other.now }
+{
+    file.level == other.level
+        && file.level > 0
+        && file.smallest.cmp(&other.largest).is_le()
+        && other.smallest.cmp(&file.largest).is_le()
 }
 
 // A file has a number that was given before.
@@ -199,7 +284,7 @@ fn is_back(kind: EditKind, old: Seq, new: Seq) -> bool
 {
     match kind {
         EditKind::Flush => new.number() <= old.number(),
-        EditKind::Epoch => new.number() != old.number(),
+        EditKind::Install | EditKind::Epoch => new.number() != old.number(),
     }
 }
 
@@ -208,7 +293,7 @@ fn is_miscounted(kind: EditKind, old: u64, new: u64) -> bool
     ensures { result ≡ miscounts kind old new }
 {
     match kind {
-        EditKind::Flush => new != old,
+        EditKind::Flush | EditKind::Install => new != old,
         EditKind::Epoch => new != old + 1,
     }
 }

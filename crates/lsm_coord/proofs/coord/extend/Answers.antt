@@ -1,6 +1,5 @@
-use Rattle.std.proofs.Common.{◌≡◌, ◌∙◌, None}
-use Rattle.lsm_edit.specs.Version.{applied, plain_fault}
-use Rattle.lsm_edit.proofs.VersionLaws.{plain_is}
+use Rattle.std.proofs.Common.{◌≡◌, ◌∙◌}
+use Rattle.lsm_edit.specs.Version.{applied}
 use Rattle.lsm_edit.proofs.Advance.{places_are}
 use Rattle.lsm_coord.proofs.coord.extend.Goals as goal
 
@@ -9,5 +8,4 @@ returns-in-Ok-clause-ok c =
     let s = c.args.served.now in
     let e = c.args.edit.now in
     let sound = c.listing-listing.ensures.sound in
-    let none : plain_fault s.version e ≡ None = plain_is s.version e sound.1 c.requires.sound ∙ c.requires.applies in
-    c.in-Ok.ensures.ok.1 ∙ (λ i. record { version = applied s.version e; places = places_are s e c.args.tables.items sound.1 sound.0 c.requires.sound c.requires.recorded none i })
+    c.in-Ok.ensures.ok.1 ∙ (λ i. record { version = applied s.version e; places = places_are s e c.args.tables.items sound.1 sound.0 c.requires.sound c.requires.plain c.requires.recorded c.requires.applies i })

@@ -1,4 +1,4 @@
-use Rattle.lsm_edit.proofs.NextLaws.{epoch_sound, epoch_applies}
+use Rattle.lsm_edit.proofs.NextLaws.{epoch_applies}
 use Rattle.lsm_edit.proofs.edit.Edit.epoch.Goals as goal
 
 pub returns-clause-applies : goal.returns-clause-applies
@@ -6,4 +6,4 @@ returns-clause-applies c =
     let v = c.args.version.now in
     let is = c.files-files.ensures.sound in
     rw (c.number.ensures.value, c.flushed.ensures, c.epoch.ensures.value, c.next_file.ensures.value, c.new.ensures, c.new-2.ensures)
-    (epoch_applies v is (epoch_sound v is c.requires.number c.requires.epoch))
+    (epoch_applies v is)
