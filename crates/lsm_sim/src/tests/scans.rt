@@ -44,7 +44,10 @@ fn scans_give_what_the_range_has(rt: HostRuntime) -> Result<(), Fail> {
         ),
         ("scan a z 18446744073709551615", "range 0\n"),
         ("put a 1\nscan a z 0", "seq 1\nrange 0\n"),
-        ("put a 1\nscan a a 5\nscan b a 5", "seq 1\nrange 0\nrange 0\n"),
+        (
+            "put a 1\nscan a a 5\nscan b a 5",
+            "seq 1\nrange 0\nrange 0\n",
+        ),
         (
             "batch put a 1 put b 2\nscan a b 5\nscan a b%00 5\nscan a%00 c 5",
             "seq 1-2\nrange 1 a=1\nrange 2 a=1 b=2\nrange 1 b=2\n",
@@ -65,7 +68,8 @@ fn scans_give_what_the_range_has(rt: HostRuntime) -> Result<(), Fail> {
 }
 
 /// Three tables, a frozen memtable and an active one, with a key in two of them, and deletions of keys in others.
-const SPREAD: &str = "batch put a 1 put d 1\nflush\nbatch put b 2 put d 2\nflush\nbatch put c 3 del a\nflush\nput e 4\nsnap\nfreeze\nbatch put f 5 del b\n";
+const SPREAD: &str =
+    "batch put a 1 put d 1\nflush\nbatch put b 2 put d 2\nflush\nbatch put c 3 del a\nflush\nput e 4\nsnap\nfreeze\nbatch put f 5 del b\n";
 
 #[test]
 fn a_scan_merges_all_tables_and_memtables(rt: HostRuntime) -> Result<(), Fail> {
