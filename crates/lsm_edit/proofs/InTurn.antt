@@ -44,8 +44,7 @@ module _ {S X F : Type 0} (Good : S → Type 0) (Is : S → X → Type 0) (read 
         let t = (within_reads short bad w32 (2 ^ 32) wide32 low high lt).takes bytes a.0 fits a.1 in
         let u = items_takes a.0.0 s a.0.1 z good t.0.rest_fits a.2 in
         let low_is : low ≤ length z.0 = (let l = t.1.0 in omega (arith, l, u.2)) in
-        let high_is : length z.0 ≤ high = (let h = t.1.1 in omega (arith, h, u.2)) in
-        (
+        let high_is : length z.0 ≤ high = (let h = t.1.1 in omega (arith, h, u.2)) in (
           subst (λ (m : ℕ). Takes bytes (to_be_bytes w32 m ++ flat_map spell z.0) z.1) (sym u.2) (Takes-then bytes (to_be_bytes w32 a.0.0) a.0.1 (flat_map spell z.0) z.1 t.0 u.0),
           (low_is, high_is, u.1),
         );

@@ -42,7 +42,12 @@ const BAD: FormatFault = FormatFault::BadField;
 
 /// A record from the front, of a file of number `least` or more, and of level `lowest` to `deepest`.
 #[tactic(auto, unfolding(crate::specs::File::file_at))]
-pub(crate) fn file_of(rest: &mut Bytes, least: u64, lowest: u8, deepest: u8) -> Result<FileMeta, FormatError>
+pub(crate) fn file_of(
+    rest: &mut Bytes,
+    least: u64,
+    lowest: u8,
+    deepest: u8,
+) -> Result<FileMeta, FormatError>
     ensures { Gives (λ f. (f, rest.new)) result (file_at least lowest deepest rest.old) }
 {
     let number = u64_within(rest, least, MAX_NUMBER, SHORT, BAD)?;

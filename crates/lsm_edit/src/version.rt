@@ -229,9 +229,7 @@ fn overlaps_after(files: &[FileMeta], removed: &[u64], added: &[FileMeta]) -> bo
 fn meets_kept(files: &[FileMeta], removed: &[u64], added: &[FileMeta]) -> bool
     ensures { result ≡ list_any (λ f. not (list_any (λ n. has_number n f) removed.now) && list_any (clashes f) added.now) files.now }
 {
-    files
-        .iter()
-        .any(|file| !is_among(removed, file.number) && has_clash(file, added))
+    files.iter().any(|file| !is_among(removed, file.number) && has_clash(file, added))
 }
 
 // Two of the files overlap.

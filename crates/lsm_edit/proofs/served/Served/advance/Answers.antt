@@ -14,7 +14,7 @@ invariant_of-self-2 c =
     let kept : c.retain.new.self.items ≡ places_without e.removed s.places = filter_same _ (λ (p : Placed). stays e.removed p.meta) _ (λ x b f k. search rules) _ _ c.retain.ensures.filtered ∙ ap (places_without e.removed) c.in_ok-reserve.ensures.items in
     let places : c.put_each.new.places.items ≡ put_all (placed_of e.added c.args.tables.items) (places_without e.removed s.places) =
     c.put_each.ensures ∙ ap (λ (ps : List Placed). put_all ps c.retain.new.self.items) (c.in_ok-added.ensures ∙ ap (λ (fs : List FileMeta). placed_of fs c.args.tables.items) c.as_slice.ensures)
-        ∙ ap (put_all (placed_of e.added c.args.tables.items)) kept in
+    ∙ ap (put_all (placed_of e.added c.args.tables.items)) kept in
     rw (places, c.in_ok-apply.ensures.ok.1) (served_after s e c.args.tables.items c.in-None.ensures.sound c.self.invariant c.requires.sound c.requires.recorded (sym c.in-None.ensures.fault))
 
 pub returns-clause-ok : goal.returns-clause-ok
@@ -24,5 +24,5 @@ returns-clause-ok c =
     let kept : c.retain.new.self.items ≡ places_without e.removed s.places = filter_same _ (λ (p : Placed). stays e.removed p.meta) _ (λ x b f k. search rules) _ _ c.retain.ensures.filtered ∙ ap (places_without e.removed) c.in_ok-reserve.ensures.items in
     let places : c.put_each.new.places.items ≡ put_all (placed_of e.added c.args.tables.items) (places_without e.removed s.places) =
     c.put_each.ensures ∙ ap (λ (ps : List Placed). put_all ps c.retain.new.self.items) (c.in_ok-added.ensures ∙ ap (λ (fs : List FileMeta). placed_of fs c.args.tables.items) c.as_slice.ensures)
-        ∙ ap (put_all (placed_of e.added c.args.tables.items)) kept in
+    ∙ ap (put_all (placed_of e.added c.args.tables.items)) kept in
     rw (← c.self.view_is) (c.in_ok-apply.ensures.ok.0, λ i. record { version = c.in_ok-apply.ensures.ok.1 i; places = places i })

@@ -23,8 +23,7 @@ returns-clause-ok c =
     let kept : c.retain.new.self.items ≡ without e.removed listed = filter_same _ (λ (f : FileMeta). stays e.removed f) _ (λ x b f k. search rules) _ _ c.retain.ensures.filtered ∙ ap (without e.removed) c.in_ok-reserve.ensures.items in
     let appended : c.append.new.self.items ≡ c.retain.new.self.items ++ c.in_ok-added.added.items = grind (arith, common_steps) in
     let files : c.append.new.self.items ≡ files_after listed e =
-    appended ∙ ap (λ (fs : List FileMeta). fs ++ c.in_ok-added.added.items) kept ∙ ap (λ (fs : List FileMeta). without e.removed listed ++ fs) (c.in_ok-added.ensures ∙ c.as_slice.ensures) in
-    (
+    appended ∙ ap (λ (fs : List FileMeta). fs ++ c.in_ok-added.added.items) kept ∙ ap (λ (fs : List FileMeta). without e.removed listed ++ fs) (c.in_ok-added.ensures ∙ c.as_slice.ensures) in (
       sym c.in-None.ensures.fault,
       ap (λ (fs : List FileMeta). record { number = e.number; flushed = e.flushed; epoch = e.epoch; next_file = e.next_file; files = fs }) files ∙ ap (λ (v : VersionValue). applied v e) c.self.view_is,
     )
