@@ -1,5 +1,6 @@
 //! Edits as the format's worked examples have them, and each refusal by its name.
 
+mod installs;
 mod versions;
 
 use super::*;

@@ -13,7 +13,7 @@ use std::alloc::Global;
 use std::test::Fail;
 
 // The edit that follows the first two: of one put of the key b.
-const NEXT: [u8; 64] = [
+pub(super) const NEXT: [u8; 64] = [
     0, 0, 0, 0, 0, 0, 0, 3, 1, //
     0, 0, 0, 0, 0, 0, 0, 2, //
     0, 0, 0, 0, 0, 0, 0, 1, //
@@ -32,7 +32,7 @@ const REOPEN: [u8; 41] = [
     0, 0, 0, 0, 0, 0, 0, 0,
 ];
 
-fn edit_of(alloc: Global, bytes: &[u8]) -> Result<Edit, Fail>
+pub(super) fn edit_of(alloc: Global, bytes: &[u8]) -> Result<Edit, Fail>
     ensures { IfOk result IsEdit }
 {
     match decode_edit(alloc, Bytes::copy_from_slice(alloc, bytes)?) {
