@@ -35,7 +35,7 @@ some_same a b h = cc
 
 -- ---- jobs that are apart
 
-both_use : (a b level : ℕ) → uses_level a level ≡ true → uses_level b level ≡ true → shares_level a b ≡ true
+pub both_use : (a b level : ℕ) → uses_level a level ≡ true → uses_level b level ≡ true → shares_level a b ≡ true
 both_use a b level h k = grind (arith, common_steps)
 
 pub no_shared_key : (jobs : List LiveJob) → AreApart jobs → ShareNoKey jobs

@@ -3,7 +3,7 @@ use Rattle.std.proofs.Common.{◌≡◌, ℕ, ◌<◌, ◌≤◌, Bool, true, fa
 use Rattle.std.proofs.lemmas.Bool.{lt-ltb, eq-eqb, cases_order}
 use Rattle.std.proofs.lemmas.List.{nil_from_length}
 use Rattle.lsm_key.specs.Sets.{IsIn}
-use Rattle.lsm_key.proofs.Sets.{IsIn-append_left, IsIn-append_right, IsIn-append_cases, IsIn-map}
+use Rattle.lsm_key.proofs.Sets.{IsIn-map}
 use Rattle.lsm_key.specs.Order.{key_le}
 use Rattle.lsm_table.specs.Tables.{Opened}
 use Rattle.lsm_edit.specs.declared.file.FileMeta.{FileMeta}
@@ -11,10 +11,10 @@ use Rattle.lsm_edit.specs.declared.edit.Edit.{Edit}
 use Rattle.lsm_edit.specs.declared.edit.EditKind.{EditKind}
 use Rattle.lsm_edit.specs.declared.edit.EditKind.TheVariants.{Flush, Install, Epoch}
 use Rattle.lsm_edit.specs.declared.served.Placed.{Placed}
-use Rattle.lsm_edit.specs.Version.{VersionValue, IsVersion, apply_fault, applied}
+use Rattle.lsm_edit.specs.Version.{IsVersion, apply_fault}
 use Rattle.lsm_edit.proofs.VersionLaws.{fresh_added}
 use Rattle.lsm_edit.specs.Edit.{IsEdit, AreRemoved, AreAdded}
-use Rattle.lsm_edit.specs.Served.{IsAsRecorded, AreAsRecorded, ServedValue, is_before, placed_of, put_in_order, put_all, places_without, advanced, IsServed}
+use Rattle.lsm_edit.specs.Served.{AreAsRecorded, ServedValue, is_before, placed_of, put_in_order, put_all, places_without, advanced, IsServed}
 
 pub places_without-none : (ps : List Placed) → places_without [] ps ≡ ps
 places_without-none [] = refl

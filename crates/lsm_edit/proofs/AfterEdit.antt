@@ -1,5 +1,5 @@
 -- A version with its tables after an edit: each file has its table, and the places stay in the order of a search.
-use Rattle.std.proofs.Common.{◌≡◌, ℕ, ◌<◌, ◌≤◌, Bool, true, false, not, cond, ◌||◌, List, [], ◌∷◌, ◌++◌, None, map, filter, refl, sym, ap, subst, ◌∙◌, arith, inl, inr, ◌⊎◌}
+use Rattle.std.proofs.Common.{◌≡◌, ℕ, ◌<◌, Bool, true, false, cond, List, [], ◌∷◌, ◌++◌, None, map, filter, refl, sym, ap, subst, ◌∙◌, arith, inl, inr, ◌⊎◌}
 use Rattle.std.specs.List.{list_any}
 use Rattle.std.proofs.lemmas.Bool.{or_parts}
 use Rattle.lsm_key.specs.Sets.{IsIn}
@@ -11,8 +11,8 @@ use Rattle.lsm_edit.specs.declared.file.FileMeta.{FileMeta}
 use Rattle.lsm_edit.specs.declared.edit.Edit.{Edit}
 use Rattle.lsm_edit.specs.declared.served.Placed.{Placed}
 use Rattle.lsm_edit.specs.Edit.{IsEdit}
-use Rattle.lsm_edit.specs.Version.{VersionValue, IsVersion, NumbersRise, without, files_after, has_overlap, clashes, apply_fault, applied}
-use Rattle.lsm_edit.specs.Served.{IsAsRecorded, AreAsRecorded, AreInSearchOrder, ServedValue, is_before, placed_of, put_in_order, put_all, places_without, advanced, IsServed}
+use Rattle.lsm_edit.specs.Version.{IsVersion, NumbersRise, without, files_after, has_overlap, clashes, apply_fault, applied}
+use Rattle.lsm_edit.specs.Served.{AreAsRecorded, AreInSearchOrder, ServedValue, is_before, placed_of, put_all, places_without, advanced, IsServed}
 use Rattle.lsm_edit.proofs.VersionLaws.{stays, fresh_added, applied_is, added_rises}
 use Rattle.lsm_edit.proofs.SearchOrder.{Apart, apart}
 use Rattle.lsm_edit.proofs.Advance.{listed_below}
@@ -20,7 +20,7 @@ use Rattle.lsm_edit.proofs.Rebase.{AreWhole, StandsApart, AreApart, put_members,
 
 -- ---- places put among others
 
-put_all-members : (ps qs : List Placed) (x : Placed) → (IsIn x (put_all ps qs) → IsIn x ps ⊎ IsIn x qs) × (IsIn x ps ⊎ IsIn x qs → IsIn x (put_all ps qs))
+pub put_all-members : (ps qs : List Placed) (x : Placed) → (IsIn x (put_all ps qs) → IsIn x ps ⊎ IsIn x qs) × (IsIn x ps ⊎ IsIn x qs → IsIn x (put_all ps qs))
 put_all-members [] qs x = (λ m. inr m, λ m. elim m [ inl a ↦ absurd a | inr b ↦ b ])
 put_all-members (p ∷ ps) qs x = (
   λ m. elim ((put_members p (put_all ps qs) x).0 m) [ inl e ↦ inl (inl e) | inr n ↦ elim ((put_all-members ps qs x).0 n) [ inl a ↦ inl (inr a) | inr b ↦ inr b ] ],
@@ -48,7 +48,7 @@ module _ {X : Type 0} (p : X → Bool) where
   in_later x y zs true m = inr m
   in_later x y zs false m = m
 
-  keeps : (x : X) (xs : List X) → IsIn x xs → p x ≡ true → IsIn x (filter p xs)
+  pub keeps : (x : X) (xs : List X) → IsIn x xs → p x ≡ true → IsIn x (filter p xs)
   keeps x [] m e = absurd m
   keeps x (y ∷ ys) m e = elim m [ inl same ↦ in_here x y (filter p ys) (p y) (ap p (sym same) ∙ e) same | inr n ↦ in_later x y (filter p ys) (p y) (keeps x ys n e) ]
 

@@ -1,7 +1,7 @@
 -- An edit that is read is spelled so, and what is spelled so is read.
 use Rattle.std.proofs.Common.{◌≡◌, ℕ, ◌-◌, ◌^◌, ◌<◌, ◌≤◌, false, not, cond, eqb, List, [], ◌∷◌, ◌++◌, length, Result, Ok, Err, refl, sym, ap, subst, ◌∙◌, append_assoc, arith, inl, inr}
 use Rattle.std.specs.Int.{w8, w32, w64, to_be_bytes}
-use Rattle.std.specs.List.{flat_map, All, AllByRecursion}
+use Rattle.std.specs.List.{All, AllByRecursion}
 use Rattle.std.proofs.lemmas.List.Elements.{All-from_recursion}
 use Rattle.std.proofs.lemmas.List.{append-nil, nil_from_length}
 use Rattle.std.proofs.lemmas.Bool.{not-false, cases_Bool, eqb-true}
@@ -11,7 +11,7 @@ use Rattle.lsm_key.specs.declared.refused.Refused.{Refused}
 use Rattle.lsm_key.specs.Order.{key_le}
 use Rattle.lsm_key.specs.Spelling.{key, IsKey}
 use Rattle.lsm_key.specs.Reading.{◌>>=◌, number_at, within_at, key_at, Gives}
-use Rattle.lsm_key.proofs.FieldLaws.{IsBytes, Takes, Takes-then, bind_ok, guard_ok, guard_held, within_range, ok_is, wide8, wide32, wide64, number_takes, number_again}
+use Rattle.lsm_key.proofs.FieldLaws.{IsBytes, Takes, bind_ok, guard_ok, guard_held, within_range, ok_is, wide8, wide32, wide64, number_takes, number_again}
 use Rattle.lsm_key.proofs.Readers.{Reads, Goes, field, field_as, unless, done, whole, within_reads, key_reads}
 use Rattle.lsm_edit.specs.declared.file.FileMeta.{FileMeta}
 use Rattle.lsm_edit.specs.declared.edit.Edit.{Edit}
@@ -20,8 +20,7 @@ use Rattle.lsm_edit.specs.declared.edit.EditKind.TheVariants.{Flush, Install, Ep
 use Rattle.lsm_edit.specs.declared.format.FormatFault.{FormatFault}
 use Rattle.lsm_edit.specs.declared.format.FormatFault.TheVariants.{Truncated, BadField, TrailingBytes}
 use Rattle.lsm_edit.specs.File.{IsFile, file, file_at}
-use Rattle.lsm_edit.specs.declared.edit.Shape.{Shape}
-use Rattle.lsm_edit.specs.Edit.{IsEdit, IsSpelled, AreInTurn, IsNumberFrom, IsFileFrom, AreRemoved, AreAdded, after_number, after_file, added, removed, edit, kind_code, shape, kind_from, kind_at, numbers_at, files_at, removed_at, added_at, fields_at, edit_of}
+use Rattle.lsm_edit.specs.Edit.{IsEdit, IsSpelled, AreInTurn, IsNumberFrom, IsFileFrom, AreRemoved, AreAdded, after_number, after_file, added, removed, edit, kind_code, shape, kind_from, kind_at, removed_at, added_at, fields_at, edit_of}
 use Rattle.lsm_edit.proofs.InTurn.{counted_reads}
 
 -- ---- file records

@@ -68,7 +68,7 @@ key_to p is e m = rw is.largest (ap not (table_range p.table.bytes p.table.entri
 
 -- ---- the order of a level's entries
 
-in_tables : (f : Entry) (ps : List Placed) → IsIn f (all_entries (tables_of ps)) → (q : Placed) × IsIn q ps × IsIn f q.table.entries
+pub in_tables : (f : Entry) (ps : List Placed) → IsIn f (all_entries (tables_of ps)) → (q : Placed) × IsIn q ps × IsIn f q.table.entries
 in_tables f [] m = absurd m
 in_tables f (p ∷ ps) m = elim (IsIn-append_cases f p.table.entries (all_entries (tables_of ps)) m) [
   | inl a ↦ (p, inl refl, a)
@@ -107,7 +107,7 @@ level_in_order lo hi level ps deeper rec up =
 
 -- ---- one level after another
 
-level_le : (f g : FileMeta) → Before f g → f.level ≤ g.level
+pub level_le : (f g : FileMeta) → Before f g → f.level ≤ g.level
 level_le f g (upper lt) = omega arith
 level_le f g (newer e z n) = omega arith
 level_le f g (lesser e n k) = omega arith

@@ -11,3 +11,7 @@ pub mod Ranges
 pub mod LevelRanges
 pub mod Levels
 pub mod AfterEdit
+pub mod Places
+pub mod Files
+pub mod Numbered
+pub mod Spots

@@ -1,8 +1,8 @@
 -- The files of a version with their tables, put in the order of a search.
-use Rattle.std.proofs.Common.{◌≡◌, ℕ, suc, ◌+◌, ◌<◌, ◌≤◌, Bool, true, false, cond, List, [], ◌∷◌, ◌++◌, length, length-append, append_assoc, map, take, drop, get_or, reverse, refl, sym, ap, subst, ◌∙◌, arith, inl, inr, ◌⊎◌}
+use Rattle.std.proofs.Common.{◌≡◌, ℕ, suc, ◌<◌, Bool, true, false, cond, List, [], ◌∷◌, ◌++◌, length, length-append, append_assoc, map, drop, get_or, reverse, refl, sym, ap, subst, ◌∙◌, arith, inl, inr, ◌⊎◌}
 use Rattle.std.specs.List.{list_any}
 use Rattle.std.proofs.lemmas.Bool.{or_parts}
-use Rattle.std.proofs.lemmas.List.{drop_more, drop_all, take_more, reverse-append}
+use Rattle.std.proofs.lemmas.List.{reverse-append}
 use Rattle.lsm_key.specs.Sets.{IsIn, SameMembers}
 use Rattle.lsm_key.proofs.Sets.{IsIn-map, IsIn-mapped}
 use Rattle.lsm_key.specs.Order.{key_le}
@@ -193,27 +193,3 @@ put_length-if false p q qs rs h = ap suc h
 pub put_length : (p : Placed) (qs : List Placed) → length (put_in_order p qs) ≡ suc (length qs)
 put_length p [] = refl
 put_length p (q ∷ qs) = put_length-if (is_before p.meta q.meta) p q qs (put_in_order p qs) (put_length p qs)
-
--- ---- the place where a search is to meet a file
-
-module _ (p q : Placed) (ps : List Placed) (i : ℕ) (lt : i < length ps) (is : q ≡ get_or ps i q) (so_far : put_in_order p ps ≡ take i ps ++ put_in_order p (drop i ps)) where
-  parts : drop i ps ≡ q ∷ drop (i + 1) ps
-  parts = drop_more ps i q lt ∙ ap (λ (x : Placed). x ∷ drop (i + 1) ps) (sym is)
-
-  pub spot_here : is_before p.meta q.meta ≡ true → put_in_order p ps ≡ take i ps ++ p ∷ drop i ps
-  spot_here first =
-      so_far
-      ∙ ap (λ (xs : List Placed). take i ps ++ put_in_order p xs) parts
-      ∙ ap (λ (b : Bool). take i ps ++ cond b (p ∷ q ∷ drop (i + 1) ps) (q ∷ put_in_order p (drop (i + 1) ps))) first
-      ∙ ap (λ (xs : List Placed). take i ps ++ p ∷ xs) (sym parts)
-
-  pub spot_later : is_before p.meta q.meta ≡ false → put_in_order p ps ≡ take (i + 1) ps ++ put_in_order p (drop (i + 1) ps)
-  spot_later after =
-      so_far
-      ∙ ap (λ (xs : List Placed). take i ps ++ put_in_order p xs) parts
-      ∙ ap (λ (b : Bool). take i ps ++ cond b (p ∷ q ∷ drop (i + 1) ps) (q ∷ put_in_order p (drop (i + 1) ps))) after
-      ∙ sym (append_assoc (take i ps) (q ∷ []) (put_in_order p (drop (i + 1) ps)))
-      ∙ ap (λ (xs : List Placed). xs ++ put_in_order p (drop (i + 1) ps)) (sym (take_more ps i q lt ∙ ap (λ (x : Placed). take i ps ++ x ∷ []) (sym is)))
-
-pub spot_end : (p : Placed) (ps : List Placed) (i : ℕ) → length ps ≤ i → put_in_order p ps ≡ take i ps ++ put_in_order p (drop i ps) → put_in_order p ps ≡ take i ps ++ p ∷ drop i ps
-spot_end p ps i le so_far = so_far ∙ ap (λ (xs : List Placed). take i ps ++ put_in_order p xs) (drop_all i ps le) ∙ ap (λ (xs : List Placed). take i ps ++ p ∷ xs) (sym (drop_all i ps le))

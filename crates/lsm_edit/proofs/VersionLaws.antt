@@ -8,11 +8,9 @@ use Rattle.lsm_key.proofs.Sets.{IsIn-append_cases}
 use Rattle.std.proofs.lemmas.List.Folds.{list_any-append}
 use Rattle.lsm_edit.specs.declared.file.FileMeta.{FileMeta}
 use Rattle.lsm_edit.specs.declared.edit.Edit.{Edit}
-use Rattle.lsm_edit.specs.declared.edit.EditKind.{EditKind}
-use Rattle.lsm_edit.specs.declared.edit.EditKind.TheVariants.{Flush, Install, Epoch}
 use Rattle.lsm_edit.specs.declared.version.ApplyError.{ApplyError}
 use Rattle.lsm_edit.specs.File.{IsFile}
-use Rattle.lsm_edit.specs.Edit.{IsEdit, AreAdded, AreInTurn, IsFileFrom, after_file, shape}
+use Rattle.lsm_edit.specs.Edit.{IsEdit, AreInTurn, IsFileFrom, after_file, shape}
 use Rattle.lsm_edit.specs.Version.{VersionValue, IsVersion, NumbersRise, without, has_number, files_after, clashes, meets, has_overlap, apply_fault, applied, goes_back, miscounts, is_low}
 
 -- ---- the files after an edit that removes none

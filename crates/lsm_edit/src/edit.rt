@@ -3,14 +3,14 @@
 //! An edit is spelled as: u64 number, u8 kind (1 flush, 2 install, 3 epoch), u64 flushed, u64 epoch, u64 next_file, u32 count of
 //! removed files and u64 each, u32 count of added files and a file record each; all numbers are big-endian.
 
-ghost use Rattle.std.specs.Prelude.{◌≡◌, ◌≤◌, ◌<◌, ◌^◌, ◌++◌, length, All, IfOk, OnOk, Ok};
+ghost use Rattle.std.specs.Prelude.{◌≡◌, ◌≤◌, ◌<◌, ◌^◌, ◌++◌, ◌↔◌, length, All, IfOk, IsTrue, OnOk, Ok};
 ghost use Rattle.std.specs.List.{flat_map};
 ghost use Rattle.lsm_edit.specs.File.{IsFile, file};
 ghost use Rattle.lsm_key.specs.Reading.{Gives};
 ghost use Rattle.lsm_edit.specs.declared.edit.Edit.{Edit};
 ghost use Rattle.lsm_edit.specs.Edit.{IsEdit, IsSpelled, edit, head, edit_of, fields_at, kind_at, kind_code, shape, removed, removed_at, added_at, numbers_at, files_at};
 
-use crate::file::{MAX_LEVEL, file_of, put_file};
+use crate::file::{MAX_LEVEL, file_of, put_file, same_files};
 use crate::{FileMeta, FormatError, FormatFault};
 use bytes::{BufMut, Bytes, BytesMut};
 use lsm_key::{
@@ -45,6 +45,40 @@ pub struct Edit {
     pub removed: Items<u64>,
     /// The files that come, by number.
     pub added: Items<FileMeta>,
+}
+
+impl Edit {
+    ghost use Rattle.std.specs.Prelude.{◌≡◌, ◌↔◌, IfOk, IsTrue};
+
+    /// The same edit. Its keys share the bytes.
+    pub fn copy(&self, alloc: Global) -> Result<Edit, AllocError>
+        ensures { IfOk result (λ edit. edit ≡ self.now) }
+    {
+        let removed = self.removed.as_slice().to_vec(alloc)?;
+        let added = self.added.as_slice().to_vec(alloc)?;
+        Ok(Edit {
+            number: self.number,
+            kind: self.kind,
+            flushed: self.flushed,
+            epoch: self.epoch,
+            next_file: self.next_file,
+            removed: Items::from_vec(removed),
+            added: Items::from_vec(added),
+        })
+    }
+
+    /// Whether two edits are the same.
+    pub fn same(&self, other: &Edit) -> bool
+        ensures { IsTrue result ↔ self.now ≡ other.now }
+    {
+        self.number == other.number
+            && self.kind == other.kind
+            && self.flushed == other.flushed
+            && self.epoch == other.epoch
+            && self.next_file == other.next_file
+            && same_numbers(self.removed.as_slice(), other.removed.as_slice())
+            && same_files(self.added.as_slice(), other.added.as_slice())
+    }
 }
 
 /// How many files an edit removes and adds, and from which level to which those are that it adds.
@@ -103,6 +137,13 @@ impl EditKind {
             EditKind::Epoch => plain,
         }
     }
+}
+
+/// Whether two lists have the same numbers in the same order.
+pub fn same_numbers(numbers: &[u64], others: &[u64]) -> bool
+    ensures { IsTrue result ↔ numbers.now ≡ others.now }
+{
+    numbers == others
 }
 
 fn kind_of(rest: &mut Bytes) -> Result<EditKind, FormatError>

@@ -3,7 +3,7 @@
 //! A record is spelled as: u64 number, u8 level, smallest key, largest key, u32 bytes, u32 entries; a key is u16 length
 //! and its bytes, and all numbers are big-endian.
 
-ghost use Rattle.std.specs.Prelude.{◌≡◌, ◌++◌, OnOk, IfOk};
+ghost use Rattle.std.specs.Prelude.{◌≡◌, ◌++◌, ◌↔◌, IsTrue, OnOk, IfOk};
 ghost use Rattle.lsm_key.specs.Reading.{Gives};
 ghost use Rattle.lsm_edit.specs.File.{IsFile, file, file_at};
 ghost use Rattle.lsm_edit.specs.declared.format.FormatFault.TheVariants.{Truncated, BadField};
@@ -20,7 +20,7 @@ use std::alloc::AllocError;
 pub const MAX_LEVEL: u8 = 6;
 
 /// What a version knows of a table: where it stands, and what is in it.
-#[derive(Debug, Drop, Clone)]
+#[derive(Debug, Drop, Clone, PartialEq, Eq)]
 pub struct FileMeta {
     /// Its number, which no other table ever has. From 1.
     pub number: u64,
@@ -81,4 +81,11 @@ pub(crate) fn put_file(out: &mut BytesMut, meta: &FileMeta) -> Result<(), AllocE
     out.put_u32(meta.bytes)?;
     out.put_u32(meta.entries)?;
     Ok(())
+}
+
+/// Whether two lists of files are the same.
+pub fn same_files(files: &[FileMeta], others: &[FileMeta]) -> bool
+    ensures { IsTrue result ↔ files.now ≡ others.now }
+{
+    files == others
 }

@@ -13,8 +13,8 @@ mod served;
 mod tests;
 mod version;
 
-pub use edit::{Edit, EditKind, decode_edit, encode_edit};
-pub use file::FileMeta;
+pub use edit::{Edit, EditKind, decode_edit, encode_edit, same_numbers};
+pub use file::{FileMeta, same_files};
 pub use format::{FormatError, FormatFault};
 pub use served::{Listing, Placed, Served};
 pub use version::{ApplyError, Version};

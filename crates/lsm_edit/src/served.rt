@@ -15,7 +15,7 @@ ghost use Rattle.lsm_edit.specs.Version.{apply_fault};
 ghost use Rattle.lsm_edit.specs.Served.{AllRecorded, AreAsRecorded, AreInSearchOrder, UpperShowNone, comes_left, IsAsRecorded, is_before, is_covered, placed_of, put_in_order, put_all, in_order, tables_of};
 
 use crate::file::MAX_LEVEL;
-use crate::version::is_among;
+use crate::version::{is_among, removed_by};
 use crate::{ApplyError, Edit, FileMeta, Version};
 use lsm_key::{EntryRef, Seq};
 use lsm_table::Table;
@@ -113,7 +113,7 @@ impl Served {
         let added = placed_for(self.current.alloc(), edit.added.as_slice(), tables)?;
         self.placed.reserve(added.len())?;
         self.current.apply(edit)?;
-        let removed = edit.removed.as_slice();
+        let removed = removed_by(edit);
         self.placed
             .retain(|placed| !is_among(removed, placed.meta.number));
         put_each(&mut self.placed, added);
@@ -189,7 +189,8 @@ fn places_of(
     files: &[FileMeta],
     tables: Vec<Table>,
 ) -> Result<Vec<Placed>, AllocError>
-    requires { AreAsRecorded files.now tables.items }
+    requires recorded { AreAsRecorded files.now tables.items }
+    requires ordered { AreInSearchOrder (in_order (placed_of files.now tables.items)) }
     ensures { IfOk result (λ places. places.items ≡ in_order (placed_of files.now tables.items)) }
 {
     let placed = placed_for(alloc, files, tables)?;
@@ -205,9 +206,10 @@ fn copy_at(files: &[FileMeta], index: usize) -> Result<FileMeta, AllocError>
     files[index].clone()
 }
 
-// Puts places among others that are in the order of a search, which have room for them.
+// Puts places among others, which have room for them, so that all are in the order of a search.
 fn put_each(places: &mut Vec<Placed>, placed: Vec<Placed>)
-    requires { length places.old.items + length placed.items ≤ vec_capacity places.old }
+    requires room { length places.old.items + length placed.items ≤ vec_capacity places.old }
+    requires ordered { AreInSearchOrder (put_all placed.items places.old.items) }
     ensures { places.new.items ≡ put_all placed.items places.old.items }
 {
     let mut left = placed;
@@ -218,24 +220,22 @@ fn put_each(places: &mut Vec<Placed>, placed: Vec<Placed>)
 
 // Puts a place before the first one that it is searched before, where there is room.
 fn put_in(places: &mut Vec<Placed>, placed: Placed)
-    requires { length places.old.items < vec_capacity places.old }
+    requires room { length places.old.items < vec_capacity places.old }
+    requires ordered { AreInSearchOrder (put_in_order placed places.old.items) }
     ensures items { places.new.items ≡ put_in_order placed places.old.items }
     ensures room { vec_capacity places.old ≤ vec_capacity places.new }
 {
-    let spot = spot_of(places.as_slice(), &placed.meta);
+    let spot = spot_of(places.as_slice(), &placed);
     places.insert(spot, placed).unwrap();
 }
 
-// How many places stand before the first one that the file is searched before.
-fn spot_of(places: &[Placed], meta: &FileMeta) -> usize
+// How many places stand before the first one that the place is searched before.
+fn spot_of(places: &[Placed], placed: &Placed) -> usize
+    requires { AreInSearchOrder (put_in_order placed.now places.now) }
     ensures within { result ≤ length places.now }
-    ensures spot { (p : Placed) → p.meta ≡ meta.now → put_in_order p places.now ≡ take result places.now ++ p ∷ drop result places.now }
+    ensures spot { put_in_order placed.now places.now ≡ take result places.now ++ placed.now ∷ drop result places.now }
 {
-    let mut spot = 0;
-    while spot < places.len() && !goes_first(meta, &places[spot].meta) {
-        spot += 1;
-    }
-    spot
+    places.partition_point(|other| !goes_first(&placed.meta, &other.meta))
 }
 
 // The one file is searched before the other.

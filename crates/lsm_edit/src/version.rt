@@ -1,10 +1,13 @@
 //! Versions: the files that a store has after each edit.
 
-ghost use Rattle.std.specs.Prelude.{◌≡◌, ◌≤◌, ◌&&◌, ◌||◌, ◌++◌, false, not, None, OnOk, OnErr, IfOk, IfErr, nat_eq, nat_lt, nat_le};
+ghost use Rattle.std.specs.Prelude.{◌≡◌, ◌≤◌, ◌&&◌, ◌||◌, ◌++◌, ◌↔◌, false, not, None, OnOk, OnErr, IfOk, IfErr, IsTrue, nat_eq, nat_lt, nat_le};
 ghost use Rattle.std.specs.List.{list_any};
+ghost use Rattle.std.specs.List.Sorted.{IsNonDecreasing};
 ghost use Rattle.lsm_key.specs.Faults.{Refuses};
-ghost use Rattle.lsm_edit.specs.Version.{clashes, goes_back, has_number, has_overlap, is_low, miscounts, without};
+ghost use Rattle.lsm_edit.specs.Edit.{IsEdit};
+ghost use Rattle.lsm_edit.specs.Version.{clashes, goes_back, has_number, has_overlap, is_low, miscounts, without, NumbersRise};
 
+use crate::file::same_files;
 use crate::{Edit, EditKind, FileMeta};
 use lsm_key::{MAX_NUMBER, Seq};
 use std::alloc::{AllocError, AllocFailed, Global};
@@ -75,7 +78,6 @@ impl Model for Version {
 }
 
 impl Version {
-    ghost use Rattle.lsm_edit.specs.Edit.{IsEdit};
     ghost use Rattle.lsm_edit.specs.Version.{IsVersion, first_version, applied, apply_fault};
 
     /// Version 0: before the first edit.
@@ -142,7 +144,7 @@ impl Version {
             Some(fault) => return Err(fault),
             None => {}
         }
-        let removed = edit.removed.as_slice();
+        let removed = removed_by(edit);
         let mut added = copies_of(self.alloc, edit.added.as_slice())?;
         self.listed.reserve(added.len())?;
         self.listed.retain(|file| !is_among(removed, file.number));
@@ -154,6 +156,32 @@ impl Version {
         Ok(())
     }
 
+    /// The same version. Its keys share the bytes.
+    pub fn copy(&self, alloc: Global) -> Result<Version, AllocError>
+        ensures { IfOk result (λ version. version ≡ self.now) }
+    {
+        let listed = copies_of(alloc, self.files())?;
+        Ok(Version {
+            alloc,
+            number: self.number,
+            flushed: self.flushed,
+            epoch: self.epoch,
+            next_file: self.next_file,
+            listed,
+        })
+    }
+
+    /// Whether two versions are the same.
+    pub fn same(&self, other: &Version) -> bool
+        ensures { IsTrue result ↔ self.now ≡ other.now }
+    {
+        self.number == other.number
+            && self.flushed == other.flushed
+            && self.epoch == other.epoch
+            && self.next_file == other.next_file
+            && same_files(self.files(), other.files())
+    }
+
     // Where its memory comes from.
     pub(crate) fn alloc(&self) -> Global {
         self.alloc
@@ -161,10 +189,11 @@ impl Version {
 
     // Why the edit does not apply.
     pub(crate) fn fault_of(&self, edit: &Edit) -> Option<ApplyError>
+        requires { IsEdit edit.now }
         ensures fault { result ≡ apply_fault self.now edit.now }
         ensures sound { IsVersion self.now }
     {
-        let (removed, added) = (edit.removed.as_slice(), edit.added.as_slice());
+        let (removed, added) = (removed_by(edit), edit.added.as_slice());
         if edit.number != self.number + 1 {
             return Some(ApplyError::WrongNumber);
         }
@@ -196,15 +225,26 @@ impl Version {
     }
 }
 
-// The number is one of these.
+// The numbers of the files that go, which ascend.
+pub(crate) fn removed_by(edit: &Edit) -> &[u64]
+    requires { IsEdit edit.now }
+    ensures all { result.now ≡ edit.now.removed }
+    ensures ascending { IsNonDecreasing result.now }
+{
+    edit.removed.as_slice()
+}
+
+// The number is one of these, which ascend.
 pub(crate) fn is_among(numbers: &[u64], number: u64) -> bool
+    requires { IsNonDecreasing numbers.now }
     ensures { result ≡ list_any (λ n. nat_eq number n) numbers.now }
 {
-    numbers.contains(&number)
+    numbers.binary_search(&number).is_ok()
 }
 
 // One of the numbers is no file's.
 fn lacks(files: &[FileMeta], numbers: &[u64]) -> bool
+    requires { NumbersRise files.now }
     ensures { result ≡ list_any (λ n. not (list_any (has_number n) files.now)) numbers.now }
 {
     numbers.iter().any(|number| !has_file(files, *number))
@@ -212,14 +252,18 @@ fn lacks(files: &[FileMeta], numbers: &[u64]) -> bool
 
 // The number is a file's.
 fn has_file(files: &[FileMeta], number: u64) -> bool
+    requires { NumbersRise files.now }
     ensures { result ≡ list_any (has_number number) files.now }
 {
-    files.iter().any(|file| file.number == number)
+    files
+        .binary_search_by_key(&number, |file| file.number)
+        .is_ok()
 }
 
 // Two of the files overlap, once these are removed and added.
 fn overlaps_after(files: &[FileMeta], removed: &[u64], added: &[FileMeta]) -> bool
-    requires { has_overlap files.now ≡ false }
+    requires disjoint { has_overlap files.now ≡ false }
+    requires ascending { IsNonDecreasing removed.now }
     ensures { result ≡ has_overlap (without removed.now files.now ++ added.now) }
 {
     meets_kept(files, removed, added) || overlaps(added)
@@ -227,6 +271,7 @@ fn overlaps_after(files: &[FileMeta], removed: &[u64], added: &[FileMeta]) -> bo
 
 // A file that stays overlaps one that comes.
 fn meets_kept(files: &[FileMeta], removed: &[u64], added: &[FileMeta]) -> bool
+    requires { IsNonDecreasing removed.now }
     ensures { result ≡ list_any (λ f. not (list_any (λ n. has_number n f) removed.now) && list_any (clashes f) added.now) files.now }
 {
     files.iter().any(|file| !is_among(removed, file.number) && has_clash(file, added))

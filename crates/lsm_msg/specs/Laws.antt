@@ -19,14 +19,19 @@ HiddenEntriesGo =
     → older.ikey.seq < later.ikey.seq → ((p : ℕ) → IsIn p points → older.ikey.seq ≤ p → later.ikey.seq ≤ p)
     → IsKept inputs points deeper older → ⊥
 
--- reads of the outputs give what reads of the inputs gave: at the end, at each point, and where every input is seen
+-- reads of the two give the same: at the end, at each point, and where every input is seen
+abbrev pub ReadAlike : List ℕ → List Entry → List Entry → List Entry → Type 0
+ReadAlike points inputs one other =
+    (key : List ℕ)
+    → (option_and_then entry_value (newest one key) ≡ option_and_then entry_value (newest other key))
+    × ((p : ℕ) → IsIn p points → value_at one key p ≡ value_at other key p)
+    × ((p : ℕ) → ((e : Entry) → IsIn e inputs → e.ikey.seq ≤ p) → value_at one key p ≡ value_at other key p)
+
+-- reads of the outputs give what reads of the inputs gave
 abbrev pub ReadsStay : Type 0
 ReadsStay =
     (inputs outputs : List Entry) (points : List ℕ) (deeper : List KeyRange) → IsUnique inputs → HoldsKept inputs points deeper outputs
-    → (key : List ℕ)
-    → (option_and_then entry_value (newest outputs key) ≡ option_and_then entry_value (newest inputs key))
-    × ((p : ℕ) → IsIn p points → value_at outputs key p ≡ value_at inputs key p)
-    × ((p : ℕ) → ((e : Entry) → IsIn e inputs → e.ikey.seq ≤ p) → value_at outputs key p ≡ value_at inputs key p)
+    → ReadAlike points inputs outputs inputs
 
 -- the text a, by its byte
 abbrev pub a : List ℕ

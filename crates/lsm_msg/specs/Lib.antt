@@ -1,4 +1,7 @@
 pub mod Rules
 pub mod Jobs
 pub mod Merge
+pub mod Legal
 pub mod Laws
+pub mod Installs
+pub mod InstallLaws

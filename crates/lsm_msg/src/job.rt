@@ -1,16 +1,16 @@
 //! Jobs and their results.
 
-use crate::lists::{same_files, same_points, same_ranges, same_tables};
+use crate::lists::{same_points, same_ranges, same_tables};
 use crate::rules::{MAX_JOB_LEVEL, are_deeper, are_inputs, are_points, is_job_id};
 use bytes::Bytes;
 use lsm_claim::JobId;
-use lsm_edit::FileMeta;
+use lsm_edit::{FileMeta, same_files};
 use lsm_key::{Items, MAX_TABLE_BYTES, Seq};
 use std::alloc::{AllocError, Global};
 use std::marker::Model;
 
 /// The keys from one to another, both in it: those of a file, as its record says. Within the rules or not.
-#[derive(Debug, Drop, Clone)]
+#[derive(Debug, Drop, Clone, PartialEq, Eq)]
 pub struct KeyRange {
     /// Its least key.
     pub lo: Bytes,

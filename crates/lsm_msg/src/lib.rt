@@ -1,9 +1,10 @@
 //! Jobs and messages as plain data, and what a merge keeps.
 //!
 //! Nodes speak in messages, and a job is the one with rules. It promises that every job is within the rules of its format,
-//! and that a copy is the same value, however often a message was copied on its way. Its definitions say which entries the
-//! outputs of a job hold. It stands on `lsm_edit` for file records, on `lsm_claim` for the names of jobs and ranges of keys,
-//! and on `lsm_key` for what a set of entries shows.
+//! and that a copy is the same value, however often a message was copied on its way. Its definitions say which files may be
+//! merged and which entries the outputs of a job hold; its laws, that the install of such outputs changes no read, and that
+//! neither it nor a flush gets in the way of other jobs. It stands on `lsm_edit` for versions with their tables, on
+//! `lsm_claim` for the names of jobs, their wants and ranges of keys, and on `lsm_key` for what a set of entries shows.
 #![tactic(auto)]
 
 mod job;
@@ -17,7 +18,9 @@ mod tests;
 
 pub use job::{Job, JobParts, JobResult, KeyRange};
 pub use laws::{
-    hidden_entries_go, job_limits_are_these, kept_are_inputs, reads_stay, worked_merges,
+    flushes_keep_jobs, flushes_keep_order, hidden_entries_go, installs_keep_jobs,
+    installs_keep_order, installs_keep_reads, job_limits_are_these, kept_are_inputs, reads_stay,
+    worked_merges,
 };
 pub use message::{Body, Message};
 pub use node::{MAX_NODES, Node, NodeIndex};

@@ -2,11 +2,9 @@
 
 ghost use Rattle.std.specs.Prelude.{◌≡◌, ◌↔◌, IfOk, IsTrue};
 
-use crate::lists::{same_files, same_numbers};
 use crate::{Job, JobResult, Node};
 use bytes::Bytes;
-use lsm_edit::Edit;
-use lsm_key::Items;
+use lsm_edit::{Edit, Version};
 use std::alloc::{AllocError, Global};
 
 /// What a message says.
@@ -26,6 +24,8 @@ pub enum Body {
     Ask(u64),
     /// How the next version comes about.
     Edit(Edit),
+    /// A whole version, for who is too far behind to go on by edits.
+    Base(Version),
     /// There is no later version than this one.
     Current(u64),
 }
@@ -50,7 +50,8 @@ impl Body {
             Body::Gone(file) => Ok(Body::Gone(*file)),
             Body::Result(made) => Ok(Body::Result(made.copy(alloc)?)),
             Body::Ask(version) => Ok(Body::Ask(*version)),
-            Body::Edit(edit) => Ok(Body::Edit(copy_of(alloc, edit)?)),
+            Body::Edit(edit) => Ok(Body::Edit(edit.copy(alloc)?)),
+            Body::Base(version) => Ok(Body::Base(version.copy(alloc)?)),
             Body::Current(version) => Ok(Body::Current(*version)),
         }
     }
@@ -66,7 +67,8 @@ impl Body {
             (Body::Gone(a), Body::Gone(b)) => a == b,
             (Body::Result(a), Body::Result(b)) => a.same(b),
             (Body::Ask(a), Body::Ask(b)) => a == b,
-            (Body::Edit(a), Body::Edit(b)) => are_same(a, b),
+            (Body::Edit(a), Body::Edit(b)) => a.same(b),
+            (Body::Base(a), Body::Base(b)) => a.same(b),
             (Body::Current(a), Body::Current(b)) => a == b,
             _ => false,
         }
@@ -92,34 +94,4 @@ impl Message {
     {
         self.src == other.src && self.dst == other.dst && self.body.same(&other.body)
     }
-}
-
-// The same edit.
-fn copy_of(alloc: Global, edit: &Edit) -> Result<Edit, AllocError>
-    ensures { IfOk result (λ copy. copy ≡ edit.now) }
-{
-    let removed = edit.removed.as_slice().to_vec(alloc)?;
-    let added = edit.added.as_slice().to_vec(alloc)?;
-    Ok(Edit {
-        number: edit.number,
-        kind: edit.kind,
-        flushed: edit.flushed,
-        epoch: edit.epoch,
-        next_file: edit.next_file,
-        removed: Items::from_vec(removed),
-        added: Items::from_vec(added),
-    })
-}
-
-// Two edits are the same.
-fn are_same(a: &Edit, b: &Edit) -> bool
-    ensures { IsTrue result ↔ a.now ≡ b.now }
-{
-    a.number == b.number
-        && a.kind == b.kind
-        && a.flushed == b.flushed
-        && a.epoch == b.epoch
-        && a.next_file == b.next_file
-        && same_numbers(a.removed.as_slice(), b.removed.as_slice())
-        && same_files(a.added.as_slice(), b.added.as_slice())
 }

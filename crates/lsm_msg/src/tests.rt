@@ -3,7 +3,7 @@
 use crate::{Body, Job, JobParts, JobResult, KeyRange, MAX_NODES, Message, Node, NodeIndex};
 use bytes::Bytes;
 use lsm_claim::JobId;
-use lsm_edit::{Edit, EditKind, FileMeta};
+use lsm_edit::{Edit, FileMeta, Version};
 use lsm_key::{Items, Seq};
 use std::alloc::Global;
 use std::test::Fail;
@@ -225,15 +225,9 @@ fn bodies(alloc: Global) -> Result<Vec<Body>, Fail> {
         epoch: 1,
         number: 4,
     };
-    let edit = Edit {
-        number: 1,
-        kind: EditKind::Epoch,
-        flushed: Seq::ZERO,
-        epoch: 1,
-        next_file: 1,
-        removed: Items::new(alloc),
-        added: Items::new(alloc),
-    };
+    let mut version = Version::new(alloc);
+    let edit = Edit::epoch(alloc, &version);
+    version.apply(&edit)?;
     let mut bodies = Vec::new(alloc);
     bodies.push(Body::Job(job(alloc)?))?;
     bodies.push(Body::Fetch(3))?;
@@ -242,6 +236,7 @@ fn bodies(alloc: Global) -> Result<Vec<Body>, Fail> {
     bodies.push(Body::Result(JobResult { job: id, tables }))?;
     bodies.push(Body::Ask(3))?;
     bodies.push(Body::Edit(edit))?;
+    bodies.push(Body::Base(version))?;
     bodies.push(Body::Current(3))?;
     Ok(bodies)
 }
@@ -250,7 +245,7 @@ fn bodies(alloc: Global) -> Result<Vec<Body>, Fail> {
 fn messages_are_the_same_as_their_copies_alone(rt: HostRuntime) -> Result<(), Fail> {
     let alloc = rt.alloc();
     let bodies = bodies(alloc)?;
-    assert_eq!(rt; bodies.len(), 8);
+    assert_eq!(rt; bodies.len(), 9);
     for (i, one) in bodies.iter().enumerate() {
         for (k, other) in bodies.iter().enumerate() {
             assert_eq!(rt; one.same(&other.copy(alloc)?), i == k, "{i} and {k}");

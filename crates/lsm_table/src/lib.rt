@@ -14,7 +14,7 @@ mod reading;
 mod table;
 
 pub use block::{Block, BlockError, BlockFault, decode_block, encode_block};
-pub use building::{BuildError, TableBuilder};
+pub use building::{BuildError, TableBuilder, encode_table};
 pub use fault::{TableError, TableFault};
 pub use laws::{
     a_memtable_fits_into_a_table, a_table_has_one_meaning, a_table_is_little_more_than_its_entries,

@@ -77,6 +77,20 @@ fn applied(
 
 // Of two reasons the first is told, in the order: number, files, flushed sequence, counters.
 #[test]
+fn a_copy_is_the_same_and_what_follows_is_not(rt: HostRuntime) -> Result<(), Fail> {
+    let alloc = rt.alloc();
+    let (flush, next) = (edit_of(alloc, &FLUSH)?, edit_of(alloc, &NEXT)?);
+    assert!(rt; flush.same(&flush.copy(alloc)?));
+    assert!(rt; !flush.same(&next) && !next.same(&flush));
+    let version = version_two(alloc)?;
+    let mut other = version.copy(alloc)?;
+    assert!(rt; version.same(&other) && other.same(&version));
+    other.apply(&next)?;
+    assert!(rt; !version.same(&other) && !other.same(&version));
+    Ok(())
+}
+
+#[test]
 fn an_edit_that_does_not_apply(rt: HostRuntime) -> Result<(), Fail> {
     for (first, second, why) in [
         ((7, 3), (7, 3), None),

@@ -1,4 +1,4 @@
-use Rattle.std.proofs.Common.{arith, ◌≡◌, sym, subst, List, length, ap}
+use Rattle.std.proofs.Common.{arith, sym, subst, List, length, ap}
 use Rattle.std.specs.List.{All}
 use Rattle.lsm_edit.specs.declared.file.FileMeta.{FileMeta}
 use Rattle.lsm_edit.specs.File.{IsFile}

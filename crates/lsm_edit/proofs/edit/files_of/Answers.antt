@@ -1,6 +1,5 @@
-use Rattle.std.proofs.Common.{arith, ◌-◌, ◌+◌, ◌≤◌, ℕ}
+use Rattle.std.proofs.Common.{arith, ◌-◌, ◌+◌, ℕ}
 use Rattle.std.proofs.lemmas.Result.{err_from_is_err_and}
-use Rattle.lsm_key.specs.declared.limits.TheConstants.{MAX_NUMBER}
 use Rattle.lsm_edit.specs.File.{file_at}
 use Rattle.lsm_edit.specs.Edit.{files_at, after_file}
 use Rattle.lsm_edit.proofs.EditLaws.{read_number}

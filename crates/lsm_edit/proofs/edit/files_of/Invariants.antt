@@ -1,4 +1,4 @@
-use Rattle.std.proofs.Common.{◌≡◌, ◌-◌, ◌≤◌}
+use Rattle.std.proofs.Common.{◌≡◌, ◌-◌}
 use Rattle.lsm_edit.specs.Edit.{files_at}
 use Rattle.lsm_edit.proofs.InTurn.{after_these}
 use Rattle.lsm_edit.proofs.edit.files_of.Given as goal

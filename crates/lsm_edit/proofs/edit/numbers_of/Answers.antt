@@ -1,4 +1,4 @@
-use Rattle.std.proofs.Common.{arith, ◌-◌, ◌+◌, ℕ}
+use Rattle.std.proofs.Common.{arith, ◌-◌, ◌+◌}
 use Rattle.std.specs.Int.{w64}
 use Rattle.std.proofs.lemmas.Result.{err_from_is_err_and}
 use Rattle.lsm_key.specs.declared.limits.TheConstants.{MAX_NUMBER}

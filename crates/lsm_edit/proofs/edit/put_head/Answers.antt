@@ -1,5 +1,5 @@
-use Rattle.std.proofs.Common.{rules, arith, ◌≡◌, ◌++◌, ◌^◌, ◌<◌, length, ap, List, ℕ, sym, subst, ◌∙◌}
-use Rattle.std.specs.Int.{w8, w32, w64, to_be_bytes}
+use Rattle.std.proofs.Common.{rules, ◌++◌, ◌^◌, ◌<◌, length, ap, List, ℕ, sym, subst, ◌∙◌}
+use Rattle.std.specs.Int.{w8, w64, to_be_bytes}
 use Rattle.lsm_edit.specs.Edit.{kind_code, removed}
 use Rattle.lsm_edit.proofs.EditLaws.{removed_small}
 use Rattle.lsm_edit.proofs.Joins.{six}

@@ -2,7 +2,7 @@ use Rattle.std.proofs.Common.{◌≡◌, None, sym, subst, ◌∙◌, rules, ari
 use Rattle.std.proofs.lemmas.Fn.{filter_same}
 use Rattle.std.proofs.lemmas.Grind.{common_steps}
 use Rattle.lsm_edit.specs.declared.file.FileMeta.{FileMeta}
-use Rattle.lsm_edit.specs.Version.{IsVersion, applied, VersionValue, files_after, without, apply_fault}
+use Rattle.lsm_edit.specs.Version.{applied, VersionValue, files_after, without, apply_fault}
 use Rattle.lsm_edit.proofs.VersionLaws.{applied_is, stays}
 use Rattle.lsm_edit.proofs.version.Version.apply.Goals as goal
 

@@ -1,9 +1,0 @@
-use Rattle.std.proofs.Common.{refl, arith}
-use Rattle.std.proofs.lemmas.List.{same_lists}
-use Rattle.lsm_msg.proofs.lists.same_files.Goals as goal
-
-pub returns : goal.returns
-returns c = (
-  λ _. same_lists c.args.fs.now c.args.gs.now (omega arith) (λ k d within. c.loop-i.invariant k d (omega arith)),
-  λ _. refl,
-)
