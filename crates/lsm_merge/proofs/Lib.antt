@@ -1,0 +1,10 @@
+pub mod Pass
+pub mod Few
+pub mod Same
+pub mod Comparing
+pub mod FirstOutput
+pub mod Parts
+pub mod Cuts
+pub mod Merged
+pub mod Unique
+pub mod Reach

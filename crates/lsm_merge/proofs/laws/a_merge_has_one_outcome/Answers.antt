@@ -1,0 +1,5 @@
+use Rattle.lsm_merge.proofs.Unique.{one_outcome}
+use Rattle.lsm_merge.proofs.laws.a_merge_has_one_outcome.Goals as goal
+
+pub returns : goal.returns
+returns c = one_outcome

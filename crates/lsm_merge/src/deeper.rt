@@ -1,0 +1,83 @@
+//! Whether deeper files may have a key.
+
+ghost use Rattle.std.specs.Prelude.{◌≡◌, ◌≤◌, ℕ, List, [], length, IfOk, IsPermutation, true, false};
+ghost use Rattle.std.specs.List.Sorted.{IsPartitionPoint};
+ghost use Rattle.lsm_key.specs.Order.{key_le};
+ghost use Rattle.lsm_msg.specs.declared.job.KeyRange.{KeyRange};
+ghost use Rattle.lsm_msg.specs.Merge.{is_in_ranges};
+ghost use Rattle.lsm_merge.specs.Reaching.{IsByLeast, AreReaching, widened};
+
+use bytes::Bytes;
+use lsm_msg::KeyRange;
+use std::alloc::{AllocError, Global};
+use std::marker::Model;
+
+/// The keys of some ranges: in the order of their least keys, each as far as any before it reaches, so that a search finds
+/// the one that tells. As many comparisons as the count of ranges has bits, where each range had to be asked.
+#[derive(Drop)]
+pub(crate) struct DeeperKeys {
+    ranges: Vec<KeyRange>,
+}
+
+impl Model for DeeperKeys {
+    ghost Value = { List KeyRange };
+
+    ghost view = { λ k. k.ranges.items };
+
+    ghost invariant = { λ k. AreReaching k.ranges.items };
+}
+
+impl DeeperKeys {
+    /// The keys of the ranges. They share the bytes.
+    pub(crate) fn of(alloc: Global, ranges: &[KeyRange]) -> Result<DeeperKeys, AllocError>
+        ensures { IfOk result (λ keys. (key : List ℕ) → is_in_ranges keys key ≡ is_in_ranges ranges.now key) }
+    {
+        let sorted = by_least(alloc, ranges)?;
+        let ranges = widened(alloc, &sorted)?;
+        Ok(DeeperKeys { ranges })
+    }
+
+    /// Whether the key is one of them.
+    pub(crate) fn have(&self, key: &[u8]) -> bool
+        ensures { result ≡ is_in_ranges self.now key.now }
+    {
+        let place = begun_at(&self.ranges, key);
+        place > 0 && key.cmp(self.ranges[place - 1].hi.as_slice()).is_le()
+    }
+}
+
+// The ranges in the order of their least keys.
+fn by_least(alloc: Global, ranges: &[KeyRange]) -> Result<Vec<KeyRange>, AllocError>
+    ensures all { IfOk result (λ sorted. IsPermutation ranges.now sorted.items) }
+    ensures order { IfOk result (λ sorted. IsByLeast sorted.items) }
+{
+    let mut sorted = ranges.to_vec(alloc)?;
+    sorted.sort_by(|range, other| range.lo.as_slice().cmp(other.lo.as_slice()))?;
+    Ok(sorted)
+}
+
+// Each range as far as any before it reaches.
+fn widened(alloc: Global, ranges: &[KeyRange]) -> Result<Vec<KeyRange>, AllocError>
+    ensures { IfOk result (λ wide. wide.items ≡ widened [] ranges.now) }
+{
+    let mut wide = Vec::with_capacity(alloc, ranges.len())?;
+    let mut reach = Bytes::new();
+    for range in ranges {
+        if range.hi.as_slice().cmp(reach.as_slice()).is_gt() {
+            reach = range.hi.clone()?;
+        }
+        let lo = range.lo.clone()?;
+        let hi = reach.clone()?;
+        wide.push(KeyRange { lo, hi })?;
+    }
+    Ok(wide)
+}
+
+// How many ranges begin at or before the key.
+fn begun_at(ranges: &[KeyRange], key: &[u8]) -> usize
+    requires { IsByLeast ranges.now }
+    ensures within { result ≤ length ranges.now }
+    ensures point { IsPartitionPoint (λ r. key_le r.lo key.now ≡ true) (λ r. key_le r.lo key.now ≡ false) ranges.now result }
+{
+    ranges.partition_point(|range| range.lo.as_slice().cmp(key).is_le())
+}

@@ -1,0 +1,108 @@
+//! Whether tables are what a job is to merge.
+
+ghost use Rattle.std.specs.Prelude.{◌≡◌, ◌↔◌, All, IfOk, IsTrue, map};
+ghost use Rattle.lsm_key.specs.Order.{IsAscending, IsInOrder, precedes};
+ghost use Rattle.lsm_edit.specs.Served.{IsAsRecorded, AreAsRecorded};
+ghost use Rattle.std.specs.List.{list_any};
+ghost use Rattle.lsm_merge.specs.Inputs.{HaveSameEntry, lists_of};
+ghost use Rattle.lsm_merge.specs.Comparing.{AllTables, has_place};
+
+use lsm_edit::FileMeta;
+use lsm_key::{Entry, InternalKey, compare_place};
+use lsm_table::Table;
+use std::alloc::{AllocError, Global};
+
+// One table for each record, as it says.
+pub(crate) fn are_as_recorded(files: &[FileMeta], tables: &[Table]) -> bool
+    ensures { IsTrue result ↔ AreAsRecorded files.now tables.now }
+{
+    if files.len() != tables.len() {
+        return false;
+    }
+    for (i, file) in files.iter().enumerate() {
+        if !is_as_recorded(file, &tables[i]) {
+            return false;
+        }
+    }
+    true
+}
+
+fn is_as_recorded(file: &FileMeta, table: &Table) -> bool
+    ensures { IsTrue result ↔ IsAsRecorded file.now table.now }
+{
+    file.smallest == *table.smallest()
+        && file.largest == *table.largest()
+        && file.bytes as usize == table.bytes().len()
+        && file.entries as usize == table.count()
+}
+
+// Copies of the entries of each table. They share the bytes.
+pub(crate) fn copies_of(alloc: Global, tables: &[Table]) -> Result<Vec<Vec<Entry>>, AllocError>
+    requires { AllTables tables.now }
+    ensures all { IfOk result (λ lists. map (λ list. list.items) lists.items ≡ lists_of tables.now) }
+    ensures order { IfOk result (λ lists. All IsInOrder (map (λ list. list.items) lists.items)) }
+{
+    let mut lists = Vec::with_capacity(alloc, tables.len())?;
+    for table in tables {
+        let list = table.entries().to_vec(alloc)?;
+        lists.push(list)?;
+    }
+    Ok(lists)
+}
+
+// Whether each entry stands before the next one.
+pub(crate) fn is_ascending(entries: &[Entry]) -> bool
+    ensures { IsTrue result ↔ IsAscending entries.now }
+{
+    for i in 1..entries.len() {
+        if !stands_before(&entries[i - 1], &entries[i]) {
+            return false;
+        }
+    }
+    true
+}
+
+fn stands_before(entry: &Entry, next: &Entry) -> bool
+    ensures { result ≡ precedes entry.now next.now }
+{
+    compare_place(&entry.ikey, next.ikey.key.as_slice(), next.ikey.seq).is_lt()
+}
+
+// Whether two of the tables have an entry of one key and sequence. It takes no memory, and looks each entry up in each
+// later table.
+pub(crate) fn have_same_entry(tables: &[Table]) -> bool
+    ensures { IsTrue result ↔ HaveSameEntry (lists_of tables.now) }
+{
+    for (i, table) in tables.iter().enumerate() {
+        if shares_entry(table, &tables[i + 1..]) {
+            return true;
+        }
+    }
+    false
+}
+
+// Whether it has one with a later table.
+fn shares_entry(table: &Table, later: &[Table]) -> bool
+    ensures { result ≡ list_any (λ e. list_any (λ t. has_place e.ikey t.entries) later.now) table.now.entries }
+{
+    table
+        .entries()
+        .iter()
+        .any(|entry| is_in_one(later, &entry.ikey))
+}
+
+// Whether one of the tables has an entry of the key and sequence.
+fn is_in_one(tables: &[Table], ikey: &InternalKey) -> bool
+    ensures { result ≡ list_any (λ t. has_place ikey.now t.entries) tables.now }
+{
+    tables.iter().any(|table| has_place(table, ikey))
+}
+
+fn has_place(table: &Table, ikey: &InternalKey) -> bool
+    ensures { result ≡ has_place ikey.now table.now.entries }
+{
+    match table.get(ikey.key.as_slice(), ikey.seq) {
+        Some(found) => found.seq == ikey.seq,
+        None => false,
+    }
+}

@@ -1,0 +1,84 @@
+//! What is kept of entries in order.
+
+ghost use Rattle.std.specs.Prelude.{◌≡◌, IfOk, None};
+ghost use Rattle.std.specs.Borrow.{Bor};
+ghost use Rattle.std.specs.Option.{option_map};
+ghost use Rattle.lsm_key.specs.declared.entry.Entry.{Entry};
+ghost use Rattle.lsm_msg.specs.Merge.{is_at_most_all, may_go};
+ghost use Rattle.lsm_merge.specs.Keeping.{is_seen_alone, is_needed, stays, kept_list};
+
+use crate::deeper::DeeperKeys;
+use lsm_key::{Entry, Kind, Seq};
+use lsm_msg::Job;
+use std::alloc::{AllocError, Global};
+
+// The kept ones of entries in order. They share the bytes.
+pub(crate) fn kept_of(alloc: Global, entries: &[Entry], job: &Job) -> Result<Vec<Entry>, AllocError>
+    ensures { IfOk result (λ kept. kept.items ≡ kept_list job.now.points job.now.deeper None entries.now) }
+{
+    let deeper = DeeperKeys::of(alloc, job.deeper())?;
+    kept_beside(alloc, entries, job.points(), &deeper)
+}
+
+// The same in one pass, where deeper files may have these keys.
+fn kept_beside(
+    alloc: Global,
+    entries: &[Entry],
+    points: &[Seq],
+    deeper: &DeeperKeys,
+) -> Result<Vec<Entry>, AllocError>
+    ensures { IfOk result (λ kept. kept.items ≡ kept_list points.now deeper.now None entries.now) }
+{
+    let mut kept = Vec::new(alloc);
+    let mut before: Option<&Entry> = None;
+    for entry in entries {
+        if stays(points, deeper, before, entry) {
+            kept.push(entry.clone()?)?;
+        }
+        before = Some(entry);
+    }
+    Ok(kept)
+}
+
+// Whether an entry is kept, after the one before it.
+fn stays(points: &[Seq], deeper: &DeeperKeys, before: Option<&Entry>, entry: &Entry) -> bool
+    ensures { result ≡ stays points.now deeper.now (option_map (λ (b : Bor Entry). b.now) before.entry) entry.now }
+{
+    is_needed(points, before, entry) && !may_go(points, deeper, entry)
+}
+
+// Whether some read needs it: it is the newest of its key, or a point sees it and not the newer one before it.
+fn is_needed(points: &[Seq], before: Option<&Entry>, entry: &Entry) -> bool
+    ensures { result ≡ is_needed points.now (option_map (λ (b : Bor Entry). b.now) before.entry) entry.now }
+{
+    match before {
+        None => true,
+        Some(newer) => {
+            entry.ikey.key != newer.ikey.key
+                || is_seen_alone(points, newer.ikey.seq, entry.ikey.seq)
+        }
+    }
+}
+
+// Whether a point sees the sequence, and not the newer one.
+fn is_seen_alone(points: &[Seq], newer: Seq, seq: Seq) -> bool
+    ensures { result ≡ is_seen_alone points.now newer seq }
+{
+    points.iter().any(|point| seq <= *point && *point < newer)
+}
+
+// Whether it is a deletion that hides nothing any more.
+fn may_go(points: &[Seq], deeper: &DeeperKeys, entry: &Entry) -> bool
+    ensures { result ≡ may_go points.now deeper.now entry.now }
+{
+    entry.ikey.kind == Kind::Delete
+        && is_at_most_all(points, entry.ikey.seq)
+        && !deeper.have(entry.ikey.key.as_slice())
+}
+
+// Whether the sequence is at most every point.
+fn is_at_most_all(points: &[Seq], seq: Seq) -> bool
+    ensures { result ≡ is_at_most_all points.now seq }
+{
+    points.iter().all(|point| seq <= *point)
+}

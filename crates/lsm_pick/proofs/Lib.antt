@@ -1,0 +1,10 @@
+pub mod Counts
+pub mod Growing
+pub mod Walks
+pub mod Outside
+pub mod Trying
+pub mod Asking
+pub mod Files
+pub mod Legal
+pub mod Removable
+pub mod TrialLevels

@@ -1,0 +1,59 @@
+use Rattle.std.proofs.Common.{◌≡◌, ◌∙◌, true, List, ℕ, subst, sym}
+use Rattle.std.proofs.lemmas.Bool.{true≢false}
+use Rattle.lsm_key.specs.Sets.{IsIn}
+use Rattle.lsm_key.proofs.Sets.{IsIn-map, IsIn-mapped}
+use Rattle.lsm_edit.specs.declared.file.FileMeta.{FileMeta}
+use Rattle.lsm_edit.specs.declared.served.Placed.{Placed}
+use Rattle.lsm_pick.specs.Reach.{Grows, IsReach, is_inside, is_met, may_join, trial_of}
+use Rattle.lsm_pick.proofs.Growing.{reach_first}
+use Rattle.lsm_pick.proofs.Outside.{fewer_outside}
+use Rattle.lsm_pick.proofs.reach.closure.Goals as goal
+
+pub widened-wider-requires-in-loop-reach-clause-recorded : goal.widened-wider-requires-in-loop-reach-clause-recorded
+widened-wider-requires-in-loop-reach-clause-recorded c = λ p m. (c.listing-listing.ensures.sound.0).recorded p (subst (IsIn p) c.places-places.ensures m)
+
+pub loop-reach-init : goal.loop-reach-init
+loop-reach-init c =
+    let t = trial_of c.args.first.now c.args.narrow in
+    let files = c.args.served.now.version.files in (
+      subst (λ (k : List ℕ). IsReach files t k c.of-reach.result.hi.now) (sym c.of-reach.ensures.lo)
+          (subst (λ (k : List ℕ). IsReach files t t.first.smallest k) (sym c.of-reach.ensures.hi) (reach_first files t c.requires.listed)),
+      subst (λ (ps : List Placed). Grows t ps (may_join t) c.of-reach.result.lo.now c.of-reach.result.hi.now c.widened-wider.result.lo.now c.widened-wider.result.hi.now) c.places-places.ensures c.widened-wider.ensures,
+    )
+
+pub loop-reach-preserved : goal.loop-reach-preserved
+loop-reach-preserved c =
+    let t = trial_of c.args.first.now c.args.narrow in
+    let files = c.args.served.now.version.files in
+    let places = c.args.served.now.places in
+    let old = c.loop-reach.invariant in (
+      (old.1).sound files (λ p m. ((c.listing-listing.ensures.sound.0).listed p.meta).0 (IsIn-map (λ (q : Placed). q.meta) p places m)) old.0,
+      subst (λ (ps : List Placed). Grows t ps (may_join t) c.loop-reach.wider.lo.now c.loop-reach.wider.hi.now c.widened-wider-in-loop-reach.result.lo.now c.widened-wider-in-loop-reach.result.hi.now) c.places-places.ensures c.widened-wider-in-loop-reach.ensures,
+    )
+
+pub loop-reach-smaller : goal.loop-reach-smaller
+loop-reach-smaller c =
+    let t = trial_of c.args.first.now c.args.narrow in
+    let files = c.args.served.now.version.files in
+    let places = c.args.served.now.places in
+    let old = c.loop-reach.invariant in
+    let next = (old.1).sound files (λ p m. ((c.listing-listing.ensures.sound.0).listed p.meta).0 (IsIn-map (λ (q : Placed). q.meta) p places m)) old.0 in
+    fewer_outside files t c.loop-reach.reach.lo.now c.loop-reach.reach.hi.now c.loop-reach.wider.lo.now c.loop-reach.wider.hi.now next (old.1).low (old.1).high
+    (λ same. true≢false (sym ((c.same.ensures).1 same) ∙ c.loop-reach-test.true))
+
+pub returns : goal.returns
+returns c =
+    let t = trial_of c.args.first.now c.args.narrow in
+    let files = c.args.served.now.version.files in
+    let places = c.args.served.now.places in
+    let old = c.loop-reach.invariant in
+    let same = (c.same.ensures).0 c.loop-reach-test.false in
+    record {
+      reach = old.0;
+      full = λ f m j met.
+          let p = IsIn-mapped (λ (q : Placed). q.meta) f places (((c.listing-listing.ensures.sound.0).listed f).1 m) in
+          subst (λ (k : List ℕ). is_inside k c.loop-reach.reach.hi.now f ≡ true) same.0
+          (subst (λ (k : List ℕ). is_inside c.loop-reach.wider.lo.now k f ≡ true) same.1
+          (subst (λ (g : FileMeta). is_inside c.loop-reach.wider.lo.now c.loop-reach.wider.hi.now g ≡ true) (sym p.2)
+          ((old.1).taken p.0 p.1 (subst (λ (g : FileMeta). may_join t g ≡ true) p.2 j) (subst (λ (g : FileMeta). is_met c.loop-reach.reach.lo.now c.loop-reach.reach.hi.now g ≡ true) p.2 met))));
+    }

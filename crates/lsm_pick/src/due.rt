@@ -1,0 +1,61 @@
+//! Levels that are due.
+
+ghost use Rattle.std.specs.Prelude.{◌≡◌, ◌≤◌, ◌*◌, ◌^◌, ◌-◌, ◌+◌, count_by, sum_by, length, nat_eq, nat_le, nat_lt};
+ghost use Rattle.lsm_key.specs.declared.limits.TheConstants.{MAX_BASE};
+ghost use Rattle.lsm_pick.specs.Due.{is_due, is_full, is_heavy, of_level, allowed};
+
+use lsm_edit::FileMeta;
+use lsm_key::Limits;
+
+/// The level is due. The deepest one, which has no next, never is.
+pub(crate) fn is_due(limits: &Limits, files: &[FileMeta], level: u8) -> bool
+    requires { level ≤ 5 }
+    ensures { result ≡ is_due limits.now files.now level }
+{
+    if level == 0 {
+        is_full(limits, files)
+    } else {
+        exceeds(files, level, allowed(limits, level))
+    }
+}
+
+// Level 0 has as many files as make it due.
+fn is_full(limits: &Limits, files: &[FileMeta]) -> bool
+    ensures { result ≡ is_full limits.now files.now }
+{
+    limits.l0 <= level_zero_count(files) as u64
+}
+
+// How many files level 0 has.
+fn level_zero_count(files: &[FileMeta]) -> usize
+    ensures { result ≡ length (of_level 0 files.now) }
+{
+    files.iter().filter(|file| file.level == 0).count()
+}
+
+// How many bytes a deeper level may have.
+fn allowed(limits: &Limits, level: u8) -> u64
+    requires some { 1 ≤ level }
+    requires most { level ≤ 5 }
+    ensures { result ≡ allowed limits.now level }
+{
+    const FACTORS: [u64; 5] = [1, 10, 100, 1000, 10_000];
+    limits.base * FACTORS[level as usize - 1]
+}
+
+// The files of the level have more bytes than that.
+fn exceeds(files: &[FileMeta], level: u8, most: u64) -> bool
+    requires { most ≤ MAX_BASE * 10000 }
+    ensures { result ≡ is_heavy files.now level most }
+{
+    let mut total = 0;
+    for file in files {
+        if file.level == level {
+            total += file.bytes as u64;
+            if total > most {
+                return true;
+            }
+        }
+    }
+    false
+}

@@ -1,0 +1,35 @@
+//! Why nothing can be picked.
+
+use std::alloc::{AllocError, AllocFailed};
+use thiserror::Error;
+
+/// Why nothing can be picked though a level is due.
+#[derive(Clone, Copy, Debug, PartialEq, Eq, Error)]
+pub enum PickError {
+    #[error("every merge that no job stands against passes a limit of a job")]
+    TooWide,
+    #[error("out of memory")]
+    OutOfMemory,
+}
+
+impl From<AllocError> for PickError {
+    ghost use Rattle.std.specs.Prelude.{◌≡◌};
+    ghost use Rattle.lsm_pick.specs.declared.error.PickError.TheVariants.{OutOfMemory};
+
+    ghost from_gives = { λ _ e. e ≡ OutOfMemory };
+
+    fn from(_e: AllocError) -> PickError {
+        PickError::OutOfMemory
+    }
+}
+
+impl<T: Drop> From<AllocFailed<T>> for PickError {
+    ghost use Rattle.std.specs.Prelude.{◌≡◌};
+    ghost use Rattle.lsm_pick.specs.declared.error.PickError.TheVariants.{OutOfMemory};
+
+    ghost from_gives = { λ _ e. e ≡ OutOfMemory };
+
+    fn from(_e: AllocFailed<T>) -> PickError {
+        PickError::OutOfMemory
+    }
+}

@@ -1,0 +1,145 @@
+//! The rule of a pick.
+
+ghost use Rattle.std.specs.Prelude.{◌≡◌, ◌≤◌, ◌⊎◌, ◌∷◌, [], IfOk, IfErr, OnErr, IfSome, MatchOption};
+ghost use Rattle.lsm_key.specs.Sets.{IsIn};
+ghost use Rattle.lsm_edit.specs.declared.edit.EditKind.TheVariants.{Install};
+ghost use Rattle.lsm_edit.specs.Edit.{AreRemoved};
+ghost use Rattle.lsm_msg.specs.Legal.{IsLegal};
+ghost use Rattle.lsm_pick.specs.declared.error.PickError.TheVariants.{OutOfMemory, TooWide};
+ghost use Rattle.lsm_pick.specs.Closure.{Trial};
+ghost use Rattle.lsm_pick.specs.Due.{due_levels};
+ghost use Rattle.lsm_pick.specs.Reach.{IsFull, is_taken, trial_of};
+ghost use Rattle.lsm_pick.specs.Rule.{AreClaimed, AreTooWide, IsFirst, level_trials, trials, trials_of};
+ghost use Rattle.lsm_pick.specs.Tried.{Comes, Wants};
+
+use crate::PickError;
+use crate::due::is_due;
+use crate::limit::{is_claimed, is_within, want_of};
+use crate::reach::{Reach, closure};
+use crate::tried::Tried;
+use lsm_claim::{ClaimBook, LiveJob, Want};
+use lsm_edit::{FileMeta, Served};
+use lsm_key::Limits;
+use lsm_msg::MAX_JOB_LEVEL;
+use std::alloc::{AllocError, Global};
+
+/// What to merge next: the want of the first trial that no live job stands against and that passes no limit of a job, or
+/// `None` where nothing is due or live jobs stand against all. It is refused as `TooWide` where a limit alone stands against one and nothing
+/// comes of any. Memory is wanted only for a want that is given.
+///
+/// A trial costs a binary search and the files that it meets in each round, and one of level 0 a pass over level 0 too; a
+/// round widens the hull by a file at least. One that no job stands against costs a pass over the version's files.
+pub fn pick(
+    alloc: Global,
+    served: &Served,
+    book: &ClaimBook,
+    limits: &Limits,
+) -> Result<Option<Want>, PickError>
+    ensures some { IfOk result (λ picked. IfSome picked (IsFirst served.now.version.files book.now.live (trials limits.now served.now.version.files))) }
+    ensures none { IfOk result (λ picked. picked ≡ None → AreClaimed served.now.version.files book.now.live (trials limits.now served.now.version.files)) }
+    ensures level { IfOk result (λ picked. IfSome picked (λ want. want.level ≤ MAX_JOB_LEVEL)) }
+    ensures legal { IfOk result (λ picked. IfSome picked (IsLegal served.now.version.files)) }
+    ensures removable { IfOk result (λ picked. IfSome picked (λ want. AreRemoved Install want.files)) }
+    ensures too_wide { IfErr result (λ e. e ≡ TooWide → AreTooWide served.now.version.files book.now.live (trials limits.now served.now.version.files)) }
+    ensures memory { IfErr result (λ e. e ≡ OutOfMemory → Wants served.now.version.files book.now.live (trials limits.now served.now.version.files)) }
+{
+    // That the files are sound, as the proof wants to know.
+    let _listing = served.listing();
+    match try_all(alloc, served, book.live(), limits)? {
+        Tried::Taken(want) => Ok(Some(want)),
+        Tried::TooWide => Err(PickError::TooWide),
+        Tried::Claimed => Ok(None),
+    }
+}
+
+// What comes of all trials.
+fn try_all(
+    alloc: Global,
+    served: &Served,
+    live: &[LiveJob],
+    limits: &Limits,
+) -> Result<Tried, AllocError>
+    ensures ok { IfOk result (Comes served.now.version.files live.now (trials limits.now served.now.version.files)) }
+    ensures err { OnErr result (Wants served.now.version.files live.now (trials limits.now served.now.version.files)) }
+{
+    let mut tried = Tried::Claimed;
+    for level in 0..MAX_JOB_LEVEL + 1 {
+        if is_due(limits, served.listing().files, level) {
+            let here = try_level(alloc, served, live, level)?;
+            tried = tried.or(here);
+            if tried.is_taken() {
+                return Ok(tried);
+            }
+        }
+    }
+    Ok(tried)
+}
+
+// What comes of the trials of a level.
+fn try_level(
+    alloc: Global,
+    served: &Served,
+    live: &[LiveJob],
+    level: u8,
+) -> Result<Tried, AllocError>
+    requires { level ≤ 5 }
+    ensures ok { IfOk result (Comes served.now.version.files live.now (level_trials served.now.version.files level)) }
+    ensures err { OnErr result (Wants served.now.version.files live.now (level_trials served.now.version.files level)) }
+{
+    let mut tried = Tried::Claimed;
+    for file in served.listing().files {
+        if file.level == level {
+            let here = try_file(alloc, served, live, file)?;
+            tried = tried.or(here);
+            if tried.is_taken() {
+                return Ok(tried);
+            }
+        }
+    }
+    Ok(tried)
+}
+
+// What comes of the trials of a file: at level 0 a narrow one follows.
+fn try_file(
+    alloc: Global,
+    served: &Served,
+    live: &[LiveJob],
+    first: &FileMeta,
+) -> Result<Tried, AllocError>
+    requires level { first.now.level ≤ 5 }
+    requires listed { IsIn first.now served.now.version.files }
+    ensures ok { IfOk result (Comes served.now.version.files live.now (trials_of first.now)) }
+    ensures err { OnErr result (Wants served.now.version.files live.now (trials_of first.now)) }
+{
+    let wide = try_closure(alloc, served, live, first, false)?;
+    if first.level > 0 || wide.is_taken() {
+        return Ok(wide);
+    }
+    let narrow = try_closure(alloc, served, live, first, true)?;
+    Ok(wide.or(narrow))
+}
+
+// What comes of a trial.
+fn try_closure(
+    alloc: Global,
+    served: &Served,
+    live: &[LiveJob],
+    first: &FileMeta,
+    narrow: bool,
+) -> Result<Tried, AllocError>
+    requires level { first.now.level ≤ 5 }
+    requires listed { IsIn first.now served.now.version.files }
+    ensures ok { IfOk result (Comes served.now.version.files live.now (trial_of first.now narrow ∷ [])) }
+    ensures err { OnErr result (Wants served.now.version.files live.now (trial_of first.now narrow ∷ [])) }
+{
+    let files = served.listing().files;
+    let reach = closure(served, first, narrow);
+    if is_claimed(live, first.level, reach) {
+        return Ok(Tried::Claimed);
+    }
+    if !is_within(files, first, narrow, reach) {
+        return Ok(Tried::TooWide);
+    }
+    let want = want_of(alloc, files, first, narrow, reach)?;
+    Ok(Tried::Taken(want))
+}
