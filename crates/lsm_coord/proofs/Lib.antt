@@ -21,4 +21,14 @@ pub mod Faults
 pub mod Windows
 pub mod Building
 pub mod Memories
+pub mod Soundness
+pub mod Outputs
+pub mod Editing
+pub mod Installing
+pub mod InstallStep
+pub mod InstallSound
+pub mod Lists
+pub mod Returning
+pub mod Parts
+pub mod Jobs
 pub mod Opening

@@ -1,5 +1,5 @@
 -- What a coordinator keeps over its calls.
-use Rattle.std.proofs.Common.{◌≡◌, ℕ, ◌+◌, ◌<◌, ◌≤◌, Bool, true, false, cond, is_some, List, [], ◌∷◌, ◌++◌, Option, None, Some, length, refl, subst, arith, inl, inr, eqb, ◌&&◌, is_none}
+use Rattle.std.proofs.Common.{◌≡◌, ℕ, ◌+◌, ◌<◌, ◌≤◌, Bool, true, false, cond, is_some, List, [], ◌∷◌, ◌++◌, Option, None, Some, length, refl, sym, subst, ◌∙◌, arith, inl, inr, eqb, ◌&&◌, is_none}
 use Rattle.std.specs.List.Sorted.{IsPermutation}
 use Rattle.lsm_key.specs.declared.entry.Entry.{Entry}
 use Rattle.lsm_key.specs.declared.op.Op.{Op}
@@ -8,21 +8,23 @@ use Rattle.lsm_key.proofs.Sets.{IsIn-append_cases, SameMembers-permutation}
 use Rattle.lsm_key.proofs.Writes.{entries_after-range}
 use Rattle.lsm_mem.specs.Memtable.{last_sequence}
 use Rattle.lsm_mem.proofs.Noted.{last_low}
+use Rattle.lsm_claim.specs.Book.{BookValue}
 use Rattle.lsm_edit.specs.Served.{ServedValue}
 use Rattle.lsm_coord.specs.declared.error.CoordError.TheVariants.{FrozenWaiting, NothingToFreeze, NothingToFlush, NumbersExhausted}
 use Rattle.lsm_coord.specs.declared.frozen.Frozen.{Frozen}
-use Rattle.lsm_coord.specs.Memory.{IsCoord}
+use Rattle.lsm_coord.specs.declared.snapshot.Snapshot.{Snapshot}
+use Rattle.lsm_coord.specs.Memory.{IsCoord, AreLegal}
 use Rattle.lsm_coord.specs.Calls.{taken_of, active_after}
 
 -- the next sequence is above those of the active memtable
-pub last_below : (active : List Entry) (frozen : Option Frozen) (last : ℕ) (served : ServedValue) → IsCoord active frozen last served → last_sequence active < last + 1
-last_below active frozen last served is =
+pub last_below : (active : List Entry) (frozen : Option Frozen) (last : ℕ) (served : ServedValue) (book : BookValue) (snapshots : List Snapshot) → IsCoord active frozen last served book snapshots → last_sequence active < last + 1
+last_below active frozen last served book snapshots is =
     let low : last_sequence active ≤ last = last_low active last (λ e m. (is.recent e m).1) in
     omega arith
 
-pub after_write : (active new : List Entry) (frozen : Option Frozen) (last : ℕ) (served : ServedValue) (ops : List Op) → IsCoord active frozen last served → IsPermutation (active ++ entries_after last ops) new
-    → IsCoord new frozen (last + length ops) served
-after_write active new frozen last served ops is perm =
+pub after_write : (active new : List Entry) (frozen : Option Frozen) (last : ℕ) (served : ServedValue) (book : BookValue) (snapshots : List Snapshot) (ops : List Op) → IsCoord active frozen last served book snapshots → IsPermutation (active ++ entries_after last ops) new
+    → IsCoord new frozen (last + length ops) served book snapshots
+after_write active new frozen last served book snapshots ops is perm =
     let begun = is.begun in
     record {
       recent = λ e m. elim (IsIn-append_cases e active (entries_after last ops) ((SameMembers-permutation (active ++ entries_after last ops) new perm e).1 m)) [
@@ -32,36 +34,44 @@ after_write active new frozen last served ops is perm =
       begun = omega arith;
       waiting = is.waiting;
       opened = is.opened;
+      same_epoch = is.same_epoch;
+      legal = is.legal;
+      orderly = is.orderly;
+      few = is.few;
     }
 
 -- a memtable with an entry has a sequence above the flushed one
-some_newer : (active : List Entry) (last : ℕ) (served : ServedValue) → IsCoord active None last served → 0 < length active → served.version.flushed < last
-some_newer [] last served is lt = absurd (omega arith)
-some_newer (e ∷ active) last served is lt = let r = is.recent e (inl refl) in let low = r.0 in let high = r.1 in omega arith
+some_newer : (active : List Entry) (last : ℕ) (served : ServedValue) (book : BookValue) (snapshots : List Snapshot) → IsCoord active None last served book snapshots → 0 < length active → served.version.flushed < last
+some_newer [] last served book snapshots is lt = absurd (omega arith)
+some_newer (e ∷ active) last served book snapshots is lt = let r = is.recent e (inl refl) in let low = r.0 in let high = r.1 in omega arith
 
-pub after_freeze : (active : List Entry) (last : ℕ) (served : ServedValue) → IsCoord active None last served → 0 < length active
-    → IsCoord [] (Some (record { memtable = active; end = last })) last served
-after_freeze active last served is some = record {
+pub after_freeze : (active : List Entry) (last : ℕ) (served : ServedValue) (book : BookValue) (snapshots : List Snapshot) → IsCoord active None last served book snapshots → 0 < length active
+    → IsCoord [] (Some (record { memtable = active; end = last })) last served book snapshots
+after_freeze active last served book snapshots is some = record {
   recent = λ e m. absurd m;
   begun = omega arith;
-  waiting = λ f e. subst (λ (x : Frozen). (served.version.flushed < x.end) × (0 < length x.memtable)) (let same : record { memtable = active; end = last } ≡ f = cc in same) (some_newer active last served is some, some);
+  waiting = λ f e. subst (λ (x : Frozen). (served.version.flushed < x.end) × (0 < length x.memtable)) (let same : record { memtable = active; end = last } ≡ f = cc in same) (some_newer active last served book snapshots is some, some);
   opened = is.opened;
+  same_epoch = is.same_epoch;
+  legal = is.legal;
+  orderly = is.orderly;
+  few = is.few;
 }
 
 -- the memtable that a flush takes has an entry, and its end is above the flushed sequence
-pub taken_newer : (active : List Entry) (frozen : Option Frozen) (last : ℕ) (served : ServedValue) → IsCoord active frozen last served → (is_none frozen && eqb (length active) 0) ≡ false
+pub taken_newer : (active : List Entry) (frozen : Option Frozen) (last : ℕ) (served : ServedValue) (book : BookValue) (snapshots : List Snapshot) → IsCoord active frozen last served book snapshots → (is_none frozen && eqb (length active) 0) ≡ false
     → (served.version.flushed < (taken_of active last frozen).end) × (0 < length (taken_of active last frozen).memtable)
-taken_newer [] None last served is some = absurd cc
-taken_newer (e ∷ active) None last served is some = (some_newer (e ∷ active) last served is (omega arith), omega arith)
-taken_newer active (Some f) last served is some = is.waiting f refl
+taken_newer [] None last served book snapshots is some = absurd cc
+taken_newer (e ∷ active) None last served book snapshots is some = (some_newer (e ∷ active) last served book snapshots is (omega arith), omega arith)
+taken_newer active (Some f) last served book snapshots is some = is.waiting f refl
 
 -- after a flush
-pub after_flush : (active : List Entry) (frozen : Option Frozen) (last : ℕ) (served next : ServedValue) → IsCoord active frozen last served → next.version.flushed ≡ (taken_of active last frozen).end → next.version.epoch ≡ served.version.epoch
-    → IsCoord (active_after active frozen) None last next
-after_flush active None last served next is flushed epoch =
+pub after_flush : (active : List Entry) (frozen : Option Frozen) (last : ℕ) (served next : ServedValue) (book : BookValue) (snapshots : List Snapshot) → IsCoord active frozen last served book snapshots → next.version.flushed ≡ (taken_of active last frozen).end → next.version.epoch ≡ served.version.epoch
+    → AreLegal next.version.files book.live → IsCoord (active_after active frozen) None last next book snapshots
+after_flush active None last served next book snapshots is flushed epoch legal =
     let opened = is.opened in
-    record { recent = λ e m. absurd m; begun = omega arith; waiting = λ f e. absurd cc; opened = omega arith }
-after_flush active (Some f) last served next is flushed epoch =
+    record { recent = λ e m. absurd m; begun = omega arith; waiting = λ f e. absurd cc; opened = omega arith; same_epoch = is.same_epoch ∙ sym epoch; legal = legal; orderly = is.orderly; few = is.few }
+after_flush active (Some f) last served next book snapshots is flushed epoch legal =
     let opened = is.opened in
     let begun = is.begun in
     record {
@@ -69,6 +79,10 @@ after_flush active (Some f) last served next is flushed epoch =
       begun = omega arith;
       waiting = λ g e. absurd cc;
       opened = omega arith;
+      same_epoch = is.same_epoch ∙ sym epoch;
+      legal = legal;
+      orderly = is.orderly;
+      few = is.few;
     }
 
 -- where a memtable may be frozen, none is yet and it has an entry

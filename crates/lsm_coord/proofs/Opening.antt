@@ -2,6 +2,7 @@
 use Rattle.std.proofs.Common.{◌≡◌, ℕ, List, [], ◌∷◌, None, refl, arith}
 use Rattle.std.proofs.lemmas.List.Sorted.{IsPermutation-refl}
 use Rattle.lsm_key.specs.declared.limits.Limits.{Limits}
+use Rattle.lsm_claim.specs.Book.{BookValue}
 use Rattle.lsm_edit.specs.Edit.{IsSpelled}
 use Rattle.lsm_edit.specs.Next.{epoch_edit}
 use Rattle.lsm_edit.specs.Version.{first_version, apply_fault, applied}
@@ -13,9 +14,9 @@ use Rattle.lsm_coord.specs.Shows.{Shows}
 abbrev pub opened : ServedValue
 opened = record { version = applied first_version (epoch_edit first_version); places = [] }
 
-pub Shows-new : (limits : Limits) (text : List ℕ) → IsSpelled text (epoch_edit first_version) → apply_fault first_version (epoch_edit first_version) ≡ None
-    → Shows (record { limits = limits; active = []; frozen = None; served = opened; edits = text ∷ []; last = 0; snapshots = []; made = 0; floor = 1 }) first_state
-Shows-new limits text spelled fits = record {
+pub Shows-new : (limits : Limits) (book : BookValue) (text : List ℕ) → IsSpelled text (epoch_edit first_version) → apply_fault first_version (epoch_edit first_version) ≡ None
+    → Shows (record { limits = limits; active = []; frozen = None; served = opened; edits = text ∷ []; last = 0; snapshots = []; made = 0; floor = 1; book = book }) first_state
+Shows-new limits book text spelled fits = record {
   up = refl;
   last = refl;
   frozen = refl;

@@ -126,6 +126,12 @@ scan_at_may s lo hi id limit at up live = rw (up, live) refl
 pub show_may : (s : State) → s.up ≡ true → refusal s (say.Show say.Coordinator) ≡ None
 show_may s up = rw up refl
 
+pub pick_may : (s : State) (dispatcher : ℕ) → s.up ≡ true → refusal s (say.Pick dispatcher) ≡ None
+pick_may s dispatcher up = rw up refl
+
+pub give_up_may : (s : State) (dispatcher : ℕ) → s.up ≡ true → refusal s (say.GiveUp dispatcher) ≡ None
+give_up_may s dispatcher up = rw up refl
+
 -- ---- the floor and restarts
 
 pub trim_past_current : (s : State) (n : ℕ) → s.up ≡ true → current s < n → refusal s (say.Trim n) ≡ Some say.BadFloor

@@ -1,5 +1,5 @@
 -- Of each state that is shown, a scan goes on from window to window.
-use Rattle.std.proofs.Common.{◌≡◌, ℕ, ◌≤◌, Bool, true, cond, is_none, List, [], ◌∷◌, ◌++◌, Option, None, Some, subst, refl, inl, inr, sym, ap, ◌∙◌, length, take}
+use Rattle.std.proofs.Common.{◌≡◌, ℕ, ◌≤◌, Bool, true, cond, is_none, List, [], ◌++◌, Option, None, Some, subst, refl, sym, ap, ◌∙◌, length, take}
 use Rattle.std.specs.List.{filter}
 use Rattle.std.specs.List.Sorted.{IsPermutation}
 use Rattle.lsm_key.specs.declared.entry.Entry.{Entry}
@@ -9,13 +9,10 @@ use Rattle.lsm_key.specs.Order.{IsAscending, IsInOrder, key_le, is_between}
 use Rattle.lsm_key.proofs.Falls.{ascending_falls, falls-filter, falls_in_order}
 use Rattle.lsm_key.specs.Visible.{IsUnique, value_at}
 use Rattle.lsm_key.specs.Writes.{answer}
-use Rattle.lsm_key.specs.Places.{all_entries, AreOrdered}
 use Rattle.lsm_key.proofs.Sets.{SameMembers-permutation}
 use Rattle.lsm_key.proofs.Places.{IsUnique-above}
 use Rattle.lsm_key.proofs.Writes.{entries_after-unique}
-use Rattle.lsm_table.proofs.Contents.{table_unique}
-use Rattle.lsm_edit.specs.declared.served.Placed.{Placed}
-use Rattle.lsm_edit.specs.Served.{AllRecorded, IsServed, tables_of}
+use Rattle.lsm_edit.specs.Served.{IsServed}
 use Rattle.std.specs.Option.{unwrap_or}
 use Rattle.lsm_coord.specs.State.{State, snapshot_at}
 use Rattle.lsm_coord.specs.declared.snapshot.SnapId.{SnapId}
@@ -26,6 +23,7 @@ use Rattle.lsm_coord.specs.Changes.{read_at}
 use Rattle.lsm_coord.specs.Range.{IsRange}
 use Rattle.lsm_coord.specs.Scan.{shown_pairs}
 use Rattle.lsm_coord.specs.Value.{CoordValue, frozen_entries, stored, everything}
+use Rattle.lsm_edit.proofs.Places.{stored_unique}
 use Rattle.lsm_coord.specs.Calls as calls
 use Rattle.lsm_coord.specs.Calls.{Scans, point_of}
 use Rattle.lsm_coord.specs.Shows.{Shows, Follows}
@@ -38,10 +36,6 @@ use Rattle.lsm_coord.proofs.Scanning.{nothing_between, already_full, go_on, same
 
 unique_same : (xs ys : List Entry) → IsPermutation xs ys → IsUnique ys → IsUnique xs
 unique_same xs ys perm u e f me mf keys seqs = let m = SameMembers-permutation xs ys perm in u e f ((m e).0 me) ((m f).0 mf) keys seqs
-
-stored_unique : (ps : List Placed) → AllRecorded ps → AreOrdered (tables_of ps) → IsUnique (all_entries (tables_of ps))
-stored_unique [] rec up = λ e f me mf keys seqs. absurd me
-stored_unique (p ∷ ps) rec up = IsUnique-above p.table.entries (all_entries (tables_of ps)) (table_unique p.table.bytes p.table.entries (rec p (inl refl)).table) (stored_unique ps (λ q m. rec q (inr m)) up.1) up.0
 
 module _ (c : CoordValue) (s : State) (h : Shows c s) (served : IsServed c.served) where
   stored_in : AreStored (stored c.served) s

@@ -9,6 +9,9 @@ use Rattle.lsm_key.specs.Sets.{IsIn}
 use Rattle.lsm_key.specs.Limits.{total_weight, entry_weight}
 use Rattle.lsm_key.specs.Places.{entries_after}
 use Rattle.lsm_key.specs.Writes.{answer}
+use Rattle.lsm_claim.specs.declared.ending.Ending.TheVariants.{Returned}
+use Rattle.lsm_claim.specs.declared.job.JobId.{JobId}
+use Rattle.lsm_claim.specs.Book.{after_settling}
 use Rattle.lsm_table.specs.Tables.{Opened}
 use Rattle.lsm_edit.specs.declared.file.FileMeta.{FileMeta}
 use Rattle.lsm_edit.specs.declared.edit.Edit.{Edit}
@@ -118,6 +121,12 @@ release_fault c id = if is_none (snapshot_at c.snapshots id) then Some NoSnapsho
 -- the snapshots but this one
 abbrev pub released : CoordValue → SnapId → CoordValue
 released c id = record c { snapshots = filter (λ live. not (same_id live.id id)) c.snapshots }
+
+-- ---- claims
+
+-- a claim ends without a result
+abbrev pub gave_back : CoordValue → JobId → CoordValue
+gave_back c id = record c { book = after_settling c.book id Returned }
 
 -- ---- reads
 

@@ -13,4 +13,8 @@ pub mod Shows
 pub mod Replies
 pub mod Memory
 pub mod Calls
+pub mod Sound
+pub mod Desks
+pub mod Installing
+pub mod Picking
 pub mod Scan

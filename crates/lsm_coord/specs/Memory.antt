@@ -1,17 +1,43 @@
--- What every coordinator keeps (LevelDB, implementation notes: the memtable has the writes after those that the tables have).
+-- What every coordinator keeps (LevelDB, implementation notes: the memtable has the writes after those that the tables have; RocksDB wiki, Remote Compaction: jobs stay valid while the primary goes on).
 use Rattle.std.specs.Prelude.{◌≡◌, ℕ, ◌<◌, ◌≤◌, List, Option, Some, length}
 use Rattle.lsm_key.specs.declared.entry.Entry.{Entry}
 use Rattle.lsm_key.specs.Sets.{IsIn}
+use Rattle.lsm_claim.specs.declared.job.LiveJob.{LiveJob}
+use Rattle.lsm_claim.specs.declared.job.Want.{Want}
+use Rattle.lsm_claim.specs.Book.{BookValue}
+use Rattle.lsm_edit.specs.declared.edit.EditKind.TheVariants.{Install}
+use Rattle.lsm_edit.specs.Edit.{AreRemoved}
+use Rattle.lsm_edit.specs.declared.file.FileMeta.{FileMeta}
 use Rattle.lsm_edit.specs.Served.{ServedValue}
+use Rattle.lsm_msg.specs.declared.rules.TheConstants.{MAX_JOB_LEVEL}
+use Rattle.lsm_msg.specs.Legal.{IsLegal}
 use Rattle.lsm_coord.specs.declared.frozen.Frozen.{Frozen}
+use Rattle.lsm_coord.specs.declared.snapshot.Snapshot.{Snapshot}
+use Rattle.lsm_coord.specs.declared.snapshot.TheConstants.{MAX_SNAPSHOTS}
 use Rattle.lsm_coord.specs.Value.{start_of}
 
 -- entries that were written after one sequence, and up to another
 abbrev pub AreBetween : List Entry → ℕ → ℕ → Type 0
 AreBetween entries after last = (e : Entry) → IsIn e entries → (after < e.ikey.seq) × (e.ikey.seq ≤ last)
 
-pub record IsCoord (active : List Entry) (frozen : Option Frozen) (last : ℕ) (served : ServedValue) : Type 0 where
+-- jobs whose inputs may still be merged
+abbrev pub AreLegal : List FileMeta → List LiveJob → Type 0
+AreLegal files jobs = (j : LiveJob) → IsIn j jobs → IsLegal files j.want
+
+-- a want that a job may have: of a level that has a next one, its files by number
+pub record IsOrderly (want : Want) : Type 0 where
+  pub level : want.level ≤ MAX_JOB_LEVEL
+  pub files : AreRemoved Install want.files
+
+abbrev pub AreOrderly : List LiveJob → Type 0
+AreOrderly jobs = (j : LiveJob) → IsIn j jobs → IsOrderly j.want
+
+pub record IsCoord (active : List Entry) (frozen : Option Frozen) (last : ℕ) (served : ServedValue) (book : BookValue) (snapshots : List Snapshot) : Type 0 where
   pub recent : AreBetween active (start_of frozen served.version.flushed) last
   pub begun : start_of frozen served.version.flushed ≤ last
   pub waiting : (f : Frozen) → frozen ≡ Some f → (served.version.flushed < f.end) × (0 < length f.memtable)
   pub opened : 1 ≤ served.version.epoch
+  pub same_epoch : book.epoch ≡ served.version.epoch
+  pub legal : AreLegal served.version.files book.live
+  pub orderly : AreOrderly book.live
+  pub few : length snapshots ≤ MAX_SNAPSHOTS

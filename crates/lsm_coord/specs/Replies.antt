@@ -1,5 +1,7 @@
 -- The coordinator's answers as replies.
 use Rattle.std.specs.Prelude.{ℕ, Vec, List, Option, Result, Ok, Err, map}
+use Rattle.lsm_claim.specs.declared.job.LiveJob.{LiveJob}
+use Rattle.lsm_msg.specs.declared.job.JobParts.{JobParts}
 use Rattle.lsm_edit.specs.declared.served.Listing.{Listing}
 use Rattle.lsm_coord.specs.declared.error.CoordError.{CoordError}
 use Rattle.lsm_coord.specs.declared.error.CoordError.TheVariants as error
@@ -18,6 +20,8 @@ refusal_of error.TooManySnapshots = say.TooManySnapshots
 refusal_of error.NoSnapshot = say.NoSnapshot
 refusal_of error.MemtableFull = say.MemtableFull
 refusal_of error.EmptyBatch = say.EmptyBatch
+refusal_of error.BookFull = say.BookFull
+refusal_of error.TooWide = say.TooWide
 refusal_of error.NumbersExhausted = say.NumbersExhausted
 refusal_of error.OutOfMemory = say.OutOfMemory
 
@@ -40,6 +44,10 @@ snapshot_reply (Err e) = say.Refused (refusal_of e)
 abbrev pub release_reply : SnapId → Result (Unit {0}) CoordError → Reply
 release_reply id (Ok r) = say.Released id
 release_reply id (Err e) = say.Refused (refusal_of e)
+
+abbrev pub pick_reply : Result (Option (LiveJob × JobParts)) CoordError → Reply
+pick_reply (Ok picked) = say.Other
+pick_reply (Err e) = say.Refused (refusal_of e)
 
 abbrev pub get_reply : Result (Option (List ℕ)) CoordError → Reply
 get_reply (Ok value) = say.Got value

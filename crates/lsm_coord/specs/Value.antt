@@ -3,6 +3,7 @@ use Rattle.std.specs.Prelude.{ℕ, List, [], ◌++◌, Option, None, Some}
 use Rattle.lsm_key.specs.declared.entry.Entry.{Entry}
 use Rattle.lsm_key.specs.declared.limits.Limits.{Limits}
 use Rattle.lsm_key.specs.Places.{all_entries}
+use Rattle.lsm_claim.specs.Book.{BookValue}
 use Rattle.lsm_edit.specs.Served.{ServedValue, tables_of}
 use Rattle.lsm_coord.specs.declared.frozen.Frozen.{Frozen}
 use Rattle.lsm_coord.specs.declared.snapshot.Snapshot.{Snapshot}
@@ -17,6 +18,7 @@ pub record CoordValue : Type 0 where
   pub snapshots : List Snapshot  -- the live ones
   pub made : ℕ  -- how many snapshots this epoch has made
   pub floor : ℕ  -- the least version whose files are still served
+  pub book : BookValue  -- the claims of this epoch
 
 abbrev pub frozen_entries : Option Frozen → List Entry
 frozen_entries None = []

@@ -1,6 +1,9 @@
 //! The coordinator: one store, over tables in memory.
 
+mod claims;
 mod flush;
+mod install;
+mod outputs;
 mod read;
 mod scan;
 mod snapshots;
@@ -8,7 +11,7 @@ mod window;
 mod write;
 
 ghost use Rattle.std.specs.Prelude.{◌≡◌, None, OnOk, OnErr};
-ghost use Rattle.lsm_edit.specs.declared.edit.EditKind.TheVariants.{Install};
+ghost use Rattle.lsm_edit.specs.declared.edit.EditKind.TheVariants as kind;
 ghost use Rattle.lsm_edit.specs.Edit.{IsEdit};
 ghost use Rattle.lsm_edit.specs.Version.{apply_fault};
 ghost use Rattle.lsm_edit.specs.Served.{AreAsRecorded};
@@ -18,6 +21,8 @@ use crate::frozen::Frozen;
 use crate::snapshot::Snapshot;
 use bytes::Bytes;
 pub use flush::Flushed;
+pub use install::{Install, InstallError};
+use lsm_claim::ClaimBook;
 use lsm_edit::{Edit, Served, encode_edit};
 use lsm_key::{Limits, Seq};
 use lsm_mem::Memtable;
@@ -25,7 +30,8 @@ use lsm_table::Table;
 use std::alloc::{AllocError, Global};
 use std::marker::Model;
 
-/// One store: its memtables, its current version with the tables, the list of its edits, and its live snapshots.
+/// One store: its memtables, its current version with the tables, the list of its edits, its live snapshots, and the claims
+/// of this epoch.
 #[derive(Debug, Drop)]
 pub struct Coord {
     alloc: Global,
@@ -39,6 +45,7 @@ pub struct Coord {
     live: Vec<Snapshot>,
     // How many snapshots this epoch has made.
     made: u64,
+    book: ClaimBook,
 }
 
 impl Model for Coord {
@@ -47,13 +54,14 @@ impl Model for Coord {
 
     ghost Value = { CoordValue };
 
-    ghost view = { λ c. record { limits = c.limits; active = c.active; frozen = c.frozen; served = c.current; edits = c.manifest.items; last = c.newest; snapshots = c.live.items; made = c.made; floor = 1 } };
+    ghost view = { λ c. record { limits = c.limits; active = c.active; frozen = c.frozen; served = c.current; edits = c.manifest.items; last = c.newest; snapshots = c.live.items; made = c.made; floor = 1; book = c.book } };
 
-    ghost invariant = { λ c. IsCoord c.active c.frozen c.newest c.current };
+    ghost invariant = { λ c. IsCoord c.active c.frozen c.newest c.current c.book c.live.items };
 }
 
 impl Coord {
     ghost use Rattle.std.specs.Prelude.{◌≡◌, IfOk};
+    ghost use Rattle.lsm_claim.specs.Book.{new_book};
     ghost use Rattle.lsm_coord.specs.State.{first_state};
     ghost use Rattle.lsm_coord.specs.Shows.{Shows};
 
@@ -61,6 +69,7 @@ impl Coord {
     pub fn new(alloc: Global, limits: Limits) -> Result<Coord, AllocError>
         ensures shown { IfOk result (λ c. Shows c first_state) }
         ensures limits { IfOk result (λ c. c.limits ≡ limits) }
+        ensures book { IfOk result (λ c. c.book ≡ new_book 1) }
     {
         let mut current = Served::new(alloc);
         let edit = Edit::epoch(alloc, current.version());
@@ -68,6 +77,7 @@ impl Coord {
         let text = encode_edit(alloc, &edit)?;
         manifest.push(text)?;
         extend(&mut current, &edit, Vec::new(alloc))?;
+        let book = ClaimBook::new(alloc, current.version().epoch());
         Ok(Coord {
             alloc,
             limits,
@@ -78,6 +88,7 @@ impl Coord {
             newest: Seq::ZERO,
             live: Vec::new(alloc),
             made: 0,
+            book,
         })
     }
 }
@@ -87,7 +98,7 @@ fn extend(served: &mut Served, edit: &Edit, tables: Vec<Table>) -> Result<(), Al
     requires sound { IsEdit edit.now }
     requires recorded { AreAsRecorded edit.now.added tables.items }
     requires applies { apply_fault served.old.version edit.now ≡ None }
-    requires plain { edit.now.kind ≡ Install → ⊥ }
+    requires plain { edit.now.kind ≡ kind.Install → ⊥ }
     ensures ok { OnOk result (served.new ≡ extended served.old edit.now tables.items) }
     ensures err { OnErr result (served.new ≡ served.old) }
 {

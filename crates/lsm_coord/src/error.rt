@@ -22,7 +22,11 @@ pub enum CoordError {
     MemtableFull,
     #[error("the batch is empty")]
     EmptyBatch,
-    #[error("the version or file numbers are exhausted")]
+    #[error("four claims are live")]
+    BookFull,
+    #[error("every merge that no job stands against passes a limit of a job")]
+    TooWide,
+    #[error("the version, file, snapshot or job numbers are exhausted")]
     NumbersExhausted,
     #[error("out of memory")]
     OutOfMemory,

@@ -7,16 +7,25 @@
 //! tables, and `lsm_edit` for versions and the tables that they serve.
 #![tactic(auto)]
 
+mod answer;
+mod call;
 mod coord;
+mod desk;
+mod dispatcher;
 mod error;
 mod frozen;
+mod job;
 mod laws;
 mod snapshot;
 mod table;
 #[cfg(test)]
 mod tests;
 
-pub use coord::{Coord, Flushed};
+pub use answer::{Answer, ShownVersion};
+pub use call::{Call, ScanRange};
+pub use coord::{Coord, Flushed, Install, InstallError};
+pub use desk::Desk;
+pub use dispatcher::Dispatcher;
 pub use error::CoordError;
 pub use laws::{
     flushed_rises, followers_agree, get_gives_the_write, listings_agree, scans_are_determined,

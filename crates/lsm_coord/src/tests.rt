@@ -1,9 +1,16 @@
 //! What no clause says: that calls succeed, and the texts of refusals.
 
+mod calls;
+mod installs;
+mod picks;
+mod records;
+
 use super::*;
 use bytes::Bytes;
+use calls::{flush, freeze, get, listed, release, snapshot, write};
 use lsm_key::{Batch, Limits, Op, Seq};
 use std::alloc::Global;
+use std::process::Abort;
 use std::test::Fail;
 
 /// A put of the key a to a value of so many bytes.
@@ -28,7 +35,7 @@ fn put(key: &'static [u8], value: &'static [u8]) -> Op {
 
 /// What a get gives: the value's first byte as a letter, `empty`, or `none`.
 fn shown(alloc: Global, coord: &mut Coord, key: &[u8], at: Option<SnapId>) -> Result<String, Fail> {
-    let Some(value) = coord.get(key, at)? else {
+    let Some(value) = get(coord, key, at)? else {
         return Ok(format!(in alloc; "none")?);
     };
     let Some(first) = value.as_slice().first() else {
@@ -46,45 +53,56 @@ fn store_of(alloc: Global) -> Result<Coord, Fail> {
 
 #[test]
 fn the_way_of_a_write(rt: HostRuntime) -> Result<(), Fail> {
-    let mut coord = store_of(rt.alloc())?;
-    let batch = put_of(rt.alloc(), 1)?;
+    let alloc = rt.alloc();
+    let mut coord = store_of(alloc)?;
+    see_the_way_of_a_write(&rt, alloc, &mut coord)
+}
+
+fn see_the_way_of_a_write(rt: &impl Abort, alloc: Global, coord: &mut Coord) -> Result<(), Fail> {
+    let batch = put_of(alloc, 1)?;
     let first = Seq::new(1);
     let flushed = Flushed {
         number: 2,
         seq: first,
         file: 1,
     };
-    assert!(rt; coord.write(&batch)? == (first, first));
-    assert!(rt; coord.flush()? == flushed);
-    match coord.get(b"a", None)? {
+    assert!(rt; write(coord, &batch)? == (first, first));
+    assert!(rt; flush(coord)? == flushed);
+    match get(coord, b"a", None)? {
         Some(value) => assert!(rt; value.as_slice() == b"1".as_slice()),
         None => assert!(rt; false, "no value"),
     }
-    let listing = coord.show();
-    assert!(rt; listing.number == 2);
-    assert!(rt; listing.flushed == first);
-    assert!(rt; listing.files.len() == 1);
+    assert!(rt; listed(coord) == (2, first, 1));
     Ok(())
 }
 
 #[test]
 fn a_frozen_memtable_is_flushed_first(rt: HostRuntime) -> Result<(), Fail> {
-    let mut coord = store_of(rt.alloc())?;
-    assert!(rt; coord.freeze() == Err(CoordError::NothingToFreeze));
-    coord.write(&batch_of(rt.alloc(), put(b"a", b"1"))?)?;
-    assert!(rt; coord.freeze()? == Seq::new(1));
-    assert!(rt; coord.freeze() == Err(CoordError::FrozenWaiting));
-    coord.write(&batch_of(rt.alloc(), put(b"b", b"2"))?)?;
-    assert_eq!(rt; shown(rt.alloc(), &mut coord, b"a", None)?.as_str(), "1");
+    let alloc = rt.alloc();
+    let mut coord = store_of(alloc)?;
+    see_a_frozen_memtable_is_flushed_first(&rt, alloc, &mut coord)
+}
+
+fn see_a_frozen_memtable_is_flushed_first(
+    rt: &impl Abort,
+    alloc: Global,
+    coord: &mut Coord,
+) -> Result<(), Fail> {
+    assert!(rt; freeze(coord) == Err(CoordError::NothingToFreeze));
+    write(coord, &batch_of(alloc, put(b"a", b"1"))?)?;
+    assert!(rt; freeze(coord)? == Seq::new(1));
+    assert!(rt; freeze(coord) == Err(CoordError::FrozenWaiting));
+    write(coord, &batch_of(alloc, put(b"b", b"2"))?)?;
+    assert_eq!(rt; shown(alloc, coord, b"a", None)?.as_str(), "1");
     for (number, seq, file) in [(2, 1, 1), (3, 2, 2)] {
         let seq = Seq::new(seq);
         let wanted = Flushed { number, seq, file };
-        assert!(rt; coord.flush()? == wanted);
+        assert!(rt; flush(coord)? == wanted);
     }
-    assert!(rt; coord.flush() == Err(CoordError::NothingToFlush));
-    assert!(rt; coord.freeze() == Err(CoordError::NothingToFreeze));
-    assert_eq!(rt; shown(rt.alloc(), &mut coord, b"a", None)?.as_str(), "1");
-    assert_eq!(rt; shown(rt.alloc(), &mut coord, b"b", None)?.as_str(), "2");
+    assert!(rt; flush(coord) == Err(CoordError::NothingToFlush));
+    assert!(rt; freeze(coord) == Err(CoordError::NothingToFreeze));
+    assert_eq!(rt; shown(alloc, coord, b"a", None)?.as_str(), "1");
+    assert_eq!(rt; shown(alloc, coord, b"b", None)?.as_str(), "2");
     Ok(())
 }
 
@@ -103,48 +121,66 @@ fn read_all(
 
 #[test]
 fn a_snapshot_reads_its_past(rt: HostRuntime) -> Result<(), Fail> {
-    let mut coord = store_of(rt.alloc())?;
-    let (before, at) = coord.snapshot()?;
+    let alloc = rt.alloc();
+    let mut coord = store_of(alloc)?;
+    see_a_snapshot_reads_its_past(&rt, alloc, &mut coord)
+}
+
+fn see_a_snapshot_reads_its_past(
+    rt: &impl Abort,
+    alloc: Global,
+    coord: &mut Coord,
+) -> Result<(), Fail> {
+    let (before, at) = snapshot(coord)?;
     let first = SnapId {
         epoch: 1,
         number: 1,
     };
     assert!(rt; before == first);
     assert!(rt; at == Seq::ZERO);
-    coord.write(&batch_of(rt.alloc(), put(b"a", b"1"))?)?;
-    let (after, at) = coord.snapshot()?;
+    write(coord, &batch_of(alloc, put(b"a", b"1"))?)?;
+    let (after, at) = snapshot(coord)?;
     assert!(rt; after.number == 2);
     assert!(rt; at == Seq::new(1));
-    coord.freeze()?;
-    coord.write(&batch_of(rt.alloc(), Op::Delete(Bytes::from_static(b"a")))?)?;
+    freeze(coord)?;
+    write(
+        coord,
+        &batch_of(alloc, Op::Delete(Bytes::from_static(b"a")))?,
+    )?;
     for _ in 0..2 {
-        let reads = read_all(rt.alloc(), &mut coord, before, after)?;
+        let reads = read_all(alloc, coord, before, after)?;
         assert_eq!(rt; reads.as_str(), "none 1 none");
-        coord.flush()?;
+        flush(coord)?;
     }
-    let reads = read_all(rt.alloc(), &mut coord, before, after)?;
+    let reads = read_all(alloc, coord, before, after)?;
     assert_eq!(rt; reads.as_str(), "none 1 none");
-    coord.release(after)?;
+    release(coord, after)?;
     let absent = Some(CoordError::NoSnapshot);
-    assert!(rt; coord.get(b"a", Some(after)).err() == absent);
-    assert!(rt; coord.release(after) == Err(CoordError::NoSnapshot));
-    assert_eq!(rt;
-        shown(rt.alloc(), &mut coord, b"a", Some(before))?.as_str(),
-        "none"
-    );
+    assert!(rt; get(coord, b"a", Some(after)).err() == absent);
+    assert!(rt; release(coord, after) == Err(CoordError::NoSnapshot));
+    assert_eq!(rt; shown(alloc, coord, b"a", Some(before))?.as_str(), "none");
     Ok(())
 }
 
 #[test]
 fn a_store_has_64_snapshots(rt: HostRuntime) -> Result<(), Fail> {
-    let mut coord = store_of(rt.alloc())?;
-    let (first, _) = coord.snapshot()?;
+    let alloc = rt.alloc();
+    let mut coord = store_of(alloc)?;
+    see_a_store_has_64_snapshots(&rt, alloc, &mut coord)
+}
+
+fn see_a_store_has_64_snapshots(
+    rt: &impl Abort,
+    alloc: Global,
+    coord: &mut Coord,
+) -> Result<(), Fail> {
+    let (first, _) = snapshot(coord)?;
     for _ in 1..64 {
-        coord.snapshot()?;
+        snapshot(coord)?;
     }
-    assert!(rt; coord.snapshot() == Err(CoordError::TooManySnapshots));
-    coord.release(first)?;
-    let (last, _) = coord.snapshot()?;
+    assert!(rt; snapshot(coord) == Err(CoordError::TooManySnapshots));
+    release(coord, first)?;
+    let (last, _) = snapshot(coord)?;
     assert!(rt; last.number == 65);
     Ok(())
 }
@@ -152,19 +188,28 @@ fn a_store_has_64_snapshots(rt: HostRuntime) -> Result<(), Fail> {
 // An entry weighs 14 bytes beside its key and value, so that 122 of 65,551 bytes leave room for 2,778.
 #[test]
 fn a_full_memtable_takes_writes_again_after_a_flush(rt: HostRuntime) -> Result<(), Fail> {
-    let mut coord = store_of(rt.alloc())?;
-    let large = put_of(rt.alloc(), 65_536)?;
-    let above = put_of(rt.alloc(), 2_764)?;
-    let last = put_of(rt.alloc(), 2_763)?;
+    let alloc = rt.alloc();
+    let mut coord = store_of(alloc)?;
+    see_a_full_memtable_takes_writes_again_after_a_flush(&rt, alloc, &mut coord)
+}
+
+fn see_a_full_memtable_takes_writes_again_after_a_flush(
+    rt: &impl Abort,
+    alloc: Global,
+    coord: &mut Coord,
+) -> Result<(), Fail> {
+    let large = put_of(alloc, 65_536)?;
+    let above = put_of(alloc, 2_764)?;
+    let last = put_of(alloc, 2_763)?;
     for _ in 0..122 {
-        coord.write(&large)?;
+        write(coord, &large)?;
     }
-    assert!(rt; coord.write(&large) == Err(CoordError::MemtableFull));
-    assert!(rt; coord.write(&above) == Err(CoordError::MemtableFull));
-    assert!(rt; coord.write(&last)? == (Seq::new(123), Seq::new(123)));
-    coord.flush()?;
-    assert!(rt; coord.flush() == Err(CoordError::NothingToFlush));
-    assert!(rt; coord.write(&above)? == (Seq::new(124), Seq::new(124)));
+    assert!(rt; write(coord, &large) == Err(CoordError::MemtableFull));
+    assert!(rt; write(coord, &above) == Err(CoordError::MemtableFull));
+    assert!(rt; write(coord, &last)? == (Seq::new(123), Seq::new(123)));
+    flush(coord)?;
+    assert!(rt; flush(coord) == Err(CoordError::NothingToFlush));
+    assert!(rt; write(coord, &above)? == (Seq::new(124), Seq::new(124)));
     Ok(())
 }
 
@@ -179,9 +224,14 @@ fn a_refusal_says_why(rt: HostRuntime) -> Result<(), Fail> {
         (CoordError::NoSnapshot, "no such snapshot is live"),
         (CoordError::MemtableFull, "the memtable is full"),
         (CoordError::EmptyBatch, "the batch is empty"),
+        (CoordError::BookFull, "four claims are live"),
+        (
+            CoordError::TooWide,
+            "every merge that no job stands against passes a limit of a job",
+        ),
         (
             CoordError::NumbersExhausted,
-            "the version or file numbers are exhausted",
+            "the version, file, snapshot or job numbers are exhausted",
         ),
         (CoordError::OutOfMemory, "out of memory"),
     ];
@@ -190,6 +240,6 @@ fn a_refusal_says_why(rt: HostRuntime) -> Result<(), Fail> {
         assert_eq!(rt; text.as_str(), wanted);
     }
     let mut coord = store_of(rt.alloc())?;
-    assert!(rt; coord.write(&Batch::new(rt.alloc())) == Err(CoordError::EmptyBatch));
+    assert!(rt; write(&mut coord, &Batch::new(rt.alloc())) == Err(CoordError::EmptyBatch));
     Ok(())
 }

@@ -7,6 +7,7 @@ ghost use Rattle.lsm_edit.specs.Served.{IsAsRecorded};
 ghost use Rattle.lsm_coord.specs.Event.{Flush};
 ghost use Rattle.lsm_coord.specs.Shows.{Follows};
 ghost use Rattle.lsm_coord.specs.Calls.{Adds, AddsTable, CanNumber, flush_fault, taken};
+ghost use Rattle.lsm_coord.specs.Sound.{KeepsSound};
 ghost use Rattle.lsm_coord.specs.Replies.{flush_reply};
 
 use super::{Coord, extend};
@@ -37,6 +38,7 @@ impl Coord {
         ensures ok { OnOk result ((flush_fault self.old ≡ None) × Adds self.old self.new) }
         ensures err { OnErr result (self.new ≡ self.old) }
         ensures refused { IfErr result (Refuses CoordError.OutOfMemory (flush_fault self.old)) }
+        ensures sound { KeepsSound self.old self.new }
     {
         match self.flush_fault() {
             Some(why) => return Err(why),
@@ -94,9 +96,13 @@ impl Coord {
         requires place { (meta.number ≡ self.old.served.version.next_file) × (meta.level ≡ 0) }
         requires recorded { IsAsRecorded meta table }
         ensures ok { OnOk result (AddsTable self.old meta table self.new) }
+        ensures sound { OnOk result (KeepsSound self.old self.new) }
         ensures err { OnErr result (self.new ≡ self.old) }
     {
-        let edit = Edit::flush(self.alloc, self.current.version(), end, meta)?;
+        let version = self.current.version();
+        // That all its files have lower numbers, as the proof wants to know.
+        let _files = version.files();
+        let edit = Edit::flush(self.alloc, version, end, meta)?;
         let text = encode_edit(self.alloc, &edit)?;
         let mut tables = Vec::with_capacity(self.alloc, 1)?;
         tables.push(table)?;

@@ -2,9 +2,11 @@
 
 ghost use Rattle.std.specs.Prelude.{◌≡◌, None, IfErr, OnOk, OnErr, Some};
 ghost use Rattle.lsm_key.specs.Faults.{Refuses};
+ghost use Rattle.lsm_coord.specs.State.{State};
 ghost use Rattle.lsm_coord.specs.Event.{Snap, Release};
-ghost use Rattle.lsm_coord.specs.Shows.{Follows};
+ghost use Rattle.lsm_coord.specs.Shows.{Follows, Shows};
 ghost use Rattle.lsm_coord.specs.Calls.{snapshot_fault, snapped, release_fault, released};
+ghost use Rattle.lsm_coord.specs.Sound.{KeepsSound};
 ghost use Rattle.lsm_coord.specs.Replies.{snapshot_reply, release_reply};
 
 use super::Coord;
@@ -19,6 +21,7 @@ impl Coord {
         ensures ok { OnOk result ((snapshot_fault self.old ≡ None) × (self.new ≡ snapped self.old)) }
         ensures err { OnErr result (self.new ≡ self.old) }
         ensures refused { IfErr result (Refuses CoordError.OutOfMemory (snapshot_fault self.old)) }
+        ensures sound { (s : State) → Shows self.old s → KeepsSound self.old self.new }
     {
         match self.snapshot_fault() {
             Some(why) => return Err(why),
@@ -40,6 +43,7 @@ impl Coord {
         ensures ok { OnOk result ((release_fault self.old id ≡ None) × (self.new ≡ released self.old id)) }
         ensures err { OnErr result (self.new ≡ self.old) }
         ensures refused { IfErr result (λ e. release_fault self.old id ≡ Some e) }
+        ensures sound { KeepsSound self.old self.new }
     {
         if self.seq_of(id).is_none() {
             return Err(CoordError::NoSnapshot);

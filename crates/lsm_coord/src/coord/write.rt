@@ -5,6 +5,7 @@ ghost use Rattle.lsm_key.specs.Faults.{Refuses};
 ghost use Rattle.lsm_coord.specs.Event.{Write, Freeze};
 ghost use Rattle.lsm_coord.specs.Shows.{Follows};
 ghost use Rattle.lsm_coord.specs.Calls.{write_fault, freeze_fault, IsWritten, froze};
+ghost use Rattle.lsm_coord.specs.Sound.{KeepsSound};
 ghost use Rattle.lsm_coord.specs.Replies.{write_reply, freeze_reply};
 
 use super::Coord;
@@ -21,6 +22,7 @@ impl Coord {
         ensures ok { OnOk result ((write_fault self.old batch.now ≡ None) × IsWritten self.old batch.now self.new) }
         ensures err { OnErr result (self.new ≡ self.old) }
         ensures refused { IfErr result (Refuses CoordError.OutOfMemory (write_fault self.old batch.now)) }
+        ensures sound { KeepsSound self.old self.new }
     {
         let count = batch.ops().len() as u64;
         match self.write_fault(batch) {
@@ -58,6 +60,7 @@ impl Coord {
         ensures ok { OnOk result ((freeze_fault self.old ≡ None) × (self.new ≡ froze self.old)) }
         ensures err { OnErr result (self.new ≡ self.old) }
         ensures refused { IfErr result (λ e. freeze_fault self.old ≡ Some e) }
+        ensures sound { KeepsSound self.old self.new }
     {
         match self.freeze_fault() {
             Some(why) => return Err(why),

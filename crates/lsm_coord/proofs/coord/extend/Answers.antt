@@ -1,4 +1,4 @@
-use Rattle.std.proofs.Common.{◌≡◌, ◌∙◌}
+use Rattle.std.proofs.Common.{◌∙◌}
 use Rattle.lsm_edit.specs.Version.{applied}
 use Rattle.lsm_edit.proofs.Advance.{places_are}
 use Rattle.lsm_coord.proofs.coord.extend.Goals as goal

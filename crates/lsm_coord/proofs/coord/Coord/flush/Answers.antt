@@ -23,7 +23,7 @@ pub add_table-requires-clause-newer : goal.add_table-requires-clause-newer
 add_table-requires-clause-newer c =
     let none : flush_fault c.args.self.now ≡ None = sym c.flush_fault.ensures ∙ c.in-None.is in
     let free = flush_free _ _ (ap flush_fault c.self.view_is ∙ none) in
-    rw (c.flush_end-seq.ensures, ← c.self.view_is) (taken_newer c.self.inside.active c.self.inside.frozen c.self.inside.newest c.self.inside.current c.self.invariant free.0).0
+    rw (c.flush_end-seq.ensures, ← c.self.view_is) (taken_newer c.self.inside.active c.self.inside.frozen c.self.inside.newest c.self.inside.current c.self.inside.book c.self.inside.live.items c.self.invariant free.0).0
 
 pub returns-clause-step : goal.returns-clause-step
 returns-clause-step c = λ s h.

@@ -9,6 +9,7 @@ use Rattle.lsm_coord.specs.Event as say
 use Rattle.lsm_coord.proofs.Faults.{freeze_forced, freeze_refused}
 use Rattle.lsm_coord.proofs.Memories.{after_freeze, freezable}
 use Rattle.lsm_coord.proofs.Freezing.{Shows-froze}
+use Rattle.lsm_coord.proofs.Soundness.{same_keeps}
 use Rattle.lsm_coord.proofs.coord.Coord.freeze.Goals as goal
 
 pub returns-in-Some-clause-step : goal.returns-in-Some-clause-step
@@ -20,8 +21,8 @@ pub invariant_of-self : goal.invariant_of-self
 invariant_of-self c =
     let none : freeze_fault c.args.self.now ≡ None = sym c.freeze_fault.ensures ∙ c.in-None.is in
     let free = freezable c.self.inside.active c.self.inside.frozen (ap freeze_fault c.self.view_is ∙ none) in
-    let is : IsCoord c.self.inside.active None c.self.inside.newest c.self.inside.current = subst (λ f. IsCoord c.self.inside.active f c.self.inside.newest c.self.inside.current) free.0 c.self.invariant in
-    rw (c.replace-memtable.ensures.value, c.replace-memtable.ensures.after, c.new.ensures) (after_freeze c.self.inside.active c.self.inside.newest c.self.inside.current is free.1)
+    let is : IsCoord c.self.inside.active None c.self.inside.newest c.self.inside.current c.self.inside.book c.self.inside.live.items = subst (λ f. IsCoord c.self.inside.active f c.self.inside.newest c.self.inside.current c.self.inside.book c.self.inside.live.items) free.0 c.self.invariant in
+    rw (c.replace-memtable.ensures.value, c.replace-memtable.ensures.after, c.new.ensures) (after_freeze c.self.inside.active c.self.inside.newest c.self.inside.current c.self.inside.book c.self.inside.live.items is free.1)
 
 pub returns-clause-step : goal.returns-clause-step
 returns-clause-step c =
@@ -30,3 +31,6 @@ returns-clause-step c =
     rw (c.replace-memtable.ensures.value, c.replace-memtable.ensures.after, c.new.ensures, ← c.self.view_is) (λ s h.
     let may : refusal s say.Freeze ≡ None = freeze_forced _ s h ∙ ap (option_map refusal_of) (ap freeze_fault c.self.view_is ∙ none) in
     (record s { frozen = Some (last_seq s) }, (may, (sym h.last, refl)), Shows-froze _ s h free.0))
+
+pub returns-clause-sound : goal.returns-clause-sound
+returns-clause-sound c = rw (← c.self.view_is) (same_keeps _ _ refl refl refl)

@@ -1,4 +1,4 @@
-use Rattle.std.proofs.Common.{◌≡◌, ◌∙◌, None, ap, sym, refl, rules, filter, not, is_some}
+use Rattle.std.proofs.Common.{◌≡◌, ◌∙◌, None, ap, sym, refl, rules, filter, not, is_some, subst}
 use Rattle.std.specs.Option.{option_map}
 use Rattle.std.proofs.lemmas.Fn.{filter_same}
 use Rattle.lsm_coord.specs.declared.snapshot.Snapshot.{Snapshot}
@@ -10,6 +10,8 @@ use Rattle.lsm_coord.specs.Replies.{refusal_of}
 use Rattle.lsm_coord.specs.Rules.{refusal}
 use Rattle.lsm_coord.specs.Event as say
 use Rattle.lsm_coord.proofs.Faults.{release_forced}
+use Rattle.lsm_coord.specs.Sound.{KeepsSound}
+use Rattle.lsm_coord.proofs.Soundness.{release_keeps}
 use Rattle.lsm_coord.proofs.Snapping.{releasable, Shows-released}
 use Rattle.lsm_coord.proofs.coord.Coord.release.Goals as goal
 
@@ -26,3 +28,6 @@ returns-clause-ok c =
     let others : c.retain.new.self.items ≡ filter (λ (x : Snapshot). not (same_id x.id c.args.id)) c.self.inside.live.items = filter_same _ _ _ (λ x b f k. search rules) _ _ c.retain.ensures.filtered in
     let free : release_fault c.args.self.now c.args.id ≡ None = releasable (snapshot_at c.args.self.now.snapshots c.args.id) (ap is_some (sym c.seq_of.ensures) ∙ c.is_none.ensures ∙ ap not c.if-is_none.false) in
     (free, rw others (ap (λ (v : CoordValue). released v c.args.id) c.self.view_is))
+
+pub returns-clause-sound : goal.returns-clause-sound
+returns-clause-sound c = subst (λ (v : CoordValue). KeepsSound c.args.self.now v) (sym (returns-clause-ok c).1) (release_keeps c.args.self.now c.args.id)

@@ -8,6 +8,7 @@ use Rattle.lsm_coord.specs.Rules.{refusal}
 use Rattle.lsm_coord.specs.Event as say
 use Rattle.lsm_coord.proofs.Faults.{snapshot_forced, snapshot_refused}
 use Rattle.lsm_coord.proofs.Snapping.{Shows-snapped}
+use Rattle.lsm_coord.proofs.Soundness.{snapshot_keeps}
 use Rattle.lsm_coord.proofs.coord.Coord.snapshot.Goals as goal
 
 pub returns-in-Some-clause-step : goal.returns-in-Some-clause-step
@@ -23,3 +24,8 @@ returns-clause-step c =
     let may : refusal s say.Snap ≡ None = snapshot_forced _ s h ∙ ap (option_map refusal_of) (ap snapshot_fault c.self.view_is ∙ none) in
     let id : record { epoch = c.self.inside.current.version.epoch; number = c.self.inside.made + 1 } ≡ next_snapshot s = λ i. record { epoch = sym h.tables.epoch i; number = sym h.made i + 1 } in
     (with_snapshot s, (may, (id, sym h.last, refl)), Shows-snapped _ s h))
+
+pub returns-clause-sound : goal.returns-clause-sound
+returns-clause-sound c =
+    let epoch : c.epoch.result ≡ c.self.inside.current.version.epoch = c.epoch.ensures.value ∙ ap (λ (v : VersionValue). v.epoch) c.version.ensures in
+    rw (c.in_ok-push.ensures.items, epoch, ← c.self.view_is) (λ s h. snapshot_keeps _ s h)

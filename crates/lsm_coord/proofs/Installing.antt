@@ -1,0 +1,138 @@
+-- What becomes of a claim, and what an install keeps.
+use Rattle.std.proofs.Common.{◌≡◌, ℕ, Bool, true, false, not, cond, ◌||◌, List, [], ◌∷◌, inl, inr, Option, None, Some, refl, sym, ap, subst, ◌∙◌, unwrap_or}
+use Rattle.std.specs.List.{find, list_any}
+use Rattle.std.proofs.lemmas.Bool.{true≢false, false_from_ne_true, eq-eqb}
+use Rattle.lsm_key.specs.declared.entry.Entry.{Entry}
+use Rattle.lsm_key.specs.Sets.{IsIn}
+use Rattle.lsm_key.proofs.Falls.{IsIn-filter}
+use Rattle.lsm_claim.specs.declared.ending.Ending.TheVariants as ending
+use Rattle.lsm_claim.specs.declared.job.JobId.{JobId}
+use Rattle.lsm_claim.specs.declared.job.LiveJob.{LiveJob}
+use Rattle.lsm_claim.specs.declared.job.Want.{Want}
+use Rattle.lsm_claim.specs.Book.{BookValue, IsBook, after_settling, holds, with_ending}
+use Rattle.lsm_claim.specs.Conflicts.{conflicts}
+use Rattle.lsm_claim.specs.Jobs.{same_id, without_job}
+use Rattle.lsm_table.specs.Tables.{Opened}
+use Rattle.lsm_edit.specs.Edit.{IsSpelled}
+use Rattle.lsm_edit.specs.Served.{IsServed, ServedValue}
+use Rattle.lsm_edit.specs.Version.{IsVersion, apply_fault}
+use Rattle.lsm_msg.specs.declared.job.JobResult.{JobResult}
+use Rattle.lsm_msg.specs.Installs.{Installs}
+use Rattle.lsm_msg.specs.Legal.{IsLegal}
+use Rattle.lsm_msg.proofs.OtherJobs.{installs_keep_jobs}
+use Rattle.lsm_coord.specs.declared.coord.install.Install.TheVariants as became
+use Rattle.lsm_coord.specs.declared.frozen.Frozen.{Frozen}
+use Rattle.lsm_coord.specs.declared.snapshot.Snapshot.{Snapshot}
+use Rattle.lsm_coord.specs.Installing.{AreOutputs, Became, IsLive, Puts, edit_of}
+use Rattle.lsm_coord.specs.Memory.{IsCoord}
+use Rattle.lsm_coord.specs.Value.{CoordValue}
+use Rattle.lsm_coord.proofs.Editing.{recorded_of, records_inside, records_recorded}
+use Rattle.lsm_coord.proofs.Lists.{any_here}
+use Rattle.lsm_coord.proofs.Outputs.{tables_each}
+use Rattle.lsm_coord.proofs.Returning.{epoch_after, live_before, orderly_after, same_name}
+
+-- ---- what is found in a list
+
+module _ {X : Type 0} (test : X → Bool) where
+  some_by : (x : X) (xs : List X) (b : Bool) (y : X) → test x ≡ b → (find test xs ≡ Some y → IsIn y xs × (test y ≡ true)) → cond b (Some x) (find test xs) ≡ Some y → IsIn y (x ∷ xs) × (test y ≡ true)
+  some_by x xs true y e rest h = let same : x ≡ y = ap (λ (o : Option X). unwrap_or o x) h in (inl (sym same), ap test (sym same) ∙ e)
+  some_by x xs false y e rest h = let r = rest h in (inr r.0, r.1)
+
+  pub found_some : (xs : List X) (y : X) → find test xs ≡ Some y → IsIn y xs × (test y ≡ true)
+  found_some [] y h = absurd cc
+  found_some (x ∷ xs) y h = some_by x xs (test x) y refl (found_some xs y) h
+
+  none_by : (x : X) (xs : List X) (b : Bool) → (find test xs ≡ None → list_any test xs ≡ false) → cond b (Some x) (find test xs) ≡ None → (b || list_any test xs) ≡ false
+  none_by x xs true rest h = absurd cc
+  none_by x xs false rest h = rest h
+
+  pub found_none : (xs : List X) → find test xs ≡ None → list_any test xs ≡ false
+  found_none [] h = refl
+  found_none (x ∷ xs) h = none_by x xs (test x) (found_none xs) h
+
+-- the job of a name
+pub live_is : (c : CoordValue) (id : JobId) (live : LiveJob) → IsLive c id live → IsIn live c.book.live × (live.id ≡ id)
+live_is c id live h = let r = found_some (λ j. same_id j.id id) c.book.live live h in (r.0, same_name live.id id r.1)
+
+-- ---- what becomes of a claim
+
+pub unheld_after : (b : BookValue) (id : JobId) → holds b id ≡ false → after_settling b id ending.Installed ≡ b
+unheld_after b id h = ap (λ (held : Bool). cond held (with_ending ending.Installed (record b { live = without_job id b.live })) b) h
+
+pub with_book : (c : CoordValue) (b : BookValue) → b ≡ c.book → record c { book = b } ≡ c
+with_book c b e = ap (λ (x : BookValue). record c { book = x }) e
+
+pub became_done : (old : CoordValue) (claim live : LiveJob) (made : JobResult) (number : ℕ) (files : List ℕ) (served : ServedValue) (edits : List (List ℕ)) → IsLive old claim.id live
+    → Puts old.served old.edits live made number files served edits → Became old claim made (became.Done number files) (record old { served = served; edits = edits; book = after_settling old.book claim.id ending.Installed })
+became_done old claim live made number files served edits h p =
+    let named = (live_is old claim.id live h).1 in (
+      live,
+      h,
+      p.named ∙ named,
+      p.tables,
+      p.outputs,
+      p.fit,
+      record {
+        text = p.text;
+        spelled = p.spelled;
+        applies = p.applies;
+        new_is = λ i. record old { served = p.served i; edits = p.listed i; book = after_settling old.book (sym named i) ending.Installed };
+      },
+      p.number_is,
+      p.files_are,
+    )
+
+-- ---- what an install keeps
+
+-- outputs of a live job make an install
+pub installs_of : (s : ServedValue) (want : Want) (texts : List (List ℕ)) (text : List ℕ) (ts : List Opened) → IsLegal s.version.files want → AreOutputs want.hull texts ts
+    → IsSpelled text (edit_of s.version want ts) → apply_fault s.version (edit_of s.version want ts) ≡ None → Installs s want (edit_of s.version want ts) ts
+installs_of s want texts text ts legal outputs spelled applies = record {
+  sound = spelled.sound;
+  applies = applies;
+  removed = refl;
+  level = λ f m. (recorded_of _ _ ts f m).2;
+  inside = records_inside s.version want legal ts outputs.inside;
+  recorded = records_recorded _ _ ts (tables_each texts ts outputs.tables);
+}
+
+-- a job that stays live does not conflict with the one that is installed
+settled_by : (b : BookValue) (id : JobId) (j : LiveJob) (held : Bool) → holds b id ≡ held → held ≡ true → IsIn j (cond held (with_ending ending.Installed (record b { live = without_job id b.live })) b).live → IsIn j (without_job id b.live)
+settled_by b id j true e h m = m
+settled_by b id j false e h m = absurd cc
+
+pub stays_apart : (b : BookValue) (id : JobId) (live j : LiveJob) → IsBook b → holds b id ≡ true → IsIn live b.live → live.id ≡ id → IsIn j (after_settling b id ending.Installed).live → conflicts live.want j.want ≡ false
+stays_apart b id live j is held here named m =
+    let there = settled_by b id j (holds b id) refl held m in
+    let other = IsIn-filter (λ k. not (same_id k.id id)) j b.live there in
+    false_from_ne_true (conflicts live.want j.want) (λ h.
+    let one : live ≡ j = is.apart live j here other.0 h in
+    true≢false (sym other.1 ∙ ap not (same_self j.id id (ap (λ (k : LiveJob). k.id) (sym one) ∙ named))))
+  where
+    same_self : (a c : JobId) → a ≡ c → same_id a c ≡ true
+    same_self a c e = subst (λ (x : JobId). same_id a x ≡ true) e (rw (eq-eqb a.epoch a.epoch refl) (eq-eqb a.number a.number refl))
+
+pub held_by : (b : BookValue) (live : LiveJob) (id : JobId) → find (λ j. same_id j.id id) b.live ≡ Some live → holds b id ≡ true
+held_by b live id h = let r = found_some (λ j. same_id j.id id) b.live live h in passes (λ j. same_id j.id id) b.live live r.0 r.1
+  where
+    passes : (test : LiveJob → Bool) (js : List LiveJob) (j : LiveJob) → IsIn j js → test j ≡ true → list_any test js ≡ true
+    passes test js j m e = any_here test j js m e
+
+pub after_install : (active : List Entry) (frozen : Option Frozen) (last : ℕ) (served next : ServedValue) (book : BookValue) (id : JobId) (live : LiveJob) (made : JobResult) (number : ℕ) (files : List ℕ) (edits new_edits : List (List ℕ)) (snapshots : List Snapshot)
+    → IsCoord active frozen last served book snapshots → IsBook book → IsServed served → IsVersion served.version → find (λ j. same_id j.id id) book.live ≡ Some live → Puts served edits live made number files next new_edits
+    → IsCoord active frozen last next (after_settling book id ending.Installed) snapshots
+after_install active frozen last served next book id live made number files edits new_edits snapshots is book_is served_is version_is h p =
+    let r = found_some (λ j. same_id j.id id) book.live live h in
+    let installs = installs_of served live.want made.tables p.text p.tables (is.legal live r.0) p.outputs p.spelled p.applies in
+    subst (λ (s : ServedValue). IsCoord active frozen last s (after_settling book id ending.Installed) snapshots) (sym p.served) (record {
+      recent = is.recent;
+      begun = is.begun;
+      waiting = is.waiting;
+      opened = is.opened;
+      same_epoch = epoch_after book id ending.Installed ∙ is.same_epoch;
+      legal = λ j m.
+          (installs_keep_jobs served live.want j.want (edit_of served.version live.want p.tables) p.tables version_is served_is (is.legal live r.0) installs
+          (stays_apart book id live j book_is (held_by book live id h) r.0 (same_name live.id id r.1) m) (is.legal j (live_before book id ending.Installed j m))).0;
+      orderly = orderly_after book id ending.Installed is.orderly;
+      few = is.few;
+    })

@@ -1,0 +1,26 @@
+use Rattle.std.proofs.Common.{◌∙◌, refl}
+use Rattle.lsm_claim.specs.declared.ending.Ending.TheVariants.{Returned}
+use Rattle.lsm_coord.proofs.Refusals.{give_up_may}
+use Rattle.lsm_coord.proofs.Returning.{epoch_after, legal_after, orderly_after, Shows-with_book, gives_back_keeps}
+use Rattle.lsm_coord.proofs.coord.Coord.give_back.Goals as goal
+
+pub invariant_of-self : goal.invariant_of-self
+invariant_of-self c =
+    let m = c.self.inside in
+    let i = c.self.invariant in
+    rw c.settle.ensures.book (record {
+      recent = i.recent;
+      begun = i.begun;
+      waiting = i.waiting;
+      opened = i.opened;
+      same_epoch = epoch_after m.book c.args.claim.id Returned ∙ i.same_epoch;
+      legal = legal_after m.current.version.files m.book c.args.claim.id Returned i.legal;
+      orderly = orderly_after m.book c.args.claim.id Returned i.orderly;
+      few = i.few;
+    })
+
+pub returns-clause-step : goal.returns-clause-step
+returns-clause-step c = rw (c.settle.ensures.book, ← c.self.view_is) (λ dispatcher index s h. (s, (give_up_may s dispatcher h.up, (index, refl)), Shows-with_book _ _ s h))
+
+pub returns-clause-sound : goal.returns-clause-sound
+returns-clause-sound c = rw (c.settle.ensures.book, ← c.self.view_is) (gives_back_keeps _ c.args.claim.id)

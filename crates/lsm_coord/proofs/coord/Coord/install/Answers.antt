@@ -1,0 +1,106 @@
+use Rattle.std.proofs.Common.{◌≡◌, ◌∙◌, List, false, refl, sym, ap, subst}
+use Rattle.std.specs.List.{find, list_any}
+use Rattle.std.specs.Option.{option_copied}
+use Rattle.lsm_claim.specs.declared.ending.Ending.TheVariants as ending
+use Rattle.lsm_claim.specs.declared.job.LiveJob.{LiveJob}
+use Rattle.lsm_claim.specs.declared.job.JobId.{JobId}
+use Rattle.lsm_claim.specs.Jobs.{same_id}
+use Rattle.lsm_claim.specs.Book.{IsBook, holds}
+use Rattle.lsm_key.specs.Sets.{IsIn}
+use Rattle.lsm_coord.proofs.Installing.{after_install, became_done, found_none, found_some, unheld_after, with_book}
+use Rattle.lsm_edit.specs.Served.{IsServed}
+use Rattle.lsm_edit.specs.Version.{IsVersion}
+use Rattle.lsm_coord.specs.Memory.{AreLegal, AreOrderly}
+use Rattle.lsm_coord.specs.Value.{CoordValue}
+use Rattle.lsm_coord.proofs.InstallSound.{install_keeps}
+use Rattle.lsm_coord.proofs.InstallStep.{install_steps}
+use Rattle.lsm_coord.proofs.Soundness.{nothing_keeps}
+use Rattle.lsm_coord.proofs.Returning.{epoch_after, legal_after, orderly_after}
+use Rattle.lsm_coord.proofs.coord.Coord.install.Goals as goal
+
+pub invariant_of-self : goal.invariant_of-self
+invariant_of-self c =
+    let m = c.self.inside in
+    let i = c.self.invariant in
+    rw c.settle.ensures.book (record {
+      recent = i.recent;
+      begun = i.begun;
+      waiting = i.waiting;
+      opened = i.opened;
+      same_epoch = epoch_after m.book c.args.claim.id ending.Installed ∙ i.same_epoch;
+      legal = legal_after m.current.version.files m.book c.args.claim.id ending.Installed i.legal;
+      orderly = orderly_after m.book c.args.claim.id ending.Installed i.orderly;
+      few = i.few;
+    })
+
+pub put_outputs-requires-clause-legal : goal.put_outputs-requires-clause-legal
+put_outputs-requires-clause-legal c =
+    let found = found_some (λ j. same_id j.id c.id-id.result) c.live.result.now c.in-Some.job.now (sym c.job_named.ensures ∙ ap option_copied c.in-Some.is) in
+    c.self.invariant.legal c.in-Some.job.now (subst (IsIn c.in-Some.job.now) c.live.ensures.all found.0)
+
+pub put_outputs-requires-clause-orderly : goal.put_outputs-requires-clause-orderly
+put_outputs-requires-clause-orderly c =
+    let found = found_some (λ j. same_id j.id c.id-id.result) c.live.result.now c.in-Some.job.now (sym c.job_named.ensures ∙ ap option_copied c.in-Some.is) in
+    c.self.invariant.orderly c.in-Some.job.now (subst (IsIn c.in-Some.job.now) c.live.ensures.all found.0)
+
+pub returns-in-None-clause-became : goal.returns-in-None-clause-became
+returns-in-None-clause-became c =
+    let none = found_none (λ j. same_id j.id c.id-id.result) c.live.result.now (sym c.job_named.ensures ∙ ap option_copied c.in-None.is) in
+    let unheld = ap (λ (js : List LiveJob). list_any (λ j. same_id j.id c.id-id.result) js) (sym c.live.ensures.all) ∙ none in
+    let held = subst (λ (id : JobId). holds c.self.inside.book id ≡ false) c.id-id.ensures unheld in
+    rw (c.settle.ensures.book, ← c.self.view_is) (held, c.id-id.ensures, c.epoch-epoch.ensures, with_book _ _ (unheld_after c.self.inside.book c.args.claim.id held))
+
+pub invariant_of-self-in-Ok : goal.invariant_of-self-in-Ok
+invariant_of-self-in-Ok c =
+    let m = c.self.inside in
+    let sound = c.listing-listing.ensures.sound in
+    let found = sym c.job_named.ensures ∙ ap option_copied c.in-Some.is in
+    let live = (λ i. find (λ (j : LiveJob). same_id j.id (sym c.id-id.ensures i)) (sym c.live.ensures.all i)) ∙ found in
+    rw c.settle-in-Ok.ensures.book
+    (after_install m.active m.frozen m.newest m.current c.put_outputs.new.current m.book c.args.claim.id c.in-Some.job.now c.args.made.now c.in-Ok.number c.in-Ok.files m.manifest.items c.put_outputs.new.manifest.items m.live.items
+    c.self.invariant c.live.ensures.sound sound.0 sound.1 live c.in-Ok.ensures.ok)
+
+pub returns-in-Ok-clause-became : goal.returns-in-Ok-clause-became
+returns-in-Ok-clause-became c =
+    let found = sym c.job_named.ensures ∙ ap option_copied c.in-Some.is in
+    let live = (λ i. find (λ (j : LiveJob). same_id j.id (sym c.id-id.ensures i)) (sym c.live.ensures.all i)) ∙ found in
+    rw (c.settle-in-Ok.ensures.book, ← c.self.view_is)
+    (became_done _ c.args.claim c.in-Some.job.now c.args.made.now c.in-Ok.number c.in-Ok.files c.put_outputs.new.current c.put_outputs.new.manifest.items live c.in-Ok.ensures.ok)
+
+pub returns-in-Ok-clause-step : goal.returns-in-Ok-clause-step
+returns-in-Ok-clause-step c = λ live job is_live named sound merge.
+    let listed = c.listing-listing.ensures.sound in
+    let view = c.self.view_is in
+    install_steps c.args.self.now _ c.args.claim live c.args.made.now c.in-Ok.number c.in-Ok.files job
+    (subst (λ (v : CoordValue). IsBook v.book) view c.live.ensures.sound)
+    (subst (λ (v : CoordValue). IsServed v.served) view listed.0)
+    (subst (λ (v : CoordValue). IsVersion v.served.version) view listed.1)
+    (subst (λ (v : CoordValue). AreLegal v.served.version.files v.book.live) view c.self.invariant.legal)
+    (subst (λ (v : CoordValue). AreOrderly v.book.live) view c.self.invariant.orderly)
+    (returns-in-Ok-clause-became c) is_live named sound merge
+
+pub returns-in-Err-clause-became : goal.returns-in-Err-clause-became
+returns-in-Err-clause-became c =
+    let m = c.self.inside in
+    let found = sym c.job_named.ensures ∙ ap option_copied c.in-Some.is in
+    let live = (λ i. find (λ (j : LiveJob). same_id j.id (sym c.id-id.ensures i)) (sym c.live.ensures.all i)) ∙ found in
+    let same = c.in-Err.ensures.err in
+    rw (← c.self.view_is)
+    (c.in-Some.job.now, live, refl, c.in-Err.ensures.why, λ i. record { limits = m.limits; active = m.active; frozen = m.frozen; served = same.0 i; edits = same.1 i; last = m.newest; snapshots = m.live.items; made = m.made; floor = 1; book = m.book })
+
+pub returns-in-None-clause-sound : goal.returns-in-None-clause-sound
+returns-in-None-clause-sound c = λ live job is_live merge. nothing_keeps c.args.self.now _ (returns-in-None-clause-became c).3
+
+pub returns-in-Err-clause-sound : goal.returns-in-Err-clause-sound
+returns-in-Err-clause-sound c = λ live job is_live merge. nothing_keeps c.args.self.now _ (returns-in-Err-clause-became c).4
+
+pub returns-in-Ok-clause-sound : goal.returns-in-Ok-clause-sound
+returns-in-Ok-clause-sound c = λ live job is_live merge.
+    let listed = c.listing-listing.ensures.sound in
+    let view = c.self.view_is in
+    install_keeps c.args.self.now _ c.args.claim live c.args.made.now c.in-Ok.number c.in-Ok.files job
+    (subst (λ (v : CoordValue). IsBook v.book) view c.live.ensures.sound)
+    (subst (λ (v : CoordValue). IsServed v.served) view listed.0)
+    (subst (λ (v : CoordValue). IsVersion v.served.version) view listed.1)
+    (subst (λ (v : CoordValue). AreLegal v.served.version.files v.book.live) view c.self.invariant.legal)
+    (returns-in-Ok-clause-became c) is_live merge

@@ -1,0 +1,152 @@
+-- What an install accepts, and what it makes (RocksDB wiki, Remote Compaction: the primary verifies and installs the result of a job; LevelDB, db_impl.cc: InstallCompactionResults).
+use Rattle.std.specs.Prelude.{◌≡◌, ℕ, ◌+◌, ◌<◌, ◌≤◌, ◌^◌, Bool, true, false, ◌&&◌, List, [], ◌∷◌, ◌++◌, Option, None, Some, find, length, map}
+use Rattle.lsm_key.specs.declared.entry.Entry.{Entry}
+use Rattle.lsm_key.specs.declared.limits.TheConstants.{MAX_NUMBER}
+use Rattle.lsm_key.specs.Sets.{IsIn}
+use Rattle.lsm_key.specs.Order.{key_le, key_lt}
+use Rattle.lsm_claim.specs.declared.ending.Ending.TheVariants as ending
+use Rattle.lsm_claim.specs.declared.hull.Hull.{Hull}
+use Rattle.lsm_claim.specs.declared.job.JobId.{JobId}
+use Rattle.lsm_claim.specs.declared.job.LiveJob.{LiveJob}
+use Rattle.lsm_claim.specs.declared.job.Want.{Want}
+use Rattle.lsm_claim.specs.Jobs.{same_id}
+use Rattle.lsm_claim.specs.Book.{after_settling, holds}
+use Rattle.lsm_table.specs.Tables.{Opened, IsTable, smallest_key, largest_key}
+use Rattle.lsm_edit.specs.declared.file.FileMeta.{FileMeta}
+use Rattle.lsm_edit.specs.declared.edit.Edit.{Edit}
+use Rattle.lsm_edit.specs.Edit.{IsSpelled}
+use Rattle.lsm_edit.specs.Next.{install_edit}
+use Rattle.lsm_edit.specs.Served.{ServedValue, advanced}
+use Rattle.lsm_edit.specs.Version.{VersionValue, apply_fault}
+use Rattle.lsm_msg.specs.declared.job.JobParts.{JobParts}
+use Rattle.lsm_msg.specs.declared.job.JobResult.{JobResult}
+use Rattle.lsm_msg.specs.Merge.{HoldsKept}
+use Rattle.lsm_msg.specs.Installs.{AreInputsOf, entries_of}
+use Rattle.lsm_coord.specs.declared.coord.install.Install.{Install}
+use Rattle.lsm_coord.specs.declared.coord.install.Install.TheVariants as became
+use Rattle.lsm_coord.specs.declared.coord.install.InstallError.{InstallError}
+use Rattle.lsm_coord.specs.declared.coord.install.InstallError.TheVariants.{WrongJob, BadResult, NumbersExhausted, OutOfMemory}
+use Rattle.lsm_coord.specs.Event.{Deliver, Installed}
+use Rattle.lsm_coord.specs.Shows.{Follows}
+use Rattle.lsm_coord.specs.Value.{CoordValue}
+
+-- ---- outputs
+
+-- the texts are those of these tables, one by one
+abbrev pub AreTables : List (List ℕ) → List Opened → Type 0
+AreTables [] [] = Unit {0}
+AreTables (text ∷ texts) (t ∷ ts) = (t.bytes ≡ text) × IsTable text t.entries × AreTables texts ts
+AreTables [] (t ∷ ts) = ⊥
+AreTables (text ∷ texts) [] = ⊥
+
+-- all keys of the table are in the hull
+abbrev pub is_inside : Hull → Opened → Bool
+is_inside hull t = key_le hull.lo (smallest_key t.entries) && key_le (largest_key t.entries) hull.hi
+
+-- all keys of the one table stand before those of the other
+abbrev pub StandsBefore : Opened → Opened → Type 0
+StandsBefore t u = key_lt (largest_key t.entries) (smallest_key u.entries) ≡ true
+
+-- each stands before all after it
+abbrev pub AreAscending : List Opened → Type 0
+AreAscending [] = Unit {0}
+AreAscending (t ∷ ts) = ((u : Opened) → IsIn u ts → StandsBefore t u) × AreAscending ts
+
+-- what the outputs of a job may be: tables with keys of its hull alone, each after the one before it
+pub record AreOutputs (hull : Hull) (texts : List (List ℕ)) (ts : List Opened) : Type 0 where
+  pub few : length texts < 2 ^ 32
+  pub tables : AreTables texts ts
+  pub inside : (t : Opened) → IsIn t ts → is_inside hull t ≡ true
+  pub ascending : AreAscending ts
+
+-- its keys are in the hull, and after those of the last table before it
+abbrev pub comes_next : Hull → Option Opened → Opened → Bool
+comes_next hull None t = is_inside hull t
+comes_next hull (Some last) t = is_inside hull t && key_lt (largest_key last.entries) (smallest_key t.entries)
+
+-- the record of a table
+abbrev pub record_of : ℕ → ℕ → Opened → FileMeta
+record_of level number t = record { number = number; level = level; smallest = smallest_key t.entries; largest = largest_key t.entries; bytes = length t.bytes; entries = length t.entries }
+
+-- the records of tables under numbers in turn
+abbrev pub records : ℕ → ℕ → List Opened → List FileMeta
+records level number [] = []
+records level number (t ∷ ts) = record_of level number t ∷ records level (number + 1) ts
+
+-- ---- the next version
+
+-- the outputs take the place of the inputs, one level deeper, under the next file numbers
+abbrev pub edit_of : VersionValue → Want → List Opened → Edit
+edit_of v want ts = install_edit v want.files (records (want.level + 1) v.next_file ts)
+
+abbrev pub numbers_of : VersionValue → Want → List Opened → List ℕ
+numbers_of v want ts = map (λ f. f.number) (records (want.level + 1) v.next_file ts)
+
+-- the version's number and the file numbers fit
+pub record HasNumbers (v : VersionValue) (ts : List Opened) : Type 0 where
+  pub number : v.number + 1 ≤ MAX_NUMBER
+  pub next_file : v.next_file + length ts ≤ MAX_NUMBER
+
+-- the next version with its tables
+abbrev pub next_served : ServedValue → Want → List Opened → ServedValue
+next_served s want ts = advanced s (edit_of s.version want ts) ts
+
+-- the next version stands, its edit is the last of the list, and the claim is spent
+pub record IsInstall (old : CoordValue) (live : LiveJob) (ts : List Opened) (new : CoordValue) : Type 0 where
+  pub text : List ℕ
+  pub spelled : IsSpelled text (edit_of old.served.version live.want ts)
+  pub applies : apply_fault old.served.version (edit_of old.served.version live.want ts) ≡ None
+  pub new_is : new ≡ record old { served = next_served old.served live.want ts; edits = old.edits ++ text ∷ []; book = after_settling old.book live.id ending.Installed }
+
+-- the same of a version with its tables and of the list of edits, by the outputs of a result
+pub record Puts (old : ServedValue) (edits : List (List ℕ)) (live : LiveJob) (made : JobResult) (number : ℕ) (files : List ℕ) (new : ServedValue) (new_edits : List (List ℕ)) : Type 0 where
+  pub named : made.job ≡ live.id
+  pub tables : List Opened
+  pub outputs : AreOutputs live.want.hull made.tables tables
+  pub fit : HasNumbers old.version tables
+  pub text : List ℕ
+  pub spelled : IsSpelled text (edit_of old.version live.want tables)
+  pub applies : apply_fault old.version (edit_of old.version live.want tables) ≡ None
+  pub served : new ≡ next_served old live.want tables
+  pub listed : new_edits ≡ edits ++ text ∷ []
+  pub number_is : number ≡ old.version.number + 1
+  pub files_are : files ≡ numbers_of old.version live.want tables
+
+-- ---- what becomes of a claim
+
+-- the job that the book has under a name
+abbrev pub IsLive : CoordValue → JobId → LiveJob → Type 0
+IsLive c id live = find (λ j. same_id j.id id) c.book.live ≡ Some live
+
+-- why a result is not installed: the first reason that holds, unless memory is wanting
+abbrev pub Explains : VersionValue → LiveJob → JobResult → InstallError → Type 0
+Explains v live made WrongJob = made.job ≡ live.id → ⊥
+Explains v live made BadResult = (made.job ≡ live.id) × ((ts : List Opened) → AreOutputs live.want.hull made.tables ts → ⊥)
+Explains v live made NumbersExhausted = (made.job ≡ live.id) × (ts : List Opened) × AreOutputs live.want.hull made.tables ts × (HasNumbers v ts → ⊥)
+Explains v live made OutOfMemory = made.job ≡ live.id
+
+-- A claim that the book has not is stale, and told the epoch; a result that is not accepted leaves the claim; and else the
+-- outputs are installed, and their files told.
+abbrev pub Became : CoordValue → LiveJob → JobResult → Install → CoordValue → Type 0
+Became old claim made (became.Done number files) new =
+    (live : LiveJob) × IsLive old claim.id live × (made.job ≡ claim.id)
+    × (ts : List Opened) × AreOutputs live.want.hull made.tables ts × HasNumbers old.served.version ts
+    × IsInstall old live ts new × (number ≡ old.served.version.number + 1) × (files ≡ numbers_of old.served.version live.want ts)
+Became old claim made (became.Stale job epoch) new = (holds old.book claim.id ≡ false) × (job ≡ claim.id) × (epoch ≡ old.book.epoch) × (new ≡ old)
+Became old claim made (became.Kept back why) new = (live : LiveJob) × IsLive old claim.id live × (back ≡ claim) × Explains old.served.version live made why × (new ≡ old)
+
+-- an install that is done is a step, whatever message brought the result
+abbrev pub StepsTo : CoordValue → Install → CoordValue → Type 0
+StepsTo old (became.Done number files) new = (message : ℕ) → Follows old (Deliver message) (Installed number files) new
+StepsTo old (became.Stale job epoch) new = Unit {0}
+StepsTo old (became.Kept back why) new = Unit {0}
+
+-- ---- the promise of a sound job
+
+-- the result's tables hold just what a merge keeps of the job's inputs
+pub record IsMerge (old : CoordValue) (job : JobParts) (want : Want) (made : JobResult) : Type 0 where
+  pub inputs : List Entry
+  pub are : AreInputsOf old.served.places want inputs
+  pub tables : List Opened
+  pub opened : AreTables made.tables tables
+  pub kept : HoldsKept inputs job.points job.deeper (entries_of tables)

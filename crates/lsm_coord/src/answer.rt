@@ -1,0 +1,143 @@
+//! Answers of the coordinator, as plain data.
+
+ghost use Rattle.std.specs.Prelude.{◌≡◌, ◌↔◌, IfOk, IsTrue};
+
+use crate::{CoordError, Flushed, SnapId};
+use bytes::Bytes;
+use lsm_claim::{JobId, Settled};
+use lsm_edit::{FileMeta, same_files, same_numbers};
+use lsm_key::{Items, Seq};
+use lsm_msg::Job;
+use std::alloc::{AllocError, Global};
+
+/// What the coordinator shows of its current version.
+#[derive(Debug, Drop)]
+pub struct ShownVersion {
+    pub number: u64,
+    /// Every write up to it is in the files.
+    pub flushed: Seq,
+    /// By number.
+    pub files: Items<FileMeta>,
+}
+
+/// What a call of the coordinator gave, so that a history can keep it. A claim is named by its job.
+#[derive(Debug, Drop)]
+pub enum Answer {
+    /// Why there is nothing else.
+    Refused(CoordError),
+    /// The first and the last sequence of a batch.
+    Wrote(Seq, Seq),
+    /// The last sequence of the frozen memtable.
+    Froze(Seq),
+    Flushed(Flushed),
+    /// A snapshot, and the sequence that it reads at.
+    Snapshot(SnapId, Seq),
+    Released,
+    /// The value of a key, where it has one.
+    Got(Option<Bytes>),
+    /// Keys with their values.
+    Scanned(Items<(Bytes, Bytes)>),
+    Shown(ShownVersion),
+    /// The job that was picked; its claim has the same name.
+    Picked(Job),
+    /// No job was picked.
+    Idle,
+    /// The version that an install made, and the numbers of the files that it added.
+    Installed(u64, Items<u64>),
+    /// The claim of this name is of no live job in the current epoch, which is the number.
+    Stale(JobId, u64),
+    /// Whether a claim that was given back was live.
+    GaveBack(Settled),
+}
+
+impl ShownVersion {
+    // The same version. The keys share the bytes.
+    fn copy(&self, alloc: Global) -> Result<ShownVersion, AllocError>
+        ensures { IfOk result (λ copy. copy ≡ self.now) }
+    {
+        let files = self.files.as_slice().to_vec(alloc)?;
+        Ok(ShownVersion {
+            number: self.number,
+            flushed: self.flushed,
+            files: Items::from_vec(files),
+        })
+    }
+
+    fn same(&self, other: &ShownVersion) -> bool
+        ensures { IsTrue result ↔ self.now ≡ other.now }
+    {
+        self.number == other.number
+            && self.flushed == other.flushed
+            && same_files(self.files.as_slice(), other.files.as_slice())
+    }
+}
+
+impl Answer {
+    /// The same answer. Keys and values share the bytes.
+    pub fn copy(&self, alloc: Global) -> Result<Answer, AllocError>
+        ensures { IfOk result (λ copy. copy ≡ self.now) }
+    {
+        match self {
+            Answer::Refused(why) => Ok(Answer::Refused(*why)),
+            Answer::Wrote(first, last) => Ok(Answer::Wrote(*first, *last)),
+            Answer::Froze(seq) => Ok(Answer::Froze(*seq)),
+            Answer::Flushed(flushed) => Ok(Answer::Flushed(*flushed)),
+            Answer::Snapshot(id, at) => Ok(Answer::Snapshot(*id, *at)),
+            Answer::Released => Ok(Answer::Released),
+            Answer::Got(value) => Ok(Answer::Got(value.clone()?)),
+            Answer::Scanned(pairs) => {
+                let pairs = pairs.as_slice().to_vec(alloc)?;
+                Ok(Answer::Scanned(Items::from_vec(pairs)))
+            }
+            Answer::Shown(version) => Ok(Answer::Shown(version.copy(alloc)?)),
+            Answer::Picked(job) => Ok(Answer::Picked(job.copy(alloc)?)),
+            Answer::Idle => Ok(Answer::Idle),
+            Answer::Installed(number, files) => {
+                let files = files.as_slice().to_vec(alloc)?;
+                Ok(Answer::Installed(*number, Items::from_vec(files)))
+            }
+            Answer::Stale(claim, epoch) => Ok(Answer::Stale(*claim, *epoch)),
+            Answer::GaveBack(settled) => Ok(Answer::GaveBack(*settled)),
+        }
+    }
+
+    /// Whether two answers are the same.
+    pub fn same(&self, other: &Answer) -> bool
+        ensures { IsTrue result ↔ self.now ≡ other.now }
+    {
+        match (self, other) {
+            (Answer::Refused(a), Answer::Refused(b)) => a == b,
+            (Answer::Wrote(a, p), Answer::Wrote(b, q)) => a == b && p == q,
+            (Answer::Froze(a), Answer::Froze(b)) => a == b,
+            (Answer::Flushed(a), Answer::Flushed(b)) => a == b,
+            (Answer::Snapshot(a, p), Answer::Snapshot(b, q)) => a == b && p == q,
+            (Answer::Released, Answer::Released) => true,
+            (Answer::Got(a), Answer::Got(b)) => a == b,
+            (Answer::Scanned(a), Answer::Scanned(b)) => same_pairs(a.as_slice(), b.as_slice()),
+            (Answer::Shown(a), Answer::Shown(b)) => a.same(b),
+            (Answer::Picked(a), Answer::Picked(b)) => a.same(b),
+            (Answer::Idle, Answer::Idle) => true,
+            (Answer::Installed(a, f), Answer::Installed(b, g)) => {
+                a == b && same_numbers(f.as_slice(), g.as_slice())
+            }
+            (Answer::Stale(a, p), Answer::Stale(b, q)) => a == b && p == q,
+            (Answer::GaveBack(a), Answer::GaveBack(b)) => a == b,
+            _ => false,
+        }
+    }
+}
+
+fn same_pairs(pairs: &[(Bytes, Bytes)], others: &[(Bytes, Bytes)]) -> bool
+    ensures { IsTrue result ↔ pairs.now ≡ others.now }
+{
+    if pairs.len() != others.len() {
+        return false;
+    }
+    for (i, (key, value)) in pairs.iter().enumerate() {
+        let (other_key, other_value) = &others[i];
+        if key != other_key || value != other_value {
+            return false;
+        }
+    }
+    true
+}

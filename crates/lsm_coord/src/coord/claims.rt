@@ -1,0 +1,112 @@
+//! Claims of jobs: how they are picked, and how they are given back.
+
+ghost use Rattle.std.specs.Prelude.{◌≡◌, ℕ, None, IfOk, IfErr, IfSome, OnOk, OnErr};
+ghost use Rattle.lsm_claim.specs.Book.{settled, claim_fault, claimed, next_job};
+ghost use Rattle.lsm_edit.specs.Served.{IsServed};
+ghost use Rattle.lsm_edit.specs.Version.{IsVersion};
+ghost use Rattle.lsm_coord.specs.Changes.{IsIndex};
+ghost use Rattle.lsm_coord.specs.Event.{Pick, GiveUp, Other};
+ghost use Rattle.lsm_coord.specs.Shows.{Follows};
+ghost use Rattle.lsm_coord.specs.Sound.{IsSound, KeepsSound};
+ghost use Rattle.lsm_coord.specs.Calls.{gave_back};
+ghost use Rattle.lsm_coord.specs.Replies.{pick_reply};
+ghost use Rattle.lsm_coord.specs.Picking.{GivesNone, HasRoom, IsJobFor, MayClaim, PickRefuses, Picks};
+
+use super::Coord;
+use crate::CoordError;
+use crate::job::{deeper_of, inputs_of, points_of};
+use lsm_claim::{Claim, Ending, JobId, MAX_LIVE_CLAIMS, Settled, Want};
+use lsm_key::{Items, MAX_NUMBER, MAX_TABLE_BYTES};
+use lsm_msg::{Job, JobParts};
+use lsm_pick::{PickError, pick};
+use std::alloc::AllocError;
+
+impl Coord {
+    /// Claims the next job that has to be done, and answers its claim with the job, or `None` where nothing is due or live
+    /// jobs stand against all that is. A refusal changes nothing.
+    pub fn pick(&mut self) -> Result<Option<(Claim, Job)>, CoordError>
+        ensures step { (dispatcher : ℕ) → IsIndex dispatcher → Follows self.old (Pick dispatcher) (pick_reply result) self.new }
+        ensures ok { IfOk result (Picks self.old self.new) }
+        ensures err { OnErr result (self.new ≡ self.old) }
+        ensures refused { IfErr result (PickRefuses self.old) }
+        ensures job { IfOk result (λ picked. IfSome picked (λ r. IsSound self.new r.1)) }
+        ensures sound { KeepsSound self.old self.new }
+    {
+        let Some(want) = self.wanted()? else {
+            return Ok(None);
+        };
+        let job = self.job_of(&want)?;
+        let claim = self.claim(want)?;
+        Ok(Some((claim, job)))
+    }
+
+    // What the rule of a pick gives, where it can be claimed.
+    fn wanted(&self) -> Result<Option<Want>, CoordError>
+        ensures some { IfOk result (λ wanted. IfSome wanted (MayClaim self.now)) }
+        ensures none { IfOk result (λ wanted. wanted ≡ None → HasRoom self.now × GivesNone self.now) }
+        ensures refused { IfErr result (PickRefuses self.now) }
+    {
+        if self.book.live().len() >= MAX_LIVE_CLAIMS {
+            return Err(CoordError::BookFull);
+        }
+        let exhausted = self.book.made() >= MAX_NUMBER;
+        match pick(self.alloc, &self.current, &self.book, &self.limits) {
+            Ok(None) => Ok(None),
+            Ok(Some(_)) if exhausted => Err(CoordError::NumbersExhausted),
+            Ok(Some(want)) => Ok(Some(want)),
+            Err(PickError::TooWide) => Err(CoordError::TooWide),
+            // Memory is wanted only for a want that is given.
+            Err(PickError::OutOfMemory) if exhausted => Err(CoordError::NumbersExhausted),
+            Err(PickError::OutOfMemory) => Err(CoordError::OutOfMemory),
+        }
+    }
+
+    // The job of a want, under the next name.
+    fn job_of(&self, want: &Want) -> Result<Job, AllocError>
+        requires { MayClaim self.now want.now }
+        ensures job { IfOk result (IsJobFor self.now want.now) }
+        ensures sound { IsServed self.now.served × IsVersion self.now.served.version }
+    {
+        let id = JobId {
+            epoch: self.book.epoch(),
+            number: self.book.made() + 1,
+        };
+        let files = self.current.listing().files;
+        let points = points_of(self.alloc, &self.live)?;
+        let inputs = inputs_of(self.alloc, files, want)?;
+        let deeper = deeper_of(self.alloc, files, want)?;
+        let parts = JobParts {
+            id,
+            level: want.level,
+            block: MAX_TABLE_BYTES as u32,
+            points: Items::from_vec(points),
+            inputs: Items::from_vec(inputs),
+            deeper: Items::from_vec(deeper),
+        };
+        Ok(Job::new(parts).unwrap())
+    }
+
+    // Claims a want that nothing stands against: only memory can be wanting.
+    fn claim(&mut self, want: Want) -> Result<Claim, AllocError>
+        requires { MayClaim self.old want }
+        ensures claim { IfOk result (λ claim. claim ≡ next_job self.old.book want) }
+        ensures ok { OnOk result (self.new ≡ record self.old { book = claimed self.old.book want }) }
+        ensures err { OnErr result (self.new ≡ self.old) }
+    {
+        match self.book.claim(want) {
+            Ok(claim) => Ok(claim),
+            Err(_) => Err(AllocError),
+        }
+    }
+
+    /// Ends a claim without a result. Where its job is live, the job goes and its files may be picked again; else the claim
+    /// is stale, and nothing changes. It takes no memory.
+    pub fn give_back(&mut self, claim: Claim) -> Settled
+        ensures step { (dispatcher : ℕ) → IsIndex dispatcher → Follows self.old (GiveUp dispatcher) Other self.new }
+        ensures answer { result ≡ settled self.old.book claim.id }
+        ensures book { self.new ≡ gave_back self.old claim.id }
+        ensures sound { KeepsSound self.old self.new }
+    {
+        self.book.settle(claim, Ending::Returned)
+    }
+}

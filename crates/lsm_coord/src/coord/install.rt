@@ -1,0 +1,211 @@
+//! Installs: the result of a job takes the place of its inputs.
+
+ghost use Rattle.std.specs.Prelude.{◌≡◌, ◌↔◌, ◌<◌, ◌≤◌, ◌^◌, IfErr, IsTrue, IfOk, None, OnErr, OnOk, find, length, map, true};
+ghost use Rattle.std.specs.Option.{option_copied};
+ghost use Rattle.lsm_key.specs.Sets.{IsIn};
+ghost use Rattle.lsm_claim.specs.declared.job.LiveJob.{LiveJob};
+ghost use Rattle.lsm_claim.specs.Jobs.{same_id};
+ghost use Rattle.lsm_table.specs.Tables.{IsTable, Opened};
+ghost use Rattle.lsm_edit.specs.Edit.{IsEdit};
+ghost use Rattle.lsm_edit.specs.Served.{AreAsRecorded, advanced};
+ghost use Rattle.lsm_edit.specs.Version.{apply_fault};
+ghost use Rattle.lsm_msg.specs.declared.job.JobParts.{JobParts};
+ghost use Rattle.lsm_msg.specs.Legal.{IsLegal};
+ghost use Rattle.lsm_coord.specs.Installing.{AreAscending, Became, Explains, HasNumbers, IsLive, IsMerge, Puts, StepsTo, edit_of, is_inside};
+ghost use Rattle.lsm_coord.specs.Memory.{IsOrderly};
+ghost use Rattle.lsm_coord.specs.Sound.{IsSound, KeepsSound};
+
+use super::Coord;
+use super::outputs::{open_outputs, records_of};
+use bytes::Bytes;
+use lsm_claim::{Claim, Ending, JobId, LiveJob, Want};
+use lsm_edit::{Edit, FileMeta, Served, Version, encode_edit};
+use lsm_key::{Items, MAX_NUMBER};
+use lsm_msg::JobResult;
+use lsm_table::Table;
+use std::alloc::{AllocError, AllocFailed, Global};
+use thiserror::Error;
+
+/// Why a result is not installed, the first reason that holds.
+#[derive(Clone, Copy, Debug, PartialEq, Eq, Error)]
+pub enum InstallError {
+    #[error("the result is of another job")]
+    WrongJob,
+    #[error("the result is not what the job may give")]
+    BadResult,
+    #[error("the version or file numbers are exhausted")]
+    NumbersExhausted,
+    #[error("out of memory")]
+    OutOfMemory,
+}
+
+/// What became of a claim and its result.
+pub enum Install {
+    /// The outputs are in the version of this number, under these file numbers, and the claim is spent.
+    Done(u64, Items<u64>),
+    /// The claim was of this job, which is not live. It is spent; the current epoch is told.
+    Stale(JobId, u64),
+    /// The result is not installed, nothing changed, and the claim comes back.
+    Kept(Claim, InstallError),
+}
+
+impl From<AllocError> for InstallError {
+    ghost use Rattle.std.specs.Prelude.{◌≡◌};
+    ghost use Rattle.lsm_coord.specs.declared.coord.install.InstallError.TheVariants.{OutOfMemory};
+
+    ghost from_gives = { λ _ e. e ≡ OutOfMemory };
+
+    fn from(_e: AllocError) -> InstallError {
+        InstallError::OutOfMemory
+    }
+}
+
+impl<T: Drop> From<AllocFailed<T>> for InstallError {
+    ghost use Rattle.std.specs.Prelude.{◌≡◌};
+    ghost use Rattle.lsm_coord.specs.declared.coord.install.InstallError.TheVariants.{OutOfMemory};
+
+    ghost from_gives = { λ _ e. e ≡ OutOfMemory };
+
+    fn from(_e: AllocFailed<T>) -> InstallError {
+        InstallError::OutOfMemory
+    }
+}
+
+impl Coord {
+    /// Puts the outputs of a job in the place of its inputs, one level deeper, and spends its claim. Level, inputs and keys are
+    /// those that the book has under the claim's name. A claim whose job is not live is spent without more; a result that is
+    /// of another job, or not what the job may give, or for which numbers or memory are wanting, changes nothing.
+    ///
+    /// Of what the outputs hold it only tests their keys: that they are what a merge keeps of the inputs is the worker's part.
+    pub fn install(&mut self, claim: Claim, made: &JobResult) -> Install
+        ensures became { Became self.old claim made.now result self.new }
+        ensures step { (live : LiveJob) (job : JobParts) → IsLive self.old claim.id live → job.id ≡ claim.id → IsSound self.old job → IsMerge self.old job live.want made.now → StepsTo self.old result self.new }
+        ensures sound { (live : LiveJob) (job : JobParts) → IsLive self.old claim.id live → IsMerge self.old job live.want made.now → KeepsSound self.old self.new }
+    {
+        let id = claim.id();
+        // That the version and its places are sound, as the proof wants to know.
+        let _listing = self.current.listing();
+        match job_named(self.book.live(), id) {
+            None => {
+                let epoch = self.book.epoch();
+                self.book.settle(claim, Ending::Installed);
+                Install::Stale(id, epoch)
+            }
+            Some(job) => match put_outputs(
+                self.alloc,
+                &mut self.current,
+                &mut self.manifest,
+                job,
+                made,
+            ) {
+                Ok((number, files)) => {
+                    self.book.settle(claim, Ending::Installed);
+                    Install::Done(number, files)
+                }
+                Err(why) => Install::Kept(claim, why),
+            },
+        }
+    }
+}
+
+// The live job of a name.
+fn job_named(jobs: &[LiveJob], id: JobId) -> Option<&LiveJob>
+    ensures { option_copied result ≡ find (λ j. same_id j.id id) jobs.now }
+{
+    jobs.iter().find(|job| job.id == id)
+}
+
+// Makes the next version, in which the outputs have the place of the inputs. A refusal changes nothing.
+fn put_outputs(
+    alloc: Global,
+    current: &mut Served,
+    manifest: &mut Vec<Bytes>,
+    job: &LiveJob,
+    made: &JobResult,
+) -> Result<(u64, Items<u64>), InstallError>
+    requires epoch { 1 ≤ current.old.version.epoch }
+    requires legal { IsLegal current.old.version.files job.now.want }
+    requires orderly { IsOrderly job.now.want }
+    ensures ok { IfOk result (λ put. Puts current.old manifest.old.items job.now made.now put.0 put.1 current.new manifest.new.items) }
+    ensures err { OnErr result ((current.new ≡ current.old) × (manifest.new.items ≡ manifest.old.items)) }
+    ensures why { IfErr result (Explains current.old.version job.now made.now) }
+{
+    let want = &job.want;
+    if !are_same(made.job, job.id) {
+        return Err(InstallError::WrongJob);
+    }
+    let tables = open_outputs(alloc, &want.hull, made.tables.as_slice())?;
+    let version = current.version();
+    if version.number() >= MAX_NUMBER || tables.len() as u64 > MAX_NUMBER - version.next_file() {
+        return Err(InstallError::NumbersExhausted);
+    }
+    let number = version.number() + 1;
+    let edit = edit_of(alloc, version, want, &tables)?;
+    let files = numbers_of(alloc, edit.added.as_slice())?;
+    let text = encode_edit(alloc, &edit)?;
+    manifest.reserve(1)?;
+    go_on(current, &edit, tables)?;
+    manifest.push_reserved(text);
+    Ok((number, Items::from_vec(files)))
+}
+
+fn are_same(a: JobId, b: JobId) -> bool
+    ensures { IsTrue result ↔ (a ≡ b) }
+{
+    a == b
+}
+
+// The edit by which the outputs take the place of the inputs.
+fn edit_of(
+    alloc: Global,
+    version: &Version,
+    want: &Want,
+    tables: &[Table],
+) -> Result<Edit, AllocError>
+    requires fits { HasNumbers version.now tables.now }
+    requires epoch { 1 ≤ version.now.epoch }
+    requires legal { IsLegal version.now.files want.now }
+    requires orderly { IsOrderly want.now }
+    requires few { length tables.now < 2 ^ 32 }
+    requires sound { (t : Opened) → IsIn t tables.now → IsTable t.bytes t.entries }
+    requires inside { (t : Opened) → IsIn t tables.now → is_inside want.now.hull t ≡ true }
+    requires ascending { AreAscending tables.now }
+    ensures edit { IfOk result (λ edit. edit ≡ edit_of version.now want.now tables.now) }
+    ensures sound { IfOk result IsEdit }
+    ensures applies { IfOk result (λ edit. apply_fault version.now edit ≡ None) }
+{
+    // That the version is sound, as the proof wants to know.
+    let _files = version.files();
+    let files = records_of(alloc, want.level + 1, version.next_file(), tables)?;
+    let removed = copy_of(alloc, &want.files)?;
+    Ok(Edit::install(version, removed, Items::from_vec(files)))
+}
+
+// The same numbers.
+fn copy_of(alloc: Global, numbers: &Items<u64>) -> Result<Items<u64>, AllocError>
+    ensures { IfOk result (λ copy. copy ≡ numbers.now) }
+{
+    let copy = numbers.as_slice().to_vec(alloc)?;
+    Ok(Items::from_vec(copy))
+}
+
+// The numbers of files.
+fn numbers_of(alloc: Global, files: &[FileMeta]) -> Result<Vec<u64>, AllocError>
+    ensures { IfOk result (λ numbers. numbers.items ≡ map (λ f. f.number) files.now) }
+{
+    files.iter().map(|file| file.number).collect(alloc)
+}
+
+// Goes on by an edit that applies: only memory can be wanting.
+fn go_on(served: &mut Served, edit: &Edit, tables: Vec<Table>) -> Result<(), AllocError>
+    requires sound { IsEdit edit.now }
+    requires recorded { AreAsRecorded edit.now.added tables.items }
+    requires applies { apply_fault served.old.version edit.now ≡ None }
+    ensures ok { OnOk result (served.new ≡ advanced served.old edit.now tables.items) }
+    ensures err { OnErr result (served.new ≡ served.old) }
+{
+    match served.advance(edit, tables) {
+        Ok(()) => Ok(()),
+        Err(_) => Err(AllocError),
+    }
+}

@@ -1,0 +1,108 @@
+//! Outputs of a job: the tables that a worker made.
+
+ghost use Rattle.std.specs.Prelude.{◌≡◌, ◌≤◌, ◌⊎◌, ◌+◌, IfErr, IfOk, List, length};
+ghost use Rattle.std.specs.Option.{option_copied};
+ghost use Rattle.lsm_key.specs.declared.limits.TheConstants.{MAX_NUMBER};
+ghost use Rattle.lsm_key.specs.Order.{key_lt};
+ghost use Rattle.lsm_table.specs.Tables.{IsTable, Opened, largest_key, smallest_key};
+ghost use Rattle.lsm_coord.specs.declared.coord.install.InstallError.TheVariants as why;
+ghost use Rattle.lsm_coord.specs.Installing.{AreOutputs, comes_next, is_inside, record_of, records};
+
+use super::install::InstallError;
+use bytes::Bytes;
+use lsm_claim::Hull;
+use lsm_edit::FileMeta;
+use lsm_key::Refused;
+use lsm_table::Table;
+use std::alloc::{AllocError, Global};
+
+/// As many tables as a result may have, so that an edit can count them.
+const MAX_OUTPUTS: usize = u32::MAX as usize;
+
+/// The tables of a result: opened, and each with keys of the hull alone that stand after those of the one before it.
+pub(crate) fn open_outputs(
+    alloc: Global,
+    hull: &Hull,
+    texts: &[Bytes],
+) -> Result<Vec<Table>, InstallError>
+    ensures ok { IfOk result (λ tables. AreOutputs hull.now texts.now tables.items) }
+    ensures bad { IfErr result (λ e. (e ≡ why.OutOfMemory) ⊎ ((e ≡ why.BadResult) × ((ts : List Opened) → AreOutputs hull.now texts.now ts → ⊥))) }
+{
+    if texts.len() > MAX_OUTPUTS {
+        return Err(InstallError::BadResult);
+    }
+    let mut tables = Vec::with_capacity(alloc, texts.len())?;
+    for text in texts {
+        let table = open_output(alloc, text)?;
+        if !comes_next(hull, tables.last(), &table) {
+            return Err(InstallError::BadResult);
+        }
+        tables.push(table)?;
+    }
+    Ok(tables)
+}
+
+// The table of an output.
+fn open_output(alloc: Global, text: &Bytes) -> Result<Table, InstallError>
+    ensures ok { IfOk result (λ table. (table.bytes ≡ text.now) × IsTable text.now table.entries) }
+    ensures bad { IfErr result (λ e. (e ≡ why.OutOfMemory) ⊎ ((e ≡ why.BadResult) × ((t : Opened) → IsTable text.now t.entries → ⊥))) }
+{
+    let copy = text.clone()?;
+    match Table::open(alloc, copy) {
+        Ok(table) => Ok(table),
+        Err(Refused::OutOfMemory) => Err(InstallError::OutOfMemory),
+        Err(Refused::Fault(_)) => Err(InstallError::BadResult),
+    }
+}
+
+// The table's keys are in the hull, and after those of the last one.
+fn comes_next(hull: &Hull, last: Option<&Table>, table: &Table) -> bool
+    ensures { result ≡ comes_next hull.now (option_copied last.entry) table.now }
+{
+    match last {
+        None => is_inside(hull, table),
+        Some(before) => is_inside(hull, table) && stands_before(before, table),
+    }
+}
+
+fn is_inside(hull: &Hull, table: &Table) -> bool
+    ensures { result ≡ is_inside hull.now table.now }
+{
+    hull.lo.cmp(table.smallest()).is_le() && table.largest().cmp(&hull.hi).is_le()
+}
+
+fn stands_before(before: &Table, table: &Table) -> bool
+    ensures { result ≡ key_lt (largest_key before.now.entries) (smallest_key table.now.entries) }
+{
+    before.largest().cmp(table.smallest()).is_lt()
+}
+
+/// The records of tables of a level, under numbers in turn from one on.
+pub(crate) fn records_of(
+    alloc: Global,
+    level: u8,
+    first: u64,
+    tables: &[Table],
+) -> Result<Vec<FileMeta>, AllocError>
+    requires level { level ≤ 6 }
+    requires some { 1 ≤ first }
+    requires most { first + length tables.now ≤ MAX_NUMBER }
+    ensures { IfOk result (λ files. files.items ≡ records level first tables.now) }
+{
+    let mut files = Vec::with_capacity(alloc, tables.len())?;
+    for (place, table) in tables.iter().enumerate() {
+        let file = record_of(first + place as u64, level, table)?;
+        files.push(file)?;
+    }
+    Ok(files)
+}
+
+// The record of a table.
+fn record_of(number: u64, level: u8, table: &Table) -> Result<FileMeta, AllocError>
+    requires level { level ≤ 6 }
+    requires some { 1 ≤ number }
+    requires most { number ≤ MAX_NUMBER }
+    ensures { IfOk result (λ file. file ≡ record_of level number table.now) }
+{
+    FileMeta::of_table(number, level, table)
+}

@@ -1,0 +1,100 @@
+//! The desk: the dispatchers of a store.
+
+use crate::{Coord, Dispatcher};
+use lsm_claim::{Claim, JobId};
+use lsm_msg::NodeIndex;
+use std::marker::Model;
+
+/// Four dispatchers, numbered as the workers are. It is neither `Drop` nor `Copy`: `close` alone ends it.
+pub struct Desk {
+    first: Dispatcher,
+    second: Dispatcher,
+    third: Dispatcher,
+    fourth: Dispatcher,
+}
+
+impl Model for Desk {
+    ghost use Rattle.std.specs.Prelude.{List, [], ◌∷◌};
+    ghost use Rattle.lsm_coord.specs.declared.dispatcher.Dispatcher.{Dispatcher};
+
+    ghost Value = { List Dispatcher };
+
+    ghost view = { λ d. d.first ∷ d.second ∷ d.third ∷ d.fourth ∷ [] };
+}
+
+impl Desk {
+    ghost use Rattle.std.specs.Prelude.{◌≡◌};
+    ghost use Rattle.lsm_coord.specs.declared.dispatcher.Dispatcher.TheVariants.{Idle, Busy};
+    ghost use Rattle.lsm_coord.specs.State.{State};
+    ghost use Rattle.lsm_coord.specs.Shows.{Shows};
+    ghost use Rattle.lsm_coord.specs.Sound.{KeepsSound};
+    ghost use Rattle.lsm_coord.specs.Desks.{dispatcher_of, gave_back_all, held, job_of, new_desk, with_dispatcher};
+
+    /// No dispatcher holds a claim.
+    pub fn new() -> Desk
+        ensures { result ≡ new_desk }
+    {
+        Desk {
+            first: Dispatcher::Idle,
+            second: Dispatcher::Idle,
+            third: Dispatcher::Idle,
+            fourth: Dispatcher::Idle,
+        }
+    }
+
+    /// One of its dispatchers.
+    pub fn dispatcher(&self, index: NodeIndex) -> &Dispatcher
+        ensures { result.now ≡ dispatcher_of self.now index }
+    {
+        match index.number() {
+            1 => &self.first,
+            2 => &self.second,
+            3 => &self.third,
+            _ => &self.fourth,
+        }
+    }
+
+    /// Takes the claim that a dispatcher holds.
+    pub fn take(&mut self, index: NodeIndex) -> Option<Claim>
+        ensures claim { result ≡ job_of (dispatcher_of self.old index) }
+        ensures idle { self.new ≡ with_dispatcher self.old index Idle }
+    {
+        match index.number() {
+            1 => self.first.take(),
+            2 => self.second.take(),
+            3 => self.third.take(),
+            _ => self.fourth.take(),
+        }
+    }
+
+    /// Lets a dispatcher hold a claim. One that it held before comes back.
+    pub fn hold(&mut self, index: NodeIndex, claim: Claim) -> Option<Claim>
+        ensures before { result ≡ job_of (dispatcher_of self.old index) }
+        ensures busy { self.new ≡ with_dispatcher self.old index (Busy claim) }
+    {
+        match index.number() {
+            1 => self.first.hold(claim),
+            2 => self.second.hold(claim),
+            3 => self.third.hold(claim),
+            _ => self.fourth.hold(claim),
+        }
+    }
+
+    /// Gives each claim that is held back to the coordinator, from the first dispatcher on. It takes no memory.
+    pub fn close(self, coord: &mut Coord)
+        ensures returned { coord.new ≡ gave_back_all coord.old (held self) }
+        ensures shown { (s : State) → Shows coord.old s → Shows coord.new s }
+        ensures sound { KeepsSound coord.old coord.new }
+    {
+        let Desk {
+            first,
+            second,
+            third,
+            fourth,
+        } = self;
+        first.close(coord);
+        second.close(coord);
+        third.close(coord);
+        fourth.close(coord);
+    }
+}

@@ -1,0 +1,66 @@
+//! Dispatchers: who holds the claims.
+
+ghost use Rattle.std.specs.Prelude.{◌≡◌};
+ghost use Rattle.std.specs.Option.{option_map};
+ghost use Rattle.lsm_claim.specs.declared.job.LiveJob.{LiveJob};
+
+use crate::Coord;
+use lsm_claim::{Claim, JobId};
+use std::mem;
+
+/// One that hands out jobs, one at a time. It is neither `Drop` nor `Copy`, so that the claim that it holds is spent.
+pub enum Dispatcher {
+    /// It holds no claim.
+    Idle,
+    /// It holds the claim of the job that it handed out.
+    Busy(Claim),
+}
+
+impl Dispatcher {
+    ghost use Rattle.lsm_coord.specs.declared.dispatcher.Dispatcher.TheVariants.{Idle, Busy};
+    ghost use Rattle.lsm_coord.specs.Desks.{gave_back_all, held_by, job_of};
+
+    /// The name of the job whose claim it holds.
+    pub fn id(&self) -> Option<JobId>
+        ensures { result ≡ option_map (λ (j : LiveJob). j.id) (job_of self.now) }
+    {
+        match self {
+            Dispatcher::Idle => None,
+            Dispatcher::Busy(claim) => Some(claim.id()),
+        }
+    }
+
+    /// Hands over the claim that it holds, and is idle from then on.
+    pub fn take(&mut self) -> Option<Claim>
+        ensures claim { result ≡ job_of self.old }
+        ensures idle { self.new ≡ Idle }
+    {
+        match mem::replace(self, Dispatcher::Idle) {
+            Dispatcher::Idle => None,
+            Dispatcher::Busy(claim) => Some(claim),
+        }
+    }
+
+    /// Holds a claim from now on. One that it held before comes back.
+    pub fn hold(&mut self, claim: Claim) -> Option<Claim>
+        ensures before { result ≡ job_of self.old }
+        ensures busy { self.new ≡ Busy claim }
+    {
+        match mem::replace(self, Dispatcher::Busy(claim)) {
+            Dispatcher::Idle => None,
+            Dispatcher::Busy(before) => Some(before),
+        }
+    }
+
+    // Gives back the claim that it holds.
+    pub(crate) fn close(self, coord: &mut Coord)
+        ensures { coord.new ≡ gave_back_all coord.old (held_by self) }
+    {
+        match self {
+            Dispatcher::Idle => {}
+            Dispatcher::Busy(claim) => {
+                coord.give_back(claim);
+            }
+        }
+    }
+}
