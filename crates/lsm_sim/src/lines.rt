@@ -188,6 +188,8 @@ fn coord_name(error: CoordError) -> &'static str
         CoordError::NoSnapshot => "NoSnapshot",
         CoordError::MemtableFull => "MemtableFull",
         CoordError::EmptyBatch => "EmptyBatch",
+        CoordError::BookFull => "BookFull",
+        CoordError::TooWide => "TooWide",
         CoordError::NumbersExhausted => "NumbersExhausted",
         CoordError::OutOfMemory => "OutOfMemory",
     }
