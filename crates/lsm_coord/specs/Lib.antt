@@ -17,4 +17,5 @@ pub mod Sound
 pub mod Desks
 pub mod Installing
 pub mod Picking
+pub mod Serving
 pub mod Scan

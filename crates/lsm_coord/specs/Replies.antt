@@ -6,6 +6,8 @@ use Rattle.lsm_edit.specs.declared.served.Listing.{Listing}
 use Rattle.lsm_coord.specs.declared.error.CoordError.{CoordError}
 use Rattle.lsm_coord.specs.declared.error.CoordError.TheVariants as error
 use Rattle.lsm_coord.specs.declared.coord.flush.Flushed.{Flushed}
+use Rattle.lsm_coord.specs.declared.coord.install.InstallError.{InstallError}
+use Rattle.lsm_coord.specs.declared.coord.install.InstallError.TheVariants as kept
 use Rattle.lsm_coord.specs.declared.snapshot.SnapId.{SnapId}
 use Rattle.lsm_coord.specs.Event.{Refusal, Reply}
 use Rattle.lsm_coord.specs.Event as say
@@ -18,12 +20,21 @@ refusal_of error.NothingToFreeze = say.NothingToFreeze
 refusal_of error.NothingToFlush = say.NothingToFlush
 refusal_of error.TooManySnapshots = say.TooManySnapshots
 refusal_of error.NoSnapshot = say.NoSnapshot
+refusal_of error.WrongJob = say.WrongJob
+refusal_of error.BadResult = say.BadResult
 refusal_of error.MemtableFull = say.MemtableFull
 refusal_of error.EmptyBatch = say.EmptyBatch
 refusal_of error.BookFull = say.BookFull
 refusal_of error.TooWide = say.TooWide
 refusal_of error.NumbersExhausted = say.NumbersExhausted
 refusal_of error.OutOfMemory = say.OutOfMemory
+
+-- why a result is kept back, as a refusal of the coordinator
+abbrev pub error_of : InstallError → CoordError
+error_of kept.WrongJob = error.WrongJob
+error_of kept.BadResult = error.BadResult
+error_of kept.NumbersExhausted = error.NumbersExhausted
+error_of kept.OutOfMemory = error.OutOfMemory
 
 abbrev pub write_reply : Result (ℕ × ℕ) CoordError → Reply
 write_reply (Ok r) = say.Wrote r.0 r.1

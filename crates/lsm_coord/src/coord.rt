@@ -6,6 +6,7 @@ mod install;
 mod outputs;
 mod read;
 mod scan;
+mod serve;
 mod snapshots;
 mod window;
 mod write;

@@ -186,6 +186,8 @@ fn coord_name(error: CoordError) -> &'static str
         CoordError::NothingToFlush => "NothingToFlush",
         CoordError::TooManySnapshots => "TooManySnapshots",
         CoordError::NoSnapshot => "NoSnapshot",
+        CoordError::WrongJob => "WrongJob",
+        CoordError::BadResult => "BadResult",
         CoordError::MemtableFull => "MemtableFull",
         CoordError::EmptyBatch => "EmptyBatch",
         CoordError::BookFull => "BookFull",

@@ -68,11 +68,11 @@ fn installed(
             Some(file) => Ok((number, *file)),
             None => Ok((number, 0)),
         },
-        Install::Kept(claim, _) => {
+        Install::Kept(claim, why) => {
             give_back(coord, claim);
-            Ok((0, 0))
+            Err(why)?
         }
-        Install::Stale(_job, _epoch) => Ok((0, 0)),
+        Install::Stale(_job, _epoch) => Err("the result is stale")?,
     }
 }
 

@@ -1,0 +1,42 @@
+//! Answers to messages.
+
+ghost use Rattle.std.specs.Prelude.{◌≡◌, ℕ, IfOk, IfErr, IsSome};
+ghost use Rattle.lsm_edit.specs.Served.{table_at};
+ghost use Rattle.lsm_coord.specs.Event.{Deliver, Other};
+ghost use Rattle.lsm_coord.specs.Shows.{Follows};
+ghost use Rattle.lsm_coord.specs.Serving.{FetchesTable, answered, sent};
+
+use super::Coord;
+use lsm_msg::{Body, Message, Node};
+use std::alloc::AllocError;
+
+impl Coord {
+    /// What is answered to a message: to who fetches a file its table, where the current version has it, or else that it is
+    /// gone. Other messages are not answered. The table shares its bytes, so that memory is wanting only where they have as
+    /// many owners as can be counted.
+    pub fn serve(&self, message: &Message) -> Result<Option<Message>, AllocError>
+        ensures step { (number : ℕ) → Follows self.now (Deliver number) Other self.now }
+        ensures ok { IfOk result (λ answer. answer ≡ answered self.now message.now message.now.body) }
+        ensures err { IfErr result (λ e. FetchesTable self.now message.now.body) }
+    {
+        match &message.body {
+            Body::Fetch(file) => Ok(Some(Message {
+                src: Node::Coordinator,
+                dst: message.src,
+                body: self.file_body(*file)?,
+            })),
+            _ => Ok(None),
+        }
+    }
+
+    // The table of a file, or that it is gone.
+    fn file_body(&self, file: u64) -> Result<Body, AllocError>
+        ensures ok { IfOk result (λ body. body ≡ sent file (table_at self.now.served.places file)) }
+        ensures err { IfErr result (λ e. IsSome (table_at self.now.served.places file)) }
+    {
+        match self.current.table(file) {
+            Some(table) => Ok(Body::Table(file, table.bytes().clone()?)),
+            None => Ok(Body::Gone(file)),
+        }
+    }
+}
