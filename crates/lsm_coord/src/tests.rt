@@ -1,6 +1,7 @@
 //! What no clause says: that calls succeed, and the texts of refusals.
 
 mod calls;
+mod fetches;
 mod installs;
 mod picks;
 mod records;

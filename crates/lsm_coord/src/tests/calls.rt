@@ -4,7 +4,8 @@ use crate::{Coord, CoordError, Flushed, Install, SnapId};
 use bytes::Bytes;
 use lsm_claim::{Claim, Settled};
 use lsm_key::{Batch, Seq};
-use lsm_msg::{Job, JobResult};
+use lsm_msg::{Job, JobResult, Message};
+use std::alloc::AllocError;
 
 pub(super) fn write(coord: &mut Coord, batch: &Batch) -> Result<(Seq, Seq), CoordError> {
     coord.write(batch)
@@ -50,4 +51,8 @@ pub(super) fn give_back(coord: &mut Coord, claim: Claim) -> Settled {
 
 pub(super) fn install(coord: &mut Coord, claim: Claim, made: &JobResult) -> Install {
     coord.install(claim, made)
+}
+
+pub(super) fn serve(coord: &Coord, message: &Message) -> Result<Option<Message>, AllocError> {
+    coord.serve(message)
 }

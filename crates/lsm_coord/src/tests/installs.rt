@@ -25,7 +25,11 @@ const OF_B: &[u8] =
     b"LSMT\x01\x01\0\0\0\0\0\0\x01\0\0\0\x01\0\0\0\x10\0\x01b\0\0\0\0\0\0\x01\x01\0\x01b\0\0\0\0\0\0\x01\x01\0\0\0\x011";
 
 /// The result of a job with these tables.
-fn result_of(alloc: Global, job: JobId, tables: &[&'static [u8]]) -> Result<JobResult, Fail> {
+pub(super) fn result_of(
+    alloc: Global,
+    job: JobId,
+    tables: &[&'static [u8]],
+) -> Result<JobResult, Fail> {
     let mut list = Items::new(alloc);
     for table in tables {
         list.push(Bytes::from_static(table))?;
