@@ -123,7 +123,7 @@ fn a_merge(alloc: Global, chance: &mut Chance) -> Result<(Vec<Row>, Vec<Row>), F
 #[test]
 fn merges_by_chance(rt: HostRuntime) -> Result<(), Fail> {
     let mut chance = Chance { state: 1996 };
-    for round in 0..50 {
+    for round in 0..100 {
         let (found, wanted) = a_merge(rt.alloc(), &mut chance)?;
         assert_eq!(rt; found.as_slice(), wanted.as_slice(), "in round {round}");
     }
