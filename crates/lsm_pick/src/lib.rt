@@ -14,6 +14,7 @@ mod rule;
 #[cfg(test)]
 mod tests;
 mod tried;
+mod want;
 
 pub use error::PickError;
 pub use laws::pick_limits_are_these;

@@ -1,7 +1,10 @@
 //! The rule of a pick.
 
-ghost use Rattle.std.specs.Prelude.{◌≡◌, ◌≤◌, ◌⊎◌, ◌∷◌, [], IfOk, IfErr, OnErr, IfSome, MatchOption};
+ghost use Rattle.std.specs.Prelude.{◌≡◌, ◌≤◌, ◌⊎◌, ◌∷◌, ◌&&◌, [], IfOk, IfErr, OnErr, IfSome, MatchOption};
+ghost use Rattle.std.specs.List.{list_any};
 ghost use Rattle.lsm_key.specs.Sets.{IsIn};
+ghost use Rattle.lsm_claim.specs.Levels.{shares_level};
+ghost use Rattle.lsm_claim.specs.Conflicts.{ranges_meet};
 ghost use Rattle.lsm_edit.specs.declared.edit.EditKind.TheVariants.{Install};
 ghost use Rattle.lsm_edit.specs.Edit.{AreRemoved};
 ghost use Rattle.lsm_msg.specs.Legal.{IsLegal};
@@ -14,10 +17,11 @@ ghost use Rattle.lsm_pick.specs.Tried.{Comes, Wants};
 
 use crate::PickError;
 use crate::due::is_due;
-use crate::limit::{is_claimed, is_within, want_of};
+use crate::limit::is_within;
 use crate::reach::{Reach, closure};
 use crate::tried::Tried;
-use lsm_claim::{ClaimBook, LiveJob, Want};
+use crate::want::want_of;
+use lsm_claim::{ClaimBook, LiveJob, Want, shares_level};
 use lsm_edit::{FileMeta, Served};
 use lsm_key::Limits;
 use lsm_msg::MAX_JOB_LEVEL;
@@ -142,4 +146,13 @@ fn try_closure(
     }
     let want = want_of(alloc, files, first, narrow, reach)?;
     Ok(Tried::Taken(want))
+}
+
+// A live job shares a level, and has a key in common.
+fn is_claimed(live: &[LiveJob], level: u8, reach: Reach<'_>) -> bool
+    ensures { result ≡ list_any (λ j. shares_level j.want.level level && ranges_meet j.want.hull.lo j.want.hull.hi reach.entry.lo.now reach.entry.hi.now) live.now }
+{
+    live.iter().any(|job| {
+        shares_level(job.want.level, level) && job.want.hull.meets(reach.lo, reach.hi)
+    })
 }
