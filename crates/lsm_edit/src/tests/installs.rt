@@ -243,36 +243,62 @@ fn merged(alloc: Global, file: FileMeta) -> Result<Edit, Fail>
     })
 }
 
+// Goes on by the flush of a table.
+fn flush(alloc: Global, served: &mut Served, number: u64, table: Table) -> Result<(), Fail>
+    requires { (2 ≤ number) × (number ≤ 3) }
+{
+    let file = FileMeta::of_table(number - 1, 0, &table)?;
+    let edit = flushed(alloc, number, file)?;
+    step(alloc, served, &edit, table)
+}
+
+// Goes on by the install of a table in place of the first two.
+fn merge(alloc: Global, served: &mut Served, table: Table) -> Result<(), Fail> {
+    let file = FileMeta::of_table(3, 1, &table)?;
+    let edit = merged(alloc, file)?;
+    step(alloc, served, &edit, table)
+}
+
+// The version after the flushes of a and of b, and their merge.
+fn after_an_install(alloc: Global) -> Result<Served, Fail> {
+    let mut served = Served::new(alloc);
+    let opening = Edit::epoch(alloc, served.version());
+    served.advance(&opening, Vec::new(alloc))?;
+    let (first, second, both) = tables_of(alloc)?;
+    flush(alloc, &mut served, 2, first)?;
+    flush(alloc, &mut served, 3, second)?;
+    merge(alloc, &mut served, both)?;
+    Ok(served)
+}
+
+// Whether a read finds an entry.
+fn is_found(served: &Served, key: &[u8], at: u64) -> bool
+    requires { at < 256 }
+{
+    served.get_at(key, Seq::new(at)).is_some()
+}
+
+// Whether the files with their tables are just this one.
+fn has_only(served: &Served, number: u64) -> bool {
+    match served.places() {
+        [place] => place.meta.number == number && served.table(number).is_some(),
+        _ => false,
+    }
+}
+
+// How many entries a range has.
+fn count_in(served: &Served, lo: &[u8], hi: &[u8]) -> Result<usize, Fail> {
+    Ok(served.range(lo, hi)?.len())
+}
+
 #[test]
 fn what_is_read_after_an_install(rt: HostRuntime) -> Result<(), Fail> {
-    let mut served = Served::new(rt.alloc());
-    let opening = Edit::epoch(rt.alloc(), served.version());
-    served.advance(&opening, Vec::new(rt.alloc()))?;
-    let (first, second, both) = tables_of(rt.alloc())?;
-    let file = FileMeta::of_table(1, 0, &first)?;
-    step(
-        rt.alloc(),
-        &mut served,
-        &flushed(rt.alloc(), 2, file)?,
-        first,
-    )?;
-    let file = FileMeta::of_table(2, 0, &second)?;
-    step(
-        rt.alloc(),
-        &mut served,
-        &flushed(rt.alloc(), 3, file)?,
-        second,
-    )?;
-    assert!(rt; served.places().len() == 2);
-    let file = FileMeta::of_table(3, 1, &both)?;
-    step(rt.alloc(), &mut served, &merged(rt.alloc(), file)?, both)?;
-    assert!(rt; served.places().len() == 1);
-    assert!(rt; served.table(1).is_none());
-    assert!(rt; served.table(3).is_some());
-    assert!(rt; served.get_at(b"a", Seq::new(2)).is_some());
-    assert!(rt; served.get_at(b"b", Seq::new(1)).is_none());
-    assert!(rt; served.get(b"c").is_none());
-    assert_eq!(rt; served.range(b"a", b"c")?.len(), 2);
-    assert_eq!(rt; served.range(b"b", b"c")?.len(), 1);
+    let served = after_an_install(rt.alloc())?;
+    assert!(rt; has_only(&served, 3));
+    assert!(rt; is_found(&served, b"a", 2));
+    assert!(rt; !is_found(&served, b"b", 1));
+    assert!(rt; !is_found(&served, b"c", 2));
+    assert_eq!(rt; count_in(&served, b"a", b"c")?, 2);
+    assert_eq!(rt; count_in(&served, b"b", b"c")?, 1);
     Ok(())
 }
