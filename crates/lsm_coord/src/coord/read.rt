@@ -3,6 +3,9 @@
 ghost use Rattle.std.specs.Prelude.{◌≡◌, None, Some, IfOk, IfErr, IsSome};
 ghost use Rattle.std.specs.Option.{option_map, option_and_then};
 ghost use Rattle.lsm_key.specs.Visible.{visible, entry_value, lent};
+ghost use Rattle.lsm_claim.specs.Book.{IsBook};
+ghost use Rattle.lsm_edit.specs.Served.{IsServed};
+ghost use Rattle.lsm_edit.specs.Version.{IsVersion};
 ghost use Rattle.lsm_coord.specs.State.{snapshot_at};
 ghost use Rattle.lsm_coord.specs.Event.{Get, Show, Coordinator};
 ghost use Rattle.lsm_coord.specs.Shows.{Follows};
@@ -95,7 +98,10 @@ impl Coord {
     pub fn show(&self) -> Listing<'_>
         ensures step { Follows self.now (Show Coordinator) (show_reply result) self.now }
         ensures files { result.files.now ≡ self.now.served.version.files }
+        ensures sound { IsServed self.now.served × IsVersion self.now.served.version × IsBook self.now.book }
     {
+        // That the book is sound, as the proof wants to know.
+        let _live = self.book.live();
         self.current.listing()
     }
 }
