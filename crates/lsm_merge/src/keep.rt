@@ -29,7 +29,7 @@ fn kept_beside(
 ) -> Result<Vec<Entry>, AllocError>
     ensures { IfOk result (λ kept. kept.items ≡ kept_list points.now deeper.now None entries.now) }
 {
-    let mut kept = Vec::new(alloc);
+    let mut kept = Vec::with_capacity(alloc, entries.len())?;
     let mut before: Option<&Entry> = None;
     for entry in entries {
         if stays(points, deeper, before, entry) {

@@ -9,7 +9,7 @@ ghost use Rattle.lsm_table.specs.Blocks.{AreEntries, IsBlock};
 ghost use Rattle.lsm_table.specs.BlockReading.{next_at, block_of, may_follow, last_of};
 
 use bytes::Bytes;
-use lsm_key::{Entry, EntryRef, Refused, Seq, compare_place, know_bytes, seek_in};
+use lsm_key::{ENTRY_OVERHEAD, Entry, EntryRef, Refused, Seq, compare_place, know_bytes, seek_in};
 use reading::entry_of;
 use std::alloc::Global;
 use std::marker::Model;
@@ -85,12 +85,14 @@ fn next_of(before: &[Entry], rest: &mut Bytes) -> Result<Entry, BlockError>
     Ok(entry)
 }
 
-// The entries that the bytes spell, all of the bytes.
-fn entries_of(alloc: Global, bytes: Bytes) -> Result<Block, BlockError>
+// The entries that the bytes spell, all of the bytes. Room is made for as many as there are said to be, if the bytes can hold
+// them: a list that grows would move its entries.
+pub(crate) fn entries_of(alloc: Global, bytes: Bytes, about: usize) -> Result<Block, BlockError>
     ensures { Gives (λ b. b) result (block_of bytes) }
 {
     know_bytes(&bytes);
-    let mut entries = Vec::new(alloc);
+    let room = about.min(bytes.len() / ENTRY_OVERHEAD);
+    let mut entries = Vec::with_capacity(alloc, room)?;
     let mut rest = bytes;
     loop {
         let entry = next_of(&entries, &mut rest)?;
@@ -111,5 +113,5 @@ pub fn decode_block(alloc: Global, bytes: Bytes) -> Result<Block, BlockError>
     ensures exact { Gives (λ b. b) result (block_of bytes) }
 {
     know_bytes(&bytes);
-    entries_of(alloc, bytes)
+    entries_of(alloc, bytes, 0)
 }
