@@ -1,0 +1,105 @@
+//! Compactions: one merge that is due, from its pick to its install.
+
+use lsm_claim::Claim;
+use lsm_coord::{Coord, CoordError, Install};
+use lsm_edit::FileMeta;
+use lsm_key::{Items, Refused};
+use lsm_merge::{MergeError, merge};
+use lsm_msg::{Body, Job, JobResult, Message, Node};
+use lsm_table::Table;
+use bytes::Bytes;
+use std::alloc::{AllocError, Global};
+
+/// Makes the merge that is due, where one is: picks its job, merges the tables that the coordinator serves, and installs the
+/// outputs. It answers the number of the new version and its new files, or `None` where nothing is picked. A refusal leaves
+/// the version as it was, and no claim behind.
+pub fn compact_once(
+    alloc: Global,
+    coord: &mut Coord,
+) -> Result<Option<(u64, Vec<u64>)>, CoordError> {
+    let Some((claim, job)) = coord.pick()? else {
+        return Ok(None);
+    };
+    match result_of(alloc, coord, &job) {
+        Ok(Some(made)) => install(coord, claim, &made),
+        Ok(None) => {
+            coord.give_back(claim);
+            Ok(None)
+        }
+        Err(_) => {
+            coord.give_back(claim);
+            Err(CoordError::OutOfMemory)
+        }
+    }
+}
+
+/// Installs the result of a picked job. One that is kept back ends with its claim.
+fn install(
+    coord: &mut Coord,
+    claim: Claim,
+    made: &JobResult,
+) -> Result<Option<(u64, Vec<u64>)>, CoordError> {
+    match coord.install(claim, made) {
+        Install::Done(number, files) => Ok(Some((number, files.into_vec()))),
+        // A claim that was just picked is live.
+        Install::Stale(_, _) => Ok(None),
+        Install::Kept(claim, why) => {
+            coord.give_back(claim);
+            Err(why.into())
+        }
+    }
+}
+
+/// What a merge makes of a job, or `None` where it refuses the tables.
+fn result_of(alloc: Global, coord: &Coord, job: &Job) -> Result<Option<JobResult>, AllocError> {
+    let tables = tables_of(alloc, coord, job.inputs())?;
+    match merge(alloc, tables.as_slice(), job) {
+        Ok(outputs) => Ok(Some(JobResult {
+            job: job.id(),
+            tables: Items::from_vec(outputs),
+        })),
+        Err(MergeError::OutOfMemory) => Err(AllocError),
+        Err(MergeError::WrongInputs | MergeError::SameEntry) => Ok(None),
+    }
+}
+
+/// The tables of files, in their order. A file that is gone has none.
+fn tables_of(alloc: Global, coord: &Coord, files: &[FileMeta]) -> Result<Vec<Table>, AllocError> {
+    let mut tables = Vec::with_capacity(alloc, files.len())?;
+    for file in files {
+        if let Some(table) = fetched(alloc, coord, file.number)? {
+            tables.push(table)?;
+        }
+    }
+    Ok(tables)
+}
+
+/// The table of a file, as a worker would fetch it.
+fn fetched(alloc: Global, coord: &Coord, file: u64) -> Result<Option<Table>, AllocError> {
+    let asked = Message {
+        src: Node::Coordinator,
+        dst: Node::Coordinator,
+        body: Body::Fetch(file),
+    };
+    match coord.serve(&asked)? {
+        Some(answer) => table_in(alloc, answer.body),
+        None => Ok(None),
+    }
+}
+
+/// The table that a message brings.
+fn table_in(alloc: Global, body: Body) -> Result<Option<Table>, AllocError> {
+    match body {
+        Body::Table(_, bytes) => opened(alloc, bytes),
+        _ => Ok(None),
+    }
+}
+
+/// The table that the bytes are, if they are one.
+fn opened(alloc: Global, bytes: Bytes) -> Result<Option<Table>, AllocError> {
+    match Table::open(alloc, bytes) {
+        Ok(table) => Ok(Some(table)),
+        Err(Refused::OutOfMemory) => Err(AllocError),
+        Err(Refused::Fault(_)) => Ok(None),
+    }
+}
