@@ -7,3 +7,4 @@ pub mod Known
 pub mod Runs
 pub mod Stops
 pub mod Telling
+pub mod Fetching

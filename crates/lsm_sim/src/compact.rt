@@ -76,6 +76,7 @@ fn install(
 }
 
 /// What a merge makes of a job, or `None` where it refuses the tables.
+#[tactic(auto, using(crate::proofs::Fetching::are_recorded))]
 fn result_of(alloc: Global, coord: &Coord, job: &Job) -> Result<Option<JobResult>, AllocError>
     requires version { IsVersion coord.now.served.version }
     requires served { IsServed coord.now.served }
@@ -89,7 +90,9 @@ fn result_of(alloc: Global, coord: &Coord, job: &Job) -> Result<Option<JobResult
             tables: Items::from_vec(outputs),
         })),
         Err(MergeError::OutOfMemory) => Err(AllocError),
-        Err(MergeError::WrongInputs | MergeError::SameEntry) => Ok(None),
+        // What is served are the inputs.
+        Err(MergeError::WrongInputs) => Ok(None),
+        Err(MergeError::SameEntry) => Ok(None),
     }
 }
 
