@@ -67,7 +67,7 @@ module _ (s : ServedValue) (ver : IsVersion s.version) (is : IsServed s) where
       let one : found.place ≡ own.0 = one_place s ver is found.place own.0 found.member own.1 (found.number ∙ ap (λ (g : FileMeta). g.number) own.2) in
       (own.0, own.1, own.2, t.1 ∙ ap (λ (x : Opened). Some x) (sym found.table ∙ ap (λ (p : Placed). p.table) one))
 
-  next_table : (f : FileMeta) (fs : List FileMeta) (t : Opened) → table_at s.places f.number ≡ Some t → tables_at s.places (f ∷ fs) ≡ t ∷ tables_at s.places fs
+  pub next_table : (f : FileMeta) (fs : List FileMeta) (t : Opened) → table_at s.places f.number ≡ Some t → tables_at s.places (f ∷ fs) ≡ t ∷ tables_at s.places fs
   next_table f fs t e = ap (λ (o : Option Opened). listed o ++ tables_at s.places fs) e
 
   pub are_recorded : (fs : List FileMeta) → ((f : FileMeta) → IsIn f fs → IsIn f s.version.files) → AreAsRecorded fs (tables_at s.places fs)

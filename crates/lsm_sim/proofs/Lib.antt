@@ -8,3 +8,5 @@ pub mod Runs
 pub mod Stops
 pub mod Telling
 pub mod Fetching
+pub mod Inputs
+pub mod Made

@@ -34,7 +34,14 @@ use std::alloc::{AllocError, Global};
 pub fn compact_once(
     alloc: Global,
     coord: &mut Coord,
-) -> Result<Option<(u64, Vec<u64>)>, CoordError> {
+) -> Result<Option<(u64, Vec<u64>)>, CoordError>
+    ensures ok { IfOk result (Compacts coord.old coord.new) }
+    ensures err { OnErr result (IsLeft coord.old coord.new) }
+    ensures refused { IfErr result (CompactionRefuses coord.old) }
+    ensures step { (dispatcher message : ℕ) → IsIndex dispatcher → (s : State) → Shows coord.old s → IsReached dispatcher message s result coord.new }
+    ensures sound { KeepsSound coord.old coord.new }
+{
+    coord.know_sound();
     let Some((claim, job)) = coord.pick()? else {
         return Ok(None);
     };
