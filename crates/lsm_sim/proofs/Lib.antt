@@ -10,3 +10,4 @@ pub mod Telling
 pub mod Fetching
 pub mod Inputs
 pub mod Made
+pub mod Compactions
