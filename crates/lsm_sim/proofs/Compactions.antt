@@ -12,6 +12,7 @@ use Rattle.lsm_claim.specs.declared.job.LiveJob.{LiveJob}
 use Rattle.lsm_claim.specs.declared.job.Want.{Want}
 use Rattle.lsm_claim.specs.Book.{BookValue, IsBook, after_settling, claimed, holds, next_job, with_ending}
 use Rattle.lsm_claim.specs.Jobs.{same_id, without_job}
+use Rattle.lsm_table.specs.Tables.{Opened}
 use Rattle.lsm_edit.specs.declared.file.FileMeta.{FileMeta}
 use Rattle.lsm_edit.specs.Served.{IsServed, ServedValue, tables_of}
 use Rattle.lsm_edit.specs.Version.{IsVersion, NumbersRise}
@@ -32,7 +33,7 @@ use Rattle.lsm_coord.proofs.Installing.{held_by}
 use Rattle.lsm_coord.proofs.Jobs.{is_input, is_taken}
 use Rattle.lsm_coord.proofs.Lists.{any_found, any_here}
 use Rattle.lsm_coord.proofs.Returning.{live_before, same_name}
-use Rattle.lsm_sim.specs.Compacting.{IsLeft, tables_at}
+use Rattle.lsm_sim.specs.Compacting.{IsLeft, Merges, tables_at}
 use Rattle.lsm_sim.proofs.Inputs.{are_inputs, fetched, none_shared, rise_filter}
 use Rattle.lsm_sim.proofs.Made.{opened_as, opened_entries, opened_tables, outputs_are}
 
@@ -93,8 +94,11 @@ picked_by old mid answer claim job e h = subst (Picks old mid) e h
 pub sound_by : (mid : CoordValue) (answer : Option (LiveJob × JobParts)) (claim : LiveJob) (job : JobParts) → answer ≡ Some (claim, job) → IfSome answer (λ r. IsSound mid r.1) → IsSound mid job
 sound_by mid answer claim job e h = subst (λ (o : Option (LiveJob × JobParts)). IfSome o (λ r. IsSound mid r.1)) e h
 
+pub merges_by : (tables : List Opened) (job : JobParts) (made other : Option JobResult) → made ≡ other → Merges tables job made → Merges tables job other
+merges_by tables job made other e h = subst (Merges tables job) e h
+
 module _ (old mid : CoordValue) (claim : LiveJob) (job : JobParts) (ver : IsVersion old.served.version) (is : IsServed old.served) (book : IsBook old.book) (picked : IsPicked old claim job mid) where
-  served_is : mid.served ≡ old.served
+  pub served_is : mid.served ≡ old.served
   served_is = ap (λ (c : CoordValue). c.served) picked.new_is
 
   book_is : mid.book ≡ claimed old.book picked.want

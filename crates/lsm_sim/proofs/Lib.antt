@@ -11,3 +11,4 @@ pub mod Fetching
 pub mod Inputs
 pub mod Made
 pub mod Compactions
+pub mod Answered
