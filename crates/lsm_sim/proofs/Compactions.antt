@@ -71,10 +71,10 @@ module _ (b : BookValue) (is : IsBook b) (want : Want) where
   claim_held = held_by (claimed b want) (next_job b want) (next_job b want).id claim_found
 
   -- a claim that is given back leaves the live jobs as they were
-  pub live_again : (after_settling (claimed b want) (next_job b want).id Returned).live ≡ b.live
-  live_again =
-      ap (λ (held : Bool). (cond held (with_ending Returned (record (claimed b want) { live = without_job (next_job b want).id (claimed b want).live })) (claimed b want)).live) claim_held
-      ∙ others_stay (next_job b want).id (next_job b want) own_name b.live new_name
+  pub given_back : after_settling (claimed b want) (next_job b want).id Returned ≡ record b { made = b.made + 1; returned = b.returned + 1 }
+  given_back =
+      ap (λ (held : Bool). cond held (with_ending Returned (record (claimed b want) { live = without_job (next_job b want).id (claimed b want).live })) (claimed b want)) claim_held
+      ∙ ap (λ (live : List LiveJob). record b { made = b.made + 1; returned = b.returned + 1; live = live }) (others_stay (next_job b want).id (next_job b want) own_name b.live new_name)
 
 -- ---- jobs that stay sound
 
@@ -173,7 +173,9 @@ module _ (old mid : CoordValue) (claim : LiveJob) (job : JobParts) (ver : IsVers
   pub left_again : (new : CoordValue) → new ≡ gave_back mid claim.id → IsLeft old new
   left_again new e =
       let back : new ≡ gave_back (record old { book = claimed old.book picked.want }) (next_job old.book picked.want).id = e ∙ (λ i. gave_back (picked.new_is i) (picked.claim_is i).id) in
-      subst (IsLeft old) (sym back) (record { rest = refl; live = live_again old.book book picked.want })
+      let counted : gave_back (record old { book = claimed old.book picked.want }) (next_job old.book picked.want).id ≡ record old { book = record old.book { made = old.book.made + 1; returned = old.book.returned + 1 } } =
+      ap (λ (b : BookValue). record old { book = b }) (given_back old.book book picked.want) in
+      subst (IsLeft old) (sym (back ∙ counted)) (record { rest = refl; book = refl })
 
   pub back_keeps : (new : CoordValue) → KeepsSound old mid → KeepsSound mid new → new ≡ gave_back mid claim.id → KeepsSound old new
   back_keeps new first second e = keeps_then old mid new first second (λ j n. live_before mid.book claim.id Returned j (subst (λ (c : CoordValue). IsIn j c.book.live) e n))

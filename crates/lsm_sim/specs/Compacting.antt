@@ -74,10 +74,10 @@ abbrev pub Compacts : {Z : Type 0} → CoordValue → CoordValue → Option (ℕ
 Compacts old new None = (s : State) → Shows old s → HasRoom old × GivesNone old × (new ≡ old)
 Compacts old new (Some made) = IsCompaction old made.0 made.1.items new
 
--- only the counts of the book may differ: no claim is left behind
+-- only how many claims the book gave and took back may differ: no claim is left behind
 pub record IsLeft (old new : CoordValue) : Type 0 where
   pub rest : new ≡ record old { book = new.book }
-  pub live : new.book.live ≡ old.book.live
+  pub book : new.book ≡ record old.book { made = new.book.made; returned = new.book.returned }
 
 -- the numbers are exhausted by the outputs of the merge
 pub record LacksNumbers (c : CoordValue) : Type 0 where
