@@ -69,15 +69,15 @@ pub record IsCompaction (old : CoordValue) (number : ℕ) (files : List ℕ) (ne
   pub merged : IsMerge claimed job claim.want made
   pub installed : Became claimed claim made (became.Done number files) new
 
--- None is answered where the rule of a pick gives nothing
-abbrev pub Compacts : {Z : Type 0} → CoordValue → CoordValue → Option (ℕ × Vec ℕ Z) → Type 0
-Compacts old new None = (s : State) → Shows old s → HasRoom old × GivesNone old × (new ≡ old)
-Compacts old new (Some made) = IsCompaction old made.0 made.1.items new
-
 -- only how many claims the book gave and took back may differ: no claim is left behind
 pub record IsLeft (old new : CoordValue) : Type 0 where
   pub rest : new ≡ record old { book = new.book }
   pub book : new.book ≡ record old.book { made = new.book.made; returned = new.book.returned }
+
+-- None is answered where the rule of a pick gives nothing: of a state that is shown there is no other cause
+abbrev pub Compacts : {Z : Type 0} → CoordValue → CoordValue → Option (ℕ × Vec ℕ Z) → Type 0
+Compacts old new None = IsLeft old new × ((s : State) → Shows old s → HasRoom old × GivesNone old × (new ≡ old))
+Compacts old new (Some made) = IsCompaction old made.0 made.1.items new
 
 -- the numbers are exhausted by the outputs of the merge
 pub record LacksNumbers (c : CoordValue) : Type 0 where

@@ -24,7 +24,10 @@ returns-clause-sound c =
 pub returns-in-Ok-None-clause-ok : goal.returns-in-Ok-None-clause-ok
 returns-in-Ok-None-clause-ok c =
     let know = c.know_sound.ensures in
-    λ s h. absurd (none_same _ _ c.in-Some.claim c.in-Some.job know.version know.served know.book (picked_by _ _ _ _ _ c.in-Some.is c.in_ok-claim.ensures.ok) s h (merges_by _ _ _ _ c.in-Ok-None.field-0-is c.in-Ok-None.ensures))
+    let picked = picked_by _ _ _ _ _ c.in-Some.is c.in_ok-claim.ensures.ok in (
+      left_again _ _ c.in-Some.claim c.in-Some.job know.version know.served know.book picked _ c.give_back.ensures.book,
+      λ s h. absurd (none_same _ _ c.in-Some.claim c.in-Some.job know.version know.served know.book picked s h (merges_by _ _ _ _ c.in-Ok-None.field-0-is c.in-Ok-None.ensures)),
+    )
 
 pub returns-in-Ok-None-clause-sound : goal.returns-in-Ok-None-clause-sound
 returns-in-Ok-None-clause-sound c =
