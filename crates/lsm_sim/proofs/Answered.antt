@@ -1,13 +1,11 @@
 -- What a compaction answers, of what its install answers.
-use Rattle.std.proofs.Common.{◌≡◌, ℕ, true, false, ◌⊎◌, List, Option, None, Some, Result, Ok, Err, Vec, IfOk, IfErr, OnErr, refl, sym, ap, subst, ◌∙◌, inl, inr}
+use Rattle.std.proofs.Common.{◌≡◌, ℕ, false, Option, None, Some, Result, Ok, Err, Vec, IfOk, IfErr, OnErr, refl, sym, ap, subst, ◌∙◌, inr}
 use Rattle.std.specs.Prelude.{IfSome}
 use Rattle.std.proofs.lemmas.Bool.{true≢false}
 use Rattle.lsm_key.specs.Sets.{IsIn}
 use Rattle.lsm_claim.specs.declared.ending.Ending.TheVariants as ending
-use Rattle.lsm_claim.specs.declared.job.JobId.{JobId}
 use Rattle.lsm_claim.specs.declared.job.LiveJob.{LiveJob}
 use Rattle.lsm_claim.specs.Book.{IsBook, after_settling, holds}
-use Rattle.lsm_table.specs.Tables.{Opened}
 use Rattle.lsm_edit.specs.Served.{IsServed, ServedValue}
 use Rattle.lsm_edit.specs.Version.{IsVersion}
 use Rattle.lsm_msg.specs.declared.job.JobParts.{JobParts}

@@ -1,5 +1,5 @@
 -- The entries of a job's tables are those of its inputs, no two tables have one, and they are few.
-use Rattle.std.proofs.Common.{◌≡◌, ℕ, ◌+◌, ◌<◌, ◌≤◌, Bool, true, false, cond, List, [], ◌∷◌, ◌++◌, Option, Some, length, filter, refl, sym, ap, subst, ◌∙◌, arith, inl, inr, length-append}
+use Rattle.std.proofs.Common.{◌≡◌, ℕ, ◌+◌, ◌<◌, ◌≤◌, Bool, true, false, cond, List, [], ◌∷◌, ◌++◌, length, filter, refl, sym, ap, subst, ◌∙◌, arith, inl, inr, length-append}
 use Rattle.std.specs.Prelude.{◌↔◌, sum_by}
 use Rattle.std.proofs.lemmas.List.Sums.{sum_by-cons}
 use Rattle.lsm_key.specs.declared.entry.Entry.{Entry}
@@ -13,13 +13,13 @@ use Rattle.lsm_table.proofs.TableLaws.{as_long}
 use Rattle.lsm_claim.specs.declared.job.Want.{Want}
 use Rattle.lsm_edit.specs.declared.file.FileMeta.{FileMeta}
 use Rattle.lsm_edit.specs.declared.served.Placed.{Placed}
-use Rattle.lsm_edit.specs.Served.{IsServed, ServedValue, table_at, tables_of}
+use Rattle.lsm_edit.specs.Served.{IsServed, ServedValue, tables_of}
 use Rattle.lsm_edit.specs.Version.{IsVersion, NumbersRise}
 use Rattle.lsm_edit.proofs.Places.{file_of, newer_places, one_first, one_place}
 use Rattle.lsm_msg.specs.Installs.{AreInputsOf}
 use Rattle.lsm_msg.specs.Legal.{Takes}
 use Rattle.lsm_merge.specs.Inputs.{HaveSameEntry, lists_of}
-use Rattle.lsm_sim.specs.Compacting.{listed, tables_at}
+use Rattle.lsm_sim.specs.Compacting.{tables_at}
 use Rattle.lsm_sim.proofs.Fetching.{at_place, next_table}
 
 -- all entries of the tables of files

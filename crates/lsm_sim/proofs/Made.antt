@@ -1,5 +1,5 @@
 -- What a merge makes of the inputs of a want may be installed: tables with keys of its hull, one after another, and few.
-use Rattle.std.proofs.Common.{◌≡◌, ℕ, suc, ◌<◌, ◌≤◌, ◌^◌, true, ◌⊎◌, List, [], ◌∷◌, ◌++◌, length, get_or, map, refl, sym, ap, subst, ◌∙◌, arith, inl, inr, All, AllPairs, length-append}
+use Rattle.std.proofs.Common.{◌≡◌, ℕ, suc, ◌<◌, ◌≤◌, true, ◌⊎◌, List, [], ◌∷◌, length, refl, sym, ap, subst, ◌∙◌, arith, inl, inr, All, AllPairs, length-append}
 use Rattle.std.specs.Prelude.{◌↔◌, sum_by}
 use Rattle.std.proofs.lemmas.Bool.{and_parts, and_from}
 use Rattle.std.proofs.lemmas.List.Elements.{All-head, All-tail}
@@ -9,7 +9,6 @@ use Rattle.lsm_key.specs.Places.{all_entries}
 use Rattle.lsm_key.specs.Sets.{IsIn}
 use Rattle.lsm_key.proofs.Falls.{Falls, ascending_falls}
 use Rattle.lsm_key.proofs.Sets.{IsIn-append_left, IsIn-append_right, IsIn-map, IsIn-place}
-use Rattle.lsm_claim.specs.declared.hull.Hull.{Hull}
 use Rattle.lsm_claim.specs.declared.job.Want.{Want}
 use Rattle.lsm_claim.specs.Conflicts.{covers}
 use Rattle.lsm_table.specs.Tables.{Opened, largest_key, smallest_key}
@@ -25,7 +24,7 @@ use Rattle.lsm_merge.specs.Inputs.{lists_of}
 use Rattle.lsm_merge.specs.Outputs as merge
 use Rattle.lsm_merge.specs.Outputs.{HasLowerKeys}
 use Rattle.lsm_merge.proofs.Pass.{newer_first}
-use Rattle.lsm_coord.specs.Installing.{AreAscending, AreOutputs, AreTables, StandsBefore, is_inside}
+use Rattle.lsm_coord.specs.Installing.{AreAscending, AreOutputs, AreTables, is_inside}
 use Rattle.lsm_sim.specs.Compacting.{tables_at}
 use Rattle.lsm_sim.proofs.Inputs.{fetched, fetched_few, fetched_in}
 

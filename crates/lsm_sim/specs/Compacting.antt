@@ -9,7 +9,7 @@ use Rattle.lsm_msg.specs.declared.job.JobParts.{JobParts}
 use Rattle.lsm_msg.specs.declared.job.JobResult.{JobResult}
 use Rattle.lsm_msg.specs.declared.message.Body.{Body}
 use Rattle.lsm_msg.specs.declared.message.Body.TheVariants as body
-use Rattle.lsm_merge.specs.Inputs.{CanMerge, HaveSameEntry, lists_of}
+use Rattle.lsm_merge.specs.Inputs.{HaveSameEntry, lists_of}
 use Rattle.lsm_merge.specs.Outputs as merge
 use Rattle.lsm_coord.specs.declared.coord.install.Install.TheVariants as became
 use Rattle.lsm_coord.specs.declared.coord.install.InstallError.{InstallError}

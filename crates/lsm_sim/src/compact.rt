@@ -18,6 +18,7 @@ ghost use Rattle.lsm_coord.specs.Sound.{IsSound, KeepsSound};
 ghost use Rattle.lsm_coord.specs.State.{State};
 ghost use Rattle.lsm_sim.specs.Compacting.{Brings, Compacts, CompactionRefuses, IsLeft, IsReached, KeptBack, Merges, tables_at};
 
+use bytes::Bytes;
 use lsm_claim::Claim;
 use lsm_coord::{Coord, CoordError, Install};
 use lsm_edit::FileMeta;
@@ -25,16 +26,12 @@ use lsm_key::{Items, Refused};
 use lsm_merge::{MergeError, merge};
 use lsm_msg::{Body, Job, JobResult, Message, Node};
 use lsm_table::Table;
-use bytes::Bytes;
 use std::alloc::{AllocError, Global};
 
 /// Makes the merge that is due, where one is: picks its job, merges the tables that the coordinator serves, and installs the
 /// outputs. It answers the number of the new version and its new files, or `None` where nothing is picked. A refusal leaves
 /// the version as it was, and no claim behind.
-pub fn compact_once(
-    alloc: Global,
-    coord: &mut Coord,
-) -> Result<Option<(u64, Vec<u64>)>, CoordError>
+pub fn compact_once(alloc: Global, coord: &mut Coord) -> Result<Option<(u64, Vec<u64>)>, CoordError>
     ensures ok { IfOk result (Compacts coord.old coord.new) }
     ensures err { OnErr result (IsLeft coord.old coord.new) }
     ensures refused { IfErr result (CompactionRefuses coord.old) }

@@ -1,12 +1,12 @@
 //! Compactions: which version and files they make, and that reads stay.
 
 use crate::compact::compact_once;
+use bytes::Bytes;
 use lsm_claim::Claim;
 use lsm_coord::{Coord, CoordError, Desk, SnapId};
 use lsm_edit::FileMeta;
 use lsm_key::{Batch, Limits, Op};
 use lsm_msg::NodeIndex;
-use bytes::Bytes;
 use std::alloc::Global;
 use std::process::Abort;
 use std::test::Fail;

@@ -1,4 +1,4 @@
-use Rattle.std.proofs.Common.{Option, None, Some, sym, ap, subst, ◌∙◌, unwrap_or}
+use Rattle.std.proofs.Common.{Option, sym, ap, subst, ◌∙◌, unwrap_or}
 use Rattle.lsm_edit.specs.Served.{table_at}
 use Rattle.lsm_msg.specs.declared.message.Body.{Body}
 use Rattle.lsm_msg.specs.declared.message.Message.{Message}
