@@ -2,7 +2,7 @@
 
 ghost use Rattle.std.specs.Prelude.{◌≡◌, ℕ, false, IfErr, IfOk, IfSome, None, OnErr, Option, Some};
 ghost use Rattle.lsm_key.specs.Sets.{IsIn};
-ghost use Rattle.lsm_claim.specs.Book.{IsBook, holds};
+ghost use Rattle.lsm_claim.specs.Book.{holds};
 ghost use Rattle.lsm_claim.specs.declared.job.LiveJob.{LiveJob};
 ghost use Rattle.lsm_table.specs.Tables.{IsTable, Opened};
 ghost use Rattle.lsm_edit.specs.declared.file.FileMeta.{FileMeta};
@@ -38,19 +38,21 @@ pub fn compact_once(alloc: Global, coord: &mut Coord) -> Result<Option<(u64, Vec
     ensures step { (dispatcher message : ℕ) → IsIndex dispatcher → (s : State) → Shows coord.old s → IsReached dispatcher message s result coord.new }
     ensures sound { KeepsSound coord.old coord.new }
 {
+    // That it is sound, as the proof wants to know.
     coord.know_sound();
     let Some((claim, job)) = coord.pick()? else {
         return Ok(None);
     };
     match result_of(alloc, coord, &job) {
         Ok(Some(made)) => install(coord, claim, &made),
+        // Two inputs have one entry: of no coordinator that shows a state.
         Ok(None) => {
             coord.give_back(claim);
             Ok(None)
         }
-        Err(_) => {
+        Err(error) => {
             coord.give_back(claim);
-            Err(CoordError::OutOfMemory)
+            Err(error.into())
         }
     }
 }
@@ -94,7 +96,7 @@ fn result_of(alloc: Global, coord: &Coord, job: &Job) -> Result<Option<JobResult
             tables: Items::from_vec(outputs),
         })),
         Err(MergeError::OutOfMemory) => Err(AllocError),
-        // What is served are the inputs.
+        // What is served are the inputs: this never comes.
         Err(MergeError::WrongInputs) => Ok(None),
         Err(MergeError::SameEntry) => Ok(None),
     }

@@ -14,7 +14,7 @@ returns-clause-err c =
     left_again _ _ c.in-Some.claim c.in-Some.job know.version know.served know.book (picked_by _ _ _ _ _ c.in-Some.is c.in_ok-claim.ensures.ok) _ c.give_back-in-Err.ensures.book
 
 pub returns-clause-refused : goal.returns-clause-refused
-returns-clause-refused c = wants_memory c.args.coord.now _ (picked_by _ _ _ _ _ c.in-Some.is c.in_ok-claim.ensures.ok).may
+returns-clause-refused c = rw c.into.ensures (wants_memory c.args.coord.now _ (picked_by _ _ _ _ _ c.in-Some.is c.in_ok-claim.ensures.ok).may)
 
 pub returns-clause-sound : goal.returns-clause-sound
 returns-clause-sound c =
