@@ -3,6 +3,7 @@
 mod claims;
 mod flush;
 mod install;
+mod known;
 mod outputs;
 mod read;
 mod scan;

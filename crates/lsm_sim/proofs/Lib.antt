@@ -7,3 +7,8 @@ pub mod Known
 pub mod Runs
 pub mod Stops
 pub mod Telling
+pub mod Fetching
+pub mod Inputs
+pub mod Made
+pub mod Compactions
+pub mod Answered

@@ -6,3 +6,4 @@ pub mod Script
 pub mod Lines
 pub mod Runs
 pub mod Replies
+pub mod Compacting

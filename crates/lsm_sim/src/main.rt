@@ -3,6 +3,7 @@
 
 mod batch;
 mod command;
+mod compact;
 mod error;
 mod event;
 mod fault;

@@ -1,6 +1,7 @@
 //! What no contract says: the texts of faults, and that calls succeed.
 
 mod batches;
+mod compact;
 mod scans;
 
 use crate::error::RunError;

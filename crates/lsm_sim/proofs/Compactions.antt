@@ -1,0 +1,180 @@
+-- A compaction from its pick on: what it installs, what it gives back, and what it leaves as it was.
+use Rattle.std.proofs.Common.{◌≡◌, ◌+◌, ◌≤◌, Bool, true, false, not, cond, List, [], ◌∷◌, ◌++◌, Option, None, Some, refl, sym, ap, subst, ◌∙◌, arith, inl, inr}
+use Rattle.std.specs.Prelude.{◌↔◌, IfSome, find, sum_by}
+use Rattle.std.proofs.lemmas.Bool.{and_parts, eq-eqb, false_from_ne_true, leb-true}
+use Rattle.lsm_key.specs.declared.entry.Entry.{Entry}
+use Rattle.lsm_key.specs.Places.{AreOrdered, all_entries}
+use Rattle.lsm_key.specs.Sets.{IsIn}
+use Rattle.lsm_claim.specs.declared.ending.Ending.TheVariants.{Returned}
+use Rattle.lsm_claim.specs.declared.job.JobId.{JobId}
+use Rattle.lsm_claim.specs.declared.job.LiveJob.{LiveJob}
+use Rattle.lsm_claim.specs.declared.job.Want.{Want}
+use Rattle.lsm_claim.specs.Book.{BookValue, IsBook, after_settling, claimed, holds, next_job, with_ending}
+use Rattle.lsm_claim.specs.Jobs.{same_id, without_job}
+use Rattle.lsm_table.specs.Tables.{Opened}
+use Rattle.lsm_edit.specs.declared.file.FileMeta.{FileMeta}
+use Rattle.lsm_edit.specs.Served.{IsServed, ServedValue, tables_of}
+use Rattle.lsm_edit.specs.Version.{IsVersion, NumbersRise}
+use Rattle.lsm_msg.specs.declared.job.JobParts.{JobParts}
+use Rattle.lsm_msg.specs.declared.job.JobResult.{JobResult}
+use Rattle.lsm_msg.specs.Legal.{IsLegal, Takes}
+use Rattle.lsm_msg.specs.Merge.{HoldsKept}
+use Rattle.lsm_merge.specs.Inputs.{HaveSameEntry, lists_of}
+use Rattle.lsm_merge.specs.Outputs as merge
+use Rattle.lsm_coord.specs.Calls.{gave_back}
+use Rattle.lsm_coord.specs.Installing.{AreOutputs, IsLive, IsMerge}
+use Rattle.lsm_coord.specs.Picking.{IsPicked, Picks}
+use Rattle.lsm_coord.specs.Shows.{Shows}
+use Rattle.lsm_coord.specs.Sound.{IsSound, KeepsSound}
+use Rattle.lsm_coord.specs.State.{State}
+use Rattle.lsm_coord.specs.Value.{CoordValue}
+use Rattle.lsm_coord.proofs.Installing.{held_by}
+use Rattle.lsm_coord.proofs.Jobs.{is_input, is_taken}
+use Rattle.lsm_coord.proofs.Lists.{any_found, any_here}
+use Rattle.lsm_coord.proofs.Returning.{live_before, same_name}
+use Rattle.lsm_sim.specs.Compacting.{IsLeft, Merges, tables_at}
+use Rattle.lsm_sim.proofs.Inputs.{are_inputs, fetched, none_shared, rise_filter}
+use Rattle.lsm_sim.proofs.Made.{opened_as, opened_entries, opened_tables, outputs_are}
+
+-- ---- the last job of a list, whose name no other has
+
+module _ (id : JobId) (last : LiveJob) (own : same_id last.id id ≡ true) where
+  -- the others are those without it
+  pub others_stay : (jobs : List LiveJob) → ((j : LiveJob) → IsIn j jobs → same_id j.id id ≡ false) → without_job id (jobs ++ last ∷ []) ≡ jobs
+  others_stay [] other = ap (λ (b : Bool). cond (not b) (last ∷ []) []) own
+  others_stay (j ∷ jobs) other =
+      ap (λ (b : Bool). cond (not b) (j ∷ without_job id (jobs ++ last ∷ [])) (without_job id (jobs ++ last ∷ []))) (other j (inl refl))
+      ∙ ap (λ (js : List LiveJob). j ∷ js) (others_stay jobs (λ k m. other k (inr m)))
+
+  -- and it is found by its name
+  pub is_found : (jobs : List LiveJob) → ((j : LiveJob) → IsIn j jobs → same_id j.id id ≡ false) → find (λ j. same_id j.id id) (jobs ++ last ∷ []) ≡ Some last
+  is_found [] other = ap (λ (b : Bool). cond b (Some last) None) own
+  is_found (j ∷ jobs) other =
+      ap (λ (b : Bool). cond b (Some j) (find (λ k. same_id k.id id) (jobs ++ last ∷ []))) (other j (inl refl))
+      ∙ is_found jobs (λ k m. other k (inr m))
+
+module _ (b : BookValue) (is : IsBook b) (want : Want) where
+  own_name : same_id (next_job b want).id (next_job b want).id ≡ true
+  own_name = rw (eq-eqb b.epoch b.epoch refl) (eq-eqb (b.made + 1) (b.made + 1) refl)
+
+  new_name : (j : LiveJob) → IsIn j b.live → same_id j.id (next_job b want).id ≡ false
+  new_name j m = false_from_ne_true (same_id j.id (next_job b want).id) (λ h.
+      let number : j.id.number ≡ b.made + 1 = ap (λ (i : JobId). i.number) (same_name j.id (next_job b want).id h) in
+      let last = (is.given j m).last in
+      omega (arith, number, last))
+
+  claim_found : find (λ j. same_id j.id (next_job b want).id) (claimed b want).live ≡ Some (next_job b want)
+  claim_found = is_found (next_job b want).id (next_job b want) own_name b.live new_name
+
+  pub claim_held : holds (claimed b want) (next_job b want).id ≡ true
+  claim_held = held_by (claimed b want) (next_job b want) (next_job b want).id claim_found
+
+  -- a claim that is given back leaves the live jobs as they were
+  pub given_back : after_settling (claimed b want) (next_job b want).id Returned ≡ record b { made = b.made + 1; returned = b.returned + 1 }
+  given_back =
+      ap (λ (held : Bool). cond held (with_ending Returned (record (claimed b want) { live = without_job (next_job b want).id (claimed b want).live })) (claimed b want)) claim_held
+      ∙ ap (λ (live : List LiveJob). record b { made = b.made + 1; returned = b.returned + 1; live = live }) (others_stay (next_job b want).id (next_job b want) own_name b.live new_name)
+
+-- ---- jobs that stay sound
+
+pub fewer_held : (b after : BookValue) (id : JobId) → ((j : LiveJob) → IsIn j after.live → IsIn j b.live) → holds after id ≡ true → holds b id ≡ true
+fewer_held b after id among h =
+    let found = any_found (λ j. same_id j.id id) after.live h in
+    any_here (λ j. same_id j.id id) found.0 b.live (among found.0 found.1) found.2
+
+pub keeps_then : (old mid new : CoordValue) → KeepsSound old mid → KeepsSound mid new → ((j : LiveJob) → IsIn j new.book.live → IsIn j mid.book.live) → KeepsSound old new
+keeps_then old mid new first second among job sound held = second job (first job sound (fewer_held mid.book new.book job.id among held)) held
+
+-- ---- after a pick
+
+pub picked_by : (old mid : CoordValue) (answer : Option (LiveJob × JobParts)) (claim : LiveJob) (job : JobParts) → answer ≡ Some (claim, job) → Picks old mid answer → IsPicked old claim job mid
+picked_by old mid answer claim job e h = subst (Picks old mid) e h
+
+pub sound_by : (mid : CoordValue) (answer : Option (LiveJob × JobParts)) (claim : LiveJob) (job : JobParts) → answer ≡ Some (claim, job) → IfSome answer (λ r. IsSound mid r.1) → IsSound mid job
+sound_by mid answer claim job e h = subst (λ (o : Option (LiveJob × JobParts)). IfSome o (λ r. IsSound mid r.1)) e h
+
+pub merges_by : (tables : List Opened) (job : JobParts) (made other : Option JobResult) → made ≡ other → Merges tables job made → Merges tables job other
+merges_by tables job made other e h = subst (Merges tables job) e h
+
+module _ (old mid : CoordValue) (claim : LiveJob) (job : JobParts) (ver : IsVersion old.served.version) (is : IsServed old.served) (book : IsBook old.book) (picked : IsPicked old claim job mid) where
+  pub served_is : mid.served ≡ old.served
+  served_is = ap (λ (c : CoordValue). c.served) picked.new_is
+
+  book_is : mid.book ≡ claimed old.book picked.want
+  book_is = ap (λ (c : CoordValue). c.book) picked.new_is
+
+  want_is : claim.want ≡ picked.want
+  want_is = ap (λ (l : LiveJob). l.want) picked.claim_is
+
+  mid_ver : IsVersion mid.served.version
+  mid_ver = subst (λ (s : ServedValue). IsVersion s.version) (sym served_is) ver
+
+  mid_is : IsServed mid.served
+  mid_is = subst IsServed (sym served_is) is
+
+  pub named : job.id ≡ claim.id
+  named = picked.job_is.id ∙ ap (λ (l : LiveJob). l.id) (sym picked.claim_is)
+
+  pub claim_live : IsLive mid claim.id claim
+  claim_live =
+      subst (λ (l : LiveJob). IsLive mid l.id l) (sym picked.claim_is)
+      (subst (λ (b : BookValue). find (λ j. same_id j.id (next_job old.book picked.want).id) b.live ≡ Some (next_job old.book picked.want)) (sym book_is) (claim_found old.book book picked.want))
+
+  pub is_held : holds mid.book claim.id ≡ true
+  is_held = held_by mid.book claim claim.id claim_live
+
+  legal : IsLegal mid.served.version.files claim.want
+  legal = subst (λ (w : Want). IsLegal mid.served.version.files w) (sym want_is) (subst (λ (s : ServedValue). IsLegal s.version.files picked.want) (sym served_is) picked.may.legal)
+
+  takes_old : (f : FileMeta) → IsIn f job.inputs ↔ Takes old.served.version.files picked.want f
+  takes_old f = (
+    λ m. is_taken old.served.version.files picked.want f (subst (λ (fs : List FileMeta). IsIn f fs) picked.job_is.inputs m),
+    λ t. subst (λ (fs : List FileMeta). IsIn f fs) (sym picked.job_is.inputs) (is_input old.served.version.files picked.want f t),
+  )
+
+  takes : (f : FileMeta) → IsIn f job.inputs ↔ Takes mid.served.version.files claim.want f
+  takes f = subst (λ (w : Want). IsIn f job.inputs ↔ Takes mid.served.version.files w f) (sym want_is) (subst (λ (s : ServedValue). IsIn f job.inputs ↔ Takes s.version.files picked.want f) (sym served_is) (takes_old f))
+
+  -- the inputs are the version's files
+  pub inputs_of_version : (f : FileMeta) → IsIn f job.inputs → IsIn f mid.served.version.files
+  inputs_of_version f m = ((takes f).0 m).0
+
+  inputs_rise : NumbersRise job.inputs
+  inputs_rise = subst NumbersRise (sym picked.job_is.inputs) (rise_filter _ old.served.version.files ver.rising)
+
+  inputs_few : sum_by (λ f. f.bytes) job.inputs ≤ 268435456
+  inputs_few =
+      let limits = and_parts _ _ picked.may.given.taken.within in
+      let others = and_parts _ _ limits.1 in
+      subst (λ (fs : List FileMeta). sum_by (λ f. f.bytes) fs ≤ 268435456) (sym picked.job_is.inputs) (leb-true _ _ others.0)
+
+  -- of a state that is shown no two inputs have one entry
+  pub none_same : (s : State) → Shows old s → HaveSameEntry (lists_of (tables_at mid.served.places job.inputs)) → ⊥
+  none_same s h = none_shared mid.served mid_ver mid_is job.inputs inputs_of_version inputs_rise (subst (λ (v : ServedValue). AreOrdered (tables_of v.places)) (sym served_is) h.tables.ordered)
+
+  -- ---- the result
+
+  module _ (made : JobResult) (m : merge.IsMerge (tables_at mid.served.places job.inputs) job made.tables) where
+    pub made_of_inputs : IsMerge mid job claim.want made
+    made_of_inputs = record {
+      inputs = fetched mid.served.places job.inputs;
+      are = are_inputs mid.served mid_ver mid_is claim.want job.inputs takes;
+      tables = opened_as made.tables m.entries;
+      opened = opened_tables made.tables m.entries m.spelled;
+      kept = subst (λ (lists : List (List Entry)). HoldsKept (fetched mid.served.places job.inputs) job.points job.deeper (all_entries lists)) (sym (opened_entries made.tables m.entries m.spelled)) m.kept;
+    }
+
+    pub made_outputs : AreOutputs claim.want.hull made.tables (opened_as made.tables m.entries)
+    made_outputs = outputs_are mid.served mid_ver mid_is claim.want legal job takes made.tables m inputs_few
+
+  -- ---- what is given back
+
+  pub left_again : (new : CoordValue) → new ≡ gave_back mid claim.id → IsLeft old new
+  left_again new e =
+      let back : new ≡ gave_back (record old { book = claimed old.book picked.want }) (next_job old.book picked.want).id = e ∙ (λ i. gave_back (picked.new_is i) (picked.claim_is i).id) in
+      let counted : gave_back (record old { book = claimed old.book picked.want }) (next_job old.book picked.want).id ≡ record old { book = record old.book { made = old.book.made + 1; returned = old.book.returned + 1 } } =
+      ap (λ (b : BookValue). record old { book = b }) (given_back old.book book picked.want) in
+      subst (IsLeft old) (sym (back ∙ counted)) (record { rest = refl; book = refl })
+
+  pub back_keeps : (new : CoordValue) → KeepsSound old mid → KeepsSound mid new → new ≡ gave_back mid claim.id → KeepsSound old new
+  back_keeps new first second e = keeps_then old mid new first second (λ j n. live_before mid.book claim.id Returned j (subst (λ (c : CoordValue). IsIn j c.book.live) e n))

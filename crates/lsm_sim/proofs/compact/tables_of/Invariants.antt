@@ -1,0 +1,7 @@
+use Rattle.std.proofs.Common.{◌≡◌, ◌++◌, drop}
+use Rattle.lsm_sim.specs.Compacting.{tables_at}
+use Rattle.lsm_sim.proofs.compact.tables_of.Given as goal
+
+-- the tables so far, before those of the files that are left
+abbrev pub invariant-loop-file : goal.invariant-loop-file
+invariant-loop-file l = l.tables.items ++ tables_at l.coord.served.places (drop l.file-index l.files) ≡ tables_at l.coord.served.places l.files

@@ -1,0 +1,114 @@
+-- What a compaction is: a pick, the merge of its job, and the install of what the merge makes (LevelDB, db_impl.cc: BackgroundCompaction, DoCompactionWork, InstallCompactionResults).
+use Rattle.std.specs.Prelude.{◌≡◌, ℕ, ◌⊎◌, List, [], ◌∷◌, ◌++◌, Option, None, Some, Result, Ok, Err, Vec}
+use Rattle.lsm_claim.specs.declared.job.LiveJob.{LiveJob}
+use Rattle.lsm_table.specs.Tables.{Opened, IsTable}
+use Rattle.lsm_edit.specs.declared.file.FileMeta.{FileMeta}
+use Rattle.lsm_edit.specs.declared.served.Placed.{Placed}
+use Rattle.lsm_edit.specs.Served.{table_at}
+use Rattle.lsm_msg.specs.declared.job.JobParts.{JobParts}
+use Rattle.lsm_msg.specs.declared.job.JobResult.{JobResult}
+use Rattle.lsm_msg.specs.declared.message.Body.{Body}
+use Rattle.lsm_msg.specs.declared.message.Body.TheVariants as body
+use Rattle.lsm_merge.specs.Inputs.{HaveSameEntry, lists_of}
+use Rattle.lsm_merge.specs.Outputs as merge
+use Rattle.lsm_coord.specs.declared.coord.install.Install.TheVariants as became
+use Rattle.lsm_coord.specs.declared.coord.install.InstallError.{InstallError}
+use Rattle.lsm_coord.specs.declared.error.CoordError.{CoordError}
+use Rattle.lsm_coord.specs.declared.error.CoordError.TheVariants.{NumbersExhausted}
+use Rattle.lsm_coord.specs.Event as say
+use Rattle.lsm_coord.specs.Installing.{AreOutputs, Became, Explains, HasNumbers, IsLive, IsMerge}
+use Rattle.lsm_coord.specs.Picking.{GivesNone, HasRoom, IsPicked, PickRefuses}
+use Rattle.lsm_coord.specs.Replies.{error_of, refusal_of}
+use Rattle.lsm_coord.specs.Run.{Run}
+use Rattle.lsm_coord.specs.Shows.{Shows}
+use Rattle.lsm_coord.specs.State.{State}
+use Rattle.lsm_coord.specs.Step.{Step}
+use Rattle.lsm_coord.specs.Value.{CoordValue}
+
+-- ---- the tables of a job
+
+-- a table, or none
+abbrev pub listed : Option Opened → List Opened
+listed None = []
+listed (Some t) = t ∷ []
+
+-- the tables of those files that have one, in their order
+abbrev pub tables_at : List Placed → List FileMeta → List Opened
+tables_at places [] = []
+tables_at places (f ∷ fs) = listed (table_at places f.number) ++ tables_at places fs
+
+-- the message brings a table, by its bytes, or it brings none
+abbrev pub Brings : Body → Option Opened → Type 0
+Brings (body.Table file bytes) table = (t : Opened) × (table ≡ Some t) × (t.bytes ≡ bytes) × IsTable bytes t.entries
+Brings said table = table ≡ None
+
+-- a merge of the tables makes this result, or two of them have one entry
+abbrev pub Merges : List Opened → JobParts → Option JobResult → Type 0
+Merges tables job None = HaveSameEntry (lists_of tables)
+Merges tables job (Some made) = (made.job ≡ job.id) × merge.IsMerge tables job made.tables
+
+-- ---- the install
+
+-- a result of the claim's job is kept back for this reason
+pub record KeptBack (c : CoordValue) (claim : LiveJob) (made : JobResult) (e : CoordError) : Type 0 where
+  pub live : LiveJob
+  pub is_live : IsLive c claim.id live
+  pub why : InstallError
+  pub told : e ≡ error_of why
+  pub explained : Explains c.served.version live made why
+
+-- ---- a compaction
+
+-- a pick, a result that holds just what a merge keeps of the job's inputs, and its install
+pub record IsCompaction (old : CoordValue) (number : ℕ) (files : List ℕ) (new : CoordValue) : Type 0 where
+  pub claim : LiveJob
+  pub job : JobParts
+  pub claimed : CoordValue
+  pub picked : IsPicked old claim job claimed
+  pub made : JobResult
+  pub merged : IsMerge claimed job claim.want made
+  pub installed : Became claimed claim made (became.Done number files) new
+
+-- only how many claims the book gave and took back may differ: no claim is left behind
+pub record IsLeft (old new : CoordValue) : Type 0 where
+  pub rest : new ≡ record old { book = new.book }
+  pub book : new.book ≡ record old.book { made = new.book.made; returned = new.book.returned }
+
+-- None is answered where the rule of a pick gives nothing: of a state that is shown there is no other cause
+abbrev pub Compacts : {Z : Type 0} → CoordValue → CoordValue → Option (ℕ × Vec ℕ Z) → Type 0
+Compacts old new None = IsLeft old new × ((s : State) → Shows old s → HasRoom old × GivesNone old × (new ≡ old))
+Compacts old new (Some made) = IsCompaction old made.0 made.1.items new
+
+-- the numbers are exhausted by the outputs of the merge
+pub record LacksNumbers (c : CoordValue) : Type 0 where
+  pub claim : LiveJob
+  pub job : JobParts
+  pub claimed : CoordValue
+  pub picked : IsPicked c claim job claimed
+  pub made : JobResult
+  pub merged : IsMerge claimed job claim.want made
+  pub tables : List Opened
+  pub outputs : AreOutputs claim.want.hull made.tables tables
+  pub lacks : HasNumbers c.served.version tables → ⊥
+
+-- why there is no compaction: what a pick refuses, or the numbers of its outputs
+abbrev pub CompactionRefuses : CoordValue → CoordError → Type 0
+CompactionRefuses c NumbersExhausted = PickRefuses c NumbersExhausted ⊎ LacksNumbers c
+CompactionRefuses c e = PickRefuses c e
+
+-- The events of a compaction by a dispatcher, with their replies: its pick, and the message that brings the result, or the claim
+-- that is given up.
+abbrev pub Leads : {Z : Type 0} → ℕ → ℕ → State → Result (Option (ℕ × Vec ℕ Z)) CoordError → State → Type 0
+Leads dispatcher message s (Ok None) t = Step s (say.Pick dispatcher) say.Other t
+Leads dispatcher message s (Ok (Some made)) t = Run s (say.Pick dispatcher ∷ say.Deliver message ∷ []) (say.Other ∷ say.Installed made.0 made.1.items ∷ []) t
+Leads dispatcher message s (Err e) t =
+    Step s (say.Pick dispatcher) (say.Refused (refusal_of e)) t
+    ⊎ Run s (say.Pick dispatcher ∷ say.GiveUp dispatcher ∷ []) (say.Other ∷ say.Other ∷ []) t
+
+-- a state that shows the same writes and snapshots, so that every read is answered as before
+pub record IsReached {Z : Type 0} (dispatcher message : ℕ) (s : State) (result : Result (Option (ℕ × Vec ℕ Z)) CoordError) (new : CoordValue) : Type 0 where
+  pub after : State
+  pub leads : Leads dispatcher message s result after
+  pub shown : Shows new after
+  pub writes : after.writes ≡ s.writes
+  pub snapshots : after.snapshots ≡ s.snapshots

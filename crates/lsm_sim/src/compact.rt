@@ -1,0 +1,154 @@
+//! Compactions: one merge that is due, from its pick to its install.
+
+ghost use Rattle.std.specs.Prelude.{◌≡◌, ℕ, false, IfErr, IfOk, IfSome, None, OnErr, Option, Some};
+ghost use Rattle.lsm_key.specs.Sets.{IsIn};
+ghost use Rattle.lsm_claim.specs.Book.{holds};
+ghost use Rattle.lsm_claim.specs.declared.job.LiveJob.{LiveJob};
+ghost use Rattle.lsm_table.specs.Tables.{IsTable, Opened};
+ghost use Rattle.lsm_edit.specs.declared.file.FileMeta.{FileMeta};
+ghost use Rattle.lsm_edit.specs.Served.{AllRecorded, IsServed, table_at};
+ghost use Rattle.lsm_edit.specs.Version.{IsVersion};
+ghost use Rattle.lsm_msg.specs.declared.job.JobParts.{JobParts};
+ghost use Rattle.lsm_coord.specs.declared.coord.install.Install.TheVariants as became;
+ghost use Rattle.lsm_coord.specs.Calls.{gave_back};
+ghost use Rattle.lsm_coord.specs.Changes.{IsIndex};
+ghost use Rattle.lsm_coord.specs.Installing.{Became, IsLive, IsMerge, StepsTo};
+ghost use Rattle.lsm_coord.specs.Shows.{Shows};
+ghost use Rattle.lsm_coord.specs.Sound.{IsSound, KeepsSound};
+ghost use Rattle.lsm_coord.specs.State.{State};
+ghost use Rattle.lsm_sim.specs.Compacting.{Brings, Compacts, CompactionRefuses, IsLeft, IsReached, KeptBack, Merges, tables_at};
+
+use bytes::Bytes;
+use lsm_claim::Claim;
+use lsm_coord::{Coord, CoordError, Install};
+use lsm_edit::FileMeta;
+use lsm_key::{Items, Refused};
+use lsm_merge::{MergeError, merge};
+use lsm_msg::{Body, Job, JobResult, Message, Node};
+use lsm_table::Table;
+use std::alloc::{AllocError, Global};
+
+/// Makes the merge that is due, where one is: picks its job, merges the tables that the coordinator serves, and installs the
+/// outputs. It answers the number of the new version and its new files, or `None` where nothing is picked. A refusal leaves
+/// the version as it was, and no claim behind.
+pub fn compact_once(alloc: Global, coord: &mut Coord) -> Result<Option<(u64, Vec<u64>)>, CoordError>
+    ensures ok { IfOk result (Compacts coord.old coord.new) }
+    ensures err { OnErr result (IsLeft coord.old coord.new) }
+    ensures refused { IfErr result (CompactionRefuses coord.old) }
+    ensures step { (dispatcher message : ℕ) → IsIndex dispatcher → (s : State) → Shows coord.old s → IsReached dispatcher message s result coord.new }
+    ensures sound { KeepsSound coord.old coord.new }
+{
+    // That it is sound, as the proof wants to know.
+    coord.know_sound();
+    let Some((claim, job)) = coord.pick()? else {
+        return Ok(None);
+    };
+    match result_of(alloc, coord, &job) {
+        Ok(Some(made)) => install(coord, claim, &made),
+        // Two inputs have one entry: of no coordinator that shows a state.
+        Ok(None) => {
+            coord.give_back(claim);
+            Ok(None)
+        }
+        Err(error) => {
+            coord.give_back(claim);
+            Err(error.into())
+        }
+    }
+}
+
+/// Installs the result of a picked job. One that is kept back ends with its claim.
+fn install(
+    coord: &mut Coord,
+    claim: Claim,
+    made: &JobResult,
+) -> Result<Option<(u64, Vec<u64>)>, CoordError>
+    ensures done { IfOk result (λ answer. IfSome answer (λ r. Became coord.old claim made.now (became.Done r.0 r.1.items) coord.new)) }
+    ensures step { (live : LiveJob) (job : JobParts) → IsLive coord.old claim.id live → job.id ≡ claim.id → IsSound coord.old job → IsMerge coord.old job live.want made.now → IfOk result (λ answer. IfSome answer (λ r. StepsTo coord.old (became.Done r.0 r.1.items) coord.new)) }
+    ensures stale { IfOk result (λ answer. answer ≡ None → holds coord.old.book claim.id ≡ false) }
+    ensures err { OnErr result (coord.new ≡ gave_back coord.old claim.id) }
+    ensures refused { IfErr result (KeptBack coord.old claim made.now) }
+    ensures sound { (live : LiveJob) (job : JobParts) → IsLive coord.old claim.id live → IsMerge coord.old job live.want made.now → KeepsSound coord.old coord.new }
+{
+    match coord.install(claim, made) {
+        Install::Done(number, files) => Ok(Some((number, files.into_vec()))),
+        // A claim that was just picked is live.
+        Install::Stale(_, _) => Ok(None),
+        Install::Kept(claim, why) => {
+            coord.give_back(claim);
+            Err(why.into())
+        }
+    }
+}
+
+/// What a merge makes of a job, or `None` where it refuses the tables.
+#[tactic(auto, using(crate::proofs::Fetching::are_recorded))]
+fn result_of(alloc: Global, coord: &Coord, job: &Job) -> Result<Option<JobResult>, AllocError>
+    requires version { IsVersion coord.now.served.version }
+    requires served { IsServed coord.now.served }
+    requires inputs { (f : FileMeta) → IsIn f job.now.inputs → IsIn f coord.now.served.version.files }
+    ensures { IfOk result (Merges (tables_at coord.now.served.places job.now.inputs) job.now) }
+{
+    let tables = tables_of(alloc, coord, job.inputs())?;
+    match merge(alloc, tables.as_slice(), job) {
+        Ok(outputs) => Ok(Some(JobResult {
+            job: job.id(),
+            tables: Items::from_vec(outputs),
+        })),
+        Err(MergeError::OutOfMemory) => Err(AllocError),
+        // What is served are the inputs: this never comes.
+        Err(MergeError::WrongInputs) => Ok(None),
+        Err(MergeError::SameEntry) => Ok(None),
+    }
+}
+
+/// The tables of files, in their order. A file that is gone has none.
+fn tables_of(alloc: Global, coord: &Coord, files: &[FileMeta]) -> Result<Vec<Table>, AllocError>
+    requires { AllRecorded coord.now.served.places }
+    ensures { IfOk result (λ tables. tables.items ≡ tables_at coord.now.served.places files.now) }
+{
+    let mut tables = Vec::with_capacity(alloc, files.len())?;
+    for file in files {
+        if let Some(table) = fetched(alloc, coord, file.number)? {
+            tables.push(table)?;
+        }
+    }
+    Ok(tables)
+}
+
+/// The table of a file, as a worker would fetch it.
+fn fetched(alloc: Global, coord: &Coord, file: u64) -> Result<Option<Table>, AllocError>
+    requires { AllRecorded coord.now.served.places }
+    ensures { IfOk result (λ table. table ≡ table_at coord.now.served.places file) }
+{
+    let asked = Message {
+        src: Node::Coordinator,
+        dst: Node::Coordinator,
+        body: Body::Fetch(file),
+    };
+    match coord.serve(&asked)? {
+        Some(answer) => table_in(alloc, answer.body),
+        None => Ok(None),
+    }
+}
+
+/// The table that a message brings.
+fn table_in(alloc: Global, body: Body) -> Result<Option<Table>, AllocError>
+    ensures { (wanted : Option Opened) → Brings body wanted → IfOk result (λ table. table ≡ wanted) }
+{
+    match body {
+        Body::Table(_, bytes) => opened(alloc, bytes),
+        _ => Ok(None),
+    }
+}
+
+/// The table that the bytes are, if they are one.
+fn opened(alloc: Global, bytes: Bytes) -> Result<Option<Table>, AllocError>
+    ensures { (t : Opened) → t.bytes ≡ bytes → IsTable bytes t.entries → IfOk result (λ table. table ≡ Some t) }
+{
+    match Table::open(alloc, bytes) {
+        Ok(table) => Ok(Some(table)),
+        Err(Refused::OutOfMemory) => Err(AllocError),
+        Err(Refused::Fault(_)) => Ok(None),
+    }
+}
