@@ -3,7 +3,6 @@
 mod claims;
 mod flush;
 mod install;
-mod known;
 mod outputs;
 mod read;
 mod scan;

@@ -39,7 +39,7 @@ pub fn compact_once(alloc: Global, coord: &mut Coord) -> Result<Option<(u64, Vec
     ensures sound { KeepsSound coord.old coord.new }
 {
     // That it is sound, as the proof wants to know.
-    coord.know_sound();
+    let _listing = coord.show();
     let Some((claim, job)) = coord.pick()? else {
         return Ok(None);
     };
