@@ -154,6 +154,39 @@ fn a_level_after_another_is_compacted(rt: HostRuntime) -> Result<(), Fail> {
     see_value(&rt, &mut coord, None, None)
 }
 
+/// Compacts again where memory was wanting, and then sees that the version was left as it was.
+fn compact_at_last(
+    rt: &impl Abort,
+    alloc: Global,
+    coord: &mut Coord,
+) -> Result<Option<(u64, Vec<u64>)>, CoordError> {
+    let before = number_of(coord);
+    match compact(alloc, coord) {
+        Err(CoordError::OutOfMemory) => {}
+        made => return made,
+    }
+    assert_eq!(rt; number_of(coord), before);
+    compact(alloc, coord)
+}
+
+/// The number of the version.
+fn number_of(coord: &Coord) -> u64 {
+    coord.show().number
+}
+
+#[test]
+fn a_compaction_is_made_after_want_of_memory(rt: HostRuntime) -> Result<(), Fail> {
+    let alloc = rt.alloc();
+    let mut coord = store_due(alloc, 1, 1)?;
+    flush_op(alloc, &mut coord, put(b"a", b"1"))?;
+    compact_at_last(&rt, alloc, &mut coord)?;
+    compact_at_last(&rt, alloc, &mut coord)?;
+    flush_op(alloc, &mut coord, delete(b"a"))?;
+    compact_at_last(&rt, alloc, &mut coord)?;
+    assert!(rt; lists(&coord, 6, (2, 3), (1, 5)));
+    see_value(&rt, &mut coord, None, None)
+}
+
 #[test]
 fn a_new_store_has_nothing_to_compact(rt: HostRuntime) -> Result<(), Fail> {
     let alloc = rt.alloc();
