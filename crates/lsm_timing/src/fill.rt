@@ -1,0 +1,181 @@
+//! Filling a store, with all its flushes and merges in the caller's own thread.
+
+use crate::error::TimingError;
+use crate::figure::{Figure, with_number};
+use crate::keys::{ENTRY_BYTES, put_of};
+use bytes::Bytes;
+use lsm_claim::Claim;
+use lsm_coord::{Coord, CoordError, Install};
+use lsm_key::{Batch, DEFAULT_BASE, DEFAULT_L0, Items, Limits};
+use lsm_merge::merge;
+use lsm_msg::{Body, Job, JobResult, Message, Node, NodeIndex};
+use lsm_table::Table;
+use std::alloc::Global;
+
+/// A store, and how many bytes of tables it wrote.
+#[derive(Drop)]
+pub(crate) struct Store {
+    pub(crate) coord: Coord,
+    alloc: Global,
+    pub(crate) written: u64,
+}
+
+impl Store {
+    /// A new store.
+    pub(crate) fn new(alloc: Global, limits: Limits) -> Result<Store, TimingError> {
+        let coord = Coord::new(alloc, limits)?;
+        Ok(Store {
+            coord,
+            alloc,
+            written: 0,
+        })
+    }
+
+    /// Writes a batch. Where the memtable is full it is flushed first, and all that is due is merged.
+    pub(crate) fn write(&mut self, batch: &Batch) -> Result<(), TimingError> {
+        match self.coord.write(batch) {
+            Ok(_) => return Ok(()),
+            Err(CoordError::MemtableFull) => {}
+            Err(why) => return Err(TimingError::from(why)),
+        }
+        self.settle()?;
+        self.coord.write(batch)?;
+        Ok(())
+    }
+
+    /// Flushes, and merges until nothing is due.
+    pub(crate) fn settle(&mut self) -> Result<(), TimingError> {
+        self.flush()?;
+        for _merge in 0..u64::MAX {
+            if !self.merge_next()? {
+                return Ok(());
+            }
+        }
+        Ok(())
+    }
+
+    /// Flushes the memtable, and answers the number of its file.
+    pub(crate) fn flush(&mut self) -> Result<u64, TimingError> {
+        let flushed = self.coord.flush()?;
+        if let Some(file) = self.coord.show().files.last() {
+            self.written = self.written.wrapping_add(file.bytes as u64);
+        }
+        Ok(flushed.file)
+    }
+
+    /// Does the next merge that is due, and answers whether there was one.
+    pub(crate) fn merge_next(&mut self) -> Result<bool, TimingError> {
+        let Some((claim, job)) = self.coord.pick()? else {
+            return Ok(false);
+        };
+        match self.result_of(&job) {
+            Ok(made) => self.install(claim, &made),
+            Err(why) => {
+                self.coord.give_back(claim);
+                Err(why)
+            }
+        }
+    }
+
+    // What a worker makes of a job.
+    fn result_of(&self, job: &Job) -> Result<JobResult, TimingError> {
+        let mut tables = Vec::with_capacity(self.alloc, job.inputs().len())?;
+        for input in job.inputs() {
+            tables.push(Table::open(self.alloc, self.fetch(input.number)?)?)?;
+        }
+        let outputs = merge(self.alloc, &tables, job)?;
+        Ok(JobResult {
+            job: job.id(),
+            tables: Items::from_vec(outputs),
+        })
+    }
+
+    // Installs a result, and spends its claim.
+    fn install(&mut self, claim: Claim, made: &JobResult) -> Result<bool, TimingError> {
+        match self.coord.install(claim, made) {
+            Install::Done(_, _) => {
+                self.written = self.written.wrapping_add(bytes_of(made.tables.as_slice()));
+                Ok(true)
+            }
+            Install::Stale(_, _) => Err(TimingError::Stale),
+            Install::Kept(claim, why) => {
+                self.coord.give_back(claim);
+                Err(TimingError::from(CoordError::from(why)))
+            }
+        }
+    }
+
+    /// The bytes of a file's table, as a worker fetches them.
+    pub(crate) fn fetch(&self, file: u64) -> Result<Bytes, TimingError> {
+        let Some(worker) = NodeIndex::new(1) else {
+            return Err(TimingError::Gone);
+        };
+        let message = Message {
+            src: Node::Worker(worker),
+            dst: Node::Coordinator,
+            body: Body::Fetch(file),
+        };
+        let Some(answer) = self.coord.serve(&message)? else {
+            return Err(TimingError::Gone);
+        };
+        match answer.body {
+            Body::Table(_, bytes) => Ok(bytes),
+            _ => Err(TimingError::Gone),
+        }
+    }
+}
+
+// How many bytes tables have.
+fn bytes_of(tables: &[Bytes]) -> u64 {
+    let mut total = 0u64;
+    for table in tables {
+        total = total.wrapping_add(table.len() as u64);
+    }
+    total
+}
+
+/// The limits that a store has where it is told no others.
+pub(crate) fn default_limits() -> Limits {
+    Limits {
+        l0: DEFAULT_L0,
+        base: DEFAULT_BASE,
+    }
+}
+
+/// A settled store of so many entries, put in random order in batches.
+pub(crate) fn filled(alloc: Global, entries: u64, batch: u64) -> Result<Store, TimingError> {
+    let mut store = Store::new(alloc, default_limits())?;
+    let mut ops = Batch::new(alloc);
+    for index in 0..entries {
+        ops.push(put_of(alloc, index)?)?;
+        if ops.ops().len() as u64 >= batch {
+            store.write(&ops)?;
+            ops = Batch::new(alloc);
+        }
+    }
+    if !ops.ops().is_empty() {
+        store.write(&ops)?;
+    }
+    store.settle()?;
+    Ok(store)
+}
+
+/// Times the filling of a store, and tells its write amplification.
+pub(crate) fn time_fill(rt: &HostRuntime, entries: u64, batch: u64) -> Result<(), TimingError> {
+    let figure = Figure::begin(rt, "fill")?;
+    let store = filled(rt.alloc(), entries, batch)?;
+    figure.end(rt, entries, shape_of(&store))?;
+    let percent = store.written.wrapping_mul(100) / entries.wrapping_mul(ENTRY_BYTES).max(1);
+    eprintln!(rt; "write_amplification_percent {entries} {percent}")?;
+    Ok(())
+}
+
+// A checksum of the files that a store has.
+fn shape_of(store: &Store) -> u64 {
+    let mut checksum = store.written;
+    for file in store.coord.show().files {
+        checksum = with_number(checksum, file.number);
+        checksum = with_number(checksum, file.bytes as u64);
+    }
+    checksum
+}
