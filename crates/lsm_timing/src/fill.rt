@@ -2,7 +2,7 @@
 
 use crate::error::TimingError;
 use crate::figure::{Figure, with_number};
-use crate::keys::{ENTRY_BYTES, put_of};
+use crate::keys::{ENTRY_BYTES, batch_count, batch_number};
 use bytes::Bytes;
 use lsm_claim::Claim;
 use lsm_coord::{Coord, CoordError, Install};
@@ -11,6 +11,10 @@ use lsm_merge::merge;
 use lsm_msg::{Body, Job, JobResult, Message, Node, NodeIndex};
 use lsm_table::Table;
 use std::alloc::Global;
+use std::io;
+
+/// How many levels there are.
+const LEVELS: u8 = 7;
 
 /// A store, and how many bytes of tables it wrote.
 #[derive(Drop)]
@@ -145,29 +149,52 @@ pub(crate) fn default_limits() -> Limits {
 /// A settled store of so many entries, put in random order in batches.
 pub(crate) fn filled(alloc: Global, entries: u64, batch: u64) -> Result<Store, TimingError> {
     let mut store = Store::new(alloc, default_limits())?;
-    let mut ops = Batch::new(alloc);
-    for index in 0..entries {
-        ops.push(put_of(alloc, index)?)?;
-        if ops.ops().len() as u64 >= batch {
-            store.write(&ops)?;
-            ops = Batch::new(alloc);
-        }
-    }
-    if !ops.ops().is_empty() {
-        store.write(&ops)?;
+    for number in 0..batch_count(entries, batch) {
+        store.write(&batch_number(alloc, number, entries, batch)?)?;
     }
     store.settle()?;
     Ok(store)
 }
 
-/// Times the filling of a store, and tells its write amplification.
+// Makes the same batches, and lets them go: what of a fill is not the store's.
+fn made(alloc: Global, entries: u64, batch: u64) -> Result<u64, TimingError> {
+    let mut checksum = 0;
+    for number in 0..batch_count(entries, batch) {
+        let puts = batch_number(alloc, number, entries, batch)?;
+        checksum = with_number(checksum, puts.weight() as u64);
+    }
+    Ok(checksum)
+}
+
+/// Times the filling of a store, and the making of its batches alone, and tells its write amplification and its levels.
 pub(crate) fn time_fill(rt: &HostRuntime, entries: u64, batch: u64) -> Result<(), TimingError> {
+    let figure = Figure::begin(rt, "make")?;
+    let checksum = made(rt.alloc(), entries, batch)?;
+    figure.end(rt, entries, checksum)?;
     let figure = Figure::begin(rt, "fill")?;
     let store = filled(rt.alloc(), entries, batch)?;
     figure.end(rt, entries, shape_of(&store))?;
     let percent = store.written.wrapping_mul(100) / entries.wrapping_mul(ENTRY_BYTES).max(1);
     eprintln!(rt; "write_amplification_percent {entries} {percent}")?;
+    for level in 0..LEVELS {
+        tell_level(rt, &store.coord, level)?;
+    }
     Ok(())
+}
+
+// Tells how many files a level has, and how many bytes.
+fn tell_level(rt: &HostRuntime, coord: &Coord, level: u8) -> io::Result<()> {
+    let (mut files, mut bytes) = (0u64, 0u64);
+    for file in coord.show().files {
+        if file.level == level {
+            files = files.wrapping_add(1);
+            bytes = bytes.wrapping_add(file.bytes as u64);
+        }
+    }
+    if files == 0 {
+        return Ok(());
+    }
+    eprintln!(rt; "bytes_in_level_{level} {files} {bytes}")
 }
 
 // A checksum of the files that a store has.

@@ -52,3 +52,24 @@ pub(crate) fn batch_of(alloc: Global, indices: &[u64]) -> Result<Batch, TimingEr
     }
     Ok(batch)
 }
+
+/// How many batches entries take.
+pub(crate) fn batch_count(entries: u64, batch: u64) -> u64 {
+    entries.div_ceil(batch.max(1))
+}
+
+/// The puts of one of the batches in which the indices below a count are put, by its number from 0.
+pub(crate) fn batch_number(
+    alloc: Global,
+    number: u64,
+    entries: u64,
+    batch: u64,
+) -> Result<Batch, TimingError> {
+    let first = number.wrapping_mul(batch);
+    let end = first.saturating_add(batch).min(entries);
+    let mut puts = Batch::new(alloc);
+    for index in first..end {
+        puts.push(put_of(alloc, index)?)?;
+    }
+    Ok(puts)
+}
