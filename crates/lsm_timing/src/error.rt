@@ -1,8 +1,10 @@
 //! Why a figure is not taken.
 
 use lsm_coord::CoordError;
+use lsm_edit::ApplyError;
 use lsm_key::{KeyError, Refused};
 use lsm_merge::MergeError;
+use lsm_pick::PickError;
 use lsm_table::TableError;
 use std::alloc::{AllocError, AllocFailed};
 use std::io;
@@ -31,6 +33,12 @@ pub(crate) enum TimingError {
     Stale,
     #[error("no merge was picked")]
     NoPick,
+    #[error("a pick was refused: {0}")]
+    Pick(PickError),
+    #[error("an edit did not apply: {0}")]
+    Edit(ApplyError),
+    #[error("numbers are exhausted")]
+    Exhausted,
 }
 
 impl From<AllocError> for TimingError {
@@ -78,6 +86,24 @@ impl From<MergeError> for TimingError {
         match why {
             MergeError::OutOfMemory => TimingError::OutOfMemory,
             why => TimingError::Merge(why),
+        }
+    }
+}
+
+impl From<PickError> for TimingError {
+    fn from(why: PickError) -> TimingError {
+        match why {
+            PickError::OutOfMemory => TimingError::OutOfMemory,
+            why => TimingError::Pick(why),
+        }
+    }
+}
+
+impl From<ApplyError> for TimingError {
+    fn from(why: ApplyError) -> TimingError {
+        match why {
+            ApplyError::OutOfMemory => TimingError::OutOfMemory,
+            why => TimingError::Edit(why),
         }
     }
 }

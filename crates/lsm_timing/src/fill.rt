@@ -11,17 +11,16 @@ use lsm_merge::merge;
 use lsm_msg::{Body, Job, JobResult, Message, Node, NodeIndex};
 use lsm_table::Table;
 use std::alloc::Global;
-use std::io;
 
 /// How many levels there are.
-const LEVELS: u8 = 7;
+const LEVELS: usize = 7;
 
-/// A store, and how many bytes of tables it wrote.
+/// A store, and how many bytes of tables it wrote to each level.
 #[derive(Drop)]
 pub(crate) struct Store {
     pub(crate) coord: Coord,
     alloc: Global,
-    pub(crate) written: u64,
+    written: [u64; LEVELS],
 }
 
 impl Store {
@@ -31,7 +30,7 @@ impl Store {
         Ok(Store {
             coord,
             alloc,
-            written: 0,
+            written: [0; LEVELS],
         })
     }
 
@@ -62,9 +61,26 @@ impl Store {
     pub(crate) fn flush(&mut self) -> Result<u64, TimingError> {
         let flushed = self.coord.flush()?;
         if let Some(file) = self.coord.show().files.last() {
-            self.written = self.written.wrapping_add(file.bytes as u64);
+            let bytes = file.bytes as u64;
+            self.count(0, bytes);
         }
         Ok(flushed.file)
+    }
+
+    // Counts bytes that were written to a level.
+    fn count(&mut self, level: usize, bytes: u64) {
+        if let Some(total) = self.written.get_mut(level) {
+            *total = total.wrapping_add(bytes);
+        }
+    }
+
+    /// How many bytes of tables it wrote.
+    pub(crate) fn written(&self) -> u64 {
+        let mut total = 0u64;
+        for bytes in &self.written {
+            total = total.wrapping_add(*bytes);
+        }
+        total
     }
 
     /// Does the next merge that is due, and answers whether there was one.
@@ -96,9 +112,10 @@ impl Store {
 
     // Installs a result, and spends its claim.
     fn install(&mut self, claim: Claim, made: &JobResult) -> Result<bool, TimingError> {
+        let level = (claim.level() as usize).saturating_add(1);
         match self.coord.install(claim, made) {
             Install::Done(_, _) => {
-                self.written = self.written.wrapping_add(bytes_of(made.tables.as_slice()));
+                self.count(level, bytes_of(made.tables.as_slice()));
                 Ok(true)
             }
             Install::Stale(_, _) => Err(TimingError::Stale),
@@ -174,32 +191,32 @@ pub(crate) fn time_fill(rt: &HostRuntime, entries: u64, batch: u64) -> Result<()
     let figure = Figure::begin(rt, "fill")?;
     let store = filled(rt.alloc(), entries, batch)?;
     figure.end(rt, entries, shape_of(&store))?;
-    let percent = store.written.wrapping_mul(100) / entries.wrapping_mul(ENTRY_BYTES).max(1);
+    let percent = store.written().wrapping_mul(100) / entries.wrapping_mul(ENTRY_BYTES).max(1);
     eprintln!(rt; "write_amplification_percent {entries} {percent}")?;
-    for level in 0..LEVELS {
-        tell_level(rt, &store.coord, level)?;
+    for (level, written) in store.written.iter().enumerate() {
+        eprintln!(rt; "bytes_written_to_level_{level} {entries} {written}")?;
+        eprintln!(rt;
+            "bytes_in_level_{level} {entries} {}",
+            bytes_in(&store.coord, level)
+        )?;
     }
     Ok(())
 }
 
-// Tells how many files a level has, and how many bytes.
-fn tell_level(rt: &HostRuntime, coord: &Coord, level: u8) -> io::Result<()> {
-    let (mut files, mut bytes) = (0u64, 0u64);
+// How many bytes the files of a level have.
+fn bytes_in(coord: &Coord, level: usize) -> u64 {
+    let mut bytes = 0u64;
     for file in coord.show().files {
-        if file.level == level {
-            files = files.wrapping_add(1);
+        if file.level as usize == level {
             bytes = bytes.wrapping_add(file.bytes as u64);
         }
     }
-    if files == 0 {
-        return Ok(());
-    }
-    eprintln!(rt; "bytes_in_level_{level} {files} {bytes}")
+    bytes
 }
 
 // A checksum of the files that a store has.
 fn shape_of(store: &Store) -> u64 {
-    let mut checksum = store.written;
+    let mut checksum = store.written();
     for file in store.coord.show().files {
         checksum = with_number(checksum, file.number);
         checksum = with_number(checksum, file.bytes as u64);

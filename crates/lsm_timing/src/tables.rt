@@ -74,7 +74,7 @@ pub(crate) fn time_flush(rt: &HostRuntime, entries: u64) -> Result<(), TimingErr
     put_all(alloc, &mut store, &indices)?;
     let figure = Figure::begin(rt, "flush")?;
     store.flush()?;
-    figure.end(rt, entries, store.written)?;
+    figure.end(rt, entries, store.written())?;
     Ok(())
 }
 
