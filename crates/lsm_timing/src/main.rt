@@ -65,11 +65,14 @@ fn run(rt: &HostRuntime, task: Task) -> Result<(), TimingError> {
     }
 }
 
+/// Enough entries for a merge of level 0, and for merges of level 1 after it.
+const MERGED: u64 = 260_000;
+
 /// Each figure at a small size.
 fn run_all(rt: &HostRuntime) -> Result<(), TimingError> {
-    fill::time_fill(rt, 2_000, 10)?;
-    reads::time_gets(rt, 2_000, 500)?;
-    reads::time_scans(rt, 2_000, None)?;
+    fill::time_fill(rt, MERGED, 1_000)?;
+    reads::time_gets(rt, MERGED, 2_000)?;
+    reads::time_scans(rt, MERGED, None)?;
     reads::time_scans(rt, 2_000, Some(50))?;
     merges::time_merge(rt, 1)?;
     tables::time_flush(rt, 1_000)?;
