@@ -1,0 +1,42 @@
+//! Figures: what took how long.
+
+use std::io;
+use std::time::Instant;
+
+/// A figure that is being taken.
+#[derive(Clone, Copy, Debug)]
+pub(crate) struct Figure {
+    name: &'static str,
+    start: Instant,
+}
+
+impl Figure {
+    /// Starts the clock.
+    pub(crate) fn begin(rt: &HostRuntime, name: &'static str) -> io::Result<Figure> {
+        let start = Instant::now(rt)?;
+        Ok(Figure { name, start })
+    }
+
+    /// Stops the clock, and prints the figure: over so many, with a checksum of what they gave.
+    pub(crate) fn end(self, rt: &HostRuntime, count: u64, checksum: u64) -> io::Result<()> {
+        let nanoseconds = self.start.elapsed(rt)?.as_nanos();
+        let name = self.name;
+        println!(rt; "{name} {count} {checksum}")?;
+        eprintln!(rt; "{name} {count} {nanoseconds}")
+    }
+}
+
+/// A checksum with some more bytes in it: their length and their ends, so that it costs no pass over them.
+pub(crate) fn with_bytes(checksum: u64, bytes: &[u8]) -> u64 {
+    let ends = match bytes {
+        [] => 0,
+        [only] => *only as u64,
+        [first, .., last] => *first as u64 * 256 + *last as u64,
+    };
+    with_number(with_number(checksum, bytes.len() as u64), ends)
+}
+
+/// A checksum with one more number in it.
+pub(crate) fn with_number(checksum: u64, number: u64) -> u64 {
+    checksum.wrapping_mul(31).wrapping_add(number)
+}

@@ -1,0 +1,225 @@
+//! Filling a store, with all its flushes and merges in the caller's own thread.
+
+use crate::error::TimingError;
+use crate::figure::{Figure, with_number};
+use crate::keys::{ENTRY_BYTES, batch_count, batch_number};
+use bytes::Bytes;
+use lsm_claim::Claim;
+use lsm_coord::{Coord, CoordError, Install};
+use lsm_key::{Batch, DEFAULT_BASE, DEFAULT_L0, Items, Limits};
+use lsm_merge::merge;
+use lsm_msg::{Body, Job, JobResult, Message, Node, NodeIndex};
+use lsm_table::Table;
+use std::alloc::Global;
+
+/// How many levels there are.
+const LEVELS: usize = 7;
+
+/// A store, and how many bytes of tables it wrote to each level.
+#[derive(Drop)]
+pub(crate) struct Store {
+    pub(crate) coord: Coord,
+    alloc: Global,
+    written: [u64; LEVELS],
+}
+
+impl Store {
+    /// A new store.
+    pub(crate) fn new(alloc: Global, limits: Limits) -> Result<Store, TimingError> {
+        let coord = Coord::new(alloc, limits)?;
+        Ok(Store {
+            coord,
+            alloc,
+            written: [0; LEVELS],
+        })
+    }
+
+    /// Writes a batch. Where the memtable is full it is flushed first, and all that is due is merged.
+    pub(crate) fn write(&mut self, batch: &Batch) -> Result<(), TimingError> {
+        match self.coord.write(batch) {
+            Ok(_) => return Ok(()),
+            Err(CoordError::MemtableFull) => {}
+            Err(why) => return Err(TimingError::from(why)),
+        }
+        self.settle()?;
+        self.coord.write(batch)?;
+        Ok(())
+    }
+
+    /// Flushes, and merges until nothing is due.
+    pub(crate) fn settle(&mut self) -> Result<(), TimingError> {
+        self.flush()?;
+        for _merge in 0..u64::MAX {
+            if !self.merge_next()? {
+                return Ok(());
+            }
+        }
+        Ok(())
+    }
+
+    /// Flushes the memtable, and answers the number of its file.
+    pub(crate) fn flush(&mut self) -> Result<u64, TimingError> {
+        let flushed = self.coord.flush()?;
+        if let Some(file) = self.coord.show().files.last() {
+            let bytes = file.bytes as u64;
+            self.count(0, bytes);
+        }
+        Ok(flushed.file)
+    }
+
+    // Counts bytes that were written to a level.
+    fn count(&mut self, level: usize, bytes: u64) {
+        if let Some(total) = self.written.get_mut(level) {
+            *total = total.wrapping_add(bytes);
+        }
+    }
+
+    /// How many bytes of tables it wrote.
+    pub(crate) fn written(&self) -> u64 {
+        let mut total = 0u64;
+        for bytes in &self.written {
+            total = total.wrapping_add(*bytes);
+        }
+        total
+    }
+
+    /// Does the next merge that is due, and answers whether there was one.
+    pub(crate) fn merge_next(&mut self) -> Result<bool, TimingError> {
+        let Some((claim, job)) = self.coord.pick()? else {
+            return Ok(false);
+        };
+        match self.result_of(&job) {
+            Ok(made) => self.install(claim, &made),
+            Err(why) => {
+                self.coord.give_back(claim);
+                Err(why)
+            }
+        }
+    }
+
+    // What a worker makes of a job.
+    fn result_of(&self, job: &Job) -> Result<JobResult, TimingError> {
+        let mut tables = Vec::with_capacity(self.alloc, job.inputs().len())?;
+        for input in job.inputs() {
+            tables.push(Table::open(self.alloc, self.fetch(input.number)?)?)?;
+        }
+        let outputs = merge(self.alloc, &tables, job)?;
+        Ok(JobResult {
+            job: job.id(),
+            tables: Items::from_vec(outputs),
+        })
+    }
+
+    // Installs a result, and spends its claim.
+    fn install(&mut self, claim: Claim, made: &JobResult) -> Result<bool, TimingError> {
+        let level = (claim.level() as usize).saturating_add(1);
+        match self.coord.install(claim, made) {
+            Install::Done(_, _) => {
+                self.count(level, bytes_of(made.tables.as_slice()));
+                Ok(true)
+            }
+            Install::Stale(_, _) => Err(TimingError::Stale),
+            Install::Kept(claim, why) => {
+                self.coord.give_back(claim);
+                Err(TimingError::from(CoordError::from(why)))
+            }
+        }
+    }
+
+    /// The bytes of a file's table, as a worker fetches them.
+    pub(crate) fn fetch(&self, file: u64) -> Result<Bytes, TimingError> {
+        let Some(worker) = NodeIndex::new(1) else {
+            return Err(TimingError::Gone);
+        };
+        let message = Message {
+            src: Node::Worker(worker),
+            dst: Node::Coordinator,
+            body: Body::Fetch(file),
+        };
+        let Some(answer) = self.coord.serve(&message)? else {
+            return Err(TimingError::Gone);
+        };
+        match answer.body {
+            Body::Table(_, bytes) => Ok(bytes),
+            _ => Err(TimingError::Gone),
+        }
+    }
+}
+
+// How many bytes tables have.
+fn bytes_of(tables: &[Bytes]) -> u64 {
+    let mut total = 0u64;
+    for table in tables {
+        total = total.wrapping_add(table.len() as u64);
+    }
+    total
+}
+
+/// The limits that a store has where it is told no others.
+pub(crate) fn default_limits() -> Limits {
+    Limits {
+        l0: DEFAULT_L0,
+        base: DEFAULT_BASE,
+    }
+}
+
+/// A settled store of so many entries, put in random order in batches.
+pub(crate) fn filled(alloc: Global, entries: u64, batch: u64) -> Result<Store, TimingError> {
+    let mut store = Store::new(alloc, default_limits())?;
+    for number in 0..batch_count(entries, batch) {
+        store.write(&batch_number(alloc, number, entries, batch)?)?;
+    }
+    store.settle()?;
+    Ok(store)
+}
+
+// Makes the same batches, and lets them go: what of a fill is not the store's.
+fn made(alloc: Global, entries: u64, batch: u64) -> Result<u64, TimingError> {
+    let mut checksum = 0;
+    for number in 0..batch_count(entries, batch) {
+        let puts = batch_number(alloc, number, entries, batch)?;
+        checksum = with_number(checksum, puts.weight() as u64);
+    }
+    Ok(checksum)
+}
+
+/// Times the filling of a store, and the making of its batches alone, and tells its write amplification and its levels.
+pub(crate) fn time_fill(rt: &HostRuntime, entries: u64, batch: u64) -> Result<(), TimingError> {
+    let figure = Figure::begin(rt, "make")?;
+    let checksum = made(rt.alloc(), entries, batch)?;
+    figure.end(rt, entries, checksum)?;
+    let figure = Figure::begin(rt, "fill")?;
+    let store = filled(rt.alloc(), entries, batch)?;
+    figure.end(rt, entries, shape_of(&store))?;
+    let percent = store.written().wrapping_mul(100) / entries.wrapping_mul(ENTRY_BYTES).max(1);
+    eprintln!(rt; "write_amplification_percent {entries} {percent}")?;
+    for (level, written) in store.written.iter().enumerate() {
+        eprintln!(rt; "bytes_written_to_level_{level} {entries} {written}")?;
+        eprintln!(rt;
+            "bytes_in_level_{level} {entries} {}",
+            bytes_in(&store.coord, level)
+        )?;
+    }
+    Ok(())
+}
+
+// How many bytes the files of a level have.
+fn bytes_in(coord: &Coord, level: usize) -> u64 {
+    let mut bytes = 0u64;
+    for file in coord.show().files {
+        if file.level as usize == level {
+            bytes = bytes.wrapping_add(file.bytes as u64);
+        }
+    }
+    bytes
+}
+
+// A checksum of the files that a store has.
+fn shape_of(store: &Store) -> u64 {
+    let mut checksum = store.written();
+    for file in store.coord.show().files {
+        checksum = with_number(checksum, file.number);
+        checksum = with_number(checksum, file.bytes as u64);
+    }
+    checksum
+}

@@ -1,0 +1,103 @@
+//! The program `lsm_timing`: times the store by its public calls. Each figure is a line `name n checksum` on standard
+//! output and a line `name n nanoseconds` on standard error.
+#![tactic(auto)]
+
+mod error;
+mod figure;
+mod fill;
+mod keys;
+mod merges;
+mod options;
+mod picks;
+mod reads;
+mod script;
+mod tables;
+
+use error::TimingError;
+use options::{Task, task_of};
+use std::io::ErrorKind;
+use std::process::ExitCode;
+use std::{env, io};
+
+/// The exit status where the arguments are refused.
+const REFUSED: u8 = 2;
+
+/// The exit status where a figure is not taken.
+const FAILED: u8 = 1;
+
+/// Tells the error on standard error.
+fn fail(rt: &HostRuntime, error: TimingError) -> ExitCode {
+    let _ = rt.eprintln(error);
+    ExitCode::from(FAILED)
+}
+
+/// Tells what is wrong with the arguments on standard error, or gives the help that they ask for on standard output.
+fn answer(rt: &HostRuntime, error: clap::Error) -> ExitCode {
+    if error.kind() == clap::error::ErrorKind::OutOfMemory {
+        return fail(rt, TimingError::OutOfMemory);
+    }
+    let is_refused = error.use_stderr();
+    match error.print(rt) {
+        _ if is_refused => ExitCode::from(REFUSED),
+        Ok(()) => ExitCode::SUCCESS,
+        Err(_) => fail(rt, TimingError::Stream),
+    }
+}
+
+/// The words after the program's name.
+fn words_of(rt: &HostRuntime) -> io::Result<Vec<String>> {
+    let mut words = env::args(rt)?;
+    let _name = words.next();
+    Ok(words.collect(rt.alloc())?)
+}
+
+fn run(rt: &HostRuntime, task: Task) -> Result<(), TimingError> {
+    match task {
+        Task::Fill { entries, batch } => fill::time_fill(rt, entries, batch),
+        Task::Get { entries, reads } => reads::time_gets(rt, entries, reads),
+        Task::Scan { entries, scans } => reads::time_scans(rt, entries, scans),
+        Task::Merge { megabytes } => merges::time_merge(rt, megabytes),
+        Task::Flush { entries } => tables::time_flush(rt, entries),
+        Task::Open { megabytes } => tables::time_open(rt, megabytes),
+        Task::Pick { files } => picks::time_picks(rt, files),
+        Task::Script { lines } => script::print_script(rt, lines),
+        Task::All => run_all(rt),
+    }
+}
+
+/// Enough entries for a merge of level 0, and for merges of level 1 after it.
+const MERGED: u64 = 260_000;
+
+/// Each figure at a small size.
+fn run_all(rt: &HostRuntime) -> Result<(), TimingError> {
+    fill::time_fill(rt, MERGED, 1_000)?;
+    reads::time_gets(rt, MERGED, 2_000)?;
+    reads::time_scans(rt, MERGED, None)?;
+    reads::time_scans(rt, 2_000, Some(50))?;
+    merges::time_merge(rt, 1)?;
+    tables::time_flush(rt, 1_000)?;
+    tables::time_open(rt, 1)?;
+    picks::time_picks(rt, 5)?;
+    script::print_script(rt, 12)
+}
+
+fn main(rt: HostRuntime) -> ExitCode {
+    let words = match words_of(&rt) {
+        Ok(words) => words,
+        Err(error) => {
+            if error.kind() == ErrorKind::OutOfMemory {
+                return fail(&rt, TimingError::OutOfMemory);
+            }
+            let _ = rt.eprintln("error: an argument is no text");
+            return ExitCode::from(REFUSED);
+        }
+    };
+    let task = match task_of(rt.alloc(), words.as_slice()) {
+        Ok(task) => task,
+        Err(error) => return answer(&rt, error),
+    };
+    match run(&rt, task) {
+        Ok(()) => ExitCode::SUCCESS,
+        Err(error) => fail(&rt, error),
+    }
+}

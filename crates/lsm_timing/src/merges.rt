@@ -1,0 +1,96 @@
+//! A merge of two levels.
+
+use crate::error::TimingError;
+use crate::figure::{Figure, with_bytes};
+use crate::fill::{Store, default_limits};
+use crate::keys::mix;
+use crate::tables::{entries_in, opened, sorted_indices, tables_of};
+use bytes::Bytes;
+use lsm_claim::JobId;
+use lsm_edit::FileMeta;
+use lsm_key::{Items, MAX_TABLE_BYTES};
+use lsm_merge::merge;
+use lsm_msg::{Job, JobParts, MAX_INPUTS};
+use lsm_table::Table;
+use std::alloc::{AllocError, Global};
+
+/// The upper one of the two levels.
+const UPPER: u8 = 1;
+
+/// Times the merge of the tables of two levels, of so many megabytes of keys and values in all. One key in eight is in both.
+pub(crate) fn time_merge(rt: &HostRuntime, megabytes: u64) -> Result<(), TimingError> {
+    let alloc = rt.alloc();
+    let keys = entries_in(megabytes).wrapping_mul(8) / 9;
+    let indices = sorted_indices(alloc, keys)?;
+    let mut store = Store::new(alloc, default_limits())?;
+    let lower = tables_of(alloc, &mut store, &indices_at(alloc, &indices, 0)?)?;
+    let upper = tables_of(alloc, &mut store, &indices_at(alloc, &indices, 1)?)?;
+    drop(store);
+    let lower_count = lower.len();
+    let tables = opened(alloc, &joined(lower, upper)?)?;
+    let job = job_of(alloc, &tables, lower_count)?;
+    let figure = Figure::begin(rt, "merge")?;
+    let outputs = merge(alloc, &tables, &job)?;
+    figure.end(rt, entries_of(&tables), checksum_of(&outputs))?;
+    Ok(())
+}
+
+// The indices of the entries of a level, 0 for the lower and 1 for the upper one: every eighth, and a random half of the
+// others.
+fn indices_at(alloc: Global, indices: &[u64], level: u64) -> Result<Vec<u64>, AllocError> {
+    let mut chosen = Vec::new(alloc);
+    for index in indices {
+        if *index % 8 == 0 || mix(!*index) % 2 == level {
+            chosen.push(*index)?;
+        }
+    }
+    Ok(chosen)
+}
+
+fn joined(lower: Vec<Bytes>, upper: Vec<Bytes>) -> Result<Vec<Bytes>, AllocError> {
+    let mut tables = lower;
+    for table in upper {
+        tables.push(table)?;
+    }
+    Ok(tables)
+}
+
+// The job that merges the tables, of which so many are of the lower level.
+fn job_of(alloc: Global, tables: &[Table], lower: usize) -> Result<Job, TimingError> {
+    let mut inputs = Items::new(alloc);
+    for (place, table) in tables.iter().enumerate() {
+        if place >= MAX_INPUTS {
+            return Err(TimingError::NoJob);
+        }
+        let level = if place < lower { UPPER + 1 } else { UPPER };
+        inputs.push(FileMeta::of_table(place as u64 + 1, level, table)?)?;
+    }
+    let parts = JobParts {
+        id: JobId {
+            epoch: 1,
+            number: 1,
+        },
+        level: UPPER,
+        block: MAX_TABLE_BYTES as u32,
+        points: Items::new(alloc),
+        inputs,
+        deeper: Items::new(alloc),
+    };
+    Job::new(parts).ok_or(TimingError::NoJob)
+}
+
+fn entries_of(tables: &[Table]) -> u64 {
+    let mut count = 0u64;
+    for table in tables {
+        count = count.wrapping_add(table.count() as u64);
+    }
+    count
+}
+
+fn checksum_of(outputs: &[Bytes]) -> u64 {
+    let mut checksum = 0;
+    for output in outputs {
+        checksum = with_bytes(checksum, output);
+    }
+    checksum
+}

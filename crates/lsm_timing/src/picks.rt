@@ -1,0 +1,157 @@
+//! Picks from a version of many files.
+
+ghost use Rattle.std.specs.Prelude.{◌≡◌, ◌≤◌, ◌+◌, ◌∷◌, [], IfOk};
+ghost use Rattle.lsm_edit.specs.File.{IsFile};
+ghost use Rattle.lsm_edit.specs.Edit.{IsEdit};
+
+use crate::error::TimingError;
+use crate::figure::{Figure, with_number};
+use crate::fill::{Store, default_limits};
+use crate::keys::batch_of;
+use bytes::Bytes;
+use lsm_claim::ClaimBook;
+use lsm_edit::{Edit, EditKind, FileMeta, Served};
+use lsm_key::{Items, Limits, MAX_NUMBER, Seq};
+use lsm_pick::pick;
+use lsm_table::Table;
+use std::alloc::{AllocError, Global};
+
+/// How many picks are timed.
+const PICKS: u64 = 20;
+
+/// The level that the files are in.
+const LEVEL: u8 = 1;
+
+/// Level 1 is due past one byte.
+const TIGHT: Limits = Limits { l0: 1, base: 1 };
+
+/// Times picks from a version with so many files in level 1, which is due while no job is live.
+pub(crate) fn time_picks(rt: &HostRuntime, files: u64) -> Result<(), TimingError> {
+    let served = version_of(rt.alloc(), files)?;
+    let figure = Figure::begin(rt, "pick")?;
+    let checksum = picked(rt.alloc(), &served)?;
+    figure.end(rt, PICKS, checksum)?;
+    Ok(())
+}
+
+// A checksum of what is picked each time.
+fn picked(alloc: Global, served: &Served) -> Result<u64, TimingError> {
+    let book = ClaimBook::new(alloc, 1);
+    let mut checksum = 0;
+    for _pick in 0..PICKS {
+        let Some(want) = pick(alloc, served, &book, &TIGHT)? else {
+            return Err(TimingError::NoPick);
+        };
+        for number in want.files.as_slice() {
+            checksum = with_number(checksum, *number);
+        }
+    }
+    Ok(checksum)
+}
+
+// A version with so many files of one entry each.
+fn version_of(alloc: Global, files: u64) -> Result<Served, TimingError> {
+    let mut served = Served::new(alloc);
+    open_epoch(alloc, &mut served)?;
+    for index in 0..files {
+        let bytes = table_of(alloc, index)?;
+        let file = flush(alloc, &mut served, Table::open(alloc, bytes.clone()?)?)?;
+        replace(alloc, &mut served, file, Table::open(alloc, bytes)?)?;
+    }
+    Ok(served)
+}
+
+// The table of the one entry of an index.
+fn table_of(alloc: Global, index: u64) -> Result<Bytes, TimingError> {
+    let mut store = Store::new(alloc, default_limits())?;
+    store.write(&batch_of(alloc, &[index])?)?;
+    let file = store.flush()?;
+    store.fetch(file)
+}
+
+// Begins the first epoch.
+fn open_epoch(alloc: Global, served: &mut Served) -> Result<(), TimingError> {
+    let version = served.version();
+    if version.number() >= MAX_NUMBER || version.epoch() >= MAX_NUMBER {
+        return Err(TimingError::Exhausted);
+    }
+    let edit = Edit::epoch(alloc, version);
+    served.advance(&edit, Vec::new(alloc))?;
+    Ok(())
+}
+
+// Adds a table as a file of level 0, and answers its number.
+fn flush(alloc: Global, served: &mut Served, table: Table) -> Result<u64, TimingError> {
+    let version = served.version();
+    let (file, flushed) = (version.next_file(), version.flushed());
+    if version.number() >= MAX_NUMBER
+        || version.epoch() < 1
+        || file >= MAX_NUMBER
+        || flushed.number() >= Seq::MAX
+    {
+        return Err(TimingError::Exhausted);
+    }
+    let meta = FileMeta::of_table(file, 0, &table)?;
+    let edit = Edit::flush(alloc, version, Seq::new(flushed.number() + 1), meta)?;
+    let tables = alone(alloc, table)?;
+    served.advance(&edit, tables)?;
+    Ok(file)
+}
+
+// Puts a table in the place of a file, in level 1.
+fn replace(alloc: Global, served: &mut Served, file: u64, table: Table) -> Result<(), TimingError> {
+    let version = served.version();
+    if version.number() >= MAX_NUMBER || version.next_file() >= MAX_NUMBER {
+        return Err(TimingError::Exhausted);
+    }
+    if version.epoch() < 1 || file < 1 || file > MAX_NUMBER {
+        return Err(TimingError::Exhausted);
+    }
+    let meta = FileMeta::of_table(version.next_file(), LEVEL, &table)?;
+    let tables = alone(alloc, table)?;
+    let edit = replacement(alloc, served, file, meta)?;
+    served.advance(&edit, tables)?;
+    Ok(())
+}
+
+fn alone(alloc: Global, table: Table) -> Result<Vec<Table>, AllocError>
+    ensures { IfOk result (λ tables. tables.items ≡ table ∷ []) }
+{
+    let mut tables = Vec::with_capacity(alloc, 1)?;
+    tables.push(table)?;
+    Ok(tables)
+}
+
+// The edit that puts a file in the place of another.
+fn replacement(
+    alloc: Global,
+    served: &Served,
+    file: u64,
+    meta: FileMeta,
+) -> Result<Edit, AllocError>
+    requires number { served.now.version.number + 1 ≤ MAX_NUMBER }
+    requires next_file { served.now.version.next_file + 1 ≤ MAX_NUMBER }
+    requires epoch { 1 ≤ served.now.version.epoch }
+    requires file { (1 ≤ file) × (file ≤ MAX_NUMBER) }
+    requires sound { IsFile meta }
+    requires level { meta.level ≡ LEVEL }
+    ensures sound { IfOk result IsEdit }
+    ensures added { IfOk result (λ e. e.added ≡ meta ∷ []) }
+{
+    let version = served.version();
+    let mut removed = Items::new(alloc);
+    removed.push(file)?;
+    let mut added = Items::new(alloc);
+    added.push(meta)?;
+    // That the sequence fits, as the proof wants to know.
+    let _written = version.flushed().number();
+    Ok(Edit {
+        number: version.number() + 1,
+        kind: EditKind::Install,
+        flushed: version.flushed(),
+        epoch: version.epoch(),
+        next_file: version.next_file() + 1,
+        removed,
+        added,
+    })
+}

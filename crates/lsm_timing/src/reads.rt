@@ -1,0 +1,127 @@
+//! Gets and scans of a settled store.
+
+use crate::error::TimingError;
+use crate::figure::{Figure, with_bytes, with_number};
+use crate::fill::filled;
+use crate::keys::{key_of, mix};
+use bytes::Bytes;
+use lsm_coord::Coord;
+use std::alloc::{AllocError, Global};
+
+/// How large the batches are that fill the store.
+const BATCH: u64 = 100;
+
+/// How many keys a scan of the whole store asks for at a time.
+const WINDOW: u64 = 4_096;
+
+/// How many keys a short scan gives.
+const SHORT: u64 = 20;
+
+/// After every key of 16 bytes.
+const END: [u8; 17] = [255; 17];
+
+/// Times gets of random keys that are there, and of keys that are not.
+pub(crate) fn time_gets(rt: &HostRuntime, entries: u64, reads: u64) -> Result<(), TimingError> {
+    let mut store = filled(rt.alloc(), entries, BATCH)?;
+    let figure = Figure::begin(rt, "get")?;
+    let checksum = get_present(&mut store.coord, entries, reads)?;
+    figure.end(rt, reads, checksum)?;
+    let figure = Figure::begin(rt, "get_absent")?;
+    let checksum = get_absent(&mut store.coord, entries, reads)?;
+    figure.end(rt, reads, checksum)?;
+    Ok(())
+}
+
+fn get_present(coord: &mut Coord, entries: u64, reads: u64) -> Result<u64, TimingError> {
+    let mut checksum = 0;
+    for read in 0..reads {
+        let index = random_below(entries, read);
+        checksum = with_value(checksum, coord.get(&key_of(index), None)?);
+    }
+    Ok(checksum)
+}
+
+fn get_absent(coord: &mut Coord, entries: u64, reads: u64) -> Result<u64, TimingError> {
+    let mut checksum = 0;
+    for read in 0..reads {
+        let index = entries.wrapping_add(read);
+        checksum = with_value(checksum, coord.get(&key_of(index), None)?);
+    }
+    Ok(checksum)
+}
+
+// The random number below a limit that belongs to this one.
+fn random_below(limit: u64, number: u64) -> u64 {
+    mix(!number) % limit.max(1)
+}
+
+fn with_value(checksum: u64, value: Option<Bytes>) -> u64 {
+    match value {
+        Some(value) => with_bytes(checksum, &value),
+        None => with_number(checksum, 1),
+    }
+}
+
+/// Times one scan of the whole store, or so many short ones.
+pub(crate) fn time_scans(
+    rt: &HostRuntime,
+    entries: u64,
+    scans: Option<u64>,
+) -> Result<(), TimingError> {
+    let mut store = filled(rt.alloc(), entries, BATCH)?;
+    match scans {
+        None => {
+            let figure = Figure::begin(rt, "scan")?;
+            let (count, checksum) = scan_whole(rt.alloc(), &mut store.coord)?;
+            figure.end(rt, count, checksum)?;
+        }
+        Some(scans) => {
+            let figure = Figure::begin(rt, "scan_short")?;
+            let checksum = scan_short(&mut store.coord, entries, scans)?;
+            figure.end(rt, scans, checksum)?;
+        }
+    }
+    Ok(())
+}
+
+// All pairs, window after window: how many there are, and their checksum.
+fn scan_whole(alloc: Global, coord: &mut Coord) -> Result<(u64, u64), TimingError> {
+    let (mut count, mut checksum) = (0u64, 0);
+    let mut from = Vec::new(alloc);
+    for _window in 0..u64::MAX {
+        let pairs = coord.scan(&from, &END, None, WINDOW)?;
+        let Some((last, _)) = pairs.last() else {
+            break;
+        };
+        from = key_after(alloc, last)?;
+        count = count.wrapping_add(pairs.len() as u64);
+        checksum = with_pairs(checksum, &pairs);
+    }
+    Ok((count, checksum))
+}
+
+// The least key after a key.
+fn key_after(alloc: Global, key: &[u8]) -> Result<Vec<u8>, AllocError> {
+    let mut after = key.to_vec(alloc)?;
+    after.push(0)?;
+    Ok(after)
+}
+
+fn with_pairs(checksum: u64, pairs: &[(Bytes, Bytes)]) -> u64 {
+    let mut sum = checksum;
+    for (key, value) in pairs {
+        sum = with_bytes(with_bytes(sum, key), value);
+    }
+    sum
+}
+
+// Short scans from random keys.
+fn scan_short(coord: &mut Coord, entries: u64, scans: u64) -> Result<u64, TimingError> {
+    let mut checksum = 0;
+    for scan in 0..scans {
+        let from = key_of(random_below(entries, scan));
+        let pairs = coord.scan(&from, &END, None, SHORT)?;
+        checksum = with_pairs(checksum, &pairs);
+    }
+    Ok(checksum)
+}

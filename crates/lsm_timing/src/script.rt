@@ -1,0 +1,52 @@
+//! A script for `lsmsim run`.
+
+use crate::error::TimingError;
+use crate::keys::mix;
+use std::fmt;
+
+/// As many keys as a script speaks of.
+const KEYS: u64 = 100_000;
+
+/// A flush comes after so many lines.
+const FLUSH_EVERY: u64 = 10_000;
+
+/// A command of a script.
+#[derive(Clone, Copy, Debug)]
+enum Line {
+    Put(u64, u64),
+    Delete(u64),
+    Get(u64),
+    Flush,
+}
+
+impl fmt::Display for Line {
+    fn fmt<W: fmt::Write>(&self, f: &mut fmt::Formatter<W>) -> fmt::Result {
+        match self {
+            Line::Put(key, value) => write!(f, "put {key:016x} {value:0100}"),
+            Line::Delete(key) => write!(f, "del {key:016x}"),
+            Line::Get(key) => write!(f, "get {key:016x}"),
+            Line::Flush => write!(f, "flush"),
+        }
+    }
+}
+
+/// Prints a script of so many lines: five puts and four gets to a deletion, and flushes.
+pub(crate) fn print_script(rt: &HostRuntime, lines: u64) -> Result<(), TimingError> {
+    for number in 0..lines {
+        rt.println(line_of(number))?;
+    }
+    Ok(())
+}
+
+// The line of a number. A flush finds a write before it.
+fn line_of(number: u64) -> Line {
+    if number % FLUSH_EVERY == FLUSH_EVERY - 1 {
+        return Line::Flush;
+    }
+    let key = mix(mix(number) % KEYS);
+    match number % 10 {
+        0..=4 => Line::Put(key, number),
+        5 => Line::Delete(key),
+        _ => Line::Get(key),
+    }
+}
