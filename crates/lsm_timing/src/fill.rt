@@ -24,8 +24,12 @@ pub(crate) struct Store {
 }
 
 impl Store {
-    /// A new store.
-    pub(crate) fn new(alloc: Global, limits: Limits) -> Result<Store, TimingError> {
+    /// A new store, with the limits that hold unless told otherwise.
+    pub(crate) fn new(alloc: Global) -> Result<Store, TimingError> {
+        let limits = Limits {
+            l0: DEFAULT_L0,
+            base: DEFAULT_BASE,
+        };
         let coord = Coord::new(alloc, limits)?;
         Ok(Store {
             coord,
@@ -46,8 +50,8 @@ impl Store {
         Ok(())
     }
 
-    /// Flushes, and merges until nothing is due.
-    pub(crate) fn settle(&mut self) -> Result<(), TimingError> {
+    // Flushes, and merges until nothing is due.
+    fn settle(&mut self) -> Result<(), TimingError> {
         self.flush()?;
         for _merge in 0..u64::MAX {
             if !self.merge_next()? {
@@ -83,8 +87,8 @@ impl Store {
         total
     }
 
-    /// Does the next merge that is due, and answers whether there was one.
-    pub(crate) fn merge_next(&mut self) -> Result<bool, TimingError> {
+    // Does the next merge that is due, and answers whether there was one.
+    fn merge_next(&mut self) -> Result<bool, TimingError> {
         let Some((claim, job)) = self.coord.pick()? else {
             return Ok(false);
         };
@@ -155,17 +159,9 @@ fn bytes_of(tables: &[Bytes]) -> u64 {
     total
 }
 
-/// The limits that a store has where it is told no others.
-pub(crate) fn default_limits() -> Limits {
-    Limits {
-        l0: DEFAULT_L0,
-        base: DEFAULT_BASE,
-    }
-}
-
 /// A settled store of so many entries, put in random order in batches.
 pub(crate) fn filled(alloc: Global, entries: u64, batch: u64) -> Result<Store, TimingError> {
-    let mut store = Store::new(alloc, default_limits())?;
+    let mut store = Store::new(alloc)?;
     for number in 0..batch_count(entries, batch) {
         store.write(&batch_number(alloc, number, entries, batch)?)?;
     }

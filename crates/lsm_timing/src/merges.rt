@@ -2,7 +2,7 @@
 
 use crate::error::TimingError;
 use crate::figure::{Figure, with_bytes};
-use crate::fill::{Store, default_limits};
+use crate::fill::Store;
 use crate::keys::mix;
 use crate::tables::{entries_in, opened, sorted_indices, tables_of};
 use bytes::Bytes;
@@ -22,7 +22,7 @@ pub(crate) fn time_merge(rt: &HostRuntime, megabytes: u64) -> Result<(), TimingE
     let alloc = rt.alloc();
     let keys = entries_in(megabytes).wrapping_mul(8) / 9;
     let indices = sorted_indices(alloc, keys)?;
-    let mut store = Store::new(alloc, default_limits())?;
+    let mut store = Store::new(alloc)?;
     let lower = tables_of(alloc, &mut store, &indices_at(alloc, &indices, 0)?)?;
     let upper = tables_of(alloc, &mut store, &indices_at(alloc, &indices, 1)?)?;
     drop(store);

@@ -6,7 +6,7 @@ ghost use Rattle.lsm_edit.specs.Edit.{IsEdit};
 
 use crate::error::TimingError;
 use crate::figure::{Figure, with_number};
-use crate::fill::{Store, default_limits};
+use crate::fill::Store;
 use crate::keys::batch_of;
 use bytes::Bytes;
 use lsm_claim::ClaimBook;
@@ -63,7 +63,7 @@ fn version_of(alloc: Global, files: u64) -> Result<Served, TimingError> {
 
 // The table of the one entry of an index.
 fn table_of(alloc: Global, index: u64) -> Result<Bytes, TimingError> {
-    let mut store = Store::new(alloc, default_limits())?;
+    let mut store = Store::new(alloc)?;
     store.write(&batch_of(alloc, &[index])?)?;
     let file = store.flush()?;
     store.fetch(file)

@@ -2,7 +2,7 @@
 
 use crate::error::TimingError;
 use crate::figure::{Figure, with_number};
-use crate::fill::{Store, default_limits};
+use crate::fill::Store;
 use crate::keys::{ENTRY_BYTES, batch_of, key_of};
 use bytes::Bytes;
 use lsm_table::Table;
@@ -69,7 +69,7 @@ pub(crate) fn opened(alloc: Global, tables: &[Bytes]) -> Result<Vec<Table>, Timi
 /// Times the flush of a memtable of so many entries.
 pub(crate) fn time_flush(rt: &HostRuntime, entries: u64) -> Result<(), TimingError> {
     let alloc = rt.alloc();
-    let mut store = Store::new(alloc, default_limits())?;
+    let mut store = Store::new(alloc)?;
     let indices: Vec<u64> = (0..entries).collect(alloc)?;
     put_all(alloc, &mut store, &indices)?;
     let figure = Figure::begin(rt, "flush")?;
@@ -82,7 +82,7 @@ pub(crate) fn time_flush(rt: &HostRuntime, entries: u64) -> Result<(), TimingErr
 pub(crate) fn time_open(rt: &HostRuntime, megabytes: u64) -> Result<(), TimingError> {
     let alloc = rt.alloc();
     let count = entries_in(megabytes);
-    let mut store = Store::new(alloc, default_limits())?;
+    let mut store = Store::new(alloc)?;
     let indices = sorted_indices(alloc, count)?;
     let tables = tables_of(alloc, &mut store, &indices)?;
     let figure = Figure::begin(rt, "open")?;
