@@ -1,7 +1,6 @@
 -- An install of what a merge keeps leaves every other job sound.
-use Rattle.std.proofs.Common.{◌≡◌, ℕ, ◌≤◌, true, false, List, ◌∷◌, [], ◌++◌, ◌⊎◌, inl, inr, refl, sym, ap, subst, ◌∙◌, Some}
+use Rattle.std.proofs.Common.{◌≡◌, ℕ, true, List, inl, inr, refl, sym, subst, ◌∙◌, Some}
 use Rattle.std.specs.List.{find}
-use Rattle.lsm_key.specs.declared.entry.Entry.{Entry}
 use Rattle.lsm_key.specs.Sets.{IsIn}
 use Rattle.lsm_claim.specs.declared.ending.Ending.TheVariants as ending
 use Rattle.lsm_claim.specs.declared.job.JobId.{JobId}
@@ -9,8 +8,6 @@ use Rattle.lsm_claim.specs.declared.job.LiveJob.{LiveJob}
 use Rattle.lsm_claim.specs.Book.{IsBook, after_settling, holds}
 use Rattle.lsm_claim.specs.Jobs.{same_id}
 use Rattle.lsm_table.specs.Tables.{Opened}
-use Rattle.lsm_edit.specs.declared.file.FileMeta.{FileMeta}
-use Rattle.lsm_edit.specs.declared.served.Placed.{Placed}
 use Rattle.lsm_edit.specs.Served.{IsServed}
 use Rattle.lsm_edit.specs.Version.{IsVersion}
 use Rattle.lsm_edit.proofs.Rebase.{placed_meta}
@@ -22,7 +19,7 @@ use Rattle.lsm_msg.proofs.Installed.{new_number, place_cases}
 use Rattle.lsm_msg.proofs.InstallReads.{kept_adds_no_entry}
 use Rattle.lsm_msg.proofs.OtherJobs.{installs_keep_jobs}
 use Rattle.lsm_coord.specs.declared.coord.install.Install.TheVariants as became
-use Rattle.lsm_coord.specs.Installing.{AreOutputs, Became, IsInstall, IsLive, IsMerge, edit_of, next_served, records}
+use Rattle.lsm_coord.specs.Installing.{AreOutputs, Became, IsInstall, IsLive, IsMerge, edit_of, next_served}
 use Rattle.lsm_coord.specs.Memory.{AreLegal}
 use Rattle.lsm_coord.specs.Sound.{AreWrittenBy, IsSound, KeepsSound}
 use Rattle.lsm_coord.specs.Value.{CoordValue}
