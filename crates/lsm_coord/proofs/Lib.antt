@@ -27,6 +27,7 @@ pub mod Editing
 pub mod Installing
 pub mod InstallStep
 pub mod InstallSound
+pub mod InstallRefusals
 pub mod Lists
 pub mod Returning
 pub mod Parts

@@ -26,7 +26,8 @@ use Rattle.lsm_coord.specs.declared.coord.install.Install.{Install}
 use Rattle.lsm_coord.specs.declared.coord.install.Install.TheVariants as became
 use Rattle.lsm_coord.specs.declared.coord.install.InstallError.{InstallError}
 use Rattle.lsm_coord.specs.declared.coord.install.InstallError.TheVariants.{WrongJob, BadResult, NumbersExhausted, OutOfMemory}
-use Rattle.lsm_coord.specs.Event.{Deliver, Installed}
+use Rattle.lsm_coord.specs.Event.{Deliver, Installed, OldEpoch, Refused}
+use Rattle.lsm_coord.specs.Replies.{error_of, refusal_of}
 use Rattle.lsm_coord.specs.Shows.{Follows}
 use Rattle.lsm_coord.specs.Value.{CoordValue}
 
@@ -140,6 +141,12 @@ abbrev pub StepsTo : CoordValue → Install → CoordValue → Type 0
 StepsTo old (became.Done number files) new = (message : ℕ) → Follows old (Deliver message) (Installed number files) new
 StepsTo old (became.Stale job epoch) new = Unit {0}
 StepsTo old (became.Kept back why) new = Unit {0}
+
+-- a claim that is stale, and a result that is kept back, are refusals that each state allows, whatever message brought the result
+abbrev pub RefusalsStep : CoordValue → Install → CoordValue → Type 0
+RefusalsStep old (became.Done number files) new = Unit {0}
+RefusalsStep old (became.Stale job epoch) new = (message : ℕ) → Follows old (Deliver message) (Refused OldEpoch) new
+RefusalsStep old (became.Kept back why) new = (message : ℕ) → Follows old (Deliver message) (Refused (refusal_of (error_of why))) new
 
 -- ---- the promise of a sound job
 

@@ -12,6 +12,7 @@ use Rattle.lsm_edit.specs.Served.{IsServed}
 use Rattle.lsm_edit.specs.Version.{IsVersion}
 use Rattle.lsm_coord.specs.Memory.{AreLegal, AreOrderly}
 use Rattle.lsm_coord.specs.Value.{CoordValue}
+use Rattle.lsm_coord.proofs.InstallRefusals.{kept_steps, stale_steps}
 use Rattle.lsm_coord.proofs.InstallSound.{install_keeps}
 use Rattle.lsm_coord.proofs.InstallStep.{install_steps}
 use Rattle.lsm_coord.proofs.Soundness.{nothing_keeps}
@@ -104,3 +105,11 @@ returns-in-Ok-clause-sound c = λ live job is_live merge.
     (subst (λ (v : CoordValue). IsVersion v.served.version) view listed.1)
     (subst (λ (v : CoordValue). AreLegal v.served.version.files v.book.live) view c.self.invariant.legal)
     (returns-in-Ok-clause-became c) is_live merge
+
+pub returns-in-None-clause-refused : goal.returns-in-None-clause-refused
+returns-in-None-clause-refused c = stale_steps c.args.self.now _ (returns-in-None-clause-became c).3
+
+pub returns-in-Err-clause-refused : goal.returns-in-Err-clause-refused
+returns-in-Err-clause-refused c =
+    let b = returns-in-Err-clause-became c in
+    kept_steps c.args.self.now _ b.0 c.args.made.now c.in-Err.why b.3 b.4

@@ -1,0 +1,52 @@
+-- A claim that is stale, and a result that is kept back, are refusals that the state allows.
+use Rattle.std.proofs.Common.{◌≡◌, ℕ, ◌+◌, ◌<◌, ◌≤◌, ◌⊎◌, inl, inr, length, refl, sym, subst, arith}
+use Rattle.std.proofs.lemmas.Bool.Decides.{leb_tells}
+use Rattle.lsm_key.specs.declared.limits.TheConstants.{MAX_NUMBER}
+use Rattle.lsm_claim.specs.declared.job.LiveJob.{LiveJob}
+use Rattle.lsm_msg.specs.declared.job.JobResult.{JobResult}
+use Rattle.lsm_coord.specs.declared.coord.install.InstallError.{InstallError}
+use Rattle.lsm_coord.specs.declared.coord.install.InstallError.TheVariants.{WrongJob, BadResult, NumbersExhausted, OutOfMemory}
+use Rattle.lsm_coord.specs.Event as say
+use Rattle.lsm_coord.specs.Installing.{Explains}
+use Rattle.lsm_coord.specs.Replies.{error_of, refusal_of}
+use Rattle.lsm_coord.specs.Rules.{CannotNumber, IsAllowed}
+use Rattle.lsm_coord.specs.Shows.{Follows, Shows}
+use Rattle.lsm_coord.specs.State.{State}
+use Rattle.lsm_coord.specs.Step.{Leaves}
+use Rattle.lsm_coord.specs.Value.{CoordValue}
+use Rattle.lsm_coord.proofs.Manifests.{version_count}
+use Rattle.lsm_coord.proofs.Outputs.{tables_length}
+
+one_is_over : (a b most : ℕ) → ((a ≤ most) × (b ≤ most) → ⊥) → (most < a) ⊎ (most < b)
+one_is_over a b most none = elim (leb_tells a most) [
+    | inl fits ↦ elim (leb_tells b most) [
+        | inl also ↦ absurd (none (fits.1, also.1))
+        | inr over ↦ inr over.1 ]
+    | inr over ↦ inl over.1 ]
+
+leaves : (why : InstallError) (s : State) (message : ℕ) → Leaves s (say.Deliver message) (refusal_of (error_of why)) s
+leaves WrongJob s message = refl
+leaves BadResult s message = refl
+leaves NumbersExhausted s message = refl
+leaves OutOfMemory s message = refl
+
+module _ (old : CoordValue) (s : State) (h : Shows old s) (live : LiveJob) (made : JobResult) where
+  cannot_number : Explains old.served.version live made NumbersExhausted → CannotNumber s
+  cannot_number x =
+      let few = tables_length made.tables x.1 x.2.tables in
+      elim (one_is_over (old.served.version.number + 1) (old.served.version.next_file + length x.1) MAX_NUMBER (λ fits. x.3 (record { number = fits.0; next_file = fits.1 }))) [
+        | inl over ↦ inl (subst (λ (n : ℕ). MAX_NUMBER < n) (sym (version_count old.edits old.served s h.tables)) over)
+        | inr over ↦ inr (length x.1, rw few x.2.few, subst (λ (n : ℕ). MAX_NUMBER < n + length x.1) (sym h.tables.next_file) over) ]
+
+  is_allowed : (message : ℕ) (why : InstallError) → Explains old.served.version live made why → IsAllowed s (say.Deliver message) (refusal_of (error_of why))
+  is_allowed message WrongJob x = inr (refl, h.up)
+  is_allowed message BadResult x = inr (refl, h.up)
+  is_allowed message NumbersExhausted x = inr (refl, (h.up, cannot_number x))
+  is_allowed message OutOfMemory x = tt
+
+pub stale_steps : (old new : CoordValue) → new ≡ old → (message : ℕ) → Follows old (say.Deliver message) (say.Refused say.OldEpoch) new
+stale_steps old new same message s h = (s, (inr (refl, h.up), refl), subst (λ (c : CoordValue). Shows c s) (sym same) h)
+
+pub kept_steps : (old new : CoordValue) (live : LiveJob) (made : JobResult) (why : InstallError) → Explains old.served.version live made why → new ≡ old
+    → (message : ℕ) → Follows old (say.Deliver message) (say.Refused (refusal_of (error_of why))) new
+kept_steps old new live made why x same message s h = (s, (is_allowed old s h live made message why x, leaves why s message), subst (λ (c : CoordValue). Shows c s) (sym same) h)
