@@ -174,7 +174,7 @@ module _ (old mid : CoordValue) (claim : LiveJob) (job : JobParts) (ver : IsVers
       let back : new ≡ gave_back (record old { book = claimed old.book picked.want }) (next_job old.book picked.want).id = e ∙ (λ i. gave_back (picked.new_is i) (picked.claim_is i).id) in
       let counted : gave_back (record old { book = claimed old.book picked.want }) (next_job old.book picked.want).id ≡ record old { book = record old.book { made = old.book.made + 1; returned = old.book.returned + 1 } } =
       ap (λ (b : BookValue). record old { book = b }) (given_back old.book book picked.want) in
-      subst (IsLeft old) (sym (back ∙ counted)) (record { rest = refl; book = refl })
+      subst (IsLeft old) (sym (back ∙ counted)) (record { rest = refl; book = inr refl })
 
   pub back_keeps : (new : CoordValue) → KeepsSound old mid → KeepsSound mid new → new ≡ gave_back mid claim.id → KeepsSound old new
   back_keeps new first second e = keeps_then old mid new first second (λ j n. live_before mid.book claim.id Returned j (subst (λ (c : CoordValue). IsIn j c.book.live) e n))

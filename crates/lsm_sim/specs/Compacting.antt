@@ -1,5 +1,5 @@
 -- What a compaction is: a pick, the merge of its job, and the install of what the merge makes (LevelDB, db_impl.cc: BackgroundCompaction, DoCompactionWork, InstallCompactionResults).
-use Rattle.std.specs.Prelude.{◌≡◌, ℕ, ◌⊎◌, List, [], ◌∷◌, ◌++◌, Option, None, Some, Result, Ok, Err, Vec}
+use Rattle.std.specs.Prelude.{◌≡◌, ℕ, ◌+◌, ◌⊎◌, List, [], ◌∷◌, ◌++◌, Option, None, Some, Result, Ok, Err, Vec}
 use Rattle.lsm_claim.specs.declared.job.LiveJob.{LiveJob}
 use Rattle.lsm_table.specs.Tables.{Opened, IsTable}
 use Rattle.lsm_edit.specs.declared.file.FileMeta.{FileMeta}
@@ -69,10 +69,10 @@ pub record IsCompaction (old : CoordValue) (number : ℕ) (files : List ℕ) (ne
   pub merged : IsMerge claimed job claim.want made
   pub installed : Became claimed claim made (became.Done number files) new
 
--- only how many claims the book gave and took back may differ: no claim is left behind
+-- The old value, but that the book may count one claim more as given and taken back: no claim is left behind.
 pub record IsLeft (old new : CoordValue) : Type 0 where
   pub rest : new ≡ record old { book = new.book }
-  pub book : new.book ≡ record old.book { made = new.book.made; returned = new.book.returned }
+  pub book : (new.book ≡ old.book) ⊎ (new.book ≡ record old.book { made = old.book.made + 1; returned = old.book.returned + 1 })
 
 -- None is answered where the rule of a pick gives nothing: of a state that is shown there is no other cause
 abbrev pub Compacts : {Z : Type 0} → CoordValue → CoordValue → Option (ℕ × Vec ℕ Z) → Type 0
