@@ -17,7 +17,7 @@ pub record CoordValue : Type 0 where
   pub last : ℕ  -- the last sequence
   pub snapshots : List Snapshot  -- the live ones
   pub made : ℕ  -- how many snapshots this epoch has made
-  pub floor : ℕ  -- the least version whose files are still served
+  pub floor : ℕ  -- the floor: the least version whose files are to be served to followers
   pub book : BookValue  -- the claims of this epoch
 
 abbrev pub frozen_entries : Option Frozen → List Entry

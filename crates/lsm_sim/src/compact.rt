@@ -29,8 +29,8 @@ use lsm_table::Table;
 use std::alloc::{AllocError, Global};
 
 /// Makes the merge that is due, where one is: picks its job, merges the tables that the coordinator serves, and installs the
-/// outputs. It answers the number of the new version and its new files, or `None` where nothing is picked. A refusal leaves
-/// the version as it was, and no claim behind.
+/// outputs. It answers the number of the new version and its new files, or `None` where nothing is picked, or where two of the
+/// inputs have one entry, as in no coordinator that shows a state. A refusal leaves the version as it was, and no claim behind.
 pub fn compact_once(alloc: Global, coord: &mut Coord) -> Result<Option<(u64, Vec<u64>)>, CoordError>
     ensures ok { IfOk result (Compacts coord.old coord.new) }
     ensures err { OnErr result (IsLeft coord.old coord.new) }

@@ -17,7 +17,7 @@ use lsm_table::Table;
 use std::alloc::{AllocError, Global};
 
 /// As many tables as a result may have, so that an edit can count them.
-const MAX_OUTPUTS: usize = u32::MAX as usize;
+const MAX_RESULT_TABLES: usize = u32::MAX as usize;
 
 /// The tables of a result: opened, and each with keys of the hull alone that stand after those of the one before it.
 pub(crate) fn open_outputs(
@@ -28,7 +28,7 @@ pub(crate) fn open_outputs(
     ensures ok { IfOk result (λ tables. AreOutputs hull.now texts.now tables.items) }
     ensures bad { IfErr result (λ e. (e ≡ why.OutOfMemory) ⊎ ((e ≡ why.BadResult) × ((ts : List Opened) → AreOutputs hull.now texts.now ts → ⊥))) }
 {
-    if texts.len() > MAX_OUTPUTS {
+    if texts.len() > MAX_RESULT_TABLES {
         return Err(InstallError::BadResult);
     }
     let mut tables = Vec::with_capacity(alloc, texts.len())?;
