@@ -8,3 +8,4 @@ pub mod Files
 pub mod Legal
 pub mod Removable
 pub mod TrialLevels
+pub mod OneWant

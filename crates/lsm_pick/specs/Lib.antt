@@ -4,3 +4,4 @@ pub mod Reach
 pub mod Rule
 pub mod Tried
 pub mod Counted
+pub mod Laws

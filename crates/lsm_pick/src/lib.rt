@@ -17,6 +17,6 @@ mod tried;
 mod want;
 
 pub use error::PickError;
-pub use laws::pick_limits_are_these;
+pub use laws::{a_trial_asks_for_one_want, pick_limits_are_these};
 pub use limit::MAX_INPUT_BYTES;
 pub use rule::pick;
