@@ -19,10 +19,12 @@ use Rattle.lsm_coord.proofs.Outputs.{tables_length}
 
 one_is_over : (a b most : ℕ) → ((a ≤ most) × (b ≤ most) → ⊥) → (most < a) ⊎ (most < b)
 one_is_over a b most none = elim (leb_tells a most) [
-    | inl fits ↦ elim (leb_tells b most) [
-        | inl also ↦ absurd (none (fits.1, also.1))
-        | inr over ↦ inr over.1 ]
-    | inr over ↦ inl over.1 ]
+  | inl fits ↦ elim (leb_tells b most) [
+    | inl also ↦ absurd (none (fits.1, also.1))
+    | inr over ↦ inr over.1
+  ]
+  | inr over ↦ inl over.1
+]
 
 leaves : (why : InstallError) (s : State) (message : ℕ) → Leaves s (say.Deliver message) (refusal_of (error_of why)) s
 leaves WrongJob s message = refl
@@ -36,7 +38,8 @@ module _ (old : CoordValue) (s : State) (h : Shows old s) (live : LiveJob) (made
       let few = tables_length made.tables x.1 x.2.tables in
       elim (one_is_over (old.served.version.number + 1) (old.served.version.next_file + length x.1) MAX_NUMBER (λ fits. x.3 (record { number = fits.0; next_file = fits.1 }))) [
         | inl over ↦ inl (subst (λ (n : ℕ). MAX_NUMBER < n) (sym (version_count old.edits old.served s h.tables)) over)
-        | inr over ↦ inr (length x.1, rw few x.2.few, subst (λ (n : ℕ). MAX_NUMBER < n + length x.1) (sym h.tables.next_file) over) ]
+        | inr over ↦ inr (length x.1, rw few x.2.few, subst (λ (n : ℕ). MAX_NUMBER < n + length x.1) (sym h.tables.next_file) over)
+      ]
 
   is_allowed : (message : ℕ) (why : InstallError) → Explains old.served.version live made why → IsAllowed s (say.Deliver message) (refusal_of (error_of why))
   is_allowed message WrongJob x = inr (refl, h.up)

@@ -19,7 +19,7 @@ use Rattle.lsm_msg.proofs.Installed.{new_number, place_cases}
 use Rattle.lsm_msg.proofs.InstallReads.{kept_adds_no_entry}
 use Rattle.lsm_msg.proofs.OtherJobs.{installs_keep_jobs}
 use Rattle.lsm_coord.specs.declared.coord.install.Install.TheVariants as became
-use Rattle.lsm_coord.specs.Installing.{AreOutputs, Became, IsInstall, IsLive, IsMerge, edit_of, next_served}
+use Rattle.lsm_coord.specs.Installing.{AreOutputs, Became, IsInstall, IsLive, HoldsMerged, edit_of, next_served}
 use Rattle.lsm_coord.specs.Memory.{AreLegal}
 use Rattle.lsm_coord.specs.Sound.{AreWrittenBy, IsSound, KeepsSound}
 use Rattle.lsm_coord.specs.Value.{CoordValue}
@@ -30,7 +30,7 @@ use Rattle.lsm_coord.proofs.Outputs.{tables_one}
 use Rattle.lsm_coord.proofs.Returning.{live_before, same_name}
 
 pub install_keeps : (old new : CoordValue) (claim live : LiveJob) (made : JobResult) (number : ℕ) (files : List ℕ) (job : JobParts) → IsBook old.book → IsServed old.served → IsVersion old.served.version → AreLegal old.served.version.files old.book.live
-    → Became old claim made (became.Done number files) new → IsLive old claim.id live → IsMerge old job live.want made → KeepsSound old new
+    → Became old claim made (became.Done number files) new → IsLive old claim.id live → HoldsMerged old job live.want made → KeepsSound old new
 install_keeps old new claim live made number files job book served version all_legal b is_live merge other sound held =
     let same : live ≡ b.0 = same_some live b.0 (sym is_live ∙ b.1) in
     let found = live_is old claim.id live is_live in

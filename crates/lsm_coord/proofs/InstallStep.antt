@@ -39,7 +39,7 @@ use Rattle.lsm_coord.specs.State.{State, Version, Place, active_start, current_f
 use Rattle.lsm_coord.specs.Changes.{IsInstalled, at_level, same_place, with_version}
 use Rattle.lsm_coord.specs.Changes as change
 use Rattle.lsm_coord.specs.declared.coord.install.Install.TheVariants as became
-use Rattle.lsm_coord.specs.Installing.{AreOutputs, Became, HasNumbers, IsInstall, IsLive, IsMerge, StepsTo, edit_of, next_served, numbers_of, records}
+use Rattle.lsm_coord.specs.Installing.{AreOutputs, Became, HasNumbers, IsInstall, IsLive, HoldsMerged, StepsTo, edit_of, next_served, numbers_of, records}
 use Rattle.lsm_coord.specs.Manifest.{listed, place_of, versions_from}
 use Rattle.lsm_coord.specs.Memory.{AreLegal, AreOrderly, IsOrderly}
 use Rattle.lsm_coord.specs.Shows.{Shows, ShowsStored}
@@ -250,7 +250,7 @@ same_some a b e = ap (λ (o : Option _). unwrap_or o a) e
 
 -- AN INSTALL STEPS, where a job of the claim's name is sound and the outputs hold what is kept.
 pub install_steps : (old new : CoordValue) (claim live : LiveJob) (made : JobResult) (number : ℕ) (files : List ℕ) (job : JobParts) → IsBook old.book → IsServed old.served → IsVersion old.served.version → AreLegal old.served.version.files old.book.live → AreOrderly old.book.live
-    → Became old claim made (became.Done number files) new → IsLive old claim.id live → job.id ≡ claim.id → IsSound old job → IsMerge old job live.want made → StepsTo old (became.Done number files) new
+    → Became old claim made (became.Done number files) new → IsLive old claim.id live → job.id ≡ claim.id → IsSound old job → HoldsMerged old job live.want made → StepsTo old (became.Done number files) new
 install_steps old new claim live made number files job book served version all_legal all_orderly b is_live named sound merge message s h =
     let same : live ≡ b.0 = same_some live b.0 (sym is_live ∙ b.1) in
     let found = live_is old claim.id live is_live in

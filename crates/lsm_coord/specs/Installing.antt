@@ -151,7 +151,7 @@ RefusalsStep old (became.Kept back why) new = (message : ℕ) → Follows old (D
 -- ---- the promise of a sound job
 
 -- the result's tables hold just what a merge keeps of the job's inputs
-pub record IsMerge (old : CoordValue) (job : JobParts) (want : Want) (made : JobResult) : Type 0 where
+pub record HoldsMerged (old : CoordValue) (job : JobParts) (want : Want) (made : JobResult) : Type 0 where
   pub inputs : List Entry
   pub are : AreInputsOf old.served.places want inputs
   pub tables : List Opened

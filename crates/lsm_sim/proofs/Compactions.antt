@@ -22,7 +22,7 @@ use Rattle.lsm_msg.specs.Merge.{HoldsKept}
 use Rattle.lsm_merge.specs.Inputs.{HaveSameEntry, lists_of}
 use Rattle.lsm_merge.specs.Outputs as merge
 use Rattle.lsm_coord.specs.Calls.{gave_back}
-use Rattle.lsm_coord.specs.Installing.{AreOutputs, IsLive, IsMerge}
+use Rattle.lsm_coord.specs.Installing.{AreOutputs, IsLive, HoldsMerged}
 use Rattle.lsm_coord.specs.Picking.{IsPicked, Picks}
 use Rattle.lsm_coord.specs.Shows.{Shows}
 use Rattle.lsm_coord.specs.Sound.{IsSound, KeepsSound}
@@ -155,7 +155,7 @@ module _ (old mid : CoordValue) (claim : LiveJob) (job : JobParts) (ver : IsVers
   -- ---- the result
 
   module _ (made : JobResult) (m : merge.IsMerge (tables_at mid.served.places job.inputs) job made.tables) where
-    pub made_of_inputs : IsMerge mid job claim.want made
+    pub made_of_inputs : HoldsMerged mid job claim.want made
     made_of_inputs = record {
       inputs = fetched mid.served.places job.inputs;
       are = are_inputs mid.served mid_ver mid_is claim.want job.inputs takes;

@@ -12,7 +12,7 @@ ghost use Rattle.lsm_msg.specs.declared.job.JobParts.{JobParts};
 ghost use Rattle.lsm_coord.specs.declared.coord.install.Install.TheVariants as became;
 ghost use Rattle.lsm_coord.specs.Calls.{gave_back};
 ghost use Rattle.lsm_coord.specs.Changes.{IsIndex};
-ghost use Rattle.lsm_coord.specs.Installing.{Became, IsLive, IsMerge, StepsTo};
+ghost use Rattle.lsm_coord.specs.Installing.{Became, IsLive, HoldsMerged, StepsTo};
 ghost use Rattle.lsm_coord.specs.Shows.{Shows};
 ghost use Rattle.lsm_coord.specs.Sound.{IsSound, KeepsSound};
 ghost use Rattle.lsm_coord.specs.State.{State};
@@ -64,11 +64,11 @@ fn install(
     made: &JobResult,
 ) -> Result<Option<(u64, Vec<u64>)>, CoordError>
     ensures done { IfOk result (λ answer. IfSome answer (λ r. Became coord.old claim made.now (became.Done r.0 r.1.items) coord.new)) }
-    ensures step { (live : LiveJob) (job : JobParts) → IsLive coord.old claim.id live → job.id ≡ claim.id → IsSound coord.old job → IsMerge coord.old job live.want made.now → IfOk result (λ answer. IfSome answer (λ r. StepsTo coord.old (became.Done r.0 r.1.items) coord.new)) }
+    ensures step { (live : LiveJob) (job : JobParts) → IsLive coord.old claim.id live → job.id ≡ claim.id → IsSound coord.old job → HoldsMerged coord.old job live.want made.now → IfOk result (λ answer. IfSome answer (λ r. StepsTo coord.old (became.Done r.0 r.1.items) coord.new)) }
     ensures stale { IfOk result (λ answer. answer ≡ None → holds coord.old.book claim.id ≡ false) }
     ensures err { OnErr result (coord.new ≡ gave_back coord.old claim.id) }
     ensures refused { IfErr result (KeptBack coord.old claim made.now) }
-    ensures sound { (live : LiveJob) (job : JobParts) → IsLive coord.old claim.id live → IsMerge coord.old job live.want made.now → KeepsSound coord.old coord.new }
+    ensures sound { (live : LiveJob) (job : JobParts) → IsLive coord.old claim.id live → HoldsMerged coord.old job live.want made.now → KeepsSound coord.old coord.new }
 {
     match coord.install(claim, made) {
         Install::Done(number, files) => Ok(Some((number, files.into_vec()))),

@@ -11,7 +11,7 @@ ghost use Rattle.lsm_edit.specs.Served.{AreAsRecorded, advanced};
 ghost use Rattle.lsm_edit.specs.Version.{apply_fault};
 ghost use Rattle.lsm_msg.specs.declared.job.JobParts.{JobParts};
 ghost use Rattle.lsm_msg.specs.Legal.{IsLegal};
-ghost use Rattle.lsm_coord.specs.Installing.{AreAscending, Became, Explains, HasNumbers, IsLive, IsMerge, Puts, RefusalsStep, StepsTo, edit_of, is_inside};
+ghost use Rattle.lsm_coord.specs.Installing.{AreAscending, Became, Explains, HasNumbers, IsLive, HoldsMerged, Puts, RefusalsStep, StepsTo, edit_of, is_inside};
 ghost use Rattle.lsm_coord.specs.Memory.{IsOrderly};
 ghost use Rattle.lsm_coord.specs.Sound.{IsSound, KeepsSound};
 
@@ -80,8 +80,8 @@ impl Coord {
     pub fn install(&mut self, claim: Claim, made: &JobResult) -> Install
         ensures became { Became self.old claim made.now result self.new }
         ensures refused { RefusalsStep self.old result self.new }
-        ensures step { (live : LiveJob) (job : JobParts) → IsLive self.old claim.id live → job.id ≡ claim.id → IsSound self.old job → IsMerge self.old job live.want made.now → StepsTo self.old result self.new }
-        ensures sound { (live : LiveJob) (job : JobParts) → IsLive self.old claim.id live → IsMerge self.old job live.want made.now → KeepsSound self.old self.new }
+        ensures step { (live : LiveJob) (job : JobParts) → IsLive self.old claim.id live → job.id ≡ claim.id → IsSound self.old job → HoldsMerged self.old job live.want made.now → StepsTo self.old result self.new }
+        ensures sound { (live : LiveJob) (job : JobParts) → IsLive self.old claim.id live → HoldsMerged self.old job live.want made.now → KeepsSound self.old self.new }
     {
         let id = claim.id();
         // That the version and its places are sound, as the proof wants to know.
