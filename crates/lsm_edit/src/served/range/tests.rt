@@ -1,8 +1,7 @@
 //! A range over files of three levels, with its ends at the edges of files and between them.
 
-ghost use Rattle.std.specs.Prelude.{◌≡◌, ◌<◌, ◌≤◌, IfOk, OnOk, true};
+ghost use Rattle.std.specs.Prelude.{◌≡◌, ◌≤◌, IfOk, OnOk, true};
 ghost use Rattle.std.specs.List.{list_all};
-ghost use Rattle.lsm_key.specs.Entries.{IsEntry};
 ghost use Rattle.lsm_key.specs.Sets.{IsIn};
 ghost use Rattle.lsm_edit.specs.declared.served.Placed.{Placed};
 ghost use Rattle.lsm_edit.specs.Served.{AllRecorded, AreInSearchOrder, IsAsRecorded, is_before};
@@ -11,43 +10,43 @@ use super::super::{Placed, goes_first};
 use super::lists_of;
 use crate::FileMeta;
 use crate::file::MAX_LEVEL;
+use crate::tests::changed;
 use bytes::Bytes;
-use lsm_key::{Entry, InternalKey, Kind, Seq, merge_lists};
-use lsm_table::TableBuilder;
+use lsm_key::merge_lists;
+use lsm_table::Table;
 use std::alloc::Global;
 use std::test::Fail;
 
-// A put of the key of one byte.
-fn put_of(alloc: Global, key: u8, seq: u64) -> Result<Entry, Fail>
-    requires some { 1 ≤ seq }
-    requires most { seq < 256 }
-    ensures { IfOk result IsEntry }
-{
-    let ikey = InternalKey {
-        key: Bytes::copy_from_slice(alloc, &[key])?,
-        seq: Seq::new(seq),
-        kind: Kind::Put,
-    };
-    Ok(Entry {
-        ikey,
-        value: Bytes::new(),
-    })
+// A table of two puts of no value, whose keys and sequences are to be filled in.
+const TABLE: &[u8] =
+    b"LSMT\x01\x01\0\0\0\0\0\0\x02\0\0\0\x01\0\0\0\x1e\0\x01?\0\0\0\0\0\0?\x01\0\x01?\0\0\0\0\0\0?\x01\0\0\0\0\0\x01?\0\0\0\0\0\0?\x01\0\0\0\0";
+
+// The table of puts of two keys of one byte.
+fn table_of(alloc: Global, seq: u8, first: u8, last: u8) -> Result<Table, Fail> {
+    let bytes = changed(
+        alloc,
+        TABLE,
+        &[
+            (23, last),
+            (30, seq),
+            (34, first),
+            (41, seq),
+            (49, last),
+            (56, seq),
+        ],
+    )?;
+    Ok(Table::open(alloc, Bytes::copy_from_slice(alloc, &bytes)?)?)
 }
 
-// A file of puts whose sequence is the file's number.
-fn file_of(alloc: Global, number: u64, level: u8, keys: &[u8]) -> Result<Placed, Fail>
+// A file of two puts whose sequence is the file's number.
+fn file_of(alloc: Global, number: u8, level: u8, keys: [u8; 2]) -> Result<Placed, Fail>
     requires some { 1 ≤ number }
-    requires most { number < 256 }
     requires level { level ≤ MAX_LEVEL }
     ensures recorded { IfOk result (λ p. IsAsRecorded p.meta p.table) }
     ensures level { IfOk result (λ p. p.meta.level ≤ MAX_LEVEL) }
 {
-    let mut builder = TableBuilder::new(alloc);
-    for key in keys {
-        builder.add(put_of(alloc, *key, number)?)?;
-    }
-    let table = builder.finish_open()?;
-    let meta = FileMeta::of_table(number, level, &table)?;
+    let table = table_of(alloc, number, keys[0], keys[1])?;
+    let meta = FileMeta::of_table(u64::from(number), level, &table)?;
     Ok(Placed { meta, table })
 }
 
@@ -69,13 +68,13 @@ fn example(alloc: Global) -> Result<Vec<Placed>, Fail>
     ensures levels { IfOk result (λ places. (p : Placed) → IsIn p places.items → p.meta.level ≤ MAX_LEVEL) }
 {
     let mut places = Vec::new(alloc);
-    add(&mut places, file_of(alloc, 9, 0, b"bm")?)?;
-    add(&mut places, file_of(alloc, 8, 0, b"by")?)?;
-    add(&mut places, file_of(alloc, 5, 1, b"ce")?)?;
-    add(&mut places, file_of(alloc, 6, 1, b"gk")?)?;
-    add(&mut places, file_of(alloc, 7, 1, b"mo")?)?;
-    add(&mut places, file_of(alloc, 3, 2, b"ah")?)?;
-    add(&mut places, file_of(alloc, 4, 2, b"pz")?)?;
+    add(&mut places, file_of(alloc, 9, 0, *b"bm")?)?;
+    add(&mut places, file_of(alloc, 8, 0, *b"by")?)?;
+    add(&mut places, file_of(alloc, 5, 1, *b"ce")?)?;
+    add(&mut places, file_of(alloc, 6, 1, *b"gk")?)?;
+    add(&mut places, file_of(alloc, 7, 1, *b"mo")?)?;
+    add(&mut places, file_of(alloc, 3, 2, *b"ah")?)?;
+    add(&mut places, file_of(alloc, 4, 2, *b"pz")?)?;
     Ok(places)
 }
 
