@@ -41,6 +41,41 @@ fn example(alloc: Global) -> Result<Memtable, Fail> {
     Ok(memtable)
 }
 
+/// Puts of these keys in turn.
+fn batch_of(alloc: Global, keys: &[&'static [u8]]) -> Result<Batch, Fail> {
+    let mut batch = Batch::new(alloc);
+    for key in keys {
+        batch.push(put_of(key, b"value"))?;
+    }
+    Ok(batch)
+}
+
+/// A memtable of puts of these keys in turn, from sequence 1.
+fn puts_of(alloc: Global, keys: &[&'static [u8]]) -> Result<Memtable, Fail> {
+    let mut memtable = Memtable::new(alloc);
+    apply(&mut memtable, 1, &batch_of(alloc, keys)?)?;
+    Ok(memtable)
+}
+
+/// How many entries there are, and whether there is none, what they weigh, and the greatest sequence.
+fn counts(memtable: &Memtable) -> (usize, bool, usize, u64) {
+    let last = memtable.last_seq().number();
+    (memtable.len(), memtable.is_empty(), memtable.weight(), last)
+}
+
+fn push_key(text: &mut String, key: &[u8]) -> Result<(), Fail> {
+    for byte in key {
+        text.push(char::from(*byte))?;
+    }
+    Ok(())
+}
+
+fn push_number(alloc: Global, text: &mut String, number: u64) -> Result<(), Fail> {
+    let shown = format!(in alloc; "{number}")?;
+    text.push_str(&shown)?;
+    Ok(())
+}
+
 /// The keys and sequences of entries, as `a2 a1 b3`.
 fn places_of(alloc: Global, entries: &[Entry]) -> Result<String, Fail> {
     let mut text = String::new(alloc);
@@ -48,14 +83,14 @@ fn places_of(alloc: Global, entries: &[Entry]) -> Result<String, Fail> {
         if !text.is_empty() {
             text.push(' ')?;
         }
-        for byte in entry.ikey.key.as_slice() {
-            text.push(char::from(*byte))?;
-        }
-        let number = entry.ikey.seq.number();
-        let shown = format!(in alloc; "{number}")?;
-        text.push_str(&shown)?;
+        push_key(&mut text, entry.ikey.key.as_slice())?;
+        push_number(alloc, &mut text, entry.ikey.seq.number())?;
     }
     Ok(text)
+}
+
+fn all_places(alloc: Global, memtable: &Memtable) -> Result<String, Fail> {
+    places_of(alloc, &memtable.entries()?)
 }
 
 /// What a get gives: its sequence, kind and value, or `none`.
@@ -78,26 +113,19 @@ fn shown(alloc: Global, memtable: &Memtable, key: &[u8], at: u64) -> Result<Stri
 #[test]
 fn entries_come_by_key_and_the_newest_first(rt: HostRuntime) -> Result<(), Fail> {
     let memtable = example(rt.alloc())?;
-    let entries = memtable.entries()?;
-    let places = places_of(rt.alloc(), entries.as_slice())?;
-    assert_eq!(rt; places.as_str(), "a14 a12 b13 b11 c15");
-    assert_eq!(rt; memtable.len(), 5);
-    assert_eq!(rt; memtable.weight(), 5 * 15 + 1 + 2 + 3);
-    assert_eq!(rt; memtable.last_seq().number(), 15);
-    assert!(rt; !memtable.is_empty());
+    let places = all_places(rt.alloc(), &memtable)?;
+    assert!(rt; places.as_str() == "a14 a12 b13 b11 c15");
+    assert!(rt; counts(&memtable) == (5, false, 5 * 15 + 1 + 2 + 3, 15));
     Ok(())
 }
 
 #[test]
 fn a_new_memtable_has_nothing(rt: HostRuntime) -> Result<(), Fail> {
-    let mut memtable = Memtable::new(rt.alloc());
-    apply(&mut memtable, 1, &Batch::new(rt.alloc()))?;
-    assert!(rt; memtable.is_empty());
-    assert_eq!(rt; memtable.len(), 0);
-    assert_eq!(rt; memtable.weight(), 0);
-    assert_eq!(rt; memtable.last_seq().number(), 0);
-    assert_eq!(rt; memtable.entries()?.len(), 0);
-    assert_eq!(rt; shown(rt.alloc(), &memtable, b"a", 9)?.as_str(), "none");
+    let memtable = puts_of(rt.alloc(), &[])?;
+    assert!(rt; counts(&memtable) == (0, true, 0, 0));
+    let places = all_places(rt.alloc(), &memtable)?;
+    let found = shown(rt.alloc(), &memtable, b"a", 9)?;
+    assert!(rt; (places.as_str(), found.as_str()) == ("", "none"));
     Ok(())
 }
 
@@ -117,7 +145,7 @@ fn a_get_sees_what_was_written_by_its_sequence(rt: HostRuntime) -> Result<(), Fa
         (b"d", 99, "none"),
     ] {
         let got = shown(rt.alloc(), &memtable, key.as_slice(), at)?;
-        assert_eq!(rt; got.as_str(), want, "at {at}");
+        assert!(rt; got.as_str() == want, "at {at}");
     }
     Ok(())
 }
@@ -136,53 +164,54 @@ fn a_range_leaves_out_its_end(rt: HostRuntime) -> Result<(), Fail> {
     ] {
         let entries = memtable.range(lo.as_bytes(), hi.as_bytes())?;
         let places = places_of(rt.alloc(), entries.as_slice())?;
-        assert_eq!(rt; places.as_str(), want, "from {lo} to {hi}");
+        assert!(rt; places.as_str() == want, "from {lo} to {hi}");
     }
     Ok(())
 }
 
+/// The same key, of which nothing is known.
+fn key_after<'a>(
+    memtable: &'a Memtable,
+    lo: &[u8],
+    count: usize,
+) -> Result<Option<&'a [u8]>, Fail> {
+    Ok(memtable.key_after(lo, count)?)
+}
+
 #[test]
 fn keys_are_counted_and_not_entries(rt: HostRuntime) -> Result<(), Fail> {
-    let mut batch = Batch::new(rt.alloc());
-    for key in [b"d", b"b", b"a", b"b"] {
-        batch.push(put_of(key, b"value"))?;
-    }
-    let mut memtable = Memtable::new(rt.alloc());
-    apply(&mut memtable, 1, &batch)?;
+    let memtable = puts_of(rt.alloc(), &[b"d", b"b", b"a", b"b"])?;
     for (lo, count, want) in [
-        ("a", 0, Some("a")),
-        ("a", 1, Some("b")),
-        ("a", 2, Some("d")),
-        ("a", 3, None),
-        ("a", usize::MAX, None),
-        ("a1", 0, Some("b")),
-        ("c", 0, Some("d")),
-        ("c", 1, None),
-        ("", 0, Some("a")),
-        ("", 2, Some("d")),
-        ("e", 0, None),
+        (b"a".as_slice(), 0, Some(b"a".as_slice())),
+        (b"a", 1, Some(b"b")),
+        (b"a", 2, Some(b"d")),
+        (b"a", 3, None),
+        (b"a", usize::MAX, None),
+        (b"a1", 0, Some(b"b")),
+        (b"c", 0, Some(b"d")),
+        (b"c", 1, None),
+        (b"", 0, Some(b"a")),
+        (b"", 2, Some(b"d")),
+        (b"e", 0, None),
     ] {
-        let key = memtable.key_after(lo.as_bytes(), count)?;
-        assert_eq!(rt; key, want.map(str::as_bytes), "{count} after {lo}");
+        let key = key_after(&memtable, lo, count)?;
+        assert!(rt; key == want, "{count} after {lo:?}");
     }
     Ok(())
 }
 
 #[test]
 fn a_key_takes_a_thousand_versions(rt: HostRuntime) -> Result<(), Fail> {
-    let mut batch = Batch::new(rt.alloc());
-    for _ in 0..1000 {
-        batch.push(put_of(b"key", b"value"))?;
-    }
-    let mut memtable = Memtable::new(rt.alloc());
-    apply(&mut memtable, 1, &batch)?;
-    assert_eq!(rt; memtable.len(), 1000);
-    assert_eq!(rt; memtable.weight(), 22_000);
-    assert_eq!(rt; memtable.last_seq().number(), 1000);
-    for at in [1, 2, 499, 1000] {
-        let want = format!(in rt.alloc(); "{at} put 5")?;
-        let got = shown(rt.alloc(), &memtable, b"key", at)?;
-        assert_eq!(rt; got.as_str(), want.as_str());
+    let memtable = puts_of(rt.alloc(), &[b"key".as_slice(); 1000])?;
+    assert!(rt; counts(&memtable) == (1000, false, 22_000, 1000));
+    for (at, want) in [
+        (1, "1 put 5"),
+        (2, "2 put 5"),
+        (499, "499 put 5"),
+        (1000, "1000 put 5"),
+    ] {
+        let found = shown(rt.alloc(), &memtable, b"key", at)?;
+        assert!(rt; found.as_str() == want, "at {at}");
     }
     Ok(())
 }
