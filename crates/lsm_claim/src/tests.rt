@@ -46,7 +46,13 @@ fn refusal_of(
     hi: &'static str,
 ) -> Option<ClaimError> {
     let want = want_of(rt, alloc, level, lo, hi);
-    match book.claim(want) {
+    let claimed = book.claim(want);
+    refusal(book, claimed)
+}
+
+/// Why there is no claim. One that there is goes back.
+fn refusal(book: &mut ClaimBook, claimed: Result<Claim, ClaimError>) -> Option<ClaimError> {
+    match claimed {
         Ok(claim) => {
             book.settle(claim, Ending::Returned);
             None
@@ -59,32 +65,51 @@ fn id(epoch: u64, number: u64) -> JobId {
     JobId { epoch, number }
 }
 
+/// How many claims the book gave, and how many were settled in each way.
+fn counts(book: &ClaimBook) -> (u64, u64, u64) {
+    (book.made(), book.installed(), book.returned())
+}
+
+// What is found is compared once the claims are spent.
 #[test]
 fn jobs_that_share_a_level_and_a_key_wait_for_each_other(rt: HostRuntime) {
     let alloc = rt.alloc();
     let mut book = ClaimBook::new(alloc, 1);
     let first = claim_of(&rt, &mut book, alloc, 0, "a", "c");
-    assert_eq!(rt; first.id(), id(1, 1));
-    let met = Some(ClaimError::Overlaps(id(1, 1)));
-    assert_eq!(rt; refusal_of(&rt, &mut book, alloc, 1, "b", "d"), met);
+    let beside_one = refusal_of(&rt, &mut book, alloc, 1, "b", "d");
     let second = claim_of(&rt, &mut book, alloc, 2, "b", "d");
-    assert_eq!(rt; second.id(), id(1, 2));
-    assert_eq!(rt; refusal_of(&rt, &mut book, alloc, 1, "b", "d"), met);
+    let beside_two = refusal_of(&rt, &mut book, alloc, 1, "b", "d");
+    let names = (first.id(), second.id());
+    let first_settled = book.settle(first, Ending::Returned);
+    let beside_second = refusal_of(&rt, &mut book, alloc, 1, "b", "d");
+    let second_settled = book.settle(second, Ending::Installed);
+    let met = Some(ClaimError::Overlaps(id(1, 1)));
+    assert!(rt; (beside_one, beside_two) == (met, met));
+    assert!(rt; beside_second == Some(ClaimError::Overlaps(id(1, 2))));
+    assert!(rt; names == (id(1, 1), id(1, 2)));
+    assert!(rt; (first_settled, second_settled) == (Settled::Live, Settled::Live));
+}
+
+#[test]
+fn a_fifth_claim_is_refused(rt: HostRuntime) {
+    let alloc = rt.alloc();
+    let mut book = ClaimBook::new(alloc, 1);
+    let first = claim_of(&rt, &mut book, alloc, 0, "a", "c");
+    let second = claim_of(&rt, &mut book, alloc, 2, "b", "d");
     let third = claim_of(&rt, &mut book, alloc, 0, "d", "e");
     let fourth = claim_of(&rt, &mut book, alloc, 2, "e", "f");
-    let full = Some(ClaimError::BookFull);
-    assert_eq!(rt; refusal_of(&rt, &mut book, alloc, 5, "a", "z"), full);
-    assert_eq!(rt; refusal_of(&rt, &mut book, alloc, 1, "b", "d"), met);
-    assert_eq!(rt; book.live().len(), 4);
-
-    assert_eq!(rt; book.settle(third, Ending::Installed), Settled::Live);
-    assert_eq!(rt; book.settle(first, Ending::Returned), Settled::Live);
-    let met = Some(ClaimError::Overlaps(id(1, 2)));
-    assert_eq!(rt; refusal_of(&rt, &mut book, alloc, 1, "b", "d"), met);
-    assert_eq!(rt; book.settle(fourth, Ending::Installed), Settled::Live);
-    assert_eq!(rt; book.settle(second, Ending::Installed), Settled::Live);
-    assert_eq!(rt; (book.made(), book.installed(), book.returned()), (4, 3, 1));
-    assert_eq!(rt; book.live().len(), 0);
+    let fifth = refusal_of(&rt, &mut book, alloc, 5, "a", "z");
+    let met = refusal_of(&rt, &mut book, alloc, 1, "b", "d");
+    let live = book.live().len();
+    let mut are_live = book.settle(third, Ending::Installed) == Settled::Live;
+    are_live &= book.settle(first, Ending::Returned) == Settled::Live;
+    are_live &= book.settle(fourth, Ending::Installed) == Settled::Live;
+    are_live &= book.settle(second, Ending::Installed) == Settled::Live;
+    let left = book.live().len();
+    assert!(rt; fifth == Some(ClaimError::BookFull));
+    assert!(rt; met == Some(ClaimError::Overlaps(id(1, 1))));
+    assert!(rt; are_live && (live, left) == (4, 0));
+    assert!(rt; counts(&book) == (4, 3, 1));
 }
 
 #[test]
@@ -94,26 +119,30 @@ fn a_claim_of_another_epoch_is_stale(rt: HostRuntime) {
     let mut new = ClaimBook::new(alloc, 2);
     let held = claim_of(&rt, &mut old, alloc, 0, "a", "c");
     let live = claim_of(&rt, &mut new, alloc, 0, "a", "c");
-    assert_eq!(rt; (held.id(), live.id()), (id(1, 1), id(2, 1)));
-    assert!(rt; old.holds(&held) && new.holds(&live));
-    assert!(rt; !old.holds(&live) && !new.holds(&held));
-    assert_eq!(rt; new.settle(held, Ending::Installed), Settled::Stale);
-    assert_eq!(rt; (new.made(), new.installed(), new.returned()), (1, 0, 0));
-    assert_eq!(rt; new.settle(live, Ending::Returned), Settled::Live);
-    assert_eq!(rt; (new.made(), new.installed(), new.returned()), (1, 0, 1));
-    assert_eq!(rt; (new.epoch(), old.live().len()), (2, 1));
+    let names = (held.id(), live.id());
+    let own = (old.holds(&held), new.holds(&live));
+    let others = (old.holds(&live), new.holds(&held));
+    let first = (new.settle(held, Ending::Installed), counts(&new));
+    let second = (new.settle(live, Ending::Returned), counts(&new));
+    assert!(rt; names == (id(1, 1), id(2, 1)));
+    assert!(rt; (own, others) == ((true, true), (false, false)));
+    assert!(rt; first == (Settled::Stale, (1, 0, 0)));
+    assert!(rt; second == (Settled::Live, (1, 0, 1)));
+    assert!(rt; (new.epoch(), old.live().len()) == (2, 1));
 }
 
 #[test]
 fn a_claim_has_what_was_wanted(rt: HostRuntime) {
-    let alloc = rt.alloc();
-    let mut book = ClaimBook::new(alloc, 3);
-    let claim = claim_of(&rt, &mut book, alloc, 4, "k", "p");
-    assert_eq!(rt; claim.level(), 4);
-    assert_eq!(rt; claim.inputs(), [7, 9].as_slice());
-    assert_eq!(rt; claim.hull().lo.as_slice(), b"k".as_slice());
-    assert_eq!(rt; claim.hull().hi.as_slice(), b"p".as_slice());
-    assert_eq!(rt; book.settle(claim, Ending::Installed), Settled::Live);
+    let mut book = ClaimBook::new(rt.alloc(), 3);
+    let claim = claim_of(&rt, &mut book, rt.alloc(), 4, "k", "p");
+    let level = claim.level();
+    let inputs_are_same = claim.inputs() == [7, 9].as_slice();
+    let lo_is_same = claim.hull().lo.as_slice() == b"k".as_slice();
+    let hi_is_same = claim.hull().hi.as_slice() == b"p".as_slice();
+    let settled = book.settle(claim, Ending::Installed);
+    assert!(rt; level == 4);
+    assert!(rt; inputs_are_same && lo_is_same && hi_is_same);
+    assert!(rt; settled == Settled::Live);
 }
 
 #[test]
@@ -127,11 +156,8 @@ fn hulls_meet_at_their_ends(rt: HostRuntime) {
         ("d", "e", true),
         ("d\0", "e", false),
     ] {
-        assert_eq!(rt;
-            hull.meets(lo.as_bytes(), hi.as_bytes()),
-            want,
-            "from {lo} to {hi}"
-        );
+        let found = hull.meets(lo.as_bytes(), hi.as_bytes());
+        assert!(rt; found == want, "from {lo} to {hi}");
     }
 }
 
@@ -140,7 +166,8 @@ fn a_hull_has_a_key(rt: HostRuntime) {
     for (lo, hi, want) in [("a", "b", true), ("b", "b", true), ("b", "a", false)] {
         let lo = Bytes::from_static(lo.as_bytes());
         let hi = Bytes::from_static(hi.as_bytes());
-        assert_eq!(rt; Hull::new(lo, hi).is_some(), want);
+        let found = Hull::new(lo, hi).is_some();
+        assert!(rt; found == want);
     }
 }
 
@@ -156,7 +183,7 @@ fn a_job_uses_its_level_and_the_next(rt: HostRuntime) {
         (255, 255, true),
         (255, 0, false),
     ] {
-        assert_eq!(rt; shares_level(a, b), want, "levels {a} and {b}");
+        assert!(rt; shares_level(a, b) == want, "levels {a} and {b}");
     }
 }
 
