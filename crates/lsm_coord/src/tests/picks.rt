@@ -1,215 +1,109 @@
-//! Jobs that are picked, held and given back. A claim can't be left behind by `?`, so that want of memory ends these tests
-//! while one is held.
+//! Jobs that are picked, held and given back.
 
-use super::calls::{flush, give_back, pick, release, snapshot, write};
-use super::{batch_of, put};
-use crate::{Coord, CoordError, Desk};
-use bytes::Bytes;
-use lsm_claim::{Claim, JobId, Settled};
-use lsm_key::{Limits, Op, Seq};
-use lsm_msg::{Job, NodeIndex};
-use std::alloc::Global;
-use std::process::Abort;
+use super::steps::{Few, Made, Step, see};
+use crate::CoordError;
+use lsm_claim::Settled;
 use std::test::Fail;
 
-pub(super) fn id(number: u64) -> JobId {
-    JobId { epoch: 1, number }
-}
+pub(super) const NONE: Few = (0, [0, 0, 0]);
 
-/// A new store whose level 0 is due with so many files.
-pub(super) fn store_due(alloc: Global, files: u64) -> Result<Coord, Fail> {
-    let limits = Limits::new(files, 10_485_760).ok_or("no limits")?;
-    Ok(Coord::new(alloc, limits)?)
-}
+pub(super) const BOTH: Few = (2, [1, 2, 0]);
 
-/// Puts a key, and flushes.
-pub(super) fn flush_key(alloc: Global, coord: &mut Coord, key: &'static [u8]) -> Result<(), Fail> {
-    write(coord, &batch_of(alloc, put(key, b"1"))?)?;
-    flush(coord)?;
-    Ok(())
-}
+const HELD: [(Step, Made); 12] = [
+    (Step::Put(b"a", b"1"), Made::Wrote(1, 1)),
+    (Step::Flush, Made::Flushed(2, 1, 1)),
+    (Step::Delete(b"a"), Made::Wrote(2, 2)),
+    (Step::Flush, Made::Flushed(3, 2, 2)),
+    (Step::Pick(1), Made::Picked(1, BOTH, NONE)),
+    (Step::Pick(2), Made::Idle),
+    (Step::Put(b"a", b"3"), Made::Wrote(3, 3)),
+    (Step::Flush, Made::Flushed(4, 3, 3)),
+    (Step::Pick(2), Made::Idle),
+    (Step::GiveBack(1), Made::GaveBack(Settled::Live)),
+    (Step::Pick(1), Made::Picked(2, (3, [1, 2, 3]), NONE)),
+    (Step::GiveBack(1), Made::GaveBack(Settled::Live)),
+];
 
-/// A store that is due with two files, with a put of the key a in its first file, and its deletion in the second.
-pub(super) fn put_and_deletion(alloc: Global) -> Result<Coord, Fail> {
-    let mut coord = store_due(alloc, 2)?;
-    flush_key(alloc, &mut coord, b"a")?;
-    write(
-        &mut coord,
-        &batch_of(alloc, Op::Delete(Bytes::from_static(b"a")))?,
-    )?;
-    flush(&mut coord)?;
-    Ok(coord)
-}
+const AGAIN: [(Step, Made); 10] = [
+    (Step::Put(b"a", b"1"), Made::Wrote(1, 1)),
+    (Step::Flush, Made::Flushed(2, 1, 1)),
+    (Step::Delete(b"a"), Made::Wrote(2, 2)),
+    (Step::Flush, Made::Flushed(3, 2, 2)),
+    (Step::Pick(1), Made::Picked(1, BOTH, NONE)),
+    (Step::GiveBack(1), Made::GaveBack(Settled::Live)),
+    (Step::Pick(1), Made::Picked(2, BOTH, NONE)),
+    (Step::GiveBack(1), Made::GaveBack(Settled::Live)),
+    (Step::Pick(1), Made::Picked(3, BOTH, NONE)),
+    (Step::GiveBack(1), Made::GaveBack(Settled::Live)),
+];
 
-/// The job that is picked, with its claim.
-pub(super) fn picked(rt: &impl Abort, coord: &mut Coord) -> (Claim, Job) {
-    let picked = pick(coord).expect(rt, "a pick is refused");
-    picked.expect(rt, "nothing is picked")
-}
+const NOT_DUE: [(Step, Made); 4] = [
+    (Step::Pick(1), Made::Idle),
+    (Step::Put(b"a", b"1"), Made::Wrote(1, 1)),
+    (Step::Flush, Made::Flushed(2, 1, 1)),
+    (Step::Pick(1), Made::Idle),
+];
 
-/// Gives a claim to a dispatcher, which holds none yet.
-fn hold(rt: &impl Abort, coord: &mut Coord, desk: &mut Desk, index: NodeIndex, claim: Claim) {
-    assert_eq!(rt; desk.dispatcher(index).id(), None);
-    match desk.hold(index, claim) {
-        None => {}
-        Some(before) => {
-            give_back(coord, before);
-        }
-    }
-}
+const POINTS: [(Step, Made); 9] = [
+    (Step::Put(b"a", b"1"), Made::Wrote(1, 1)),
+    (Step::Flush, Made::Flushed(2, 1, 1)),
+    (Step::Snapshot(3), Made::Snapshot(1, 3, 1)),
+    (Step::Put(b"a", b"1"), Made::Wrote(2, 2)),
+    (Step::Flush, Made::Flushed(3, 2, 2)),
+    (Step::Snapshot(1), Made::Snapshot(1, 4, 2)),
+    (Step::Release(1), Made::Done),
+    (Step::Pick(1), Made::Picked(1, BOTH, (2, [1, 2, 0]))),
+    (Step::GiveBack(1), Made::GaveBack(Settled::Live)),
+];
 
-/// Whether nothing is picked.
-fn is_idle(coord: &mut Coord) -> bool {
-    match pick(coord) {
-        Ok(None) => true,
-        Ok(Some((claim, _))) => {
-            give_back(coord, claim);
-            false
-        }
-        Err(_) => false,
-    }
-}
-
-/// Why nothing is picked, if that is refused.
-fn refusal(coord: &mut Coord) -> Option<CoordError> {
-    match pick(coord) {
-        Ok(None) => None,
-        Ok(Some((claim, _))) => {
-            give_back(coord, claim);
-            None
-        }
-        Err(why) => Some(why),
-    }
-}
-
-/// Whether the job has inputs of these numbers.
-fn has_inputs(job: &Job, first: u64, second: u64) -> bool {
-    match job.inputs() {
-        [one, other] => one.number == first && other.number == second,
-        _ => false,
-    }
-}
+// Five files of one key each, of which each is due.
+const FOUR: [(Step, Made); 23] = [
+    (Step::Put(b"a", b"1"), Made::Wrote(1, 1)),
+    (Step::Flush, Made::Flushed(2, 1, 1)),
+    (Step::Put(b"b", b"1"), Made::Wrote(2, 2)),
+    (Step::Flush, Made::Flushed(3, 2, 2)),
+    (Step::Put(b"c", b"1"), Made::Wrote(3, 3)),
+    (Step::Flush, Made::Flushed(4, 3, 3)),
+    (Step::Put(b"d", b"1"), Made::Wrote(4, 4)),
+    (Step::Flush, Made::Flushed(5, 4, 4)),
+    (Step::Put(b"e", b"1"), Made::Wrote(5, 5)),
+    (Step::Flush, Made::Flushed(6, 5, 5)),
+    (Step::Holds(1), Made::Holds(0)),
+    (Step::Pick(1), Made::Picked(1, (1, [1, 0, 0]), NONE)),
+    (Step::Holds(1), Made::Holds(1)),
+    (Step::Pick(2), Made::Picked(2, (1, [2, 0, 0]), NONE)),
+    (Step::Holds(2), Made::Holds(2)),
+    (Step::Pick(3), Made::Picked(3, (1, [3, 0, 0]), NONE)),
+    (Step::Holds(3), Made::Holds(3)),
+    (Step::Holds(4), Made::Holds(0)),
+    (Step::Pick(4), Made::Picked(4, (1, [4, 0, 0]), NONE)),
+    (Step::Holds(4), Made::Holds(4)),
+    (Step::Pick(1), Made::Refused(CoordError::BookFull)),
+    (Step::Close, Made::Done),
+    (Step::Pick(1), Made::Picked(5, (1, [1, 0, 0]), NONE)),
+];
 
 #[test]
 fn a_job_waits_until_its_claim_is_given_back(rt: HostRuntime) -> Result<(), Fail> {
-    let alloc = rt.alloc();
-    let mut coord = put_and_deletion(alloc)?;
-    see_a_job_waits_until_its_claim_is_given_back(&rt, alloc, &mut coord)
-}
-
-fn see_a_job_waits_until_its_claim_is_given_back(
-    rt: &impl Abort,
-    alloc: Global,
-    coord: &mut Coord,
-) -> Result<(), Fail> {
-    let third = batch_of(alloc, put(b"a", b"3"))?;
-    let (claim, job) = picked(rt, coord);
-    assert_eq!(rt; (claim.id(), job.id()), (id(1), id(1)));
-    assert_eq!(rt; (job.level(), job.block()), (0, 16_777_216));
-    assert!(rt; has_inputs(&job, 1, 2));
-    assert!(rt; job.points().is_empty() && job.deeper().is_empty());
-    assert!(rt; is_idle(coord));
-    write(coord, &third).expect(rt, "a write is refused");
-    flush(coord).expect(rt, "a flush is refused");
-    assert!(rt; is_idle(coord));
-    assert_eq!(rt; give_back(coord, claim), Settled::Live);
-    let (claim, job) = picked(rt, coord);
-    assert_eq!(rt; (claim.id(), job.inputs().len()), (id(2), 3));
-    assert_eq!(rt; give_back(coord, claim), Settled::Live);
-    Ok(())
+    see(&rt, rt.alloc(), 2, &HELD)
 }
 
 #[test]
 fn a_job_is_picked_again_under_another_name(rt: HostRuntime) -> Result<(), Fail> {
-    let alloc = rt.alloc();
-    let mut coord = put_and_deletion(alloc)?;
-    see_a_job_is_picked_again_under_another_name(&rt, alloc, &mut coord)
-}
-
-fn see_a_job_is_picked_again_under_another_name(
-    rt: &impl Abort,
-    alloc: Global,
-    coord: &mut Coord,
-) -> Result<(), Fail> {
-    for number in 1..4 {
-        let (claim, job) = picked(rt, coord);
-        assert_eq!(rt; (claim.id(), job.id()), (id(number), id(number)));
-        assert!(rt; has_inputs(&job, 1, 2));
-        assert_eq!(rt; give_back(coord, claim), Settled::Live);
-    }
-    Ok(())
+    see(&rt, rt.alloc(), 2, &AGAIN)
 }
 
 #[test]
 fn a_level_that_is_not_due_is_left(rt: HostRuntime) -> Result<(), Fail> {
-    let alloc = rt.alloc();
-    let mut coord = store_due(alloc, 2)?;
-    see_a_level_that_is_not_due_is_left(&rt, alloc, &mut coord)
-}
-
-fn see_a_level_that_is_not_due_is_left(
-    rt: &impl Abort,
-    alloc: Global,
-    coord: &mut Coord,
-) -> Result<(), Fail> {
-    assert!(rt; is_idle(coord));
-    flush_key(alloc, coord, b"a")?;
-    assert!(rt; is_idle(coord));
-    Ok(())
+    see(&rt, rt.alloc(), 2, &NOT_DUE)
 }
 
 #[test]
 fn each_sequence_of_a_snapshot_is_one_point(rt: HostRuntime) -> Result<(), Fail> {
-    let alloc = rt.alloc();
-    let mut coord = store_due(alloc, 2)?;
-    see_each_sequence_of_a_snapshot_is_one_point(&rt, alloc, &mut coord)
-}
-
-fn see_each_sequence_of_a_snapshot_is_one_point(
-    rt: &impl Abort,
-    alloc: Global,
-    coord: &mut Coord,
-) -> Result<(), Fail> {
-    flush_key(alloc, coord, b"a")?;
-    let (gone, _) = snapshot(coord)?;
-    snapshot(coord)?;
-    snapshot(coord)?;
-    flush_key(alloc, coord, b"a")?;
-    snapshot(coord)?;
-    release(coord, gone)?;
-    let (claim, job) = picked(rt, coord);
-    assert_eq!(rt; job.points(), [Seq::new(1), Seq::new(2)].as_slice());
-    assert_eq!(rt; give_back(coord, claim), Settled::Live);
-    Ok(())
+    see(&rt, rt.alloc(), 2, &POINTS)
 }
 
 #[test]
 fn four_dispatchers_hold_four_claims(rt: HostRuntime) -> Result<(), Fail> {
-    let alloc = rt.alloc();
-    let mut coord = store_due(alloc, 1)?;
-    see_four_dispatchers_hold_four_claims(&rt, alloc, &mut coord)
-}
-
-fn see_four_dispatchers_hold_four_claims(
-    rt: &impl Abort,
-    alloc: Global,
-    coord: &mut Coord,
-) -> Result<(), Fail> {
-    for key in [b"a", b"b", b"c", b"d", b"e"] {
-        flush_key(alloc, coord, key)?;
-    }
-    let mut desk = Desk::new();
-    for number in 1..5 {
-        let index = NodeIndex::new(number).expect(rt, "no such dispatcher");
-        let (claim, _) = picked(rt, coord);
-        hold(rt, coord, &mut desk, index, claim);
-        assert_eq!(rt; desk.dispatcher(index).id(), Some(id(number as u64)));
-    }
-    assert_eq!(rt; refusal(coord), Some(CoordError::BookFull));
-    desk.close(coord);
-    let (claim, _) = picked(rt, coord);
-    assert_eq!(rt; claim.id(), id(5));
-    assert_eq!(rt; claim.inputs(), [1].as_slice());
-    assert_eq!(rt; give_back(coord, claim), Settled::Live);
-    Ok(())
+    see(&rt, rt.alloc(), 1, &FOUR)
 }

@@ -1,11 +1,10 @@
 //! Calls and answers that are copied and compared.
 
-use super::put;
 use crate::{Answer, Call, CoordError, ScanRange, SnapId};
 use bytes::Bytes;
 use lsm_claim::{JobId, Settled};
-use lsm_key::{Items, Seq};
-use std::alloc::Global;
+use lsm_key::{Items, Op, Seq};
+use std::alloc::{AllocError, Global};
 use std::test::Fail;
 
 const SNAPSHOT: SnapId = SnapId {
@@ -18,62 +17,72 @@ const JOB: JobId = JobId {
     number: 3,
 };
 
-/// A call of each kind that has something to copy, and one that has not.
-fn calls(alloc: Global) -> Result<Vec<Call>, Fail> {
+/// The write of one operation.
+fn write_of_a(alloc: Global) -> Result<Call, AllocError> {
     let mut ops = Items::new(alloc);
-    ops.push(put(b"a", b"1"))?;
-    let range = ScanRange {
-        lo: Bytes::from_static(b"a"),
-        hi: Bytes::from_static(b"c"),
-        at: None,
-        limit: 10,
-    };
-    let mut calls = Vec::new(alloc);
-    calls.push(Call::Write(ops))?;
-    calls.push(Call::Write(Items::new(alloc)))?;
-    calls.push(Call::Get(Bytes::from_static(b"a"), None))?;
-    calls.push(Call::Get(Bytes::from_static(b"a"), Some(SNAPSHOT)))?;
-    calls.push(Call::Scan(range))?;
-    calls.push(Call::Pick)?;
-    calls.push(Call::GiveBack(JOB))?;
-    Ok(calls)
+    let (key, value) = (Bytes::from_static(b"a"), Bytes::from_static(b"1"));
+    ops.push(Op::Put(key, value))?;
+    Ok(Call::Write(ops))
+}
+
+/// Calls, one for each place from 0 to 6, no two of them the same.
+fn call_of(alloc: Global, place: u32) -> Result<Call, AllocError> {
+    Ok(match place {
+        0 => write_of_a(alloc)?,
+        1 => Call::Write(Items::new(alloc)),
+        2 => Call::Get(Bytes::from_static(b"a"), None),
+        3 => Call::Get(Bytes::from_static(b"a"), Some(SNAPSHOT)),
+        4 => Call::Scan(ScanRange {
+            lo: Bytes::from_static(b"a"),
+            hi: Bytes::from_static(b"c"),
+            at: None,
+            limit: 10,
+        }),
+        5 => Call::Pick,
+        _ => Call::GiveBack(JOB),
+    })
 }
 
 #[test]
 fn a_copied_call_is_the_same(rt: HostRuntime) -> Result<(), Fail> {
-    let calls = calls(rt.alloc())?;
-    for (i, call) in calls.iter().enumerate() {
-        let copy = call.copy(rt.alloc())?;
-        for (j, other) in calls.iter().enumerate() {
-            assert_eq!(rt; copy.same(other), i == j, "call {i} and call {j}");
+    for i in 0..7 {
+        let copy = call_of(rt.alloc(), i)?.copy(rt.alloc())?;
+        for j in 0..7 {
+            let same = copy.same(&call_of(rt.alloc(), j)?);
+            assert!(rt; same == (i == j), "call {i} and call {j}");
         }
     }
     Ok(())
 }
 
-/// Some answers, no two of them the same.
-fn answers(alloc: Global) -> Result<Vec<Answer>, Fail> {
-    let mut pairs = Items::new(alloc);
-    pairs.push((Bytes::from_static(b"a"), Bytes::from_static(b"1")))?;
-    let mut answers = Vec::new(alloc);
-    answers.push(Answer::Refused(CoordError::BookFull))?;
-    answers.push(Answer::Wrote(Seq::new(1), Seq::new(2)))?;
-    answers.push(Answer::Got(None))?;
-    answers.push(Answer::Got(Some(Bytes::from_static(b"1"))))?;
-    answers.push(Answer::Scanned(pairs))?;
-    answers.push(Answer::Scanned(Items::new(alloc)))?;
-    answers.push(Answer::Idle)?;
-    answers.push(Answer::GaveBack(Settled::Live))?;
-    Ok(answers)
+/// A scan that found one pair.
+fn scan_of_a(alloc: Global) -> Result<Answer, AllocError> {
+    let (key, value) = (Bytes::from_static(b"a"), Bytes::from_static(b"1"));
+    let pairs = vec![in alloc; (key, value)]?;
+    Ok(Answer::Scanned(Items::from_vec(pairs)))
+}
+
+/// Answers, one for each place from 0 to 7, no two of them the same.
+fn answer_of(alloc: Global, place: u32) -> Result<Answer, AllocError> {
+    Ok(match place {
+        0 => Answer::Refused(CoordError::BookFull),
+        1 => Answer::Wrote(Seq::new(1), Seq::new(2)),
+        2 => Answer::Got(None),
+        3 => Answer::Got(Some(Bytes::from_static(b"1"))),
+        4 => scan_of_a(alloc)?,
+        5 => Answer::Scanned(Items::new(alloc)),
+        6 => Answer::Idle,
+        _ => Answer::GaveBack(Settled::Live),
+    })
 }
 
 #[test]
 fn a_copied_answer_is_the_same(rt: HostRuntime) -> Result<(), Fail> {
-    let answers = answers(rt.alloc())?;
-    for (i, answer) in answers.iter().enumerate() {
-        let copy = answer.copy(rt.alloc())?;
-        for (j, other) in answers.iter().enumerate() {
-            assert_eq!(rt; copy.same(other), i == j, "answer {i} and answer {j}");
+    for i in 0..8 {
+        let copy = answer_of(rt.alloc(), i)?.copy(rt.alloc())?;
+        for j in 0..8 {
+            let same = copy.same(&answer_of(rt.alloc(), j)?);
+            assert!(rt; same == (i == j), "answer {i} and answer {j}");
         }
     }
     Ok(())
