@@ -96,6 +96,9 @@ fn filled(alloc: Global, coord: &mut Coord, count: u32, len: usize) -> Result<Ma
     let mut made = Made::Done;
     for _ in 0..count {
         made = wrote(coord, &batch);
+        if is_out_of_memory(made) {
+            break;
+        }
     }
     Ok(made)
 }
@@ -125,6 +128,9 @@ fn snapped_often(coord: &mut Coord, count: u32) -> Made {
     let mut made = Made::Done;
     for _ in 0..count {
         made = snapped(coord);
+        if is_out_of_memory(made) {
+            break;
+        }
     }
     made
 }

@@ -111,6 +111,7 @@ pub(super) fn refusal_of(
     let kept = version.copy(alloc)?;
     match version.apply(&edit_of(alloc, bytes)?) {
         Ok(()) => Ok(None),
+        Err(ApplyError::OutOfMemory) => Err("out of memory")?,
         Err(why) if version.same(&kept) => Ok(Some(why)),
         Err(_) => Err("a refused edit changed the version")?,
     }

@@ -11,6 +11,64 @@ use std::alloc::Global;
 use std::process::Abort;
 use std::test::Fail;
 
+/// What is done, and what it is to give.
+#[derive(Clone, Copy)]
+enum Step {
+    /// The key a is put, and flushed.
+    Put(&'static [u8]),
+    /// It is deleted, and that is flushed.
+    Delete,
+    Snapshot,
+    /// A compaction makes a version of this number, with these new files.
+    Compact(u64, &'static [u64]),
+    /// A compaction that is made again where memory is wanting, which leaves the version as it was.
+    CompactAtLast,
+    /// Nothing is compacted.
+    Idle,
+    /// The key has this value at the present.
+    Read(Option<&'static [u8]>),
+    /// And at the first snapshot.
+    ReadAtFirst(Option<&'static [u8]>),
+    /// The version is of this number, and has two files of these levels and numbers.
+    List(u64, (u8, u64), (u8, u64)),
+}
+
+const DELETION: [Step; 4] = [
+    Step::Put(b"1"),
+    Step::Delete,
+    Step::Compact(4, &[]),
+    Step::Read(None),
+];
+
+const SNAPSHOT: [Step; 6] = [
+    Step::Put(b"1"),
+    Step::Snapshot,
+    Step::Delete,
+    Step::Compact(4, &[3]),
+    Step::ReadAtFirst(Some(b"1")),
+    Step::Read(None),
+];
+
+const DEEPER: [Step; 7] = [
+    Step::Put(b"1"),
+    Step::Compact(3, &[2]),
+    Step::Compact(4, &[3]),
+    Step::Delete,
+    Step::Compact(6, &[5]),
+    Step::List(6, (2, 3), (1, 5)),
+    Step::Read(None),
+];
+
+const AT_LAST: [Step; 7] = [
+    Step::Put(b"1"),
+    Step::CompactAtLast,
+    Step::CompactAtLast,
+    Step::Delete,
+    Step::CompactAtLast,
+    Step::List(6, (2, 3), (1, 5)),
+    Step::Read(None),
+];
+
 // The calls without their promises, which a test that runs need not know: so its proof is short.
 
 fn compact(alloc: Global, coord: &mut Coord) -> Result<Option<(u64, Vec<u64>)>, CoordError> {
@@ -27,9 +85,9 @@ fn write(coord: &mut Coord, batch: &Batch) -> Result<(), CoordError> {
     Ok(())
 }
 
-fn snapshot(coord: &mut Coord) -> Result<SnapId, CoordError> {
-    let (id, _) = coord.snapshot()?;
-    Ok(id)
+fn snapshot(coord: &mut Coord) -> Result<(), CoordError> {
+    coord.snapshot()?;
+    Ok(())
 }
 
 fn get(coord: &mut Coord, key: &[u8], at: Option<SnapId>) -> Result<Option<Bytes>, CoordError> {
@@ -45,6 +103,11 @@ fn pick(coord: &mut Coord) -> Result<Option<Claim>, CoordError> {
 
 fn give_back(coord: &mut Coord, claim: Claim) {
     coord.give_back(claim);
+}
+
+/// The number of the version.
+fn number_of(coord: &Coord) -> u64 {
+    coord.show().number
 }
 
 /// A new store whose level 0 is due with so many files, and level 1 with so many bytes.
@@ -66,60 +129,42 @@ fn put(key: &'static [u8], value: &'static [u8]) -> Op {
     Op::Put(Bytes::from_static(key), Bytes::from_static(value))
 }
 
-fn delete(key: &'static [u8]) -> Op {
-    Op::Delete(Bytes::from_static(key))
-}
-
-/// Sees that a compaction makes a version of this number, with these new files.
-fn see_compacted(
-    rt: &impl Abort,
+/// Whether a compaction makes a version of this number, with these new files.
+fn is_compacted(
     alloc: Global,
     coord: &mut Coord,
     number: u64,
     files: &[u64],
-) -> Result<(), Fail> {
+) -> Result<bool, CoordError> {
     match compact(alloc, coord)? {
-        Some((made, new)) => {
-            assert_eq!(rt; made, number);
-            assert!(rt; new.as_slice() == files);
-        }
-        None => assert!(rt; false, "nothing is compacted"),
+        Some((made, new)) => Ok(made == number && new.as_slice() == files),
+        None => Ok(false),
     }
-    Ok(())
 }
 
-/// Sees that the key a has this value.
-fn see_value(
-    rt: &impl Abort,
+/// Compacts again where memory was wanting, and then says whether the version was left as it was.
+fn is_compacted_at_last(alloc: Global, coord: &mut Coord) -> Result<bool, CoordError> {
+    let before = number_of(coord);
+    match compact(alloc, coord) {
+        Err(CoordError::OutOfMemory) => {}
+        Err(why) => return Err(why),
+        Ok(_) => return Ok(true),
+    }
+    let is_left = number_of(coord) == before;
+    compact(alloc, coord)?;
+    Ok(is_left)
+}
+
+/// Whether the key a has this value.
+fn has_value(
     coord: &mut Coord,
     at: Option<SnapId>,
     wanted: Option<&[u8]>,
-) -> Result<(), Fail> {
-    let value = get(coord, b"a", at)?;
-    assert!(rt; value.as_ref().map(|v| v.as_slice()) == wanted);
-    Ok(())
-}
-
-#[test]
-fn a_deletion_goes_with_what_it_hides(rt: HostRuntime) -> Result<(), Fail> {
-    let alloc = rt.alloc();
-    let mut coord = store_due(alloc, 2, 10_485_760)?;
-    flush_op(alloc, &mut coord, put(b"a", b"1"))?;
-    flush_op(alloc, &mut coord, delete(b"a"))?;
-    see_compacted(&rt, alloc, &mut coord, 4, &[])?;
-    see_value(&rt, &mut coord, None, None)
-}
-
-#[test]
-fn a_snapshot_reads_on_after_a_compaction(rt: HostRuntime) -> Result<(), Fail> {
-    let alloc = rt.alloc();
-    let mut coord = store_due(alloc, 2, 10_485_760)?;
-    flush_op(alloc, &mut coord, put(b"a", b"1"))?;
-    let id = snapshot(&mut coord)?;
-    flush_op(alloc, &mut coord, delete(b"a"))?;
-    see_compacted(&rt, alloc, &mut coord, 4, &[3])?;
-    see_value(&rt, &mut coord, Some(id), Some(b"1".as_slice()))?;
-    see_value(&rt, &mut coord, None, None)
+) -> Result<bool, CoordError> {
+    match get(coord, b"a", at)? {
+        Some(value) => Ok(wanted == Some(value.as_slice())),
+        None => Ok(wanted.is_none()),
+    }
 }
 
 /// The level and the number of a file.
@@ -141,58 +186,62 @@ fn lists(coord: &Coord, number: u64, first: (u8, u64), second: (u8, u64)) -> boo
     }
 }
 
+/// Whether a step gives what it is to give.
+fn is_done(alloc: Global, coord: &mut Coord, step: Step) -> Result<bool, Fail> {
+    let first = SnapId {
+        epoch: 1,
+        number: 1,
+    };
+    match step {
+        Step::Put(value) => flush_op(alloc, coord, put(b"a", value))?,
+        Step::Delete => flush_op(alloc, coord, Op::Delete(Bytes::from_static(b"a")))?,
+        Step::Snapshot => snapshot(coord)?,
+        Step::Compact(number, files) => return Ok(is_compacted(alloc, coord, number, files)?),
+        Step::CompactAtLast => return Ok(is_compacted_at_last(alloc, coord)?),
+        Step::Idle => return Ok(compact(alloc, coord)?.is_none()),
+        Step::Read(wanted) => return Ok(has_value(coord, None, wanted)?),
+        Step::ReadAtFirst(wanted) => return Ok(has_value(coord, Some(first), wanted)?),
+        Step::List(number, one, other) => return Ok(lists(coord, number, one, other)),
+    }
+    Ok(true)
+}
+
+/// Sees that each step in a store gives what it is to give.
+fn see(rt: &impl Abort, alloc: Global, coord: &mut Coord, steps: &[Step]) -> Result<(), Fail> {
+    for (at, step) in steps.iter().enumerate() {
+        assert!(rt; is_done(alloc, coord, *step)?, "step {at}");
+    }
+    Ok(())
+}
+
+#[test]
+fn a_deletion_goes_with_what_it_hides(rt: HostRuntime) -> Result<(), Fail> {
+    let mut coord = store_due(rt.alloc(), 2, 10_485_760)?;
+    see(&rt, rt.alloc(), &mut coord, &DELETION)
+}
+
+#[test]
+fn a_snapshot_reads_on_after_a_compaction(rt: HostRuntime) -> Result<(), Fail> {
+    let mut coord = store_due(rt.alloc(), 2, 10_485_760)?;
+    see(&rt, rt.alloc(), &mut coord, &SNAPSHOT)
+}
+
 #[test]
 fn a_level_after_another_is_compacted(rt: HostRuntime) -> Result<(), Fail> {
-    let alloc = rt.alloc();
-    let mut coord = store_due(alloc, 1, 1)?;
-    flush_op(alloc, &mut coord, put(b"a", b"1"))?;
-    see_compacted(&rt, alloc, &mut coord, 3, &[2])?;
-    see_compacted(&rt, alloc, &mut coord, 4, &[3])?;
-    flush_op(alloc, &mut coord, delete(b"a"))?;
-    see_compacted(&rt, alloc, &mut coord, 6, &[5])?;
-    assert!(rt; lists(&coord, 6, (2, 3), (1, 5)));
-    see_value(&rt, &mut coord, None, None)
-}
-
-/// Compacts again where memory was wanting, and then sees that the version was left as it was.
-fn compact_at_last(
-    rt: &impl Abort,
-    alloc: Global,
-    coord: &mut Coord,
-) -> Result<Option<(u64, Vec<u64>)>, CoordError> {
-    let before = number_of(coord);
-    match compact(alloc, coord) {
-        Err(CoordError::OutOfMemory) => {}
-        made => return made,
-    }
-    assert_eq!(rt; number_of(coord), before);
-    compact(alloc, coord)
-}
-
-/// The number of the version.
-fn number_of(coord: &Coord) -> u64 {
-    coord.show().number
+    let mut coord = store_due(rt.alloc(), 1, 1)?;
+    see(&rt, rt.alloc(), &mut coord, &DEEPER)
 }
 
 #[test]
 fn a_compaction_is_made_after_want_of_memory(rt: HostRuntime) -> Result<(), Fail> {
-    let alloc = rt.alloc();
-    let mut coord = store_due(alloc, 1, 1)?;
-    flush_op(alloc, &mut coord, put(b"a", b"1"))?;
-    compact_at_last(&rt, alloc, &mut coord)?;
-    compact_at_last(&rt, alloc, &mut coord)?;
-    flush_op(alloc, &mut coord, delete(b"a"))?;
-    compact_at_last(&rt, alloc, &mut coord)?;
-    assert!(rt; lists(&coord, 6, (2, 3), (1, 5)));
-    see_value(&rt, &mut coord, None, None)
+    let mut coord = store_due(rt.alloc(), 1, 1)?;
+    see(&rt, rt.alloc(), &mut coord, &AT_LAST)
 }
 
 #[test]
 fn a_new_store_has_nothing_to_compact(rt: HostRuntime) -> Result<(), Fail> {
-    let alloc = rt.alloc();
-    let mut coord = store_due(alloc, 1, 1)?;
-    assert!(rt; compact(alloc, &mut coord)?.is_none());
-    Ok(())
+    let mut coord = store_due(rt.alloc(), 1, 1)?;
+    see(&rt, rt.alloc(), &mut coord, &[Step::Idle])
 }
 
 /// Gives a claim to a dispatcher, which holds none yet.
