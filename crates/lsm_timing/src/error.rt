@@ -7,58 +7,83 @@ use lsm_merge::MergeError;
 use lsm_pick::PickError;
 use lsm_table::TableError;
 use std::alloc::{AllocError, AllocFailed};
-use std::io;
-use thiserror::Error;
+use std::fmt::Display;
+use std::{fmt, io};
 
 /// Why a figure is not taken.
-#[derive(Clone, Copy, Debug, PartialEq, Eq, Error)]
+#[derive(Clone, Copy)]
 pub(crate) enum TimingError {
-    #[error("out of memory")]
-    OutOfMemory,
-    #[error("the clock, standard output or standard error failed")]
-    Stream,
-    #[error("a batch refused an operation: {0}")]
+    /// For a reason of its own, in words.
+    Plain(&'static str),
     Batch(KeyError),
-    #[error("the coordinator refused a call: {0}")]
     Coord(CoordError),
-    #[error("a merge was refused: {0}")]
     Merge(MergeError),
-    #[error("a table was not opened")]
-    Table,
-    #[error("a table was not served")]
-    Gone,
-    #[error("no job was made of the tables")]
-    NoJob,
-    #[error("a claim was stale")]
-    Stale,
-    #[error("no merge was picked")]
-    NoPick,
-    #[error("a pick was refused: {0}")]
     Pick(PickError),
-    #[error("an edit did not apply: {0}")]
     Edit(ApplyError),
-    #[error("numbers are exhausted")]
-    Exhausted,
+}
+
+pub(crate) const OUT_OF_MEMORY: TimingError = TimingError::Plain("out of memory");
+
+pub(crate) const STREAM: TimingError = TimingError::Plain(
+    "the clock, standard output or standard error failed",
+);
+
+pub(crate) const GONE: TimingError = TimingError::Plain("a table was not served");
+
+pub(crate) const NO_JOB: TimingError = TimingError::Plain("no job was made of the tables");
+
+pub(crate) const STALE: TimingError = TimingError::Plain("a claim was stale");
+
+pub(crate) const NO_PICK: TimingError = TimingError::Plain("no merge was picked");
+
+pub(crate) const EXHAUSTED: TimingError = TimingError::Plain("numbers are exhausted");
+
+impl TimingError {
+    // What it tells before the reason of another crate.
+    fn text(self) -> &'static str {
+        match self {
+            TimingError::Plain(reason) => reason,
+            TimingError::Batch(_) => "a batch refused an operation: ",
+            TimingError::Coord(_) => "the coordinator refused a call: ",
+            TimingError::Merge(_) => "a merge was refused: ",
+            TimingError::Pick(_) => "a pick was refused: ",
+            TimingError::Edit(_) => "an edit did not apply: ",
+        }
+    }
+}
+
+impl Display for TimingError {
+    fn fmt<W: fmt::Write>(&self, f: &mut fmt::Formatter<W>) -> fmt::Result {
+        f.write_str(self.text())?;
+        match self {
+            TimingError::Plain(_) => Ok(()),
+            TimingError::Batch(why) => why.fmt(f),
+            TimingError::Coord(why) => why.fmt(f),
+            TimingError::Merge(why) => why.fmt(f),
+            TimingError::Pick(why) => why.fmt(f),
+            TimingError::Edit(why) => why.fmt(f),
+        }
+    }
 }
 
 impl From<AllocError> for TimingError {
     fn from(_e: AllocError) -> TimingError {
-        TimingError::OutOfMemory
+        OUT_OF_MEMORY
     }
 }
 
 impl<T: Drop> From<AllocFailed<T>> for TimingError {
     fn from(_e: AllocFailed<T>) -> TimingError {
-        TimingError::OutOfMemory
+        OUT_OF_MEMORY
     }
 }
 
 impl From<io::Error> for TimingError {
     fn from(error: io::Error) -> TimingError {
         if error.kind() == io::ErrorKind::OutOfMemory {
-            TimingError::OutOfMemory
+            OUT_OF_MEMORY
         } else {
-            TimingError::Stream
+            STREAM
         }
     }
 }
@@ -66,7 +91,7 @@ impl From<io::Error> for TimingError {
 impl From<KeyError> for TimingError {
     fn from(why: KeyError) -> TimingError {
         match why {
-            KeyError::OutOfMemory => TimingError::OutOfMemory,
+            KeyError::OutOfMemory => OUT_OF_MEMORY,
             why => TimingError::Batch(why),
         }
     }
@@ -75,7 +100,7 @@ impl From<KeyError> for TimingError {
 impl From<CoordError> for TimingError {
     fn from(why: CoordError) -> TimingError {
         match why {
-            CoordError::OutOfMemory => TimingError::OutOfMemory,
+            CoordError::OutOfMemory => OUT_OF_MEMORY,
             why => TimingError::Coord(why),
         }
     }
@@ -84,7 +109,7 @@ impl From<CoordError> for TimingError {
 impl From<MergeError> for TimingError {
     fn from(why: MergeError) -> TimingError {
         match why {
-            MergeError::OutOfMemory => TimingError::OutOfMemory,
+            MergeError::OutOfMemory => OUT_OF_MEMORY,
             why => TimingError::Merge(why),
         }
     }
@@ -93,7 +118,7 @@ impl From<MergeError> for TimingError {
 impl From<PickError> for TimingError {
     fn from(why: PickError) -> TimingError {
         match why {
-            PickError::OutOfMemory => TimingError::OutOfMemory,
+            PickError::OutOfMemory => OUT_OF_MEMORY,
             why => TimingError::Pick(why),
         }
     }
@@ -102,7 +127,7 @@ impl From<PickError> for TimingError {
 impl From<ApplyError> for TimingError {
     fn from(why: ApplyError) -> TimingError {
         match why {
-            ApplyError::OutOfMemory => TimingError::OutOfMemory,
+            ApplyError::OutOfMemory => OUT_OF_MEMORY,
             why => TimingError::Edit(why),
         }
     }
@@ -111,8 +136,8 @@ impl From<ApplyError> for TimingError {
 impl From<TableError> for TimingError {
     fn from(why: TableError) -> TimingError {
         match why {
-            Refused::OutOfMemory => TimingError::OutOfMemory,
-            Refused::Fault(_) => TimingError::Table,
+            Refused::OutOfMemory => OUT_OF_MEMORY,
+            Refused::Fault(_) => TimingError::Plain("a table was not opened"),
         }
     }
 }

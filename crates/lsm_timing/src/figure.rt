@@ -4,7 +4,7 @@ use std::io;
 use std::time::Instant;
 
 /// A figure that is being taken.
-#[derive(Clone, Copy, Debug)]
+#[derive(Clone, Copy)]
 pub(crate) struct Figure {
     name: &'static str,
     start: Instant,

@@ -1,8 +1,8 @@
 //! Filling a store, with all its flushes and merges in the caller's own thread.
 
-use crate::error::TimingError;
+use crate::error::{GONE, STALE, TimingError};
 use crate::figure::{Figure, with_number};
-use crate::keys::{ENTRY_BYTES, batch_count, batch_number};
+use crate::keys::{ENTRY_BYTES, batch_count, batch_number, or_one};
 use bytes::Bytes;
 use lsm_claim::Claim;
 use lsm_coord::{Coord, CoordError, Install};
@@ -11,6 +11,7 @@ use lsm_merge::merge;
 use lsm_msg::{Body, Job, JobResult, Message, Node, NodeIndex};
 use lsm_table::Table;
 use std::alloc::Global;
+use std::io;
 
 /// How many levels there are.
 const LEVELS: usize = 7;
@@ -92,26 +93,46 @@ impl Store {
         let Some((claim, job)) = self.coord.pick()? else {
             return Ok(false);
         };
-        match self.result_of(&job) {
+        let made = self.result_of(&job);
+        self.spend(claim, made)
+    }
+
+    // What a worker makes of a job.
+    fn result_of(&self, job: &Job) -> Result<JobResult, TimingError> {
+        let tables = self.inputs_of(job)?;
+        let outputs = merge(self.alloc, &tables, job)?;
+        Ok(JobResult {
+            job: job.id(),
+            tables: Items::from_vec(outputs),
+        })
+    }
+
+    fn inputs_of(&self, job: &Job) -> Result<Vec<Table>, TimingError> {
+        let mut tables = Vec::with_capacity(self.alloc, job.inputs().len())?;
+        for input in job.inputs() {
+            tables.push(self.table(input.number)?)?;
+        }
+        Ok(tables)
+    }
+
+    fn table(&self, file: u64) -> Result<Table, TimingError> {
+        let bytes = self.fetch(file)?;
+        Ok(Table::open(self.alloc, bytes)?)
+    }
+
+    // Installs what was made, or gives the claim back.
+    fn spend(
+        &mut self,
+        claim: Claim,
+        made: Result<JobResult, TimingError>,
+    ) -> Result<bool, TimingError> {
+        match made {
             Ok(made) => self.install(claim, &made),
             Err(why) => {
                 self.coord.give_back(claim);
                 Err(why)
             }
         }
-    }
-
-    // What a worker makes of a job.
-    fn result_of(&self, job: &Job) -> Result<JobResult, TimingError> {
-        let mut tables = Vec::with_capacity(self.alloc, job.inputs().len())?;
-        for input in job.inputs() {
-            tables.push(Table::open(self.alloc, self.fetch(input.number)?)?)?;
-        }
-        let outputs = merge(self.alloc, &tables, job)?;
-        Ok(JobResult {
-            job: job.id(),
-            tables: Items::from_vec(outputs),
-        })
     }
 
     // Installs a result, and spends its claim.
@@ -122,7 +143,7 @@ impl Store {
                 self.count(level, bytes_of(made.tables.as_slice()));
                 Ok(true)
             }
-            Install::Stale(_, _) => Err(TimingError::Stale),
+            Install::Stale(_, _) => Err(STALE),
             Install::Kept(claim, why) => {
                 self.coord.give_back(claim);
                 Err(TimingError::from(CoordError::from(why)))
@@ -132,21 +153,29 @@ impl Store {
 
     /// The bytes of a file's table, as a worker fetches them.
     pub(crate) fn fetch(&self, file: u64) -> Result<Bytes, TimingError> {
-        let Some(worker) = NodeIndex::new(1) else {
-            return Err(TimingError::Gone);
-        };
-        let message = Message {
-            src: Node::Worker(worker),
-            dst: Node::Coordinator,
-            body: Body::Fetch(file),
-        };
-        let Some(answer) = self.coord.serve(&message)? else {
-            return Err(TimingError::Gone);
-        };
-        match answer.body {
-            Body::Table(_, bytes) => Ok(bytes),
-            _ => Err(TimingError::Gone),
+        match NodeIndex::new(1) {
+            None => Err(GONE),
+            Some(worker) => self.answer(&Message {
+                src: Node::Worker(worker),
+                dst: Node::Coordinator,
+                body: Body::Fetch(file),
+            }),
         }
+    }
+
+    fn answer(&self, message: &Message) -> Result<Bytes, TimingError> {
+        match self.coord.serve(message)? {
+            None => Err(GONE),
+            Some(answer) => served(answer.body),
+        }
+    }
+}
+
+// The bytes in an answer to a fetch.
+fn served(answer: Body) -> Result<Bytes, TimingError> {
+    match answer {
+        Body::Table(_, bytes) => Ok(bytes),
+        _ => Err(GONE),
     }
 }
 
@@ -162,11 +191,15 @@ fn bytes_of(tables: &[Bytes]) -> u64 {
 /// A settled store of so many entries, put in random order in batches.
 pub(crate) fn filled(alloc: Global, entries: u64, batch: u64) -> Result<Store, TimingError> {
     let mut store = Store::new(alloc)?;
-    for number in 0..batch_count(entries, batch) {
-        store.write(&batch_number(alloc, number, entries, batch)?)?;
-    }
-    store.settle()?;
+    fill(&mut store, entries, batch)?;
     Ok(store)
+}
+
+fn fill(store: &mut Store, entries: u64, batch: u64) -> Result<(), TimingError> {
+    for number in 0..batch_count(entries, batch) {
+        store.write(&batch_number(store.alloc, number, entries, batch)?)?;
+    }
+    store.settle()
 }
 
 // Makes the same batches, and lets them go: what of a fill is not the store's.
@@ -181,22 +214,37 @@ fn made(alloc: Global, entries: u64, batch: u64) -> Result<u64, TimingError> {
 
 /// Times the filling of a store, and the making of its batches alone, and tells its write amplification and its levels.
 pub(crate) fn time_fill(rt: &HostRuntime, entries: u64, batch: u64) -> Result<(), TimingError> {
+    time_making(rt, entries, batch)?;
+    let store = time_filling(rt, entries, batch)?;
+    tell_sizes(rt, entries, &store)
+}
+
+fn time_making(rt: &HostRuntime, entries: u64, batch: u64) -> Result<(), TimingError> {
     let figure = Figure::begin(rt, "make")?;
     let checksum = made(rt.alloc(), entries, batch)?;
     figure.end(rt, entries, checksum)?;
+    Ok(())
+}
+
+fn time_filling(rt: &HostRuntime, entries: u64, batch: u64) -> Result<Store, TimingError> {
     let figure = Figure::begin(rt, "fill")?;
     let store = filled(rt.alloc(), entries, batch)?;
     figure.end(rt, entries, shape_of(&store))?;
-    let percent = store.written().wrapping_mul(100) / entries.wrapping_mul(ENTRY_BYTES).max(1);
+    Ok(store)
+}
+
+fn tell_sizes(rt: &HostRuntime, entries: u64, store: &Store) -> Result<(), TimingError> {
+    let percent = store.written().wrapping_mul(100) / or_one(entries.wrapping_mul(ENTRY_BYTES));
     eprintln!(rt; "write_amplification_percent {entries} {percent}")?;
     for (level, written) in store.written.iter().enumerate() {
         eprintln!(rt; "bytes_written_to_level_{level} {entries} {written}")?;
-        eprintln!(rt;
-            "bytes_in_level_{level} {entries} {}",
-            bytes_in(&store.coord, level)
-        )?;
+        tell_bytes_in(rt, entries, level, bytes_in(&store.coord, level))?;
     }
     Ok(())
+}
+
+fn tell_bytes_in(rt: &HostRuntime, entries: u64, level: usize, bytes: u64) -> io::Result<()> {
+    eprintln!(rt; "bytes_in_level_{level} {entries} {bytes}")
 }
 
 // How many bytes the files of a level have.

@@ -1,5 +1,7 @@
 //! The keys and values of entries, by index, so that every store that is compared is given the same.
 
+ghost use Rattle.std.specs.Prelude.{◌≤◌};
+
 use crate::error::TimingError;
 use bytes::{BufMut, Bytes, BytesMut};
 use lsm_key::{Batch, Op};
@@ -55,7 +57,14 @@ pub(crate) fn batch_of(alloc: Global, indices: &[u64]) -> Result<Batch, TimingEr
 
 /// How many batches entries take.
 pub(crate) fn batch_count(entries: u64, batch: u64) -> u64 {
-    entries.div_ceil(batch.max(1))
+    entries.div_ceil(or_one(batch))
+}
+
+/// The number, or 1 in place of 0.
+pub(crate) fn or_one(number: u64) -> u64
+    ensures { 1 ≤ result }
+{
+    if number == 0 { 1 } else { number }
 }
 
 /// The puts of one of the batches in which the indices below a count are put, by its number from 0.

@@ -13,7 +13,7 @@ mod reads;
 mod script;
 mod tables;
 
-use error::TimingError;
+use error::{OUT_OF_MEMORY, STREAM, TimingError};
 use options::{Task, task_of};
 use std::io::ErrorKind;
 use std::process::ExitCode;
@@ -34,13 +34,13 @@ fn fail(rt: &HostRuntime, error: TimingError) -> ExitCode {
 /// Tells what is wrong with the arguments on standard error, or gives the help that they ask for on standard output.
 fn answer(rt: &HostRuntime, error: clap::Error) -> ExitCode {
     if error.kind() == clap::error::ErrorKind::OutOfMemory {
-        return fail(rt, TimingError::OutOfMemory);
+        return fail(rt, OUT_OF_MEMORY);
     }
     let is_refused = error.use_stderr();
     match error.print(rt) {
         _ if is_refused => ExitCode::from(REFUSED),
         Ok(()) => ExitCode::SUCCESS,
-        Err(_) => fail(rt, TimingError::Stream),
+        Err(_) => fail(rt, STREAM),
     }
 }
 
@@ -86,7 +86,7 @@ fn main(rt: HostRuntime) -> ExitCode {
         Ok(words) => words,
         Err(error) => {
             if error.kind() == ErrorKind::OutOfMemory {
-                return fail(&rt, TimingError::OutOfMemory);
+                return fail(&rt, OUT_OF_MEMORY);
             }
             let _ = rt.eprintln("error: an argument is no text");
             return ExitCode::from(REFUSED);

@@ -1,6 +1,6 @@
 //! A merge of two levels.
 
-use crate::error::TimingError;
+use crate::error::{NO_JOB, TimingError};
 use crate::figure::{Figure, with_bytes};
 use crate::fill::Store;
 use crate::keys::mix;
@@ -20,19 +20,50 @@ const UPPER: u8 = 1;
 /// Times the merge of the tables of two levels, of so many megabytes of keys and values in all. One key in eight is in both.
 pub(crate) fn time_merge(rt: &HostRuntime, megabytes: u64) -> Result<(), TimingError> {
     let alloc = rt.alloc();
+    let (tables, lower) = tables_in(alloc, megabytes)?;
+    let job = job_of(alloc, &tables, lower)?;
+    time_job(rt, &tables, &job)
+}
+
+fn time_job(rt: &HostRuntime, tables: &[Table], job: &Job) -> Result<(), TimingError> {
+    let figure = Figure::begin(rt, "merge")?;
+    let outputs = merge(rt.alloc(), tables, job)?;
+    figure.end(rt, entries_of(tables), checksum_of(&outputs))?;
+    Ok(())
+}
+
+// The tables of the lower level and then those of the upper one, and how many the lower one has.
+fn tables_in(alloc: Global, megabytes: u64) -> Result<(Vec<Table>, usize), TimingError> {
     let keys = entries_in(megabytes).wrapping_mul(8) / 9;
+    let (tables, lower) = spelled_tables(alloc, keys)?;
+    Ok((opened(alloc, &tables)?, lower))
+}
+
+fn spelled_tables(alloc: Global, keys: u64) -> Result<(Vec<Bytes>, usize), TimingError> {
     let indices = sorted_indices(alloc, keys)?;
     let mut store = Store::new(alloc)?;
-    let lower = tables_of(alloc, &mut store, &indices_at(alloc, &indices, 0)?)?;
-    let upper = tables_of(alloc, &mut store, &indices_at(alloc, &indices, 1)?)?;
-    drop(store);
-    let lower_count = lower.len();
-    let tables = opened(alloc, &joined(lower, upper)?)?;
-    let job = job_of(alloc, &tables, lower_count)?;
-    let figure = Figure::begin(rt, "merge")?;
-    let outputs = merge(alloc, &tables, &job)?;
-    figure.end(rt, entries_of(&tables), checksum_of(&outputs))?;
-    Ok(())
+    both_levels(alloc, &mut store, &indices)
+}
+
+fn both_levels(
+    alloc: Global,
+    store: &mut Store,
+    indices: &[u64],
+) -> Result<(Vec<Bytes>, usize), TimingError> {
+    let lower = level_of(alloc, store, indices, 0)?;
+    let upper = level_of(alloc, store, indices, 1)?;
+    let count = lower.len();
+    Ok((joined(lower, upper)?, count))
+}
+
+fn level_of(
+    alloc: Global,
+    store: &mut Store,
+    indices: &[u64],
+    level: u64,
+) -> Result<Vec<Bytes>, TimingError> {
+    let chosen = indices_at(alloc, indices, level)?;
+    tables_of(alloc, store, &chosen)
 }
 
 // The indices of the entries of a level, 0 for the lower and 1 for the upper one: every eighth, and a random half of the
@@ -60,7 +91,7 @@ fn job_of(alloc: Global, tables: &[Table], lower: usize) -> Result<Job, TimingEr
     let mut inputs = Items::new(alloc);
     for (place, table) in tables.iter().enumerate() {
         if place >= MAX_INPUTS {
-            return Err(TimingError::NoJob);
+            return Err(NO_JOB);
         }
         let level = if place < lower { UPPER + 1 } else { UPPER };
         inputs.push(FileMeta::of_table(place as u64 + 1, level, table)?)?;
@@ -76,7 +107,7 @@ fn job_of(alloc: Global, tables: &[Table], lower: usize) -> Result<Job, TimingEr
         inputs,
         deeper: Items::new(alloc),
     };
-    Job::new(parts).ok_or(TimingError::NoJob)
+    Job::new(parts).ok_or(NO_JOB)
 }
 
 fn entries_of(tables: &[Table]) -> u64 {

@@ -8,7 +8,7 @@ use std::alloc::{AllocError, Global};
 const MAX_ENTRIES: i64 = 100_000_000;
 
 /// What is timed, and at which size.
-#[derive(Clone, Copy, Debug)]
+#[derive(Clone, Copy)]
 pub(crate) enum Task {
     Fill { entries: u64, batch: u64 },
     Get { entries: u64, reads: u64 },
@@ -23,91 +23,172 @@ pub(crate) enum Task {
     All,
 }
 
-// A number in its place, from 1 on.
-fn number<'a>(alloc: Global, id: &'a str, most: i64, help: &'a str) -> Arg<'a> {
-    Arg::new(alloc, id)
-        .required(true)
-        .help(help)
-        .value_parser(value_parser!(u64).range(1..=most))
+/// Whether a number of a command has to be given.
+#[derive(Clone, Copy)]
+enum Need {
+    Always,
+    Never,
+    /// Else it is this one.
+    OrElse(&'static str),
 }
 
-fn fill<'a>(alloc: Global) -> Result<Command<'a>, AllocError> {
-    Command::new(alloc, "fill")
-        .about("Put entries into a new store, with all flushes and merges")
-        .arg(number(alloc, "N", MAX_ENTRIES, "How many entries"))?
-        .arg(number(alloc, "BATCH", 1_000, "How many a batch has"))
+/// A number of a command, from 1 on.
+#[derive(Clone, Copy)]
+struct Number {
+    id: &'static str,
+    most: i64,
+    need: Need,
+    help: &'static str,
 }
 
-fn get<'a>(alloc: Global) -> Result<Command<'a>, AllocError> {
-    Command::new(alloc, "get")
-        .about("Get random keys that are there, and keys that are not")
-        .arg(number(alloc, "N", MAX_ENTRIES, "How many entries"))?
-        .arg(number(alloc, "M", MAX_ENTRIES, "How many gets of each"))
+/// How a figure is asked for: a command with a number or two.
+#[derive(Clone, Copy)]
+struct Form {
+    name: &'static str,
+    about: &'static str,
+    number: Number,
+    other: Option<Number>,
 }
 
-fn scan<'a>(alloc: Global) -> Result<Command<'a>, AllocError> {
-    let scans = number(
-        alloc,
-        "K",
-        MAX_ENTRIES,
-        "How many scans of 20 keys, in place of one of all",
-    );
-    Command::new(alloc, "scan")
-        .about("Scan the whole store, or 20 keys from random ones")
-        .arg(number(alloc, "N", MAX_ENTRIES, "How many entries"))?
-        .arg(scans.required(false))
+const ENTRIES: Number = Number {
+    id: "N",
+    most: MAX_ENTRIES,
+    need: Need::Always,
+    help: "How many entries",
+};
+
+const FILL: Form = Form {
+    name: "fill",
+    about: "Put entries into a new store, with all flushes and merges",
+    number: ENTRIES,
+    other: Some(Number {
+        id: "BATCH",
+        most: 1_000,
+        need: Need::Always,
+        help: "How many a batch has",
+    }),
+};
+
+const GET: Form = Form {
+    name: "get",
+    about: "Get random keys that are there, and keys that are not",
+    number: ENTRIES,
+    other: Some(Number {
+        id: "M",
+        most: MAX_ENTRIES,
+        need: Need::Always,
+        help: "How many gets of each",
+    }),
+};
+
+const SCAN: Form = Form {
+    name: "scan",
+    about: "Scan the whole store, or 20 keys from random ones",
+    number: ENTRIES,
+    other: Some(Number {
+        id: "K",
+        most: MAX_ENTRIES,
+        need: Need::Never,
+        help: "How many scans of 20 keys, in place of one of all",
+    }),
+};
+
+const MERGE: Form = Form {
+    name: "merge",
+    about: "Merge the tables of two levels",
+    number: Number {
+        id: "MB",
+        most: 230,
+        need: Need::Always,
+        help: "Megabytes of keys and values",
+    },
+    other: None,
+};
+
+const FLUSH: Form = Form {
+    name: "flush",
+    about: "Flush a memtable",
+    number: Number {
+        id: "N",
+        most: 61_538,
+        need: Need::OrElse("61538"),
+        help: "How many entries the memtable has",
+    },
+    other: None,
+};
+
+const OPEN: Form = Form {
+    name: "open",
+    about: "Open tables",
+    number: Number {
+        id: "MB",
+        most: 2_000,
+        need: Need::Always,
+        help: "Megabytes of keys and values",
+    },
+    other: None,
+};
+
+const PICK: Form = Form {
+    name: "pick",
+    about: "Pick a merge, 20 times",
+    number: Number {
+        id: "FILES",
+        most: 100_000,
+        need: Need::OrElse("5000"),
+        help: "How many files the version has",
+    },
+    other: None,
+};
+
+const SCRIPT: Form = Form {
+    name: "script",
+    about: "Print a script for 'lsmsim run'",
+    number: Number {
+        id: "LINES",
+        most: MAX_ENTRIES,
+        need: Need::Always,
+        help: "How many lines",
+    },
+    other: None,
+};
+
+const FORMS: [Form; 8] = [FILL, GET, SCAN, MERGE, FLUSH, OPEN, PICK, SCRIPT];
+
+fn arg_of<'a>(alloc: Global, number: Number) -> Arg<'a> {
+    let arg = Arg::new(alloc, number.id)
+        .help(number.help)
+        .value_parser(value_parser!(u64).range(1..=number.most));
+    match number.need {
+        Need::Always => arg.required(true),
+        Need::Never => arg,
+        Need::OrElse(default) => arg.default_value(default),
+    }
 }
 
-fn merge<'a>(alloc: Global) -> Result<Command<'a>, AllocError> {
-    Command::new(alloc, "merge")
-        .about("Merge the tables of two levels")
-        .arg(number(alloc, "MB", 230, "Megabytes of keys and values"))
-}
-
-fn flush<'a>(alloc: Global) -> Result<Command<'a>, AllocError> {
-    let entries = number(alloc, "N", 61_538, "How many entries the memtable has");
-    Command::new(alloc, "flush")
-        .about("Flush a memtable")
-        .arg(entries.required(false).default_value("61538"))
-}
-
-fn open<'a>(alloc: Global) -> Result<Command<'a>, AllocError> {
-    Command::new(alloc, "open")
-        .about("Open tables")
-        .arg(number(alloc, "MB", 2_000, "Megabytes of keys and values"))
-}
-
-fn pick<'a>(alloc: Global) -> Result<Command<'a>, AllocError> {
-    let files = number(alloc, "FILES", 100_000, "How many files the version has");
-    Command::new(alloc, "pick")
-        .about("Pick a merge, 20 times")
-        .arg(files.required(false).default_value("5000"))
-}
-
-fn script<'a>(alloc: Global) -> Result<Command<'a>, AllocError> {
-    Command::new(alloc, "script")
-        .about("Print a script for 'lsmsim run'")
-        .arg(number(alloc, "LINES", MAX_ENTRIES, "How many lines"))
+fn subcommand<'a>(alloc: Global, form: Form) -> Result<Command<'a>, AllocError> {
+    let command = Command::new(alloc, form.name)
+        .about(form.about)
+        .arg(arg_of(alloc, form.number))?;
+    match form.other {
+        None => Ok(command),
+        Some(number) => command.arg(arg_of(alloc, number)),
+    }
 }
 
 /// The command line that the program takes.
 fn command<'a>(alloc: Global) -> Result<Command<'a>, AllocError> {
-    Command::new(alloc, "lsm_timing")
+    let mut command = Command::new(alloc, "lsm_timing")
         .bin_name("lsm_timing")?
         .about(
             "Times the store: 'name n checksum' on standard output, 'name n nanoseconds' on standard error",
         )
         .no_binary_name(true)
-        .subcommand_required(true)
-        .subcommand(fill(alloc)?)?
-        .subcommand(get(alloc)?)?
-        .subcommand(scan(alloc)?)?
-        .subcommand(merge(alloc)?)?
-        .subcommand(flush(alloc)?)?
-        .subcommand(open(alloc)?)?
-        .subcommand(pick(alloc)?)?
-        .subcommand(script(alloc)?)?
-        .subcommand(Command::new(alloc, "all").about("Each figure at a small size"))
+        .subcommand_required(true);
+    for form in FORMS {
+        command = command.subcommand(subcommand(alloc, form)?)?;
+    }
+    command.subcommand(Command::new(alloc, "all").about("Each figure at a small size"))
 }
 
 // The number of an argument that has one.
@@ -145,14 +226,19 @@ fn task_in(name: &str, found: &ArgMatches<'_>) -> Option<Task> {
     }
 }
 
+fn task_by<'a>(command: &mut Command<'a>, words: &'a [String]) -> Result<Option<Task>, Error> {
+    let found = command.try_get_matches_from_mut(words)?;
+    match found.subcommand() {
+        Some((name, numbers)) => Ok(task_in(name, numbers)),
+        None => Ok(None),
+    }
+}
+
 /// The task that the words after the program's name ask for. Every other line, help too, is an error of `clap`.
 pub(crate) fn task_of<'a>(alloc: Global, words: &'a [String]) -> Result<Task, Error> {
     let mut command = command(alloc)?;
-    let matches = command.try_get_matches_from_mut(words)?;
-    if let Some((name, found)) = matches.subcommand() {
-        if let Some(task) = task_in(name, found) {
-            return Ok(task);
-        }
+    match task_by(&mut command, words)? {
+        Some(task) => Ok(task),
+        None => Err(command.error(ErrorKind::MissingSubcommand, "no figure is asked for")?),
     }
-    Err(command.error(ErrorKind::MissingSubcommand, "no figure is asked for")?)
 }

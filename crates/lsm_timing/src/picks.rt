@@ -3,15 +3,16 @@
 ghost use Rattle.std.specs.Prelude.{◌≡◌, ◌≤◌, ◌+◌, ◌∷◌, [], IfOk};
 ghost use Rattle.lsm_edit.specs.File.{IsFile};
 ghost use Rattle.lsm_edit.specs.Edit.{IsEdit};
+ghost use Rattle.lsm_edit.specs.Served.{AreAsRecorded};
 
-use crate::error::TimingError;
+use crate::error::{EXHAUSTED, NO_PICK, TimingError};
 use crate::figure::{Figure, with_number};
 use crate::fill::Store;
 use crate::keys::batch_of;
 use bytes::Bytes;
 use lsm_claim::ClaimBook;
 use lsm_edit::{Edit, EditKind, FileMeta, Served};
-use lsm_key::{Items, Limits, MAX_NUMBER, Seq};
+use lsm_key::{Batch, Items, Limits, MAX_NUMBER, Seq};
 use lsm_pick::pick;
 use lsm_table::Table;
 use std::alloc::{AllocError, Global};
@@ -28,8 +29,12 @@ const TIGHT: Limits = Limits { l0: 1, base: 1 };
 /// Times picks from a version with so many files in level 1, which is due while no job is live.
 pub(crate) fn time_picks(rt: &HostRuntime, files: u64) -> Result<(), TimingError> {
     let served = version_of(rt.alloc(), files)?;
+    time_picks_of(rt, &served)
+}
+
+fn time_picks_of(rt: &HostRuntime, served: &Served) -> Result<(), TimingError> {
     let figure = Figure::begin(rt, "pick")?;
-    let checksum = picked(rt.alloc(), &served)?;
+    let checksum = picked(rt.alloc(), served)?;
     figure.end(rt, PICKS, checksum)?;
     Ok(())
 }
@@ -40,7 +45,7 @@ fn picked(alloc: Global, served: &Served) -> Result<u64, TimingError> {
     let mut checksum = 0;
     for _pick in 0..PICKS {
         let Some(want) = pick(alloc, served, &book, &TIGHT)? else {
-            return Err(TimingError::NoPick);
+            return Err(NO_PICK);
         };
         for number in want.files.as_slice() {
             checksum = with_number(checksum, *number);
@@ -55,16 +60,32 @@ fn version_of(alloc: Global, files: u64) -> Result<Served, TimingError> {
     open_epoch(alloc, &mut served)?;
     for index in 0..files {
         let bytes = table_of(alloc, index)?;
-        let file = flush(alloc, &mut served, Table::open(alloc, bytes.clone()?)?)?;
-        replace(alloc, &mut served, file, Table::open(alloc, bytes)?)?;
+        add_file(alloc, &mut served, &bytes)?;
     }
     Ok(served)
 }
 
+// Adds a table as a file of level 1, by way of level 0.
+fn add_file(alloc: Global, served: &mut Served, bytes: &Bytes) -> Result<(), TimingError> {
+    let file = flush(alloc, served, opened(alloc, bytes)?)?;
+    replace(alloc, served, file, opened(alloc, bytes)?)
+}
+
+fn opened(alloc: Global, bytes: &Bytes) -> Result<Table, TimingError> {
+    let bytes = bytes.clone()?;
+    Ok(Table::open(alloc, bytes)?)
+}
+
 // The table of the one entry of an index.
 fn table_of(alloc: Global, index: u64) -> Result<Bytes, TimingError> {
+    let batch = batch_of(alloc, &[index])?;
     let mut store = Store::new(alloc)?;
-    store.write(&batch_of(alloc, &[index])?)?;
+    table_by(&mut store, &batch)
+}
+
+// The table that the flush of a batch makes.
+fn table_by(store: &mut Store, batch: &Batch) -> Result<Bytes, TimingError> {
+    store.write(batch)?;
     let file = store.flush()?;
     store.fetch(file)
 }
@@ -73,7 +94,7 @@ fn table_of(alloc: Global, index: u64) -> Result<Bytes, TimingError> {
 fn open_epoch(alloc: Global, served: &mut Served) -> Result<(), TimingError> {
     let version = served.version();
     if version.number() >= MAX_NUMBER || version.epoch() >= MAX_NUMBER {
-        return Err(TimingError::Exhausted);
+        return Err(EXHAUSTED);
     }
     let edit = Edit::epoch(alloc, version);
     served.advance(&edit, Vec::new(alloc))?;
@@ -89,12 +110,11 @@ fn flush(alloc: Global, served: &mut Served, table: Table) -> Result<u64, Timing
         || file >= MAX_NUMBER
         || flushed.number() >= Seq::MAX
     {
-        return Err(TimingError::Exhausted);
+        return Err(EXHAUSTED);
     }
     let meta = FileMeta::of_table(file, 0, &table)?;
     let edit = Edit::flush(alloc, version, Seq::new(flushed.number() + 1), meta)?;
-    let tables = alone(alloc, table)?;
-    served.advance(&edit, tables)?;
+    go_on(alloc, served, &edit, table)?;
     Ok(file)
 }
 
@@ -102,15 +122,23 @@ fn flush(alloc: Global, served: &mut Served, table: Table) -> Result<u64, Timing
 fn replace(alloc: Global, served: &mut Served, file: u64, table: Table) -> Result<(), TimingError> {
     let version = served.version();
     if version.number() >= MAX_NUMBER || version.next_file() >= MAX_NUMBER {
-        return Err(TimingError::Exhausted);
+        return Err(EXHAUSTED);
     }
     if version.epoch() < 1 || file < 1 || file > MAX_NUMBER {
-        return Err(TimingError::Exhausted);
+        return Err(EXHAUSTED);
     }
     let meta = FileMeta::of_table(version.next_file(), LEVEL, &table)?;
-    let tables = alone(alloc, table)?;
     let edit = replacement(alloc, served, file, meta)?;
-    served.advance(&edit, tables)?;
+    go_on(alloc, served, &edit, table)
+}
+
+// Goes on by an edit that adds one table.
+fn go_on(alloc: Global, served: &mut Served, edit: &Edit, table: Table) -> Result<(), TimingError>
+    requires sound { IsEdit edit.now }
+    requires recorded { AreAsRecorded edit.now.added (table ∷ []) }
+{
+    let tables = alone(alloc, table)?;
+    served.advance(edit, tables)?;
     Ok(())
 }
 

@@ -3,7 +3,7 @@
 use crate::error::TimingError;
 use crate::figure::{Figure, with_bytes, with_number};
 use crate::fill::filled;
-use crate::keys::{key_of, mix};
+use crate::keys::{key_of, mix, or_one};
 use bytes::Bytes;
 use lsm_coord::Coord;
 use std::alloc::{AllocError, Global};
@@ -23,11 +23,20 @@ const END: [u8; 17] = [255; 17];
 /// Times gets of random keys that are there, and of keys that are not.
 pub(crate) fn time_gets(rt: &HostRuntime, entries: u64, reads: u64) -> Result<(), TimingError> {
     let mut store = filled(rt.alloc(), entries, BATCH)?;
+    time_gets_of(rt, &mut store.coord, entries, reads)
+}
+
+fn time_gets_of(
+    rt: &HostRuntime,
+    coord: &mut Coord,
+    entries: u64,
+    reads: u64,
+) -> Result<(), TimingError> {
     let figure = Figure::begin(rt, "get")?;
-    let checksum = get_present(&mut store.coord, entries, reads)?;
+    let checksum = get_present(coord, entries, reads)?;
     figure.end(rt, reads, checksum)?;
     let figure = Figure::begin(rt, "get_absent")?;
-    let checksum = get_absent(&mut store.coord, entries, reads)?;
+    let checksum = get_absent(coord, entries, reads)?;
     figure.end(rt, reads, checksum)?;
     Ok(())
 }
@@ -52,7 +61,7 @@ fn get_absent(coord: &mut Coord, entries: u64, reads: u64) -> Result<u64, Timing
 
 // The random number below a limit that belongs to this one.
 fn random_below(limit: u64, number: u64) -> u64 {
-    mix(!number) % limit.max(1)
+    mix(!number) % or_one(limit)
 }
 
 fn with_value(checksum: u64, value: Option<Bytes>) -> u64 {
@@ -70,17 +79,27 @@ pub(crate) fn time_scans(
 ) -> Result<(), TimingError> {
     let mut store = filled(rt.alloc(), entries, BATCH)?;
     match scans {
-        None => {
-            let figure = Figure::begin(rt, "scan")?;
-            let (count, checksum) = scan_whole(rt.alloc(), &mut store.coord)?;
-            figure.end(rt, count, checksum)?;
-        }
-        Some(scans) => {
-            let figure = Figure::begin(rt, "scan_short")?;
-            let checksum = scan_short(&mut store.coord, entries, scans)?;
-            figure.end(rt, scans, checksum)?;
-        }
+        None => time_whole(rt, &mut store.coord),
+        Some(scans) => time_short(rt, &mut store.coord, entries, scans),
     }
+}
+
+fn time_whole(rt: &HostRuntime, coord: &mut Coord) -> Result<(), TimingError> {
+    let figure = Figure::begin(rt, "scan")?;
+    let (count, checksum) = scan_whole(rt.alloc(), coord)?;
+    figure.end(rt, count, checksum)?;
+    Ok(())
+}
+
+fn time_short(
+    rt: &HostRuntime,
+    coord: &mut Coord,
+    entries: u64,
+    scans: u64,
+) -> Result<(), TimingError> {
+    let figure = Figure::begin(rt, "scan_short")?;
+    let checksum = scan_short(coord, entries, scans)?;
+    figure.end(rt, scans, checksum)?;
     Ok(())
 }
 

@@ -11,7 +11,7 @@ const KEYS: u64 = 100_000;
 const FLUSH_EVERY: u64 = 10_000;
 
 /// A command of a script.
-#[derive(Clone, Copy, Debug)]
+#[derive(Clone, Copy)]
 enum Line {
     Put(u64, u64),
     Delete(u64),

@@ -68,10 +68,19 @@ pub(crate) fn opened(alloc: Global, tables: &[Bytes]) -> Result<Vec<Table>, Timi
 
 /// Times the flush of a memtable of so many entries.
 pub(crate) fn time_flush(rt: &HostRuntime, entries: u64) -> Result<(), TimingError> {
-    let alloc = rt.alloc();
-    let mut store = Store::new(alloc)?;
+    let mut store = unflushed(rt.alloc(), entries)?;
+    time_flush_of(rt, &mut store, entries)
+}
+
+// A store with so many entries in its memtable.
+fn unflushed(alloc: Global, entries: u64) -> Result<Store, TimingError> {
     let indices: Vec<u64> = (0..entries).collect(alloc)?;
+    let mut store = Store::new(alloc)?;
     put_all(alloc, &mut store, &indices)?;
+    Ok(store)
+}
+
+fn time_flush_of(rt: &HostRuntime, store: &mut Store, entries: u64) -> Result<(), TimingError> {
     let figure = Figure::begin(rt, "flush")?;
     store.flush()?;
     figure.end(rt, entries, store.written())?;
@@ -80,13 +89,21 @@ pub(crate) fn time_flush(rt: &HostRuntime, entries: u64) -> Result<(), TimingErr
 
 /// Times the opening of tables of so many megabytes of keys and values.
 pub(crate) fn time_open(rt: &HostRuntime, megabytes: u64) -> Result<(), TimingError> {
-    let alloc = rt.alloc();
     let count = entries_in(megabytes);
-    let mut store = Store::new(alloc)?;
+    let tables = made(rt.alloc(), count)?;
+    time_open_of(rt, &tables, count)
+}
+
+// The tables of the entries of so many indices.
+fn made(alloc: Global, count: u64) -> Result<Vec<Bytes>, TimingError> {
     let indices = sorted_indices(alloc, count)?;
-    let tables = tables_of(alloc, &mut store, &indices)?;
+    let mut store = Store::new(alloc)?;
+    tables_of(alloc, &mut store, &indices)
+}
+
+fn time_open_of(rt: &HostRuntime, tables: &[Bytes], count: u64) -> Result<(), TimingError> {
     let figure = Figure::begin(rt, "open")?;
-    let opened = opened(alloc, &tables)?;
+    let opened = opened(rt.alloc(), tables)?;
     figure.end(rt, count, entries_of(&opened))?;
     Ok(())
 }
