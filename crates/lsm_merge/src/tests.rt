@@ -7,12 +7,13 @@ mod refusals;
 ghost use Rattle.std.specs.Prelude.{IfOk};
 ghost use Rattle.lsm_key.specs.Entries.{IsEntry};
 
+use crate::{MergeError, merge};
 use bytes::Bytes;
 use lsm_claim::JobId;
 use lsm_edit::FileMeta;
 use lsm_key::{Entry, InternalKey, Items, Kind, Seq};
 use lsm_msg::{Job, JobParts, KeyRange};
-use lsm_table::{Table, TableBuilder};
+use lsm_table::{BuildError, Table, TableBuilder};
 use std::alloc::Global;
 use std::test::Fail;
 
@@ -62,13 +63,29 @@ fn entry_of(alloc: Global, row: Row) -> Result<Entry, Fail>
     }
 }
 
+// What the builder then has is not said: no test rests on it.
+fn add(builder: &mut TableBuilder, entry: Entry) -> Result<(), BuildError>
+    requires { IsEntry entry }
+{
+    builder.add(entry)
+}
+
+fn add_row(alloc: Global, builder: &mut TableBuilder, row: Row) -> Result<(), Fail> {
+    Ok(add(builder, entry_of(alloc, row)?)?)
+}
+
+/// The table of what was added.
+fn finished(builder: TableBuilder) -> Result<Table, Fail> {
+    Ok(builder.finish_open()?)
+}
+
 /// The table of entries in order.
 fn table_of(alloc: Global, rows: &[Row]) -> Result<Table, Fail> {
     let mut builder = TableBuilder::new(alloc);
     for row in rows {
-        builder.add(entry_of(alloc, *row)?)?;
+        add_row(alloc, &mut builder, *row)?;
     }
-    Ok(builder.finish_open()?)
+    finished(builder)
 }
 
 /// The file records of tables, all of level 0, numbered from 1.
@@ -79,6 +96,11 @@ fn files_of(alloc: Global, tables: &[Table]) -> Result<Vec<FileMeta>, Fail> {
         files.push(FileMeta::of_table(number, 0, table)?)?;
     }
     Ok(files)
+}
+
+// Of the outputs nothing is said: the tests compare them.
+fn outputs_of(alloc: Global, tables: &[Table], job: &Job) -> Result<Vec<Bytes>, MergeError> {
+    merge(alloc, tables, job)
 }
 
 /// The job of these inputs.
@@ -112,7 +134,11 @@ fn job_of(
     Ok(Job::new(parts).ok_or("no job")?)
 }
 
-/// The entries of a table as rows.
+/// The entries of an output as rows.
+fn rows_in(alloc: Global, output: Bytes) -> Result<Vec<Row>, Fail> {
+    rows_of(alloc, &Table::open(alloc, output)?)
+}
+
 fn rows_of(alloc: Global, table: &Table) -> Result<Vec<Row>, Fail> {
     let mut rows = Vec::new(alloc);
     for entry in table.entries() {

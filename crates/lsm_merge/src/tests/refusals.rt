@@ -1,7 +1,7 @@
 //! Each reason why tables are not merged.
 
-use super::{Row, deletion, files_of, job_of, put, table_of};
-use crate::{MergeError, merge};
+use super::{Row, deletion, files_of, job_of, outputs_of, put, table_of};
+use crate::MergeError;
 use bytes::Bytes;
 use lsm_edit::FileMeta;
 use lsm_msg::Job;
@@ -31,65 +31,70 @@ fn changed(file: FileMeta, change: Change) -> FileMeta {
     file
 }
 
-/// Two tables, of the keys a to b, and of c.
-fn two_tables(alloc: Global) -> Result<Vec<Table>, Fail> {
+/// Tables by their first keys: one of the keys a to b, one of c, one of d.
+fn tables_of(alloc: Global, keys: &[u8]) -> Result<Vec<Table>, Fail> {
     let mut tables = Vec::new(alloc);
-    tables.push(table_of(alloc, &[put(b'a', 1, b'1'), put(b'b', 2, b'2')])?)?;
-    tables.push(table_of(alloc, &[put(b'c', 3, b'3')])?)?;
+    for key in keys {
+        let table = match *key {
+            b'a' => table_of(alloc, &[put(b'a', 1, b'1'), put(b'b', 2, b'2')])?,
+            b'c' => table_of(alloc, &[put(b'c', 3, b'3')])?,
+            _ => table_of(alloc, &[put(b'd', 4, b'4')])?,
+        };
+        tables.push(table)?;
+    }
     Ok(tables)
 }
 
 /// Why the tables are not merged by the job, if memory does not end.
 fn why_not(alloc: Global, tables: &[Table], job: &Job) -> Result<Option<MergeError>, Fail> {
-    match merge(alloc, tables, job) {
+    match outputs_of(alloc, tables, job) {
         Ok(_) => Ok(None),
         Err(MergeError::OutOfMemory) => Err(AllocError)?,
         Err(why) => Ok(Some(why)),
     }
 }
 
-/// Why the tables are not merged by the job of the two, whose first record is changed.
-fn refusal(alloc: Global, tables: &[Table], change: Change) -> Result<Option<MergeError>, Fail> {
-    let mut files = files_of(alloc, &two_tables(alloc)?)?;
+/// Why these tables are not merged by the job of the keys a to b and of c, whose first record is changed.
+fn refusal(alloc: Global, keys: &[u8], change: Change) -> Result<Option<MergeError>, Fail> {
+    let mut files = files_of(alloc, &tables_of(alloc, b"ac")?)?;
     if !files.is_empty() {
         let first = changed(files.remove(0), change);
         files.insert(0, first)?;
     }
     let job = job_of(alloc, files, &[], &[])?;
-    why_not(alloc, tables, &job)
+    why_not(alloc, &tables_of(alloc, keys)?, &job)
 }
 
 #[test]
 fn tables_that_are_not_the_inputs(rt: HostRuntime) -> Result<(), Fail> {
-    let alloc = rt.alloc();
     let wrong = Some(MergeError::WrongInputs);
-    let mut tables = two_tables(alloc)?;
-    for (change, why) in [
-        (Change::None, None),
-        (Change::Smallest, wrong),
-        (Change::Largest, wrong),
-        (Change::Bytes, wrong),
-        (Change::Entries, wrong),
+    for (keys, change, why) in [
+        ("ac", Change::None, None),
+        ("ac", Change::Smallest, wrong),
+        ("ac", Change::Largest, wrong),
+        ("ac", Change::Bytes, wrong),
+        ("ac", Change::Entries, wrong),
+        ("ca", Change::None, wrong),
+        ("c", Change::None, wrong),
+        ("acd", Change::None, wrong),
     ] {
-        assert_eq!(rt; refusal(alloc, &tables, change)?, why, "for {change:?}");
+        let found = refusal(rt.alloc(), keys.as_bytes(), change)?;
+        assert!(rt; found == why, "{change:?} of {keys}");
     }
-    tables.reverse();
-    assert_eq!(rt;
-        refusal(alloc, &tables, Change::None)?,
-        wrong,
-        "another order"
-    );
-    tables.truncate(1);
-    assert_eq!(rt; refusal(alloc, &tables, Change::None)?, wrong, "too few");
-    let mut tables = two_tables(alloc)?;
-    tables.push(table_of(alloc, &[put(b'd', 4, b'4')])?)?;
-    assert_eq!(rt; refusal(alloc, &tables, Change::None)?, wrong, "too many");
     Ok(())
+}
+
+/// Why a table of the key a at sequence 1 is not merged with one of this row.
+fn refusal_beside(alloc: Global, second: Row) -> Result<Option<MergeError>, Fail> {
+    let mut tables = Vec::new(alloc);
+    tables.push(table_of(alloc, &[put(b'a', 1, b'1')])?)?;
+    tables.push(table_of(alloc, &[second])?)?;
+    let job = job_of(alloc, files_of(alloc, &tables)?, &[], &[])?;
+    why_not(alloc, &tables, &job)
 }
 
 #[test]
 fn inputs_that_have_one_entry(rt: HostRuntime) -> Result<(), Fail> {
-    let alloc = rt.alloc();
     let same = Some(MergeError::SameEntry);
     for (second, why) in [
         (put(b'a', 1, b'1'), same),
@@ -98,12 +103,8 @@ fn inputs_that_have_one_entry(rt: HostRuntime) -> Result<(), Fail> {
         (put(b'a', 2, b'1'), None),
         (put(b'b', 1, b'1'), None),
     ] {
-        let mut tables = Vec::new(alloc);
-        tables.push(table_of(alloc, &[put(b'a', 1, b'1')])?)?;
-        tables.push(table_of(alloc, &[second])?)?;
-        let job = job_of(alloc, files_of(alloc, &tables)?, &[], &[])?;
-        let found = why_not(alloc, &tables, &job)?;
-        assert_eq!(rt; found, why, "with {second:?}");
+        let found = refusal_beside(rt.alloc(), second)?;
+        assert!(rt; found == why, "with {second:?}");
     }
     Ok(())
 }
@@ -122,7 +123,7 @@ fn texts_of_refusals(rt: HostRuntime) -> Result<(), Fail> {
         (MergeError::OutOfMemory, "out of memory"),
     ] {
         let shown = format!(in rt.alloc(); "{why}")?;
-        assert_eq!(rt; shown.as_str(), text);
+        assert!(rt; shown.as_str() == text);
     }
     Ok(())
 }
