@@ -19,10 +19,9 @@ const JOB: JobId = JobId {
 
 /// The write of one operation.
 fn write_of_a(alloc: Global) -> Result<Call, AllocError> {
-    let mut ops = Items::new(alloc);
     let (key, value) = (Bytes::from_static(b"a"), Bytes::from_static(b"1"));
-    ops.push(Op::Put(key, value))?;
-    Ok(Call::Write(ops))
+    let ops = vec![in alloc; Op::Put(key, value)]?;
+    Ok(Call::Write(Items::from_vec(ops)))
 }
 
 /// Calls, one for each place from 0 to 6, no two of them the same.

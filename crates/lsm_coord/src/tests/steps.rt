@@ -95,9 +95,9 @@ fn filled(alloc: Global, coord: &mut Coord, count: u32, len: usize) -> Result<Ma
     let batch = batch_of(alloc, Op::Put(Bytes::from_static(b"a"), value))?;
     let mut made = Made::Done;
     for _ in 0..count {
-        made = wrote(coord, &batch);
-        if is_out_of_memory(made) {
-            break;
+        match wrote(coord, &batch) {
+            Made::Refused(why) => return Ok(Made::Refused(why)),
+            last => made = last,
         }
     }
     Ok(made)
@@ -117,19 +117,12 @@ fn flushed(coord: &mut Coord) -> Made {
     }
 }
 
-fn snapped(coord: &mut Coord) -> Made {
-    match coord.snapshot() {
-        Ok((id, at)) => Made::Snapshot(id.epoch, id.number, at.number()),
-        Err(why) => Made::Refused(why),
-    }
-}
-
-fn snapped_often(coord: &mut Coord, count: u32) -> Made {
+fn snapped(coord: &mut Coord, count: u32) -> Made {
     let mut made = Made::Done;
     for _ in 0..count {
-        made = snapped(coord);
-        if is_out_of_memory(made) {
-            break;
+        match coord.snapshot() {
+            Ok((id, at)) => made = Made::Snapshot(id.epoch, id.number, at.number()),
+            Err(why) => return Made::Refused(why),
         }
     }
     made
@@ -346,7 +339,7 @@ fn done(alloc: Global, coord: &mut Coord, desk: &mut Desk, step: Step) -> Result
         Step::Fill(count, len) => filled(alloc, coord, count, len)?,
         Step::Freeze => frozen(coord),
         Step::Flush => flushed(coord),
-        Step::Snapshot(count) => snapped_often(coord, count),
+        Step::Snapshot(count) => snapped(coord, count),
         Step::Release(number) => released(coord, number),
         Step::Get(key) => got(coord, key, None),
         Step::GetAt(key, number) => got(coord, key, Some(snapshot_of(number))),
