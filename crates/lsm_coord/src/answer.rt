@@ -84,17 +84,13 @@ impl Answer {
             Answer::Flushed(flushed) => Ok(Answer::Flushed(*flushed)),
             Answer::Snapshot(id, at) => Ok(Answer::Snapshot(*id, *at)),
             Answer::Released => Ok(Answer::Released),
-            Answer::Got(value) => Ok(Answer::Got(value.clone()?)),
-            Answer::Scanned(pairs) => {
-                let pairs = pairs.as_slice().to_vec(alloc)?;
-                Ok(Answer::Scanned(Items::from_vec(pairs)))
-            }
+            Answer::Got(value) => Ok(Answer::Got(copied_value(value)?)),
+            Answer::Scanned(pairs) => Ok(Answer::Scanned(copied_pairs(pairs, alloc)?)),
             Answer::Shown(version) => Ok(Answer::Shown(version.copy(alloc)?)),
             Answer::Picked(job) => Ok(Answer::Picked(job.copy(alloc)?)),
             Answer::Idle => Ok(Answer::Idle),
             Answer::Installed(number, files) => {
-                let files = files.as_slice().to_vec(alloc)?;
-                Ok(Answer::Installed(*number, Items::from_vec(files)))
+                Ok(Answer::Installed(*number, copied_numbers(files, alloc)?))
             }
             Answer::Stale(claim, epoch) => Ok(Answer::Stale(*claim, *epoch)),
             Answer::GaveBack(settled) => Ok(Answer::GaveBack(*settled)),
@@ -125,6 +121,27 @@ impl Answer {
             _ => false,
         }
     }
+}
+
+fn copied_value(value: &Option<Bytes>) -> Result<Option<Bytes>, AllocError>
+    ensures { IfOk result (λ copy. copy ≡ value.now) }
+{
+    value.clone()
+}
+
+fn copied_pairs(
+    pairs: &Items<(Bytes, Bytes)>,
+    alloc: Global,
+) -> Result<Items<(Bytes, Bytes)>, AllocError>
+    ensures { IfOk result (λ copy. copy ≡ pairs.now) }
+{
+    Ok(Items::from_vec(pairs.as_slice().to_vec(alloc)?))
+}
+
+fn copied_numbers(numbers: &Items<u64>, alloc: Global) -> Result<Items<u64>, AllocError>
+    ensures { IfOk result (λ copy. copy ≡ numbers.now) }
+{
+    Ok(Items::from_vec(numbers.as_slice().to_vec(alloc)?))
 }
 
 fn same_pairs(pairs: &[(Bytes, Bytes)], others: &[(Bytes, Bytes)]) -> bool

@@ -11,9 +11,9 @@ mod snapshots;
 mod window;
 mod write;
 
-ghost use Rattle.std.specs.Prelude.{◌≡◌, None, OnOk, OnErr};
+ghost use Rattle.std.specs.Prelude.{◌≡◌, ◌∷◌, ◌++◌, [], None, IfOk, OnOk, OnErr};
 ghost use Rattle.lsm_edit.specs.declared.edit.EditKind.TheVariants as kind;
-ghost use Rattle.lsm_edit.specs.Edit.{IsEdit};
+ghost use Rattle.lsm_edit.specs.Edit.{IsEdit, edit as spelling};
 ghost use Rattle.lsm_edit.specs.Version.{apply_fault};
 ghost use Rattle.lsm_edit.specs.Served.{AreAsRecorded};
 ghost use Rattle.lsm_coord.specs.Calls.{extended};
@@ -74,9 +74,8 @@ impl Coord {
     {
         let mut current = Served::new(alloc);
         let edit = Edit::epoch(alloc, current.version());
-        let mut manifest = Vec::with_capacity(alloc, 1)?;
         let text = encode_edit(alloc, &edit)?;
-        manifest.push(text)?;
+        let manifest = alone(alloc, text)?;
         extend(&mut current, &edit, Vec::new(alloc))?;
         let book = ClaimBook::new(alloc, current.version().epoch());
         Ok(Coord {
@@ -94,6 +93,15 @@ impl Coord {
     }
 }
 
+// The list of one item.
+fn alone<T: Drop>(alloc: Global, item: T) -> Result<Vec<T>, AllocError>
+    ensures { IfOk result (λ list. list.items ≡ item ∷ []) }
+{
+    let mut list = Vec::with_capacity(alloc, 1)?;
+    list.push(item)?;
+    Ok(list)
+}
+
 // Goes on by an edit that applies: only memory can be wanting.
 fn extend(served: &mut Served, edit: &Edit, tables: Vec<Table>) -> Result<(), AllocError>
     requires sound { IsEdit edit.now }
@@ -109,4 +117,27 @@ fn extend(served: &mut Served, edit: &Edit, tables: Vec<Table>) -> Result<(), Al
         Ok(()) => Ok(()),
         Err(_) => Err(AllocError),
     }
+}
+
+// The same, and lists the edit. A refusal changes nothing.
+fn extend_listed(
+    alloc: Global,
+    served: &mut Served,
+    manifest: &mut Vec<Bytes>,
+    edit: &Edit,
+    tables: Vec<Table>,
+) -> Result<(), AllocError>
+    requires sound { IsEdit edit.now }
+    requires recorded { AreAsRecorded edit.now.added tables.items }
+    requires applies { apply_fault served.old.version edit.now ≡ None }
+    requires plain { edit.now.kind ≡ kind.Install → ⊥ }
+    ensures ok { OnOk result (served.new ≡ extended served.old edit.now tables.items) }
+    ensures listed { OnOk result (manifest.new.items ≡ manifest.old.items ++ spelling edit.now ∷ []) }
+    ensures err { OnErr result ((served.new ≡ served.old) × (manifest.new.items ≡ manifest.old.items)) }
+{
+    let text = encode_edit(alloc, edit)?;
+    manifest.reserve(1)?;
+    extend(served, edit, tables)?;
+    manifest.push_reserved(text);
+    Ok(())
 }

@@ -2,40 +2,56 @@
 
 use crate::InstallError;
 use std::alloc::{AllocError, AllocFailed};
+use std::fmt;
 use thiserror::Error;
 
 /// Why the coordinator refuses a call, the first reason that holds. The numbers stay as they are: those that are left out are
 /// of a store on a device.
 #[derive(Clone, Copy, Debug, PartialEq, Eq, Error)]
 pub enum CoordError {
-    #[error("out of memory")]
     OutOfMemory = 0,
-    #[error("the sequences are exhausted")]
     SequenceExhausted = 4,
-    #[error("a frozen memtable waits")]
     FrozenWaiting = 5,
-    #[error("there is nothing to freeze")]
     NothingToFreeze = 6,
-    #[error("there is nothing to flush")]
     NothingToFlush = 7,
-    #[error("too many snapshots are live")]
     TooManySnapshots = 8,
-    #[error("no such snapshot is live")]
     NoSnapshot = 9,
-    #[error("the result is of another job")]
     WrongJob = 10,
-    #[error("the result is not what the job may give")]
     BadResult = 11,
-    #[error("the memtable is full")]
     MemtableFull = 12,
-    #[error("the batch is empty")]
     EmptyBatch = 13,
-    #[error("four claims are live")]
     BookFull = 14,
-    #[error("every merge that no job stands against passes a limit of a job")]
     TooWide = 15,
-    #[error("the version, file, snapshot or job numbers are exhausted")]
     NumbersExhausted = 17,
+}
+
+impl CoordError {
+    // The same in words.
+    fn text(self) -> &'static str {
+        match self {
+            CoordError::OutOfMemory => "out of memory",
+            CoordError::SequenceExhausted => "the sequences are exhausted",
+            CoordError::FrozenWaiting => "a frozen memtable waits",
+            CoordError::NothingToFreeze => "there is nothing to freeze",
+            CoordError::NothingToFlush => "there is nothing to flush",
+            CoordError::TooManySnapshots => "too many snapshots are live",
+            CoordError::NoSnapshot => "no such snapshot is live",
+            CoordError::WrongJob => "the result is of another job",
+            CoordError::BadResult => "the result is not what the job may give",
+            CoordError::MemtableFull => "the memtable is full",
+            CoordError::EmptyBatch => "the batch is empty",
+            CoordError::BookFull => "four claims are live",
+            CoordError::TooWide => "every merge that no job stands against passes a limit of a job",
+            CoordError::NumbersExhausted =>
+                "the version, file, snapshot or job numbers are exhausted",
+        }
+    }
+}
+
+impl fmt::Display for CoordError {
+    fn fmt<W: fmt::Write>(&self, f: &mut fmt::Formatter<W>) -> fmt::Result {
+        f.write_str(self.text())
+    }
 }
 
 impl From<AllocError> for CoordError {

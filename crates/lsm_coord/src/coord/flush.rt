@@ -10,10 +10,10 @@ ghost use Rattle.lsm_coord.specs.Calls.{Adds, AddsTable, CanNumber, flush_fault,
 ghost use Rattle.lsm_coord.specs.Sound.{KeepsSound};
 ghost use Rattle.lsm_coord.specs.Replies.{flush_reply};
 
-use super::{Coord, extend};
+use super::{Coord, alone, extend_listed};
 use crate::CoordError;
 use crate::table::table_of;
-use lsm_edit::{Edit, FileMeta, encode_edit};
+use lsm_edit::{Edit, FileMeta};
 use lsm_key::{MAX_NUMBER, Seq};
 use lsm_mem::Memtable;
 use lsm_table::Table;
@@ -103,12 +103,14 @@ impl Coord {
         // That all its files have lower numbers, as the proof wants to know.
         let _files = version.files();
         let edit = Edit::flush(self.alloc, version, end, meta)?;
-        let text = encode_edit(self.alloc, &edit)?;
-        let mut tables = Vec::with_capacity(self.alloc, 1)?;
-        tables.push(table)?;
-        self.manifest.reserve(1)?;
-        extend(&mut self.current, &edit, tables)?;
-        self.manifest.push_reserved(text);
+        let tables = alone(self.alloc, table)?;
+        extend_listed(
+            self.alloc,
+            &mut self.current,
+            &mut self.manifest,
+            &edit,
+            tables,
+        )?;
         if self.frozen.is_some() {
             self.frozen = None;
             return Ok(());

@@ -1,12 +1,12 @@
 //! Installs: the result of a job takes the place of its inputs.
 
-ghost use Rattle.std.specs.Prelude.{◌≡◌, ◌↔◌, ◌<◌, ◌≤◌, ◌^◌, IfErr, IsTrue, IfOk, None, OnErr, OnOk, find, length, map, true};
+ghost use Rattle.std.specs.Prelude.{◌≡◌, ◌↔◌, ◌<◌, ◌≤◌, ◌^◌, ◌++◌, ◌∷◌, [], IfErr, IsTrue, IfOk, None, OnErr, OnOk, find, length, map, true};
 ghost use Rattle.std.specs.Option.{option_copied};
 ghost use Rattle.lsm_key.specs.Sets.{IsIn};
 ghost use Rattle.lsm_claim.specs.declared.job.LiveJob.{LiveJob};
 ghost use Rattle.lsm_claim.specs.Jobs.{same_id};
 ghost use Rattle.lsm_table.specs.Tables.{IsTable, Opened};
-ghost use Rattle.lsm_edit.specs.Edit.{IsEdit};
+ghost use Rattle.lsm_edit.specs.Edit.{IsEdit, edit as spelling};
 ghost use Rattle.lsm_edit.specs.Served.{AreAsRecorded, advanced};
 ghost use Rattle.lsm_edit.specs.Version.{apply_fault};
 ghost use Rattle.lsm_msg.specs.declared.job.JobParts.{JobParts};
@@ -143,10 +143,7 @@ fn put_outputs(
     let number = version.number() + 1;
     let edit = edit_of(alloc, version, want, &tables)?;
     let files = numbers_of(alloc, edit.added.as_slice())?;
-    let text = encode_edit(alloc, &edit)?;
-    manifest.reserve(1)?;
-    go_on(current, &edit, tables)?;
-    manifest.push_reserved(text);
+    go_on_listed(alloc, current, manifest, &edit, tables)?;
     Ok((number, Items::from_vec(files)))
 }
 
@@ -209,4 +206,26 @@ fn go_on(served: &mut Served, edit: &Edit, tables: Vec<Table>) -> Result<(), All
         Ok(()) => Ok(()),
         Err(_) => Err(AllocError),
     }
+}
+
+// The same, and lists the edit. A refusal changes nothing.
+fn go_on_listed(
+    alloc: Global,
+    served: &mut Served,
+    manifest: &mut Vec<Bytes>,
+    edit: &Edit,
+    tables: Vec<Table>,
+) -> Result<(), AllocError>
+    requires sound { IsEdit edit.now }
+    requires recorded { AreAsRecorded edit.now.added tables.items }
+    requires applies { apply_fault served.old.version edit.now ≡ None }
+    ensures ok { OnOk result (served.new ≡ advanced served.old edit.now tables.items) }
+    ensures listed { OnOk result (manifest.new.items ≡ manifest.old.items ++ spelling edit.now ∷ []) }
+    ensures err { OnErr result ((served.new ≡ served.old) × (manifest.new.items ≡ manifest.old.items)) }
+{
+    let text = encode_edit(alloc, edit)?;
+    manifest.reserve(1)?;
+    go_on(served, edit, tables)?;
+    manifest.push_reserved(text);
+    Ok(())
 }

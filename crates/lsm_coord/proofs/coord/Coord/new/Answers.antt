@@ -12,4 +12,4 @@ returns-clause-shown c =
     let version : c.version.result.now ≡ first_version = c.version.ensures ∙ ap (λ (x : ServedValue). x.version) served in
     let edit : c.epoch-edit.result ≡ epoch_edit first_version = c.epoch-edit.ensures.edit ∙ ap epoch_edit version in
     let spelled : IsSpelled c.in_ok-text.text (epoch_edit first_version) = subst (IsSpelled c.in_ok-text.text) edit (record { sound = c.epoch-edit.ensures.sound; spelled = c.in_ok-text.ensures }) in
-    rw (c.in_ok-push.ensures.items, c.in_ok-extend.ensures.ok, edit, c.new-2.ensures, c.new-3.ensures.items, served, c.in_ok-manifest.ensures.items) (Shows-new c.args.limits _ c.in_ok-text.text spelled refl)
+    rw (c.in_ok-manifest.ensures, c.in_ok-extend.ensures.ok, edit, c.new-2.ensures, c.new-3.ensures.items, served) (Shows-new c.args.limits _ c.in_ok-text.text spelled refl)
