@@ -110,9 +110,21 @@ impl Served {
             Some(fault) => return Err(fault),
             None => {}
         }
+        self.advance_valid(edit, tables)?;
+        Ok(())
+    }
+
+    /// The same by an edit that is known to apply. If memory runs out, nothing changes.
+    pub fn advance_valid(&mut self, edit: &Edit, tables: Vec<Table>) -> Result<(), AllocError>
+        requires sound { IsEdit edit.now }
+        requires recorded { AreAsRecorded edit.now.added tables.items }
+        requires applies { apply_fault self.old.version edit.now ≡ None }
+        ensures ok { OnOk result (self.new ≡ advanced self.old edit.now tables.items) }
+        ensures err { OnErr result (self.new ≡ self.old) }
+    {
         let added = placed_for(self.current.alloc(), edit.added.as_slice(), tables)?;
         self.placed.reserve(added.len())?;
-        self.current.apply(edit)?;
+        self.current.apply_valid(edit)?;
         let removed = removed_by(edit);
         self.placed
             .retain(|placed| !is_among(removed, placed.meta.number));

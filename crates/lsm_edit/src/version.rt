@@ -144,6 +144,17 @@ impl Version {
             Some(fault) => return Err(fault),
             None => {}
         }
+        self.apply_valid(edit)?;
+        Ok(())
+    }
+
+    /// Becomes the next version by an edit that is known to apply. If memory runs out, nothing changes.
+    pub fn apply_valid(&mut self, edit: &Edit) -> Result<(), AllocError>
+        requires sound { IsEdit edit.now }
+        requires applies { apply_fault self.old edit.now ≡ None }
+        ensures ok { OnOk result (self.new ≡ applied self.old edit.now) }
+        ensures err { OnErr result (self.new ≡ self.old) }
+    {
         let removed = removed_by(edit);
         let mut added = copies_of(self.alloc, edit.added.as_slice())?;
         self.listed.reserve(added.len())?;
@@ -183,7 +194,9 @@ impl Version {
     }
 
     // Where its memory comes from.
-    pub(crate) fn alloc(&self) -> Global {
+    pub(crate) fn alloc(&self) -> Global
+        ensures sound { IsVersion self.now }
+    {
         self.alloc
     }
 
