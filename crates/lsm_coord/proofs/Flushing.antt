@@ -10,17 +10,22 @@ use Rattle.lsm_key.specs.Sets.{IsIn}
 use Rattle.lsm_key.specs.Visible.{value_at}
 use Rattle.lsm_key.specs.Places.{IsAbove, entries_after}
 use Rattle.lsm_edit.specs.declared.file.FileMeta.{FileMeta}
-use Rattle.lsm_edit.specs.Edit.{IsSpelled}
+use Rattle.lsm_edit.specs.declared.edit.Edit.{Edit}
+use Rattle.lsm_edit.specs.declared.edit.EditKind.TheVariants as kind
+use Rattle.lsm_edit.specs.Edit.{IsEdit, IsSpelled, edit as spelling}
+use Rattle.lsm_edit.specs.Served.{AreAsRecorded, IsServed, placed_of}
 use Rattle.lsm_edit.specs.Next.{flush_edit}
-use Rattle.lsm_edit.specs.Version.{VersionValue, first_version, apply_fault, applied, files_after}
+use Rattle.lsm_edit.specs.Version.{IsVersion, VersionValue, apply_fault, applied, files_after}
 use Rattle.lsm_table.specs.Tables.{Opened}
+use Rattle.lsm_edit.proofs.Advance.{places_are}
 use Rattle.lsm_edit.proofs.VersionLaws.{files_after-is}
 use Rattle.lsm_coord.specs.declared.frozen.Frozen.{Frozen}
 use Rattle.lsm_coord.specs.State.{State, Version, Place, last_seq, last_flushed, active_start, current_files}
 use Rattle.lsm_coord.specs.Changes.{after_flush, flush_end, flushed_version, with_version}
-use Rattle.lsm_coord.specs.Manifest.{listed, place_of, versions_from}
+use Rattle.lsm_coord.specs.Manifest.{VersionSetValue, after_edit, listed, place_of, versions_of}
 use Rattle.lsm_coord.specs.Value.{CoordValue, frozen_entries, stored}
-use Rattle.lsm_coord.specs.Calls.{extended, taken_of, active_after, froze}
+use Rattle.lsm_msg.specs.Installs.{with_flushed}
+use Rattle.lsm_coord.specs.Calls.{taken_of, active_after, froze}
 use Rattle.lsm_coord.specs.Shows.{Shows, ShowsStored}
 use Rattle.lsm_coord.proofs.States.{last_flushed-after_flush}
 use Rattle.lsm_coord.proofs.Manifests.{files_are, Folds-push, listed-push}
@@ -32,7 +37,15 @@ take_drop_end n xs h = let long : length (take n xs) ≡ n = omega (arith, lengt
 
 -- what a coordinator is after a flush to a table
 abbrev pub flushed_to : CoordValue → Option Frozen → FileMeta → Opened → List ℕ → CoordValue
-flushed_to c frozen f t text = record c { active = active_after c.active frozen; frozen = None; served = extended c.served (flush_edit c.served.version (taken_of c.active c.last frozen).end f) (t ∷ []); edits = c.edits ++ text ∷ [] }
+flushed_to c frozen f t text = record c { active = active_after c.active frozen; frozen = None; served = with_flushed c.served (taken_of c.active c.last frozen).end f t; edits = c.edits ++ text ∷ [] }
+
+-- what is logged of a flush: the new table is searched first
+pub logged_is : (old : VersionSetValue) (end : ℕ) (f : FileMeta) (t : Opened) (ts : List Opened) (e : Edit) → IsVersion old.served.version → IsServed old.served → IsEdit e → AreAsRecorded e.added ts → apply_fault old.served.version e ≡ None → e ≡ flush_edit old.served.version end f → ts ≡ t ∷ []
+    → after_edit old e ts ≡ record { served = with_flushed old.served end f t; edits = old.edits ++ spelling (flush_edit old.served.version end f) ∷ [] }
+logged_is old end f t ts e version served sound recorded applies is one =
+    let plain : e.kind ≡ kind.Install → ⊥ = λ h. let no : kind.Flush ≡ kind.Install = sym (ap (λ (x : Edit). x.kind) is) ∙ h in absurd cc in
+    let places = places_are old.served e ts version served sound plain recorded applies ∙ (λ i. placed_of (is i).added (one i) ++ old.served.places) in
+    λ i. record { served = record { version = applied old.served.version (is i); places = places i }; edits = old.edits ++ spelling (is i) ∷ [] }
 
 -- ---- a flush of the frozen memtable
 
@@ -80,14 +93,14 @@ module _ (c : CoordValue) (z : Frozen) (s : State) (h : Shows c s) (frozen : c.f
         let low = frozen_entries_old c.active (frozen_entries c.frozen) (stored c.served) s h.memtables are_stored e there in
         omega (arith, after_is, start_is)
 
-    stored_after : ShowsStored (c.edits ++ text ∷ []) (extended c.served (flush_edit c.served.version z.end f) (t ∷ [])) (after_flush s)
+    stored_after : ShowsStored (c.edits ++ text ∷ []) (with_flushed c.served z.end f t) (after_flush s)
     stored_after =
         let first = h.memtables.flushed in
         record {
           manifest = Folds-push c.edits c.served.version text (flush_edit c.served.version z.end f) h.tables.manifest one fits;
           versions = ap (λ (vs : List Version). vs ++ flushed_version s ∷ []) h.tables.versions
-              ∙ ap (λ (v : Version). map listed (versions_from first_version h.tables.manifest.edits) ++ v ∷ []) version_is
-              ∙ sym (listed-push c.edits c.served.version (flush_edit c.served.version z.end f) h.tables.manifest);
+              ∙ ap (λ (v : Version). map listed (versions_of c.edits) ++ v ∷ []) version_is
+              ∙ sym (listed-push c.edits c.served.version text (flush_edit c.served.version z.end f) h.tables.manifest one);
           next_file = ap (λ (n : ℕ). n + 1) h.tables.next_file;
           epoch = h.tables.epoch;
           ordered = (subst (λ (es : List Entry). IsAbove es (stored c.served)) table_is (frozen_above c.active (frozen_entries c.frozen) (stored c.served) s h.memtables are_stored), h.tables.ordered);

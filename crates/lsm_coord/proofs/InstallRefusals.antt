@@ -1,13 +1,15 @@
 -- A claim that is stale, and a result that is kept back, are refusals that the state allows.
-use Rattle.std.proofs.Common.{◌≡◌, ℕ, ◌+◌, ◌<◌, ◌≤◌, ◌⊎◌, inl, inr, length, refl, sym, subst, arith}
+use Rattle.std.proofs.Common.{◌≡◌, ℕ, ◌+◌, ◌<◌, ◌≤◌, ◌⊎◌, Bool, cond, ◌&&◌, leb, List, None, Option, Some, unwrap_or, inl, inr, length, refl, sym, ap, subst, ◌∙◌, arith}
 use Rattle.std.proofs.lemmas.Bool.Decides.{leb_tells}
 use Rattle.lsm_key.specs.declared.limits.TheConstants.{MAX_NUMBER}
 use Rattle.lsm_claim.specs.declared.job.LiveJob.{LiveJob}
+use Rattle.lsm_table.specs.Tables.{Opened}
+use Rattle.lsm_edit.specs.Version.{VersionValue}
 use Rattle.lsm_msg.specs.declared.job.JobResult.{JobResult}
 use Rattle.lsm_coord.specs.declared.coord.install.InstallError.{InstallError}
 use Rattle.lsm_coord.specs.declared.coord.install.InstallError.TheVariants.{WrongJob, BadResult, NumbersExhausted, OutOfMemory}
 use Rattle.lsm_coord.specs.Event as say
-use Rattle.lsm_coord.specs.Installing.{Explains}
+use Rattle.lsm_coord.specs.Installing.{AreOutputs, Explains, HasNumbers, number_fault}
 use Rattle.lsm_coord.specs.Replies.{error_of, refusal_of}
 use Rattle.lsm_coord.specs.Rules.{CannotNumber, IsAllowed}
 use Rattle.lsm_coord.specs.Shows.{Follows, Shows}
@@ -24,6 +26,26 @@ one_is_over a b most none = elim (leb_tells a most) [
     | inr over ↦ inr over.1
   ]
   | inr over ↦ inl over.1
+]
+
+fault_is : (v : VersionValue) (n : ℕ) → ((number_fault v n ≡ None) × ((v.number + 1 ≤ MAX_NUMBER) × (v.next_file + n ≤ MAX_NUMBER))) ⊎ ((number_fault v n ≡ Some NumbersExhausted) × ((v.number + 1 ≤ MAX_NUMBER) × (v.next_file + n ≤ MAX_NUMBER) → ⊥))
+fault_is v n = elim (leb_tells (v.number + 1) MAX_NUMBER) [
+  | inl fits ↦ elim (leb_tells (v.next_file + n) MAX_NUMBER) [
+    | inl also ↦ inl ((λ i. cond (fits.0 i && also.0 i) None (Some NumbersExhausted)), (fits.1, also.1))
+    | inr over ↦ inr ((λ i. cond (fits.0 i && over.0 i) None (Some NumbersExhausted)), (λ h. let a = h.1 in let b = over.1 in absurd (omega arith)))
+  ]
+  | inr over ↦ inr (ap (λ (b : Bool). cond (b && leb (v.next_file + n) MAX_NUMBER) None (Some NumbersExhausted)) over.0, (λ h. let a = h.0 in let b = over.1 in absurd (omega arith)))
+]
+
+-- no fault: there are numbers
+pub has_numbers : (v : VersionValue) (ts : List Opened) → number_fault v (length ts) ≡ None → HasNumbers v ts
+has_numbers v ts none = elim (fault_is v (length ts)) [ inl fits ↦ record { number = fits.1.0; next_file = fits.1.1 } | inr lacks ↦ let no = sym none ∙ lacks.0 in absurd cc ]
+
+-- a fault: there are none
+pub lacks_numbers : (v : VersionValue) (live : LiveJob) (made : JobResult) (ts : List Opened) (why : InstallError) → made.job ≡ live.id → AreOutputs live.want.hull made.tables ts → number_fault v (length ts) ≡ Some why → Explains v live made why
+lacks_numbers v live made ts why named outputs some = elim (fault_is v (length ts)) [
+  | inl fits ↦ let no = sym some ∙ fits.0 in absurd cc
+  | inr lacks ↦ subst (Explains v live made) (ap (λ (o : Option InstallError). unwrap_or o NumbersExhausted) (sym lacks.0 ∙ some)) (named, ts, outputs, λ has. lacks.1 (has.number, has.next_file))
 ]
 
 leaves : (why : InstallError) (s : State) (message : ℕ) → Leaves s (say.Deliver message) (refusal_of (error_of why)) s

@@ -19,37 +19,36 @@ use Rattle.lsm_msg.proofs.Installed.{new_number, place_cases}
 use Rattle.lsm_msg.proofs.InstallReads.{kept_adds_no_entry}
 use Rattle.lsm_msg.proofs.OtherJobs.{installs_keep_jobs}
 use Rattle.lsm_coord.specs.declared.coord.install.Install.TheVariants as became
-use Rattle.lsm_coord.specs.Installing.{AreOutputs, Became, IsInstall, IsLive, HoldsMerged, edit_of, next_served}
+use Rattle.lsm_coord.specs.Installing.{Became, IsInstall, HoldsMergeOf, edit_of, next_served}
 use Rattle.lsm_coord.specs.Memory.{AreLegal}
 use Rattle.lsm_coord.specs.Sound.{AreWrittenBy, IsSound, KeepsSound}
 use Rattle.lsm_coord.specs.Value.{CoordValue}
 use Rattle.lsm_coord.proofs.Installing.{held_by, installs_of, live_is, stays_apart}
-use Rattle.lsm_coord.proofs.InstallStep.{one_live, same_some}
+use Rattle.lsm_coord.proofs.InstallStep.{inputs_by_want, job_of_live, one_live}
 use Rattle.lsm_coord.proofs.Lists.{any_found}
 use Rattle.lsm_coord.proofs.Outputs.{tables_one}
 use Rattle.lsm_coord.proofs.Returning.{live_before, same_name}
 
-pub install_keeps : (old new : CoordValue) (claim live : LiveJob) (made : JobResult) (number : ℕ) (files : List ℕ) (job : JobParts) → IsBook old.book → IsServed old.served → IsVersion old.served.version → AreLegal old.served.version.files old.book.live
-    → Became old claim made (became.Done number files) new → IsLive old claim.id live → HoldsMerged old job live.want made → KeepsSound old new
-install_keeps old new claim live made number files job book served version all_legal b is_live merge other sound held =
-    let same : live ≡ b.0 = same_some live b.0 (sym is_live ∙ b.1) in
-    let found = live_is old claim.id live is_live in
+pub install_keeps : (old new : CoordValue) (claim : LiveJob) (made : JobResult) (number : ℕ) (files : List ℕ) (job : JobParts) → IsBook old.book → IsServed old.served → IsVersion old.served.version → AreLegal old.served.version.files old.book.live
+    → Became old claim made (became.Done number files) new → job.id ≡ claim.id → IsSound old job → HoldsMergeOf old.served job made → KeepsSound old new
+install_keeps old new claim made number files job book served version all_legal b named fit merge other sound held =
+    let live = b.0 in
+    let found = live_is old claim.id live b.1 in
     let ts = b.3 in
-    let outputs : AreOutputs live.want.hull made.tables ts = subst (λ (k : LiveJob). AreOutputs k.want.hull made.tables ts) (sym same) b.4 in
-    let install : IsInstall old live ts new = subst (λ (k : LiveJob). IsInstall old k ts new) (sym same) b.6 in
+    let install : IsInstall old live ts new = b.6 in
     let edit = edit_of old.served.version live.want ts in
     let legal = all_legal live found.0 in
-    let installs = installs_of old.served live.want made.tables install.text ts legal outputs install.spelled install.applies in
-    let tables : merge.tables ≡ ts = tables_one made.tables merge.tables ts merge.opened outputs.tables in
+    let installs = installs_of old.served live.want made.tables install.text ts legal b.4 install.spelled install.applies in
+    let tables : merge.tables ≡ ts = tables_one made.tables merge.tables ts merge.opened (b.4).tables in
     let kept = subst (λ (us : List Opened). HoldsKept merge.inputs job.points job.deeper (entries_of us)) tables merge.kept in
-    let none_added = kept_adds_no_entry old.served.places live.want ts merge.inputs job.points job.deeper merge.are kept in
+    let none_added = kept_adds_no_entry old.served.places live.want ts merge.inputs job.points job.deeper (inputs_by_want old.served live.want job merge.inputs served (job_of_live old claim.id live job book b.1 named fit) merge.are) kept in
     let after = after_settling old.book live.id ending.Installed in
     let held_now : holds after other.id ≡ true = subst (λ (c : CoordValue). holds c.book other.id ≡ true) install.new_is held in
     let own = sound.claimed.live in
     let k = any_found (λ j. same_id j.id other.id) after.live held_now in
     let k_is : k.0 ≡ own = one_live old.book.live book.rising k.0 own (live_before old.book live.id ending.Installed k.0 k.1) sound.claimed.member (same_name (k.0).id other.id k.2 ∙ sym sound.claimed.named) in
     let stays : IsIn own after.live = subst (λ (j : LiveJob). IsIn j after.live) k_is k.1 in
-    let live_held = held_by old.book live live.id (subst (λ (i : JobId). find (λ j. same_id j.id i) old.book.live ≡ Some live) (sym found.1) is_live) in
+    let live_held = held_by old.book live live.id (subst (λ (i : JobId). find (λ j. same_id j.id i) old.book.live ≡ Some live) (sym found.1) b.1) in
     let apart = stays_apart old.book live.id live own book live_held found.0 refl stays in
     let keep = installs_keep_jobs old.served live.want own.want edit ts version served legal installs apart (all_legal own sound.claimed.member) in
     let of_want = keep.1 other sound.claimed.of_want in

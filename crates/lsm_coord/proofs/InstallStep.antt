@@ -14,14 +14,16 @@ use Rattle.lsm_key.proofs.Falls.{IsIn-filter}
 use Rattle.lsm_claim.specs.declared.ending.Ending.TheVariants as ending
 use Rattle.lsm_claim.specs.declared.job.JobId.{JobId}
 use Rattle.lsm_claim.specs.declared.job.LiveJob.{LiveJob}
+use Rattle.lsm_claim.specs.declared.job.Want.{Want}
 use Rattle.lsm_claim.specs.Book.{IsBook, after_settling}
 use Rattle.lsm_claim.specs.Jobs.{NumbersRise}
 use Rattle.lsm_table.specs.Tables.{Opened}
 use Rattle.lsm_edit.specs.declared.file.FileMeta.{FileMeta}
 use Rattle.lsm_edit.specs.Edit.{IsSpelled}
 use Rattle.lsm_edit.specs.Next.{number_after}
-use Rattle.lsm_edit.specs.Served.{IsServed}
-use Rattle.lsm_edit.specs.Version.{IsVersion, VersionValue, applied, apply_fault, first_version, has_number}
+use Rattle.lsm_edit.specs.declared.served.Placed.{Placed}
+use Rattle.lsm_edit.specs.Served.{IsServed, ServedValue}
+use Rattle.lsm_edit.specs.Version.{IsVersion, VersionValue, applied, apply_fault, has_number}
 use Rattle.lsm_edit.specs.Version as edit
 use Rattle.lsm_edit.proofs.Places.{file_of, tables_in}
 use Rattle.lsm_edit.proofs.AfterEdit.{keeps}
@@ -39,8 +41,8 @@ use Rattle.lsm_coord.specs.State.{State, Version, Place, active_start, current_f
 use Rattle.lsm_coord.specs.Changes.{IsInstalled, at_level, same_place, with_version}
 use Rattle.lsm_coord.specs.Changes as change
 use Rattle.lsm_coord.specs.declared.coord.install.Install.TheVariants as became
-use Rattle.lsm_coord.specs.Installing.{AreOutputs, Became, HasNumbers, IsInstall, IsLive, HoldsMerged, StepsTo, edit_of, next_served, numbers_of, records}
-use Rattle.lsm_coord.specs.Manifest.{listed, place_of, versions_from}
+use Rattle.lsm_coord.specs.Installing.{AreEntriesOf, AreOutputs, Became, HasNumbers, IsInstall, IsLive, HoldsMergeOf, StepsTo, edit_of, next_served, numbers_of, records}
+use Rattle.lsm_coord.specs.Manifest.{listed, place_of, versions_of}
 use Rattle.lsm_coord.specs.Memory.{AreLegal, AreOrderly, IsOrderly}
 use Rattle.lsm_coord.specs.Shows.{Shows, ShowsStored}
 use Rattle.lsm_coord.specs.Sound.{AreWrittenBy, IsSound}
@@ -165,8 +167,8 @@ module _ (c : CoordValue) (live : LiveJob) (ts : List Opened) (text : List ℕ) 
       record {
         manifest = Folds-push c.edits v text e h.tables.manifest spelled installs.applies;
         versions = ap (λ (vs : List Version). vs ++ next_version ∷ []) h.tables.versions
-            ∙ ap (λ (x : Version). map listed (versions_from first_version h.tables.manifest.edits) ++ x ∷ []) listed_next
-            ∙ sym (listed-push c.edits v e h.tables.manifest);
+            ∙ ap (λ (x : Version). map listed (versions_of c.edits) ++ x ∷ []) listed_next
+            ∙ sym (listed-push c.edits v text e h.tables.manifest spelled);
         next_file = next_is;
         epoch = h.tables.epoch;
         ordered = installs_keep_order c.served live.want e ts version_is served_is h.tables.ordered legal installs adds_none;
@@ -248,27 +250,40 @@ one_live (j ∷ jobs) rise a b m n e =
 pub same_some : {X : Type 0} (a b : X) → Some a ≡ Some b → a ≡ b
 same_some a b e = ap (λ (o : Option _). unwrap_or o a) e
 
+-- the entries of the tables of a job's inputs are those that its want takes
+pub inputs_by_want : (served : ServedValue) (want : Want) (job : JobParts) (inputs : List Entry) → IsServed served → IsJobOf served.version.files want job → AreEntriesOf served job inputs → AreInputsOf served.places want inputs
+inputs_by_want served want job inputs is of_want are e = (
+  λ i. (let p = (are e).0 i in (p.0, p.1, ((of_want.inputs (p.0).meta).0 p.2).1, p.3)),
+  λ p. (are e).1 (p.0, p.1, (of_want.inputs (p.0).meta).1 ((is.listed (p.0).meta).0 (IsIn-map (λ (q : Placed). q.meta) p.0 served.places p.1), p.2), p.3),
+)
+
+-- a sound job of a live job's name is of its want
+pub job_of_live : (c : CoordValue) (id : JobId) (live : LiveJob) (job : JobParts) → IsBook c.book → IsLive c id live → job.id ≡ id → IsSound c job → IsJobOf c.served.version.files live.want job
+job_of_live c id live job book is_live named sound =
+    let found = live_is c id live is_live in
+    let own = one_live c.book.live book.rising sound.claimed.live live sound.claimed.member found.0 (sound.claimed.named ∙ named ∙ sym found.1) in
+    subst (λ (k : LiveJob). IsJobOf c.served.version.files k.want job) own sound.claimed.of_want
+
 -- AN INSTALL STEPS, where a job of the claim's name is sound and the outputs hold what is kept.
-pub install_steps : (old new : CoordValue) (claim live : LiveJob) (made : JobResult) (number : ℕ) (files : List ℕ) (job : JobParts) → IsBook old.book → IsServed old.served → IsVersion old.served.version → AreLegal old.served.version.files old.book.live → AreOrderly old.book.live
-    → Became old claim made (became.Done number files) new → IsLive old claim.id live → job.id ≡ claim.id → IsSound old job → HoldsMerged old job live.want made → StepsTo old (became.Done number files) new
-install_steps old new claim live made number files job book served version all_legal all_orderly b is_live named sound merge message s h =
-    let same : live ≡ b.0 = same_some live b.0 (sym is_live ∙ b.1) in
-    let found = live_is old claim.id live is_live in
-    let own : sound.claimed.live ≡ live = one_live old.book.live book.rising sound.claimed.live live sound.claimed.member found.0 (sound.claimed.named ∙ named ∙ sym found.1) in
-    let of_want : IsJobOf old.served.version.files live.want job = subst (λ (k : LiveJob). IsJobOf old.served.version.files k.want job) own sound.claimed.of_want in
+pub install_steps : (old new : CoordValue) (claim : LiveJob) (made : JobResult) (number : ℕ) (files : List ℕ) (job : JobParts) → IsBook old.book → IsServed old.served → IsVersion old.served.version → AreLegal old.served.version.files old.book.live → AreOrderly old.book.live
+    → Became old claim made (became.Done number files) new → job.id ≡ claim.id → IsSound old job → HoldsMergeOf old.served job made → StepsTo old (became.Done number files) new
+install_steps old new claim made number files job book served version all_legal all_orderly b named sound merge message s h =
+    let live = b.0 in
+    let found = live_is old claim.id live b.1 in
+    let of_want = job_of_live old claim.id live job book b.1 named sound in
     let ts = b.3 in
-    let outputs : AreOutputs live.want.hull made.tables ts = subst (λ (k : LiveJob). AreOutputs k.want.hull made.tables ts) (sym same) b.4 in
-    let install : IsInstall old live ts new = subst (λ (k : LiveJob). IsInstall old k ts new) (sym same) b.6 in
+    let install : IsInstall old live ts new = b.6 in
     let legal = all_legal live found.0 in
-    let installs = installs_of old.served live.want made.tables install.text ts legal outputs install.spelled install.applies in
-    let tables : merge.tables ≡ ts = tables_one made.tables merge.tables ts merge.opened outputs.tables in
+    let orderly = all_orderly live found.0 in
+    let installs = installs_of old.served live.want made.tables install.text ts legal b.4 install.spelled install.applies in
+    let tables : merge.tables ≡ ts = tables_one made.tables merge.tables ts merge.opened (b.4).tables in
     let kept = subst (λ (us : List Opened). HoldsKept merge.inputs job.points job.deeper (entries_of us)) tables merge.kept in
-    let numbers_are : files ≡ numbers_of old.served.version live.want ts = b.8 ∙ ap (λ (k : LiveJob). numbers_of old.served.version k.want ts) (sym same) in
-    let step = is_installed old live ts install.text s h version served legal (all_orderly live found.0) installs install.spelled b.5 job of_want sound.points sound.deeper merge.inputs merge.are kept in
-    let shown = shows_install old live ts install.text s h version served legal (all_orderly live found.0) installs install.spelled b.5 job of_want sound.points sound.deeper merge.inputs merge.are kept in
-    let then = after old live ts install.text s h version served legal (all_orderly live found.0) installs install.spelled b.5 job of_want sound.points sound.deeper merge.inputs merge.are kept in
+    let are = inputs_by_want old.served live.want job merge.inputs served of_want merge.are in
+    let step = is_installed old live ts install.text s h version served legal orderly installs install.spelled b.5 job of_want sound.points sound.deeper merge.inputs are kept in
+    let shown = shows_install old live ts install.text s h version served legal orderly installs install.spelled b.5 job of_want sound.points sound.deeper merge.inputs are kept in
+    let then = after old live ts install.text s h version served legal orderly installs install.spelled b.5 job of_want sound.points sound.deeper merge.inputs are kept in
     let made_now : CoordValue = record old { served = next_served old.served live.want ts; edits = old.edits ++ install.text ∷ []; book = after_settling old.book live.id ending.Installed } in (
       then,
-      (refl, subst (λ (n : ℕ). IsInstalled s n files then) (sym b.7) (subst (λ (ns : List ℕ). IsInstalled s (old.served.version.number + 1) ns then) (sym numbers_are) step)),
+      (refl, subst (λ (n : ℕ). IsInstalled s n files then) (sym b.7) (subst (λ (ns : List ℕ). IsInstalled s (old.served.version.number + 1) ns then) (sym b.8) step)),
       subst (λ (x : CoordValue). Shows x then) (sym install.new_is) (shown made_now refl refl refl refl refl refl refl refl),
     )

@@ -13,7 +13,7 @@ use Rattle.lsm_claim.specs.Book.{BookValue, IsBook, after_settling, holds, with_
 use Rattle.lsm_claim.specs.Conflicts.{conflicts}
 use Rattle.lsm_claim.specs.Jobs.{same_id, without_job}
 use Rattle.lsm_table.specs.Tables.{Opened}
-use Rattle.lsm_edit.specs.Edit.{IsSpelled}
+use Rattle.lsm_edit.specs.Edit.{IsSpelled, edit as spelling}
 use Rattle.lsm_edit.specs.Served.{IsServed, ServedValue}
 use Rattle.lsm_edit.specs.Version.{IsVersion, apply_fault}
 use Rattle.lsm_msg.specs.declared.job.JobResult.{JobResult}
@@ -24,6 +24,7 @@ use Rattle.lsm_coord.specs.declared.coord.install.Install.TheVariants as became
 use Rattle.lsm_coord.specs.declared.frozen.Frozen.{Frozen}
 use Rattle.lsm_coord.specs.declared.snapshot.Snapshot.{Snapshot}
 use Rattle.lsm_coord.specs.Installing.{AreOutputs, Became, IsLive, Puts, edit_of}
+use Rattle.lsm_coord.specs.Manifest.{VersionSetValue}
 use Rattle.lsm_coord.specs.Memory.{IsCoord}
 use Rattle.lsm_coord.specs.Value.{CoordValue}
 use Rattle.lsm_coord.proofs.Editing.{recorded_of, records_inside, records_recorded}
@@ -62,10 +63,11 @@ unheld_after b id h = ap (λ (held : Bool). cond held (with_ending ending.Instal
 pub with_book : (c : CoordValue) (b : BookValue) → b ≡ c.book → record c { book = b } ≡ c
 with_book c b e = ap (λ (x : BookValue). record c { book = x }) e
 
-pub became_done : (old : CoordValue) (claim live : LiveJob) (made : JobResult) (number : ℕ) (files : List ℕ) (served : ServedValue) (edits : List (List ℕ)) → IsLive old claim.id live
-    → Puts old.served old.edits live made number files served edits → Became old claim made (became.Done number files) (record old { served = served; edits = edits; book = after_settling old.book claim.id ending.Installed })
-became_done old claim live made number files served edits h p =
-    let named = (live_is old claim.id live h).1 in (
+pub became_done : (old : CoordValue) (claim live : LiveJob) (made : JobResult) (number : ℕ) (files : List ℕ) (new : VersionSetValue) → IsLive old claim.id live
+    → Puts (record { served = old.served; edits = old.edits }) live made number files new → Became old claim made (became.Done number files) (record old { served = new.served; edits = new.edits; book = after_settling old.book claim.id ending.Installed })
+became_done old claim live made number files new h p =
+    let named = (live_is old claim.id live h).1 in
+    let e = edit_of old.served.version live.want p.tables in (
       live,
       h,
       p.named ∙ named,
@@ -73,10 +75,10 @@ became_done old claim live made number files served edits h p =
       p.outputs,
       p.fit,
       record {
-        text = p.text;
-        spelled = p.spelled;
+        text = spelling e;
+        spelled = record { sound = p.valid; spelled = refl };
         applies = p.applies;
-        new_is = λ i. record old { served = p.served i; edits = p.listed i; book = after_settling old.book (sym named i) ending.Installed };
+        new_is = λ i. record old { served = (p.new_is i).served; edits = (p.new_is i).edits; book = after_settling old.book (sym named i) ending.Installed };
       },
       p.number_is,
       p.files_are,
@@ -118,20 +120,22 @@ held_by b live id h = let r = found_some (λ j. same_id j.id id) b.live live h i
     passes : (test : LiveJob → Bool) (js : List LiveJob) (j : LiveJob) → IsIn j js → test j ≡ true → list_any test js ≡ true
     passes test js j m e = any_here test j js m e
 
-pub after_install : (active : List Entry) (frozen : Option Frozen) (last : ℕ) (served next : ServedValue) (book : BookValue) (id : JobId) (live : LiveJob) (made : JobResult) (number : ℕ) (files : List ℕ) (edits new_edits : List (List ℕ)) (snapshots : List Snapshot)
-    → IsCoord active frozen last served book snapshots → IsBook book → IsServed served → IsVersion served.version → find (λ j. same_id j.id id) book.live ≡ Some live → Puts served edits live made number files next new_edits
-    → IsCoord active frozen last next (after_settling book id ending.Installed) snapshots
-after_install active frozen last served next book id live made number files edits new_edits snapshots is book_is served_is version_is h p =
+pub after_install : (active : List Entry) (frozen : Option Frozen) (last : ℕ) (old new : VersionSetValue) (book : BookValue) (id : JobId) (live : LiveJob) (made : JobResult) (number : ℕ) (files : List ℕ) (snapshots : List Snapshot)
+    → IsCoord active frozen last old.served book snapshots → IsBook book → IsServed old.served → IsVersion old.served.version → find (λ j. same_id j.id id) book.live ≡ Some live → Puts old live made number files new
+    → IsCoord active frozen last new.served (after_settling book id ending.Installed) snapshots
+after_install active frozen last old new book id live made number files snapshots is book_is served_is version_is h p =
+    let served = old.served in
+    let e = edit_of served.version live.want p.tables in
     let r = found_some (λ j. same_id j.id id) book.live live h in
-    let installs = installs_of served live.want made.tables p.text p.tables (is.legal live r.0) p.outputs p.spelled p.applies in
-    subst (λ (s : ServedValue). IsCoord active frozen last s (after_settling book id ending.Installed) snapshots) (sym p.served) (record {
+    let installs = installs_of served live.want made.tables (spelling e) p.tables (is.legal live r.0) p.outputs (record { sound = p.valid; spelled = refl }) p.applies in
+    subst (λ (v : VersionSetValue). IsCoord active frozen last v.served (after_settling book id ending.Installed) snapshots) (sym p.new_is) (record {
       recent = is.recent;
       begun = is.begun;
       waiting = is.waiting;
       opened = is.opened;
       same_epoch = epoch_after book id ending.Installed ∙ is.same_epoch;
       legal = λ j m.
-          (installs_keep_jobs served live.want j.want (edit_of served.version live.want p.tables) p.tables version_is served_is (is.legal live r.0) installs
+          (installs_keep_jobs served live.want j.want e p.tables version_is served_is (is.legal live r.0) installs
           (stays_apart book id live j book_is (held_by book live id h) r.0 (same_name live.id id r.1) m) (is.legal j (live_before book id ending.Installed j m))).0;
       orderly = orderly_after book id ending.Installed is.orderly;
       few = is.few;

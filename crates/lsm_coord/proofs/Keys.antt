@@ -87,6 +87,14 @@ upto_after a b h = upto_back a b (by (slice_cmp nat_cmp a b) h)
     by Equal e = absurd cc
     by Greater e = refl
 
+pub below_after : (a b : List ℕ) → is_gt (slice_cmp nat_cmp a b) ≡ true → IsBelow b a
+below_after a b h = ap is_lt (nat_list_cmp_total.antisymm b a) ∙ by (slice_cmp nat_cmp a b) h
+  where
+    by : (o : Ordering) → is_gt o ≡ true → is_lt (ordering_reverse o) ≡ true
+    by Less e = absurd cc
+    by Equal e = absurd cc
+    by Greater e = refl
+
 pub upto_on : (a b : List ℕ) → is_ge (slice_cmp nat_cmp a b) ≡ false → key_le a b ≡ true
 upto_on a b h = by (slice_cmp nat_cmp a b) h
   where

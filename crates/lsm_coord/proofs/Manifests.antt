@@ -1,24 +1,30 @@
 -- The versions that a list of edits folds to, and one edit more.
-use Rattle.std.proofs.Common.{◌≡◌, ℕ, ◌+◌, List, [], ◌∷◌, ◌++◌, None, length, map, get_or, refl, sym, ap, subst, ◌∙◌, arith, eqb}
+use Rattle.std.proofs.Common.{◌≡◌, ℕ, ◌+◌, List, [], ◌∷◌, ◌++◌, None, length, map, get_or, refl, sym, ap, subst, ◌∙◌, arith, eqb, inl, inr}
 use Rattle.std.proofs.lemmas.Bool.{not-false, eqb-true}
 use Rattle.std.proofs.lemmas.List.{map-append, length-map}
+use Rattle.std.proofs.lemmas.Grind.{flat_map-append}
 use Rattle.std.proofs.Math.ListN.{get_or-map}
 use Rattle.lsm_edit.specs.declared.edit.Edit.{Edit}
-use Rattle.lsm_edit.specs.Edit.{IsSpelled}
+use Rattle.lsm_key.proofs.Sets.{IsIn-append_cases}
+use Rattle.lsm_edit.specs.Edit.{IsSpelled, edit_of}
 use Rattle.lsm_edit.specs.Version.{VersionValue, first_version, apply_fault, applied}
 use Rattle.lsm_edit.specs.Served.{ServedValue}
+use Rattle.lsm_edit.proofs.EditLaws.{edit_again}
 use Rattle.lsm_edit.proofs.VersionLaws.{none_passed}
 use Rattle.lsm_coord.specs.State.{State, Version, current, current_version, current_files, last_flushed, empty_version}
-use Rattle.lsm_coord.specs.Manifest.{AreSpelled, Apply, folded, versions_from, listed, place_of, Folds}
+use Rattle.lsm_coord.specs.Manifest.{Apply, folded, ok_items, read_edits, versions_from, versions_of, listed, place_of, Folds}
 use Rattle.lsm_coord.specs.Shows.{ShowsStored}
 
 -- ---- one edit more
 
-pub AreSpelled-push : (texts : List (List ℕ)) (edits : List Edit) (text : List ℕ) (e : Edit) → AreSpelled texts edits → IsSpelled text e → AreSpelled (texts ++ text ∷ []) (edits ++ e ∷ [])
-AreSpelled-push [] [] text e h one = (one, tt)
-AreSpelled-push [] (x ∷ edits) text e h one = absurd h
-AreSpelled-push (t ∷ texts) [] text e h one = absurd h
-AreSpelled-push (t ∷ texts) (x ∷ edits) text e h one = (h.0, AreSpelled-push texts edits text e h.1 one)
+spells_one : (text : List ℕ) (e : Edit) → IsSpelled text e → ok_items (edit_of text) ≡ e ∷ []
+spells_one text e one = ap ok_items (edit_again text e one)
+
+-- the edits that are read are those and one more
+pub read_edits-push : (texts : List (List ℕ)) (text : List ℕ) (e : Edit) → IsSpelled text e → read_edits (texts ++ text ∷ []) ≡ read_edits texts ++ e ∷ []
+read_edits-push texts text e one =
+    flat_map-append (λ (t : List ℕ). ok_items (edit_of t)) texts (text ∷ [])
+    ∙ ap (λ (es : List Edit). read_edits texts ++ (es ++ [])) (spells_one text e one)
 
 pub Apply-push : (v : VersionValue) (edits : List Edit) (e : Edit) → Apply v edits → apply_fault (folded v edits) e ≡ None → Apply v (edits ++ e ∷ [])
 Apply-push v [] e h one = (one, tt)
@@ -32,18 +38,24 @@ versions_from-push : (v : VersionValue) (edits : List Edit) (e : Edit) → versi
 versions_from-push v [] e = refl
 versions_from-push v (x ∷ edits) e = ap (λ (vs : List VersionValue). v ∷ vs) (versions_from-push (applied v x) edits e)
 
-abbrev pub Folds-push : (texts : List (List ℕ)) (v : VersionValue) (text : List ℕ) (e : Edit) → Folds texts v → IsSpelled text e → apply_fault v e ≡ None → Folds (texts ++ text ∷ []) (applied v e)
+pub Folds-none : Folds [] first_version
+Folds-none = record { spelled = λ text m. absurd m; apply = tt; makes = refl }
+
+pub Folds-push : (texts : List (List ℕ)) (v : VersionValue) (text : List ℕ) (e : Edit) → Folds texts v → IsSpelled text e → apply_fault v e ≡ None → Folds (texts ++ text ∷ []) (applied v e)
 Folds-push texts v text e h one fits = record {
-  edits = h.edits ++ e ∷ [];
-  spelled = AreSpelled-push texts h.edits text e h.spelled one;
-  apply = Apply-push first_version h.edits e h.apply (subst (λ (w : VersionValue). apply_fault w e ≡ None) (sym h.makes) fits);
-  makes = folded-push first_version h.edits e ∙ ap (λ (w : VersionValue). applied w e) h.makes;
+  spelled = λ t m. elim (IsIn-append_cases t texts (text ∷ []) m) [
+    | inl before ↦ h.spelled t before
+    | inr last ↦ elim last [ inl same ↦ (e, subst (λ (x : List ℕ). IsSpelled x e) (sym same) one) | inr none ↦ absurd none ]
+  ];
+  apply = rw (read_edits-push texts text e one) (Apply-push first_version (read_edits texts) e h.apply (subst (λ (w : VersionValue). apply_fault w e ≡ None) (sym h.makes) fits));
+  makes = ap (folded first_version) (read_edits-push texts text e one) ∙ folded-push first_version (read_edits texts) e ∙ ap (λ (w : VersionValue). applied w e) h.makes;
 }
 
-pub listed-push : (texts : List (List ℕ)) (v : VersionValue) (e : Edit) (h : Folds texts v) → map listed (versions_from first_version (h.edits ++ e ∷ [])) ≡ map listed (versions_from first_version h.edits) ++ listed (applied v e) ∷ []
-listed-push texts v e h =
-    ap (map listed) (versions_from-push first_version h.edits e) ∙ map-append listed (versions_from first_version h.edits) (applied (folded first_version h.edits) e ∷ [])
-    ∙ ap (λ (w : VersionValue). map listed (versions_from first_version h.edits) ++ listed (applied w e) ∷ []) h.makes
+pub listed-push : (texts : List (List ℕ)) (v : VersionValue) (text : List ℕ) (e : Edit) → Folds texts v → IsSpelled text e → map listed (versions_of (texts ++ text ∷ [])) ≡ map listed (versions_of texts) ++ listed (applied v e) ∷ []
+listed-push texts v text e h one =
+    ap (λ (es : List Edit). map listed (versions_from first_version es)) (read_edits-push texts text e one)
+    ∙ ap (map listed) (versions_from-push first_version (read_edits texts) e) ∙ map-append listed (versions_of texts) (applied (folded first_version (read_edits texts)) e ∷ [])
+    ∙ ap (λ (w : VersionValue). map listed (versions_of texts) ++ listed (applied w e) ∷ []) h.makes
 
 -- ---- the current version
 
@@ -63,19 +75,19 @@ folded_number v [] h = omega arith
 folded_number v (e ∷ edits) h = let one = next_number v e h.0 in let rest = folded_number (applied v e) edits h.1 in omega (arith, one, rest)
 
 module _ (texts : List (List ℕ)) (served : ServedValue) (s : State) (h : ShowsStored texts served s) where
-  count : length s.versions ≡ length h.manifest.edits + 1
-  count = ap length h.versions ∙ length-map (versions_from first_version h.manifest.edits) listed ∙ length-versions_from first_version h.manifest.edits
+  count : length s.versions ≡ length (read_edits texts) + 1
+  count = ap length h.versions ∙ length-map (versions_of texts) listed ∙ length-versions_from first_version (read_edits texts)
 
   pub version_count : length s.versions ≡ served.version.number + 1
-  version_count = let n = folded_number first_version h.manifest.edits h.manifest.apply in let m = ap (λ (v : VersionValue). v.number) h.manifest.makes in omega (arith, count, n, m)
+  version_count = let n = folded_number first_version (read_edits texts) h.manifest.apply in let m = ap (λ (v : VersionValue). v.number) h.manifest.makes in omega (arith, count, n, m)
 
   pub current_is : current_version s ≡ listed served.version
   current_is =
-      let at : current s ≡ length h.manifest.edits = omega (arith, count) in
+      let at : current s ≡ length (read_edits texts) = omega (arith, count) in
       ap (λ (i : ℕ). get_or s.versions i empty_version) at
-      ∙ ap (λ (vs : List Version). get_or vs (length h.manifest.edits) empty_version) h.versions
-      ∙ get_or-map listed (versions_from first_version h.manifest.edits) (length h.manifest.edits) first_version
-      ∙ ap listed (last_version first_version first_version h.manifest.edits)
+      ∙ ap (λ (vs : List Version). get_or vs (length (read_edits texts)) empty_version) h.versions
+      ∙ get_or-map listed (versions_from first_version (read_edits texts)) (length (read_edits texts)) first_version
+      ∙ ap listed (last_version first_version first_version (read_edits texts))
       ∙ ap listed h.manifest.makes
 
   pub flushed_is : last_flushed s ≡ served.version.flushed

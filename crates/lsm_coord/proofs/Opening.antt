@@ -1,5 +1,5 @@
 -- What a new coordinator shows.
-use Rattle.std.proofs.Common.{◌≡◌, ℕ, List, [], ◌∷◌, None, refl, arith}
+use Rattle.std.proofs.Common.{◌≡◌, ℕ, List, [], ◌∷◌, None, refl, sym, arith}
 use Rattle.std.proofs.lemmas.List.Sorted.{IsPermutation-refl}
 use Rattle.lsm_key.specs.declared.limits.Limits.{Limits}
 use Rattle.lsm_claim.specs.Book.{BookValue}
@@ -9,6 +9,7 @@ use Rattle.lsm_edit.specs.Version.{first_version, apply_fault, applied}
 use Rattle.lsm_edit.specs.Served.{ServedValue}
 use Rattle.lsm_coord.specs.State.{first_state}
 use Rattle.lsm_coord.specs.Shows.{Shows}
+use Rattle.lsm_coord.proofs.Manifests.{Folds-none, Folds-push, listed-push}
 
 -- the version after the first edit, which has no tables
 abbrev pub opened : ServedValue
@@ -24,8 +25,8 @@ Shows-new limits book text spelled fits = record {
   made = refl;
   floor = refl;
   tables = record {
-    manifest = record { edits = epoch_edit first_version ∷ []; spelled = (spelled, tt); apply = (fits, tt); makes = refl };
-    versions = refl;
+    manifest = Folds-push [] first_version text (epoch_edit first_version) Folds-none spelled fits;
+    versions = sym (listed-push [] first_version text (epoch_edit first_version) Folds-none spelled);
     next_file = refl;
     epoch = refl;
     ordered = tt;

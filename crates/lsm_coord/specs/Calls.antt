@@ -17,8 +17,8 @@ use Rattle.lsm_edit.specs.declared.file.FileMeta.{FileMeta}
 use Rattle.lsm_edit.specs.declared.edit.Edit.{Edit}
 use Rattle.lsm_edit.specs.Edit.{IsSpelled}
 use Rattle.lsm_edit.specs.Next.{flush_edit}
-use Rattle.lsm_edit.specs.Version.{apply_fault, applied}
-use Rattle.lsm_edit.specs.Served.{ServedValue, placed_of}
+use Rattle.lsm_edit.specs.Version.{apply_fault}
+use Rattle.lsm_msg.specs.Installs.{with_flushed}
 use Rattle.lsm_coord.specs.declared.error.CoordError.{CoordError}
 use Rattle.lsm_coord.specs.declared.error.CoordError.TheVariants.{EmptyBatch, SequenceExhausted, MemtableFull, FrozenWaiting, NothingToFreeze, NothingToFlush, TooManySnapshots, NoSnapshot, NumbersExhausted, OutOfMemory}
 use Rattle.lsm_coord.specs.declared.frozen.Frozen.{Frozen}
@@ -78,25 +78,21 @@ abbrev pub active_after : List Entry → Option Frozen → List Entry
 active_after active None = []
 active_after active (Some f) = active
 
--- the numbers of the next version and of the file after the next fit
-pub record CanNumber (c : CoordValue) : Type 0 where
-  pub number : c.served.version.number + 1 ≤ MAX_NUMBER
-  pub next_file : c.served.version.next_file + 1 ≤ MAX_NUMBER
+-- the edit of a flush to this file
+abbrev pub flush_edit_of : CoordValue → FileMeta → Edit
+flush_edit_of c file = flush_edit c.served.version (taken c).end file
 
--- a version goes on by an edit, whose file is searched first
-abbrev pub extended : ServedValue → Edit → List Opened → ServedValue
-extended served e tables = record { version = applied served.version e; places = placed_of e.added tables ++ served.places }
-
--- the current version has one file more, its edit is the last of the list, and the memtable that was taken is gone
+-- The edit applies and is the last of the manifest, the version after it has the table's file, which is searched first, and the
+-- memtable that was taken is gone.
 pub record AddsTable (old : CoordValue) (file : FileMeta) (table : Opened) (new : CoordValue) : Type 0 where
-  pub applies : apply_fault old.served.version (flush_edit old.served.version (taken old).end file) ≡ None
+  pub applies : apply_fault old.served.version (flush_edit_of old file) ≡ None
   pub text : List ℕ
-  pub spelled : IsSpelled text (flush_edit old.served.version (taken old).end file)
-  pub new_is : new ≡ record old { active = active_after old.active old.frozen; frozen = None; served = extended old.served (flush_edit old.served.version (taken old).end file) (table ∷ []); edits = old.edits ++ text ∷ [] }
+  pub spelled : IsSpelled text (flush_edit_of old file)
+  pub new_is : new ≡ record old { active = active_after old.active old.frozen; frozen = None; served = with_flushed old.served (taken old).end file table; edits = old.edits ++ text ∷ [] }
 
--- one file more, whichever it is
+-- one file more, of a table with just the entries of the memtable that was taken
 abbrev pub Adds : CoordValue → CoordValue → Type 0
-Adds old new = (file : FileMeta) × (table : Opened) × AddsTable old file table new
+Adds old new = (file : FileMeta) × (table : Opened) × (table.entries ≡ (taken old).memtable) × AddsTable old file table new
 
 -- ---- snapshots
 

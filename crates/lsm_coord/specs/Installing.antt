@@ -1,5 +1,5 @@
 -- What an install accepts, and what it makes (RocksDB wiki, Remote Compaction: the primary verifies and installs the result of a job; LevelDB, db_impl.cc: InstallCompactionResults).
-use Rattle.std.specs.Prelude.{◌≡◌, ℕ, ◌+◌, ◌<◌, ◌≤◌, ◌^◌, Bool, true, false, ◌&&◌, List, [], ◌∷◌, ◌++◌, Option, None, Some, find, length, map}
+use Rattle.std.specs.Prelude.{◌≡◌, ◌↔◌, ℕ, ◌+◌, ◌<◌, ◌≤◌, ◌^◌, Bool, true, false, ◌&&◌, List, [], ◌∷◌, ◌++◌, Option, None, Some, find, length, map, nat_le, if◌then◌else◌}
 use Rattle.lsm_key.specs.declared.entry.Entry.{Entry}
 use Rattle.lsm_key.specs.declared.limits.TheConstants.{MAX_NUMBER}
 use Rattle.lsm_key.specs.Sets.{IsIn}
@@ -14,19 +14,21 @@ use Rattle.lsm_claim.specs.Book.{after_settling, holds}
 use Rattle.lsm_table.specs.Tables.{Opened, IsTable, smallest_key, largest_key}
 use Rattle.lsm_edit.specs.declared.file.FileMeta.{FileMeta}
 use Rattle.lsm_edit.specs.declared.edit.Edit.{Edit}
-use Rattle.lsm_edit.specs.Edit.{IsSpelled}
+use Rattle.lsm_edit.specs.Edit.{IsEdit, IsSpelled}
 use Rattle.lsm_edit.specs.Next.{install_edit}
+use Rattle.lsm_edit.specs.declared.served.Placed.{Placed}
 use Rattle.lsm_edit.specs.Served.{ServedValue, advanced}
 use Rattle.lsm_edit.specs.Version.{VersionValue, apply_fault}
 use Rattle.lsm_msg.specs.declared.job.JobParts.{JobParts}
 use Rattle.lsm_msg.specs.declared.job.JobResult.{JobResult}
 use Rattle.lsm_msg.specs.Merge.{HoldsKept}
-use Rattle.lsm_msg.specs.Installs.{AreInputsOf, entries_of}
+use Rattle.lsm_msg.specs.Installs.{entries_of}
 use Rattle.lsm_coord.specs.declared.coord.install.Install.{Install}
 use Rattle.lsm_coord.specs.declared.coord.install.Install.TheVariants as became
 use Rattle.lsm_coord.specs.declared.coord.install.InstallError.{InstallError}
 use Rattle.lsm_coord.specs.declared.coord.install.InstallError.TheVariants.{WrongJob, BadResult, NumbersExhausted, OutOfMemory}
 use Rattle.lsm_coord.specs.Event.{Deliver, Installed, OldEpoch, Refused}
+use Rattle.lsm_coord.specs.Manifest.{VersionSetValue, after_edit}
 use Rattle.lsm_coord.specs.Replies.{error_of, refusal_of}
 use Rattle.lsm_coord.specs.Shows.{Follows}
 use Rattle.lsm_coord.specs.Value.{CoordValue}
@@ -88,6 +90,10 @@ pub record HasNumbers (v : VersionValue) (ts : List Opened) : Type 0 where
   pub number : v.number + 1 ≤ MAX_NUMBER
   pub next_file : v.next_file + length ts ≤ MAX_NUMBER
 
+-- why an install has no numbers for its version and its files
+abbrev pub number_fault : VersionValue → ℕ → Option InstallError
+number_fault v files = if nat_le (v.number + 1) MAX_NUMBER && nat_le (v.next_file + files) MAX_NUMBER then None else Some NumbersExhausted
+
 -- the next version with its tables
 abbrev pub next_served : ServedValue → Want → List Opened → ServedValue
 next_served s want ts = advanced s (edit_of s.version want ts) ts
@@ -99,19 +105,17 @@ pub record IsInstall (old : CoordValue) (live : LiveJob) (ts : List Opened) (new
   pub applies : apply_fault old.served.version (edit_of old.served.version live.want ts) ≡ None
   pub new_is : new ≡ record old { served = next_served old.served live.want ts; edits = old.edits ++ text ∷ []; book = after_settling old.book live.id ending.Installed }
 
--- the same of a version with its tables and of the list of edits, by the outputs of a result
-pub record Puts (old : ServedValue) (edits : List (List ℕ)) (live : LiveJob) (made : JobResult) (number : ℕ) (files : List ℕ) (new : ServedValue) (new_edits : List (List ℕ)) : Type 0 where
+-- the same of a version set, by the outputs of a result
+pub record Puts (old : VersionSetValue) (live : LiveJob) (made : JobResult) (number : ℕ) (files : List ℕ) (new : VersionSetValue) : Type 0 where
   pub named : made.job ≡ live.id
   pub tables : List Opened
   pub outputs : AreOutputs live.want.hull made.tables tables
-  pub fit : HasNumbers old.version tables
-  pub text : List ℕ
-  pub spelled : IsSpelled text (edit_of old.version live.want tables)
-  pub applies : apply_fault old.version (edit_of old.version live.want tables) ≡ None
-  pub served : new ≡ next_served old live.want tables
-  pub listed : new_edits ≡ edits ++ text ∷ []
-  pub number_is : number ≡ old.version.number + 1
-  pub files_are : files ≡ numbers_of old.version live.want tables
+  pub fit : HasNumbers old.served.version tables
+  pub valid : IsEdit (edit_of old.served.version live.want tables)
+  pub applies : apply_fault old.served.version (edit_of old.served.version live.want tables) ≡ None
+  pub new_is : new ≡ after_edit old (edit_of old.served.version live.want tables) tables
+  pub number_is : number ≡ old.served.version.number + 1
+  pub files_are : files ≡ numbers_of old.served.version live.want tables
 
 -- ---- what becomes of a claim
 
@@ -150,10 +154,14 @@ RefusalsStep old (became.Kept back why) new = (message : ℕ) → Follows old (D
 
 -- ---- the promise of a sound job
 
+-- the entries of the tables of the job's inputs, in whatever order
+abbrev pub AreEntriesOf : ServedValue → JobParts → List Entry → Type 0
+AreEntriesOf served job entries = (e : Entry) → IsIn e entries ↔ ((p : Placed) × IsIn p served.places × IsIn p.meta job.inputs × IsIn e p.table.entries)
+
 -- the result's tables hold just what a merge keeps of the job's inputs
-pub record HoldsMerged (old : CoordValue) (job : JobParts) (want : Want) (made : JobResult) : Type 0 where
+pub record HoldsMergeOf (served : ServedValue) (job : JobParts) (made : JobResult) : Type 0 where
   pub inputs : List Entry
-  pub are : AreInputsOf old.served.places want inputs
+  pub are : AreEntriesOf served job inputs
   pub tables : List Opened
   pub opened : AreTables made.tables tables
   pub kept : HoldsKept inputs job.points job.deeper (entries_of tables)

@@ -4,17 +4,19 @@ use Rattle.lsm_key.specs.declared.entry.Entry.{Entry}
 use Rattle.lsm_key.specs.Sets.{IsIn}
 use Rattle.lsm_claim.specs.declared.job.LiveJob.{LiveJob}
 use Rattle.lsm_claim.specs.declared.job.Want.{Want}
-use Rattle.lsm_claim.specs.Book.{BookValue}
+use Rattle.lsm_claim.specs.Book.{BookValue, IsBook}
 use Rattle.lsm_edit.specs.declared.edit.EditKind.TheVariants.{Install}
 use Rattle.lsm_edit.specs.Edit.{AreRemoved}
 use Rattle.lsm_edit.specs.declared.file.FileMeta.{FileMeta}
-use Rattle.lsm_edit.specs.Served.{ServedValue}
+use Rattle.lsm_edit.specs.Served.{IsServed, ServedValue}
+use Rattle.lsm_edit.specs.Version.{IsVersion}
 use Rattle.lsm_msg.specs.declared.rules.TheConstants.{MAX_JOB_LEVEL}
 use Rattle.lsm_msg.specs.Legal.{IsLegal}
 use Rattle.lsm_coord.specs.declared.frozen.Frozen.{Frozen}
 use Rattle.lsm_coord.specs.declared.snapshot.Snapshot.{Snapshot}
 use Rattle.lsm_coord.specs.declared.snapshot.TheConstants.{MAX_SNAPSHOTS}
-use Rattle.lsm_coord.specs.Value.{start_of}
+use Rattle.lsm_coord.specs.Manifest.{Folds}
+use Rattle.lsm_coord.specs.Value.{CoordValue, start_of}
 
 -- entries that were written after one sequence, and up to another
 abbrev pub AreBetween : List Entry → ℕ → ℕ → Type 0
@@ -41,3 +43,14 @@ pub record IsCoord (active : List Entry) (frozen : Option Frozen) (last : ℕ) (
   pub legal : AreLegal served.version.files book.live
   pub orderly : AreOrderly book.live
   pub few : length snapshots ≤ MAX_SNAPSHOTS
+
+-- What a store keeps of its versions, files and claims, whatever the results held that were installed: the manifest replays to
+-- the current version, each file has its table as recorded, and the live claims stand for jobs whose inputs may still be merged.
+pub record IsFit (c : CoordValue) : Type 0 where
+  pub manifest : Folds c.edits c.served.version
+  pub version : IsVersion c.served.version
+  pub served : IsServed c.served
+  pub book : IsBook c.book
+  pub epoch : c.book.epoch ≡ c.served.version.epoch
+  pub legal : AreLegal c.served.version.files c.book.live
+  pub orderly : AreOrderly c.book.live

@@ -14,6 +14,9 @@ use Rattle.lsm_coord.specs.Event as say
 use Rattle.lsm_coord.specs.Manifest.{place_of}
 
 abbrev pub refusal_of : CoordError → Refusal
+refusal_of error.BadManifest = say.BadManifest
+refusal_of error.MissingTable = say.MissingTable
+refusal_of error.Device = say.Device
 refusal_of error.SequenceExhausted = say.SequenceExhausted
 refusal_of error.FrozenWaiting = say.FrozenWaiting
 refusal_of error.NothingToFreeze = say.NothingToFreeze
@@ -26,6 +29,7 @@ refusal_of error.MemtableFull = say.MemtableFull
 refusal_of error.EmptyBatch = say.EmptyBatch
 refusal_of error.BookFull = say.BookFull
 refusal_of error.TooWide = say.TooWide
+refusal_of error.BadFloor = say.BadFloor
 refusal_of error.NumbersExhausted = say.NumbersExhausted
 refusal_of error.OutOfMemory = say.OutOfMemory
 

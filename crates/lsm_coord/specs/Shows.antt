@@ -7,20 +7,19 @@ use Rattle.lsm_key.specs.Sets.{IsIn}
 use Rattle.lsm_key.specs.Writes.{answer}
 use Rattle.lsm_key.specs.Visible.{value_at}
 use Rattle.lsm_key.specs.Places.{entries_after, AreOrdered}
-use Rattle.lsm_edit.specs.Version.{first_version}
 use Rattle.lsm_edit.specs.Served.{ServedValue, tables_of}
 use Rattle.lsm_coord.specs.State.{State, last_seq, last_flushed, active_start}
 use Rattle.lsm_coord.specs.declared.snapshot.Snapshot.{Snapshot}
 use Rattle.lsm_coord.specs.Event.{Event, Reply}
 use Rattle.lsm_coord.specs.Step.{Step}
-use Rattle.lsm_coord.specs.Manifest.{Folds, versions_from, listed}
+use Rattle.lsm_coord.specs.Manifest.{Folds, versions_of, listed}
 use Rattle.lsm_coord.specs.declared.frozen.Frozen.{Frozen}
 use Rattle.lsm_coord.specs.Value.{CoordValue, frozen_entries, stored}
 
 -- The edits and the tables of the current version show the versions of a state, and its answers at the last flush.
 pub record ShowsStored (edits : List (List ℕ)) (served : ServedValue) (s : State) : Type 0 where
   pub manifest : Folds edits served.version
-  pub versions : s.versions ≡ map listed (versions_from first_version manifest.edits)
+  pub versions : s.versions ≡ map listed (versions_of edits)
   pub next_file : s.next_file ≡ served.version.next_file
   pub epoch : s.epoch ≡ served.version.epoch
   pub ordered : AreOrdered (tables_of served.places)

@@ -5,7 +5,7 @@ ghost use Rattle.std.specs.Prelude.{◌≡◌, ◌↔◌, IfOk, IsTrue};
 use crate::{CoordError, Flushed, SnapId};
 use bytes::Bytes;
 use lsm_claim::{JobId, Settled};
-use lsm_edit::{FileMeta, same_files, same_numbers};
+use lsm_edit::{FileMeta, Listing, same_files, same_numbers};
 use lsm_key::{Items, Seq};
 use lsm_msg::Job;
 use std::alloc::{AllocError, Global};
@@ -51,8 +51,22 @@ pub enum Answer {
 }
 
 impl ShownVersion {
-    // The same version. The keys share the bytes.
-    fn copy(&self, alloc: Global) -> Result<ShownVersion, AllocError>
+    /// A copy of what a version lists. The keys share the bytes.
+    pub fn of(alloc: Global, listing: Listing<'_>) -> Result<ShownVersion, AllocError>
+        ensures number { IfOk result (λ shown. shown.number ≡ listing.entry.number) }
+        ensures flushed { IfOk result (λ shown. shown.flushed ≡ listing.entry.flushed) }
+        ensures files { IfOk result (λ shown. shown.files ≡ listing.entry.files.now) }
+    {
+        let files = listing.files.to_vec(alloc)?;
+        Ok(ShownVersion {
+            number: listing.number,
+            flushed: listing.flushed,
+            files: Items::from_vec(files),
+        })
+    }
+
+    /// The same version. The keys share the bytes.
+    pub fn copy(&self, alloc: Global) -> Result<ShownVersion, AllocError>
         ensures { IfOk result (λ copy. copy ≡ self.now) }
     {
         let files = self.files.as_slice().to_vec(alloc)?;

@@ -5,11 +5,14 @@ use std::alloc::{AllocError, AllocFailed};
 use std::fmt;
 use thiserror::Error;
 
-/// Why the coordinator refuses a call, the first reason that holds. The numbers stay as they are: those that are left out are
-/// of a store on a device.
+/// Why the coordinator refuses a call, the first reason that holds. The numbers stay as they are. A store in memory gives no
+/// `BadManifest`, `MissingTable` or `Device`: they are of an opening, and of a vault that fails.
 #[derive(Clone, Copy, Debug, PartialEq, Eq, Error)]
 pub enum CoordError {
     OutOfMemory = 0,
+    BadManifest = 1,
+    MissingTable = 2,
+    Device = 3,
     SequenceExhausted = 4,
     FrozenWaiting = 5,
     NothingToFreeze = 6,
@@ -22,6 +25,7 @@ pub enum CoordError {
     EmptyBatch = 13,
     BookFull = 14,
     TooWide = 15,
+    BadFloor = 16,
     NumbersExhausted = 17,
 }
 
@@ -30,6 +34,9 @@ impl CoordError {
     fn text(self) -> &'static str {
         match self {
             CoordError::OutOfMemory => "out of memory",
+            CoordError::BadManifest => "an edit of the manifest is not valid",
+            CoordError::MissingTable => "a file's table is missing or not as recorded",
+            CoordError::Device => "the vault failed",
             CoordError::SequenceExhausted => "the sequences are exhausted",
             CoordError::FrozenWaiting => "a frozen memtable waits",
             CoordError::NothingToFreeze => "there is nothing to freeze",
@@ -37,11 +44,13 @@ impl CoordError {
             CoordError::TooManySnapshots => "too many snapshots are live",
             CoordError::NoSnapshot => "no such snapshot is live",
             CoordError::WrongJob => "the result is of another job",
-            CoordError::BadResult => "the result is not what the job may give",
+            CoordError::BadResult => "the tables are no outputs of the job",
             CoordError::MemtableFull => "the memtable is full",
             CoordError::EmptyBatch => "the batch is empty",
             CoordError::BookFull => "four claims are live",
-            CoordError::TooWide => "every merge that no job stands against passes a limit of a job",
+            CoordError::TooWide =>
+                "every compaction that no running job blocks exceeds a job size limit",
+            CoordError::BadFloor => "the floor is above the current version",
             CoordError::NumbersExhausted =>
                 "the version, file, snapshot or job numbers are exhausted",
         }

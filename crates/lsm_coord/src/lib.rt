@@ -24,6 +24,7 @@ mod snapshot;
 mod table;
 #[cfg(test)]
 mod tests;
+mod version_set;
 
 pub use answer::{Answer, ShownVersion};
 pub use call::{Call, ScanRange};

@@ -1,6 +1,7 @@
 //! What no clause says: that calls succeed, and the texts of refusals.
 
 mod installs;
+mod library;
 mod picks;
 mod records;
 mod steps;
@@ -104,7 +105,7 @@ const TEXTS: [(CoordError, &str); 12] = [
     (CoordError::BookFull, "four claims are live"),
     (
         CoordError::TooWide,
-        "every merge that no job stands against passes a limit of a job",
+        "every compaction that no running job blocks exceeds a job size limit",
     ),
     (
         CoordError::NumbersExhausted,

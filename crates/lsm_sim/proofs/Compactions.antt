@@ -22,7 +22,7 @@ use Rattle.lsm_msg.specs.Merge.{HoldsKept}
 use Rattle.lsm_merge.specs.Inputs.{HaveSameEntry, lists_of}
 use Rattle.lsm_merge.specs.Outputs as merge
 use Rattle.lsm_coord.specs.Calls.{gave_back}
-use Rattle.lsm_coord.specs.Installing.{AreOutputs, IsLive, HoldsMerged}
+use Rattle.lsm_coord.specs.Installing.{AreOutputs, IsLive, HoldsMergeOf}
 use Rattle.lsm_coord.specs.Picking.{IsPicked, Picks}
 use Rattle.lsm_coord.specs.Shows.{Shows}
 use Rattle.lsm_coord.specs.Sound.{IsSound, KeepsSound}
@@ -33,7 +33,7 @@ use Rattle.lsm_coord.proofs.Jobs.{is_input, is_taken}
 use Rattle.lsm_coord.proofs.Lists.{any_found, any_here}
 use Rattle.lsm_coord.proofs.Returning.{live_before, same_name}
 use Rattle.lsm_sim.specs.Compacting.{IsLeft, Merges, tables_at}
-use Rattle.lsm_sim.proofs.Inputs.{are_inputs, fetched, none_shared, rise_filter}
+use Rattle.lsm_sim.proofs.Inputs.{fetched, fetched_in, in_fetched, none_shared, rise_filter}
 use Rattle.lsm_sim.proofs.Made.{opened_as, opened_entries, opened_tables, outputs_are}
 
 -- ---- the last job of a list, whose name no other has
@@ -155,10 +155,10 @@ module _ (old mid : CoordValue) (claim : LiveJob) (job : JobParts) (ver : IsVers
   -- ---- the result
 
   module _ (made : JobResult) (m : merge.IsMerge (tables_at mid.served.places job.inputs) job made.tables) where
-    pub made_of_inputs : HoldsMerged mid job claim.want made
+    pub made_of_inputs : HoldsMergeOf mid.served job made
     made_of_inputs = record {
       inputs = fetched mid.served.places job.inputs;
-      are = are_inputs mid.served mid_ver mid_is claim.want job.inputs takes;
+      are = λ e. (λ n. fetched_in mid.served mid_ver mid_is job.inputs inputs_of_version e n, λ p. in_fetched mid.served mid_ver mid_is job.inputs inputs_of_version p.0 e p.1 p.2 p.3);
       tables = opened_as made.tables m.entries;
       opened = opened_tables made.tables m.entries m.spelled;
       kept = subst (λ (lists : List (List Entry)). HoldsKept (fetched mid.served.places job.inputs) job.points job.deeper (all_entries lists)) (sym (opened_entries made.tables m.entries m.spelled)) m.kept;

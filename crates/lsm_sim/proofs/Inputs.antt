@@ -1,6 +1,6 @@
 -- The entries of a job's tables are those of its inputs, no two tables have one, and they are few.
 use Rattle.std.proofs.Common.{◌≡◌, ℕ, ◌+◌, ◌<◌, ◌≤◌, Bool, true, false, cond, List, [], ◌∷◌, ◌++◌, length, filter, refl, sym, ap, subst, ◌∙◌, arith, inl, inr, length-append}
-use Rattle.std.specs.Prelude.{◌↔◌, sum_by}
+use Rattle.std.specs.Prelude.{sum_by}
 use Rattle.std.proofs.lemmas.List.Sums.{sum_by-cons}
 use Rattle.lsm_key.specs.declared.entry.Entry.{Entry}
 use Rattle.lsm_key.specs.Places.{AreOrdered, all_entries}
@@ -10,14 +10,11 @@ use Rattle.lsm_key.proofs.Sets.{IsIn-append_left, IsIn-append_right, IsIn-append
 use Rattle.lsm_table.specs.Blocks.{entries}
 use Rattle.lsm_table.specs.Tables.{Opened, header, index, table}
 use Rattle.lsm_table.proofs.TableLaws.{as_long}
-use Rattle.lsm_claim.specs.declared.job.Want.{Want}
 use Rattle.lsm_edit.specs.declared.file.FileMeta.{FileMeta}
 use Rattle.lsm_edit.specs.declared.served.Placed.{Placed}
 use Rattle.lsm_edit.specs.Served.{IsServed, ServedValue, tables_of}
 use Rattle.lsm_edit.specs.Version.{IsVersion, NumbersRise}
-use Rattle.lsm_edit.proofs.Places.{file_of, newer_places, one_first, one_place}
-use Rattle.lsm_msg.specs.Installs.{AreInputsOf}
-use Rattle.lsm_msg.specs.Legal.{Takes}
+use Rattle.lsm_edit.proofs.Places.{newer_places, one_first, one_place}
 use Rattle.lsm_merge.specs.Inputs.{HaveSameEntry, lists_of}
 use Rattle.lsm_sim.specs.Compacting.{tables_at}
 use Rattle.lsm_sim.proofs.Fetching.{at_place, next_table}
@@ -60,12 +57,6 @@ module _ (s : ServedValue) (ver : IsVersion s.version) (is : IsServed s) where
         | inr later ↦ IsIn-append_right e q.0.table.entries (fetched s.places files) (in_fetched files (λ g n. all g (inr n)) p e mp later me)
       ] in
       subst (λ (lists : List (List Entry)). IsIn e (all_entries lists)) (sym q.3) parts
-
-  pub are_inputs : (want : Want) (files : List FileMeta) → ((f : FileMeta) → IsIn f files ↔ Takes s.version.files want f) → AreInputsOf s.places want (fetched s.places files)
-  are_inputs want files takes e = (
-    λ m. let r = fetched_in files (λ f n. ((takes f).0 n).0) e m in (r.0, r.1, ((takes r.0.meta).0 r.2).1, r.3),
-    λ i. in_fetched files (λ f n. ((takes f).0 n).0) i.0 e i.1 ((takes i.0.meta).1 (file_of s ver is i.0 i.1, i.2)) i.3,
-  )
 
   -- ---- no two tables have one
 

@@ -16,7 +16,7 @@ use Rattle.lsm_coord.specs.declared.coord.install.InstallError.{InstallError}
 use Rattle.lsm_coord.specs.declared.error.CoordError.{CoordError}
 use Rattle.lsm_coord.specs.declared.error.CoordError.TheVariants.{NumbersExhausted}
 use Rattle.lsm_coord.specs.Event as say
-use Rattle.lsm_coord.specs.Installing.{AreOutputs, Became, Explains, HasNumbers, IsLive, HoldsMerged}
+use Rattle.lsm_coord.specs.Installing.{AreOutputs, Became, Explains, HasNumbers, IsLive, HoldsMergeOf}
 use Rattle.lsm_coord.specs.Picking.{GivesNone, HasRoom, IsPicked, PickRefuses}
 use Rattle.lsm_coord.specs.Replies.{error_of, refusal_of}
 use Rattle.lsm_coord.specs.Run.{Run}
@@ -66,7 +66,7 @@ pub record IsCompaction (old : CoordValue) (number : ℕ) (files : List ℕ) (ne
   pub claimed : CoordValue
   pub picked : IsPicked old claim job claimed
   pub made : JobResult
-  pub merged : HoldsMerged claimed job claim.want made
+  pub merged : HoldsMergeOf claimed.served job made
   pub installed : Became claimed claim made (became.Done number files) new
 
 -- The old value, but that the book may count one claim more as given and taken back: no claim is left behind.
@@ -86,7 +86,7 @@ pub record LacksNumbers (c : CoordValue) : Type 0 where
   pub claimed : CoordValue
   pub picked : IsPicked c claim job claimed
   pub made : JobResult
-  pub merged : HoldsMerged claimed job claim.want made
+  pub merged : HoldsMergeOf claimed.served job made
   pub tables : List Opened
   pub outputs : AreOutputs claim.want.hull made.tables tables
   pub lacks : HasNumbers c.served.version tables → ⊥

@@ -3,7 +3,6 @@
 ghost use Rattle.std.specs.Prelude.{◌≡◌, ℕ, false, IfErr, IfOk, IfSome, None, OnErr, Option, Some};
 ghost use Rattle.lsm_key.specs.Sets.{IsIn};
 ghost use Rattle.lsm_claim.specs.Book.{holds};
-ghost use Rattle.lsm_claim.specs.declared.job.LiveJob.{LiveJob};
 ghost use Rattle.lsm_table.specs.Tables.{IsTable, Opened};
 ghost use Rattle.lsm_edit.specs.declared.file.FileMeta.{FileMeta};
 ghost use Rattle.lsm_edit.specs.Served.{AllRecorded, IsServed, table_at};
@@ -12,7 +11,7 @@ ghost use Rattle.lsm_msg.specs.declared.job.JobParts.{JobParts};
 ghost use Rattle.lsm_coord.specs.declared.coord.install.Install.TheVariants as became;
 ghost use Rattle.lsm_coord.specs.Calls.{gave_back};
 ghost use Rattle.lsm_coord.specs.Changes.{IsIndex};
-ghost use Rattle.lsm_coord.specs.Installing.{Became, IsLive, HoldsMerged, StepsTo};
+ghost use Rattle.lsm_coord.specs.Installing.{Became, HoldsMergeOf, StepsTo};
 ghost use Rattle.lsm_coord.specs.Shows.{Shows};
 ghost use Rattle.lsm_coord.specs.Sound.{IsSound, KeepsSound};
 ghost use Rattle.lsm_coord.specs.State.{State};
@@ -64,11 +63,11 @@ fn install(
     made: &JobResult,
 ) -> Result<Option<(u64, Vec<u64>)>, CoordError>
     ensures done { IfOk result (λ answer. IfSome answer (λ r. Became coord.old claim made.now (became.Done r.0 r.1.items) coord.new)) }
-    ensures step { (live : LiveJob) (job : JobParts) → IsLive coord.old claim.id live → job.id ≡ claim.id → IsSound coord.old job → HoldsMerged coord.old job live.want made.now → IfOk result (λ answer. IfSome answer (λ r. StepsTo coord.old (became.Done r.0 r.1.items) coord.new)) }
+    ensures step { (job : JobParts) → job.id ≡ claim.id → IsSound coord.old job → HoldsMergeOf coord.old.served job made.now → IfOk result (λ answer. IfSome answer (λ r. StepsTo coord.old (became.Done r.0 r.1.items) coord.new)) }
     ensures stale { IfOk result (λ answer. answer ≡ None → holds coord.old.book claim.id ≡ false) }
     ensures err { OnErr result (coord.new ≡ gave_back coord.old claim.id) }
     ensures refused { IfErr result (KeptBack coord.old claim made.now) }
-    ensures sound { (live : LiveJob) (job : JobParts) → IsLive coord.old claim.id live → HoldsMerged coord.old job live.want made.now → KeepsSound coord.old coord.new }
+    ensures sound { (job : JobParts) → job.id ≡ claim.id → IsSound coord.old job → HoldsMergeOf coord.old.served job made.now → KeepsSound coord.old coord.new }
 {
     match coord.install(claim, made) {
         Install::Done(number, files) => Ok(Some((number, files.into_vec()))),

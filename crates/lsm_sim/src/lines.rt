@@ -180,6 +180,9 @@ fn coord_name(error: CoordError) -> &'static str
     ensures { result.now ≡ name_of (refusal_of error) }
 {
     match error {
+        CoordError::BadManifest => "BadManifest",
+        CoordError::MissingTable => "MissingTable",
+        CoordError::Device => "Device",
         CoordError::SequenceExhausted => "SequenceExhausted",
         CoordError::FrozenWaiting => "FrozenWaiting",
         CoordError::NothingToFreeze => "NothingToFreeze",
@@ -192,6 +195,7 @@ fn coord_name(error: CoordError) -> &'static str
         CoordError::EmptyBatch => "EmptyBatch",
         CoordError::BookFull => "BookFull",
         CoordError::TooWide => "TooWide",
+        CoordError::BadFloor => "BadFloor",
         CoordError::NumbersExhausted => "NumbersExhausted",
         CoordError::OutOfMemory => "OutOfMemory",
     }

@@ -50,7 +50,7 @@ impl Coord {
             return Err(CoordError::BookFull);
         }
         let exhausted = self.book.made() >= MAX_NUMBER;
-        match pick(self.alloc, &self.current, &self.book, &self.limits) {
+        match pick(self.alloc, self.versions.served(), &self.book, &self.limits) {
             Ok(None) => Ok(None),
             Ok(Some(_)) if exhausted => Err(CoordError::NumbersExhausted),
             Ok(Some(want)) => Ok(Some(want)),
@@ -71,7 +71,7 @@ impl Coord {
             epoch: self.book.epoch(),
             number: self.book.made() + 1,
         };
-        let files = self.current.listing().files;
+        let files = self.versions.served().listing().files;
         let points = points_of(self.alloc, &self.live)?;
         let inputs = inputs_of(self.alloc, files, want)?;
         let deeper = deeper_of(self.alloc, files, want)?;

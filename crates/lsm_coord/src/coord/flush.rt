@@ -6,14 +6,15 @@ ghost use Rattle.lsm_edit.specs.File.{IsFile};
 ghost use Rattle.lsm_edit.specs.Served.{IsAsRecorded};
 ghost use Rattle.lsm_coord.specs.Event.{Flush};
 ghost use Rattle.lsm_coord.specs.Shows.{Follows};
-ghost use Rattle.lsm_coord.specs.Calls.{Adds, AddsTable, CanNumber, flush_fault, taken};
+ghost use Rattle.lsm_coord.specs.Calls.{Adds, AddsTable, flush_fault, taken};
+ghost use Rattle.lsm_coord.specs.Manifest.{CanNumber};
 ghost use Rattle.lsm_coord.specs.Sound.{KeepsSound};
 ghost use Rattle.lsm_coord.specs.Replies.{flush_reply};
 
-use super::{Coord, alone, extend_listed};
+use super::Coord;
 use crate::CoordError;
 use crate::table::table_of;
-use lsm_edit::{Edit, FileMeta};
+use lsm_edit::FileMeta;
 use lsm_key::{MAX_NUMBER, Seq};
 use lsm_mem::Memtable;
 use lsm_table::Table;
@@ -44,8 +45,8 @@ impl Coord {
             Some(why) => return Err(why),
             None => {}
         }
-        let number = self.current.version().number() + 1;
-        let file = self.current.version().next_file();
+        let number = self.versions.version().number() + 1;
+        let file = self.versions.version().next_file();
         let seq = self.flush_end();
         let table = table_of(self.alloc, self.flushable())?;
         let meta = FileMeta::of_table(file, 0, &table)?;
@@ -60,7 +61,7 @@ impl Coord {
         if self.frozen.is_none() && self.active.is_empty() {
             return Some(CoordError::NothingToFlush);
         }
-        let version = self.current.version();
+        let version = self.versions.version();
         if version.number() >= MAX_NUMBER || version.next_file() >= MAX_NUMBER {
             return Some(CoordError::NumbersExhausted);
         }
@@ -87,9 +88,9 @@ impl Coord {
         }
     }
 
-    // Appends the edit that adds a table, in which the entries of a memtable now are. A refusal changes nothing.
+    // Adds a table with the entries of the memtable that a flush takes, which goes. A refusal changes nothing.
     fn add_table(&mut self, meta: FileMeta, table: Table, end: Seq) -> Result<(), AllocError>
-        requires room { CanNumber self.old }
+        requires room { CanNumber self.old.served.version }
         requires end { end ≡ (taken self.old).end }
         requires newer { self.old.served.version.flushed < end }
         requires sound { IsFile meta }
@@ -99,18 +100,9 @@ impl Coord {
         ensures sound { OnOk result (KeepsSound self.old self.new) }
         ensures err { OnErr result (self.new ≡ self.old) }
     {
-        let version = self.current.version();
-        // That all its files have lower numbers, as the proof wants to know.
-        let _files = version.files();
-        let edit = Edit::flush(self.alloc, version, end, meta)?;
-        let tables = alone(self.alloc, table)?;
-        extend_listed(
-            self.alloc,
-            &mut self.current,
-            &mut self.manifest,
-            &edit,
-            tables,
-        )?;
+        // Proof hint: all files of the version have lower numbers.
+        let _files = self.versions.version().files();
+        self.versions.add_table(self.alloc, meta, table, end)?;
         if self.frozen.is_some() {
             self.frozen = None;
             return Ok(());

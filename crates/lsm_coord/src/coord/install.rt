@@ -1,25 +1,24 @@
 //! Installs: the result of a job takes the place of its inputs.
 
-ghost use Rattle.std.specs.Prelude.{◌≡◌, ◌↔◌, ◌<◌, ◌≤◌, ◌^◌, ◌++◌, ◌∷◌, [], IfErr, IsTrue, IfOk, None, OnErr, OnOk, find, length, map, true};
+ghost use Rattle.std.specs.Prelude.{◌≡◌, ◌↔◌, ◌<◌, ◌≤◌, ◌^◌, IfErr, IsTrue, IfOk, None, OnErr, OnOk, find, length, map, true};
 ghost use Rattle.std.specs.Option.{option_copied};
 ghost use Rattle.lsm_key.specs.Sets.{IsIn};
 ghost use Rattle.lsm_claim.specs.declared.job.LiveJob.{LiveJob};
 ghost use Rattle.lsm_claim.specs.Jobs.{same_id};
 ghost use Rattle.lsm_table.specs.Tables.{IsTable, Opened};
-ghost use Rattle.lsm_edit.specs.Edit.{IsEdit, edit as spelling};
-ghost use Rattle.lsm_edit.specs.Served.{AreAsRecorded, advanced};
+ghost use Rattle.lsm_edit.specs.Edit.{IsEdit};
 ghost use Rattle.lsm_edit.specs.Version.{apply_fault};
 ghost use Rattle.lsm_msg.specs.declared.job.JobParts.{JobParts};
 ghost use Rattle.lsm_msg.specs.Legal.{IsLegal};
-ghost use Rattle.lsm_coord.specs.Installing.{AreAscending, Became, Explains, HasNumbers, IsLive, HoldsMerged, Puts, RefusalsStep, StepsTo, edit_of, is_inside};
+ghost use Rattle.lsm_coord.specs.Installing.{AreAscending, Became, Explains, HasNumbers, HoldsMergeOf, Puts, RefusalsStep, StepsTo, edit_of, is_inside, number_fault};
 ghost use Rattle.lsm_coord.specs.Memory.{IsOrderly};
 ghost use Rattle.lsm_coord.specs.Sound.{IsSound, KeepsSound};
 
 use super::Coord;
 use super::outputs::{open_outputs, records_of};
-use bytes::Bytes;
+use crate::version_set::VersionSet;
 use lsm_claim::{Claim, Ending, JobId, LiveJob, Want};
-use lsm_edit::{Edit, FileMeta, Served, Version, encode_edit};
+use lsm_edit::{Edit, FileMeta, Version};
 use lsm_key::{Items, MAX_NUMBER};
 use lsm_msg::JobResult;
 use lsm_table::Table;
@@ -80,25 +79,19 @@ impl Coord {
     pub fn install(&mut self, claim: Claim, made: &JobResult) -> Install
         ensures became { Became self.old claim made.now result self.new }
         ensures refused { RefusalsStep self.old result self.new }
-        ensures step { (live : LiveJob) (job : JobParts) → IsLive self.old claim.id live → job.id ≡ claim.id → IsSound self.old job → HoldsMerged self.old job live.want made.now → StepsTo self.old result self.new }
-        ensures sound { (live : LiveJob) (job : JobParts) → IsLive self.old claim.id live → HoldsMerged self.old job live.want made.now → KeepsSound self.old self.new }
+        ensures step { (job : JobParts) → job.id ≡ claim.id → IsSound self.old job → HoldsMergeOf self.old.served job made.now → StepsTo self.old result self.new }
+        ensures sound { (job : JobParts) → job.id ≡ claim.id → IsSound self.old job → HoldsMergeOf self.old.served job made.now → KeepsSound self.old self.new }
     {
         let id = claim.id();
-        // That the version and its places are sound, as the proof wants to know.
-        let _listing = self.current.listing();
+        // Proof hint: the version and its places are sound.
+        let _listing = self.versions.served().listing();
         match job_named(self.book.live(), id) {
             None => {
                 let epoch = self.book.epoch();
                 self.book.settle(claim, Ending::Installed);
                 Install::Stale(id, epoch)
             }
-            Some(job) => match put_outputs(
-                self.alloc,
-                &mut self.current,
-                &mut self.manifest,
-                job,
-                made,
-            ) {
+            Some(job) => match put_outputs(self.alloc, &mut self.versions, job, made) {
                 Ok((number, files)) => {
                     self.book.settle(claim, Ending::Installed);
                     Install::Done(number, files)
@@ -119,32 +112,42 @@ fn job_named(jobs: &[LiveJob], id: JobId) -> Option<&LiveJob>
 // Makes the next version, in which the outputs have the place of the inputs. A refusal changes nothing.
 fn put_outputs(
     alloc: Global,
-    current: &mut Served,
-    manifest: &mut Vec<Bytes>,
+    versions: &mut VersionSet,
     job: &LiveJob,
     made: &JobResult,
 ) -> Result<(u64, Items<u64>), InstallError>
-    requires epoch { 1 ≤ current.old.version.epoch }
-    requires legal { IsLegal current.old.version.files job.now.want }
+    requires epoch { 1 ≤ versions.old.served.version.epoch }
+    requires legal { IsLegal versions.old.served.version.files job.now.want }
     requires orderly { IsOrderly job.now.want }
-    ensures ok { IfOk result (λ put. Puts current.old manifest.old.items job.now made.now put.0 put.1 current.new manifest.new.items) }
-    ensures err { OnErr result ((current.new ≡ current.old) × (manifest.new.items ≡ manifest.old.items)) }
-    ensures why { IfErr result (Explains current.old.version job.now made.now) }
+    ensures ok { IfOk result (λ put. Puts versions.old job.now made.now put.0 put.1 versions.new) }
+    ensures err { OnErr result (versions.new ≡ versions.old) }
+    ensures why { IfErr result (Explains versions.old.served.version job.now made.now) }
 {
     let want = &job.want;
     if !are_same(made.job, job.id) {
         return Err(InstallError::WrongJob);
     }
     let tables = open_outputs(alloc, &want.hull, made.tables.as_slice())?;
-    let version = current.version();
-    if version.number() >= MAX_NUMBER || tables.len() as u64 > MAX_NUMBER - version.next_file() {
-        return Err(InstallError::NumbersExhausted);
+    let version = versions.version();
+    match number_fault(version, tables.len()) {
+        Some(why) => return Err(why),
+        None => {}
     }
     let number = version.number() + 1;
     let edit = edit_of(alloc, version, want, &tables)?;
     let files = numbers_of(alloc, edit.added.as_slice())?;
-    go_on_listed(alloc, current, manifest, &edit, tables)?;
+    versions.log_and_apply(&edit, tables)?;
     Ok((number, Items::from_vec(files)))
+}
+
+// Why the next version, with so many new files, has no numbers.
+fn number_fault(version: &Version, files: usize) -> Option<InstallError>
+    ensures { result ≡ number_fault version.now files }
+{
+    if version.number() < MAX_NUMBER && files as u64 <= MAX_NUMBER - version.next_file() {
+        return None;
+    }
+    Some(InstallError::NumbersExhausted)
 }
 
 fn are_same(a: JobId, b: JobId) -> bool
@@ -172,7 +175,7 @@ fn edit_of(
     ensures sound { IfOk result IsEdit }
     ensures applies { IfOk result (λ edit. apply_fault version.now edit ≡ None) }
 {
-    // That the version is sound, as the proof wants to know.
+    // Proof hint: the version is sound.
     let _files = version.files();
     let files = records_of(alloc, want.level + 1, version.next_file(), tables)?;
     let removed = copy_of(alloc, &want.files)?;
@@ -192,40 +195,4 @@ fn numbers_of(alloc: Global, files: &[FileMeta]) -> Result<Vec<u64>, AllocError>
     ensures { IfOk result (λ numbers. numbers.items ≡ map (λ f. f.number) files.now) }
 {
     files.iter().map(|file| file.number).collect(alloc)
-}
-
-// Goes on by an edit that applies: only memory can be wanting.
-fn go_on(served: &mut Served, edit: &Edit, tables: Vec<Table>) -> Result<(), AllocError>
-    requires sound { IsEdit edit.now }
-    requires recorded { AreAsRecorded edit.now.added tables.items }
-    requires applies { apply_fault served.old.version edit.now ≡ None }
-    ensures ok { OnOk result (served.new ≡ advanced served.old edit.now tables.items) }
-    ensures err { OnErr result (served.new ≡ served.old) }
-{
-    match served.advance(edit, tables) {
-        Ok(()) => Ok(()),
-        Err(_) => Err(AllocError),
-    }
-}
-
-// The same, and lists the edit. A refusal changes nothing.
-fn go_on_listed(
-    alloc: Global,
-    served: &mut Served,
-    manifest: &mut Vec<Bytes>,
-    edit: &Edit,
-    tables: Vec<Table>,
-) -> Result<(), AllocError>
-    requires sound { IsEdit edit.now }
-    requires recorded { AreAsRecorded edit.now.added tables.items }
-    requires applies { apply_fault served.old.version edit.now ≡ None }
-    ensures ok { OnOk result (served.new ≡ advanced served.old edit.now tables.items) }
-    ensures listed { OnOk result (manifest.new.items ≡ manifest.old.items ++ spelling edit.now ∷ []) }
-    ensures err { OnErr result ((served.new ≡ served.old) × (manifest.new.items ≡ manifest.old.items)) }
-{
-    let text = encode_edit(alloc, edit)?;
-    manifest.reserve(1)?;
-    go_on(served, edit, tables)?;
-    manifest.push_reserved(text);
-    Ok(())
 }

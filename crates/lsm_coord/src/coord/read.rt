@@ -3,12 +3,10 @@
 ghost use Rattle.std.specs.Prelude.{◌≡◌, None, Some, IfOk, IfErr, IsSome};
 ghost use Rattle.std.specs.Option.{option_map, option_and_then};
 ghost use Rattle.lsm_key.specs.Visible.{visible, entry_value, lent};
-ghost use Rattle.lsm_claim.specs.Book.{IsBook};
-ghost use Rattle.lsm_edit.specs.Served.{IsServed};
-ghost use Rattle.lsm_edit.specs.Version.{IsVersion};
 ghost use Rattle.lsm_coord.specs.State.{snapshot_at};
 ghost use Rattle.lsm_coord.specs.Event.{Get, Show, Coordinator};
 ghost use Rattle.lsm_coord.specs.Shows.{Follows};
+ghost use Rattle.lsm_coord.specs.Memory.{IsFit};
 ghost use Rattle.lsm_coord.specs.Calls.{point_of, GetRefuses, IsPoint, Answers, HasValue};
 ghost use Rattle.lsm_coord.specs.Value.{frozen_entries};
 ghost use Rattle.lsm_coord.specs.Replies.{get_reply, show_reply};
@@ -17,7 +15,7 @@ use super::Coord;
 use crate::CoordError;
 use crate::snapshot::SnapId;
 use bytes::Bytes;
-use lsm_edit::Listing;
+use lsm_edit::{Listing, Served};
 use lsm_key::{EntryRef, Kind, Seq};
 use std::alloc::{AllocError, Global};
 
@@ -80,7 +78,7 @@ impl Coord {
         }
         match self.frozen_entry(key, point) {
             Some(entry) => Some(entry),
-            None => self.current.get_at(key, point),
+            None => self.versions.served().get_at(key, point),
         }
     }
 
@@ -94,15 +92,25 @@ impl Coord {
         }
     }
 
-    /// What the current version lists. It takes no memory.
+    /// What the current version lists. It takes no memory. What the store keeps of its versions, files and claims is fit,
+    /// whatever the results held that were installed.
     pub fn show(&self) -> Listing<'_>
         ensures step { Follows self.now (Show Coordinator) (show_reply result) self.now }
+        ensures number { result.number ≡ self.now.served.version.number }
+        ensures flushed { result.flushed ≡ self.now.served.version.flushed }
         ensures files { result.files.now ≡ self.now.served.version.files }
-        ensures sound { IsServed self.now.served × IsVersion self.now.served.version × IsBook self.now.book }
+        ensures fit { IsFit self.now }
     {
-        // That the book is sound, as the proof wants to know.
+        // Proof hint: the book is sound.
         let _live = self.book.live();
-        self.current.listing()
+        self.versions.served().listing()
+    }
+
+    /// The current version with its tables.
+    pub fn served(&self) -> &Served
+        ensures { result.now ≡ self.now.served }
+    {
+        self.versions.served()
     }
 }
 

@@ -98,11 +98,12 @@ impl Coord {
         ensures order { IfOk result (λ entries. IsInOrder entries.items) }
         ensures sound { IsServed self.now.served }
     {
-        // That its tables are sound, as the proof wants to know.
-        let _listing = self.current.listing();
+        let served = self.versions.served();
+        // Proof hint: the tables are as recorded.
+        let _listing = served.listing();
         let active = self.active.range(from, to)?;
         let frozen = self.frozen_between(from, to)?;
-        let stored = self.current.range(from, to)?;
+        let stored = served.range(from, to)?;
         merged(self.alloc, active, frozen, stored)
     }
 

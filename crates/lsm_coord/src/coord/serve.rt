@@ -34,7 +34,7 @@ impl Coord {
         ensures ok { IfOk result (λ body. body ≡ sent file (table_at self.now.served.places file)) }
         ensures err { IfErr result (λ e. IsSome (table_at self.now.served.places file)) }
     {
-        match self.current.table(file) {
+        match self.served().table(file) {
             Some(table) => Ok(Body::Table(file, table.bytes().clone()?)),
             None => Ok(Body::Gone(file)),
         }

@@ -28,7 +28,7 @@ impl Coord {
             None => {}
         }
         let id = SnapId {
-            epoch: self.current.version().epoch(),
+            epoch: self.versions.version().epoch(),
             number: self.made + 1,
         };
         let at = self.newest;

@@ -1,8 +1,8 @@
 //! Where a window of a scan ends. Any end is right: it is chosen so that a window has some entries, and of no source many
-//! more than the scan may still give. So only the bounds of an end have a contract.
+//! more than the scan may still give. So only the bounds of an end have a contract: a window ends after it begins, so that a scan ends.
 
 ghost use Rattle.std.specs.Prelude.{◌≡◌, true, IfOk, IfSome};
-ghost use Rattle.lsm_key.specs.Order.{key_le};
+ghost use Rattle.lsm_key.specs.Order.{key_le, key_lt};
 
 use super::Coord;
 use bytes::Bytes;
@@ -27,7 +27,8 @@ impl Coord {
         hi: &[u8],
         wanted: u64,
     ) -> Result<Option<Bytes>, AllocError>
-        ensures { IfOk result (λ found. IfSome found (λ end. (key_le from.now end ≡ true) × (key_le end hi.now ≡ true))) }
+        ensures onward { IfOk result (λ found. IfSome found (λ end. key_lt from.now end ≡ true)) }
+        ensures within { IfOk result (λ found. IfSome found (λ end. key_le end hi.now ≡ true)) }
     {
         let mut count = wanted.clamp(FEWEST, MOST) as usize;
         for _growth in 0..MAX_GROWTHS {
@@ -51,7 +52,7 @@ impl Coord {
         if let Some(frozen) = &self.frozen {
             least = lesser(least, frozen.memtable.key_after(from, count)?);
         }
-        let places = self.current.places();
+        let places = self.served().places();
         for placed in places {
             if placed.meta.level > 0 {
                 break;

@@ -1,69 +1,70 @@
 use Rattle.lsm_coord.proofs.Jobs.{wants_memory}
 use Rattle.lsm_sim.proofs.Answered.{answers_left, answers_made, answers_reached, answers_refused, answers_sound}
-use Rattle.lsm_sim.proofs.Compactions.{back_keeps, claim_live, inputs_of_version, left_again, made_of_inputs, merges_by, named, none_same, picked_by, sound_by}
+use Rattle.lsm_sim.proofs.Compactions.{back_keeps, inputs_of_version, left_again, made_of_inputs, merges_by, named, none_same, picked_by, sound_by}
 use Rattle.lsm_sim.proofs.compact.compact_once.Goals as goal
 
 pub result_of-requires-clause-inputs : goal.result_of-requires-clause-inputs
 result_of-requires-clause-inputs c =
-    let know = c.show-listing.ensures.sound in
-    inputs_of_version _ _ c.in-Some.claim c.in-Some.job know.1 know.0 know.2 (picked_by _ _ _ _ _ c.in-Some.is c.in_ok-claim.ensures.ok)
+    let know = c.show-listing.ensures.fit in
+    inputs_of_version _ _ c.in-Some.claim c.in-Some.job know.version know.served know.book (picked_by _ _ _ _ _ c.in-Some.is c.in_ok-claim.ensures.ok)
 
 pub returns-clause-err : goal.returns-clause-err
 returns-clause-err c =
-    let know = c.show-listing.ensures.sound in
-    left_again _ _ c.in-Some.claim c.in-Some.job know.1 know.0 know.2 (picked_by _ _ _ _ _ c.in-Some.is c.in_ok-claim.ensures.ok) _ c.give_back-in-Err.ensures.book
+    let know = c.show-listing.ensures.fit in
+    left_again _ _ c.in-Some.claim c.in-Some.job know.version know.served know.book (picked_by _ _ _ _ _ c.in-Some.is c.in_ok-claim.ensures.ok) _ c.give_back-in-Err.ensures.book
 
 pub returns-clause-refused : goal.returns-clause-refused
 returns-clause-refused c = rw c.into.ensures (wants_memory c.args.coord.now _ (picked_by _ _ _ _ _ c.in-Some.is c.in_ok-claim.ensures.ok).may)
 
 pub returns-clause-sound : goal.returns-clause-sound
 returns-clause-sound c =
-    let know = c.show-listing.ensures.sound in
-    back_keeps _ _ c.in-Some.claim c.in-Some.job know.1 know.0 know.2 (picked_by _ _ _ _ _ c.in-Some.is c.in_ok-claim.ensures.ok) _ c.pick.ensures.sound c.give_back-in-Err.ensures.sound c.give_back-in-Err.ensures.book
+    let know = c.show-listing.ensures.fit in
+    back_keeps _ _ c.in-Some.claim c.in-Some.job know.version know.served know.book (picked_by _ _ _ _ _ c.in-Some.is c.in_ok-claim.ensures.ok) _ c.pick.ensures.sound c.give_back-in-Err.ensures.sound c.give_back-in-Err.ensures.book
 
 pub returns-in-Ok-None-clause-ok : goal.returns-in-Ok-None-clause-ok
 returns-in-Ok-None-clause-ok c =
-    let know = c.show-listing.ensures.sound in
+    let know = c.show-listing.ensures.fit in
     let picked = picked_by _ _ _ _ _ c.in-Some.is c.in_ok-claim.ensures.ok in (
-      left_again _ _ c.in-Some.claim c.in-Some.job know.1 know.0 know.2 picked _ c.give_back.ensures.book,
-      λ s h. absurd (none_same _ _ c.in-Some.claim c.in-Some.job know.1 know.0 know.2 picked s h (merges_by _ _ _ _ c.in-Ok-None.field-0-is c.in-Ok-None.ensures)),
+      left_again _ _ c.in-Some.claim c.in-Some.job know.version know.served know.book picked _ c.give_back.ensures.book,
+      λ s h. absurd (none_same _ _ c.in-Some.claim c.in-Some.job know.version know.served know.book picked s h (merges_by _ _ _ _ c.in-Ok-None.field-0-is c.in-Ok-None.ensures)),
     )
 
 pub returns-in-Ok-None-clause-sound : goal.returns-in-Ok-None-clause-sound
 returns-in-Ok-None-clause-sound c =
-    let know = c.show-listing.ensures.sound in
-    back_keeps _ _ c.in-Some.claim c.in-Some.job know.1 know.0 know.2 (picked_by _ _ _ _ _ c.in-Some.is c.in_ok-claim.ensures.ok) _ c.pick.ensures.sound c.give_back.ensures.sound c.give_back.ensures.book
+    let know = c.show-listing.ensures.fit in
+    back_keeps _ _ c.in-Some.claim c.in-Some.job know.version know.served know.book (picked_by _ _ _ _ _ c.in-Some.is c.in_ok-claim.ensures.ok) _ c.pick.ensures.sound c.give_back.ensures.sound c.give_back.ensures.book
 
 pub returns-in-Ok-Some-clause-err : goal.returns-in-Ok-Some-clause-err
 returns-in-Ok-Some-clause-err c =
-    let know = c.show-listing.ensures.sound in
-    answers_left _ _ _ c.in-Some.claim c.in-Some.job know.1 know.0 know.2 (picked_by _ _ _ _ _ c.in-Some.is c.in_ok-claim.ensures.ok) c.install.result c.install.ensures.err
+    let know = c.show-listing.ensures.fit in
+    answers_left _ _ _ c.in-Some.claim c.in-Some.job know.version know.served know.book (picked_by _ _ _ _ _ c.in-Some.is c.in_ok-claim.ensures.ok) c.install.result c.install.ensures.err
 
 pub returns-in-Ok-Some-clause-ok : goal.returns-in-Ok-Some-clause-ok
 returns-in-Ok-Some-clause-ok c =
-    let know = c.show-listing.ensures.sound in
+    let know = c.show-listing.ensures.fit in
     let merge = merges_by _ _ _ _ c.in-Ok-Some.field-0-is c.in-Ok-Some.ensures in
-    answers_made _ _ _ c.in-Some.claim c.in-Some.job know.1 know.0 know.2 (picked_by _ _ _ _ _ c.in-Some.is c.in_ok-claim.ensures.ok) _ merge.0 merge.1 c.install.result c.install.ensures.done c.install.ensures.stale
+    answers_made _ _ _ c.in-Some.claim c.in-Some.job know.version know.served know.book (picked_by _ _ _ _ _ c.in-Some.is c.in_ok-claim.ensures.ok) _ merge.0 merge.1 c.install.result c.install.ensures.done c.install.ensures.stale
 
 pub returns-in-Ok-Some-clause-refused : goal.returns-in-Ok-Some-clause-refused
 returns-in-Ok-Some-clause-refused c =
-    let know = c.show-listing.ensures.sound in
+    let know = c.show-listing.ensures.fit in
     let merge = merges_by _ _ _ _ c.in-Ok-Some.field-0-is c.in-Ok-Some.ensures in
-    answers_refused _ _ c.install.new.coord c.in-Some.claim c.in-Some.job know.1 know.0 know.2 (picked_by _ _ _ _ _ c.in-Some.is c.in_ok-claim.ensures.ok) _ merge.0 merge.1 c.install.result c.install.ensures.refused
+    answers_refused _ _ c.install.new.coord c.in-Some.claim c.in-Some.job know.version know.served know.book (picked_by _ _ _ _ _ c.in-Some.is c.in_ok-claim.ensures.ok) _ merge.0 merge.1 c.install.result c.install.ensures.refused
 
 pub returns-in-Ok-Some-clause-sound : goal.returns-in-Ok-Some-clause-sound
 returns-in-Ok-Some-clause-sound c =
-    let know = c.show-listing.ensures.sound in
-    let merge = merges_by _ _ _ _ c.in-Ok-Some.field-0-is c.in-Ok-Some.ensures in
-    let picked = picked_by _ _ _ _ _ c.in-Some.is c.in_ok-claim.ensures.ok in
-    let second = c.install.ensures.sound c.in-Some.claim c.in-Some.job (claim_live _ _ _ _ know.1 know.0 know.2 picked) (made_of_inputs _ _ _ _ know.1 know.0 know.2 picked _ merge.1) in
-    answers_sound _ _ _ c.in-Some.claim c.in-Some.job know.1 know.0 know.2 picked _ merge.0 merge.1 c.install.result c.pick.ensures.sound second c.install.ensures.done c.install.ensures.stale c.install.ensures.err
-
-pub returns-in-Ok-Some-clause-step : goal.returns-in-Ok-Some-clause-step
-returns-in-Ok-Some-clause-step c = λ dispatcher message index s h.
-    let know = c.show-listing.ensures.sound in
+    let know = c.show-listing.ensures.fit in
     let merge = merges_by _ _ _ _ c.in-Ok-Some.field-0-is c.in-Ok-Some.ensures in
     let picked = picked_by _ _ _ _ _ c.in-Some.is c.in_ok-claim.ensures.ok in
     let sound = sound_by _ _ _ _ c.in-Some.is c.in_ok-claim.ensures.job in
-    let steps = c.install.ensures.step c.in-Some.claim c.in-Some.job (claim_live _ _ _ _ know.1 know.0 know.2 picked) (named _ _ _ _ know.1 know.0 know.2 picked) sound (made_of_inputs _ _ _ _ know.1 know.0 know.2 picked _ merge.1) in
-    answers_reached _ _ _ c.in-Some.claim c.in-Some.job know.1 know.0 know.2 picked _ merge.0 merge.1 c.install.result dispatcher message index s (c.in_ok-claim.ensures.step dispatcher index s h) steps c.install.ensures.stale c.install.ensures.err
+    let second = c.install.ensures.sound c.in-Some.job (named _ _ _ _ know.version know.served know.book picked) sound (made_of_inputs _ _ _ _ know.version know.served know.book picked _ merge.1) in
+    answers_sound _ _ _ c.in-Some.claim c.in-Some.job know.version know.served know.book picked _ merge.0 merge.1 c.install.result c.pick.ensures.sound second c.install.ensures.done c.install.ensures.stale c.install.ensures.err
+
+pub returns-in-Ok-Some-clause-step : goal.returns-in-Ok-Some-clause-step
+returns-in-Ok-Some-clause-step c = λ dispatcher message index s h.
+    let know = c.show-listing.ensures.fit in
+    let merge = merges_by _ _ _ _ c.in-Ok-Some.field-0-is c.in-Ok-Some.ensures in
+    let picked = picked_by _ _ _ _ _ c.in-Some.is c.in_ok-claim.ensures.ok in
+    let sound = sound_by _ _ _ _ c.in-Some.is c.in_ok-claim.ensures.job in
+    let steps = c.install.ensures.step c.in-Some.job (named _ _ _ _ know.version know.served know.book picked) sound (made_of_inputs _ _ _ _ know.version know.served know.book picked _ merge.1) in
+    answers_reached _ _ _ c.in-Some.claim c.in-Some.job know.version know.served know.book picked _ merge.0 merge.1 c.install.result dispatcher message index s (c.in_ok-claim.ensures.step dispatcher index s h) steps c.install.ensures.stale c.install.ensures.err

@@ -8,5 +8,5 @@ returns-in-Done-clause-done c =
     subst (λ (fs : List ℕ). Became c.args.coord.now c.args.claim c.args.made.now (became.Done c.in-Done.number fs) c.install.new.self) (sym c.into_vec.ensures) c.in-Done.ensures.became
 
 pub returns-in-Done-clause-step : goal.returns-in-Done-clause-step
-returns-in-Done-clause-step c = λ live job is_live named sound merge.
-    subst (λ (fs : List ℕ). StepsTo c.args.coord.now (became.Done c.in-Done.number fs) c.install.new.self) (sym c.into_vec.ensures) (c.in-Done.ensures.step live job is_live named sound merge)
+returns-in-Done-clause-step c = λ job named sound merge.
+    subst (λ (fs : List ℕ). StepsTo c.args.coord.now (became.Done c.in-Done.number fs) c.install.new.self) (sym c.into_vec.ensures) (c.in-Done.ensures.step job named sound merge)

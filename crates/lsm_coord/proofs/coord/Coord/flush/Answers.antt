@@ -23,7 +23,7 @@ pub add_table-requires-clause-newer : goal.add_table-requires-clause-newer
 add_table-requires-clause-newer c =
     let none : flush_fault c.args.self.now ≡ None = sym c.flush_fault.ensures ∙ c.in-None.is in
     let free = flush_free _ _ (ap flush_fault c.self.view_is ∙ none) in
-    rw (c.flush_end-seq.ensures, ← c.self.view_is) (taken_newer c.self.inside.active c.self.inside.frozen c.self.inside.newest c.self.inside.current c.self.inside.book c.self.inside.live.items c.self.invariant free.0).0
+    rw (c.flush_end-seq.ensures, ← c.self.view_is) (taken_newer c.self.inside.active c.self.inside.frozen c.self.inside.newest c.self.inside.versions.served c.self.inside.book c.self.inside.live.items c.self.invariant free.0).0
 
 pub returns-clause-step : goal.returns-clause-step
 returns-clause-step c = λ s h.
@@ -39,4 +39,4 @@ returns-clause-step c = λ s h.
     (after_flush s, (may, (omega (arith, versions, number), c.flush_end-seq.ensures ∙ sym (end_of v v.frozen s h refl), file ∙ sym h.tables.next_file, refl)), subst (λ (x : CoordValue). Shows x (after_flush s)) (sym adds.new_is) shows)
 
 pub returns-clause-ok : goal.returns-clause-ok
-returns-clause-ok c = (sym c.flush_fault.ensures ∙ c.in-None.is, (c.in_ok-meta.meta, c.in_ok-table.table, c.in_ok-add_table.ensures.ok))
+returns-clause-ok c = (sym c.flush_fault.ensures ∙ c.in-None.is, (c.in_ok-meta.meta, c.in_ok-table.table, c.in_ok-table.ensures ∙ c.flushable.ensures, c.in_ok-add_table.ensures.ok))

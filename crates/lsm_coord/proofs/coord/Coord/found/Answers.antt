@@ -1,6 +1,8 @@
 use Rattle.std.proofs.Common.{◌≡◌, ◌∙◌, Some, None, ap, sym, subst}
 use Rattle.std.specs.Option.{option_and_then}
 use Rattle.lsm_key.specs.Visible.{visible, entry_value, lent}
+use Rattle.lsm_key.specs.Places.{first_visible}
+use Rattle.lsm_edit.specs.Served.{ServedValue, tables_of}
 use Rattle.lsm_coord.specs.Value.{CoordValue, frozen_entries}
 use Rattle.lsm_coord.specs.Calls.{IsPoint}
 use Rattle.lsm_coord.proofs.Reading.{searched_first, searched_second, searched_last}
@@ -23,4 +25,4 @@ returns-in-None-frozen_entry c =
     let point = subst (λ (v : CoordValue). IsPoint v c.args.point) (sym c.self.view_is) c.requires in
     let empty : visible (frozen_entries c.self.inside.frozen) c.args.key.now c.args.point ≡ None =
     ap (λ (v : CoordValue). visible (frozen_entries v.frozen) c.args.key.now c.args.point) c.self.view_is ∙ sym c.in-None-frozen_entry.ensures in
-    rw (← c.self.view_is) (λ s h. ap (option_and_then entry_value) c.get_at.ensures.first ∙ searched_last _ c.args.point c.args.key.now point s h (sym c.in-None.ensures) empty)
+    rw (← c.self.view_is) (λ s h. ap (option_and_then entry_value) (c.get_at.ensures.first ∙ ap (λ (v : ServedValue). first_visible (tables_of v.places) c.args.key.now c.args.point) c.served.ensures.served) ∙ searched_last _ c.args.point c.args.key.now point s h (sym c.in-None.ensures) empty)

@@ -21,8 +21,8 @@ pub invariant_of-self : goal.invariant_of-self
 invariant_of-self c =
     let none : freeze_fault c.args.self.now ≡ None = sym c.freeze_fault.ensures ∙ c.in-None.is in
     let free = freezable c.self.inside.active c.self.inside.frozen (ap freeze_fault c.self.view_is ∙ none) in
-    let is : IsCoord c.self.inside.active None c.self.inside.newest c.self.inside.current c.self.inside.book c.self.inside.live.items = subst (λ f. IsCoord c.self.inside.active f c.self.inside.newest c.self.inside.current c.self.inside.book c.self.inside.live.items) free.0 c.self.invariant in
-    rw (c.replace-memtable.ensures.value, c.replace-memtable.ensures.after, c.new.ensures) (after_freeze c.self.inside.active c.self.inside.newest c.self.inside.current c.self.inside.book c.self.inside.live.items is free.1)
+    let is : IsCoord c.self.inside.active None c.self.inside.newest c.self.inside.versions.served c.self.inside.book c.self.inside.live.items = subst (λ f. IsCoord c.self.inside.active f c.self.inside.newest c.self.inside.versions.served c.self.inside.book c.self.inside.live.items) free.0 c.self.invariant in
+    rw (c.replace-memtable.ensures.value, c.replace-memtable.ensures.after, c.new.ensures) (after_freeze c.self.inside.active c.self.inside.newest c.self.inside.versions.served c.self.inside.book c.self.inside.live.items is free.1)
 
 pub returns-clause-step : goal.returns-clause-step
 returns-clause-step c =

@@ -14,7 +14,7 @@ invariant_of-self c =
       waiting = i.waiting;
       opened = i.opened;
       same_epoch = epoch_after m.book c.args.claim.id Returned ∙ i.same_epoch;
-      legal = legal_after m.current.version.files m.book c.args.claim.id Returned i.legal;
+      legal = legal_after m.versions.served.version.files m.book c.args.claim.id Returned i.legal;
       orderly = orderly_after m.book c.args.claim.id Returned i.orderly;
       few = i.few;
     })

@@ -8,7 +8,7 @@ use Rattle.lsm_claim.specs.Jobs.{same_id}
 use Rattle.lsm_claim.specs.Book.{IsBook, holds}
 use Rattle.lsm_key.specs.Sets.{IsIn}
 use Rattle.lsm_coord.proofs.Installing.{after_install, became_done, found_none, found_some, unheld_after, with_book}
-use Rattle.lsm_edit.specs.Served.{IsServed}
+use Rattle.lsm_edit.specs.Served.{IsServed, ServedValue}
 use Rattle.lsm_edit.specs.Version.{IsVersion}
 use Rattle.lsm_coord.specs.Memory.{AreLegal, AreOrderly}
 use Rattle.lsm_coord.specs.Value.{CoordValue}
@@ -29,7 +29,7 @@ invariant_of-self c =
       waiting = i.waiting;
       opened = i.opened;
       same_epoch = epoch_after m.book c.args.claim.id ending.Installed ∙ i.same_epoch;
-      legal = legal_after m.current.version.files m.book c.args.claim.id ending.Installed i.legal;
+      legal = legal_after m.versions.served.version.files m.book c.args.claim.id ending.Installed i.legal;
       orderly = orderly_after m.book c.args.claim.id ending.Installed i.orderly;
       few = i.few;
     })
@@ -54,31 +54,32 @@ returns-in-None-clause-became c =
 pub invariant_of-self-in-Ok : goal.invariant_of-self-in-Ok
 invariant_of-self-in-Ok c =
     let m = c.self.inside in
-    let sound = c.listing-listing.ensures.sound in
+    let listed = c.listing-listing.ensures.sound in
+    let served : IsServed m.versions.served = subst IsServed c.served.ensures.served listed.0 in
+    let version : IsVersion m.versions.served.version = subst (λ (s : ServedValue). IsVersion s.version) c.served.ensures.served listed.1 in
     let found = sym c.job_named.ensures ∙ ap option_copied c.in-Some.is in
     let live = (λ i. find (λ (j : LiveJob). same_id j.id (sym c.id-id.ensures i)) (sym c.live.ensures.all i)) ∙ found in
     rw c.settle-in-Ok.ensures.book
-    (after_install m.active m.frozen m.newest m.current c.put_outputs.new.current m.book c.args.claim.id c.in-Some.job.now c.args.made.now c.in-Ok.number c.in-Ok.files m.manifest.items c.put_outputs.new.manifest.items m.live.items
-    c.self.invariant c.live.ensures.sound sound.0 sound.1 live c.in-Ok.ensures.ok)
+    (after_install m.active m.frozen m.newest m.versions c.put_outputs.new.versions m.book c.args.claim.id c.in-Some.job.now c.args.made.now c.in-Ok.number c.in-Ok.files m.live.items
+    c.self.invariant c.live.ensures.sound served version live c.in-Ok.ensures.ok)
 
 pub returns-in-Ok-clause-became : goal.returns-in-Ok-clause-became
 returns-in-Ok-clause-became c =
     let found = sym c.job_named.ensures ∙ ap option_copied c.in-Some.is in
     let live = (λ i. find (λ (j : LiveJob). same_id j.id (sym c.id-id.ensures i)) (sym c.live.ensures.all i)) ∙ found in
     rw (c.settle-in-Ok.ensures.book, ← c.self.view_is)
-    (became_done _ c.args.claim c.in-Some.job.now c.args.made.now c.in-Ok.number c.in-Ok.files c.put_outputs.new.current c.put_outputs.new.manifest.items live c.in-Ok.ensures.ok)
+    (became_done _ c.args.claim c.in-Some.job.now c.args.made.now c.in-Ok.number c.in-Ok.files c.put_outputs.new.versions live c.in-Ok.ensures.ok)
 
 pub returns-in-Ok-clause-step : goal.returns-in-Ok-clause-step
-returns-in-Ok-clause-step c = λ live job is_live named sound merge.
-    let listed = c.listing-listing.ensures.sound in
+returns-in-Ok-clause-step c = λ job named sound merge.
     let view = c.self.view_is in
-    install_steps c.args.self.now _ c.args.claim live c.args.made.now c.in-Ok.number c.in-Ok.files job
+    install_steps c.args.self.now _ c.args.claim c.args.made.now c.in-Ok.number c.in-Ok.files job
     (subst (λ (v : CoordValue). IsBook v.book) view c.live.ensures.sound)
-    (subst (λ (v : CoordValue). IsServed v.served) view listed.0)
-    (subst (λ (v : CoordValue). IsVersion v.served.version) view listed.1)
+    (subst (λ (v : CoordValue). IsServed v.served) view (subst IsServed c.served.ensures.served c.listing-listing.ensures.sound.0))
+    (subst (λ (v : CoordValue). IsVersion v.served.version) view (subst (λ (s : ServedValue). IsVersion s.version) c.served.ensures.served c.listing-listing.ensures.sound.1))
     (subst (λ (v : CoordValue). AreLegal v.served.version.files v.book.live) view c.self.invariant.legal)
     (subst (λ (v : CoordValue). AreOrderly v.book.live) view c.self.invariant.orderly)
-    (returns-in-Ok-clause-became c) is_live named sound merge
+    (returns-in-Ok-clause-became c) named sound merge
 
 pub returns-in-Err-clause-became : goal.returns-in-Err-clause-became
 returns-in-Err-clause-became c =
@@ -87,24 +88,23 @@ returns-in-Err-clause-became c =
     let live = (λ i. find (λ (j : LiveJob). same_id j.id (sym c.id-id.ensures i)) (sym c.live.ensures.all i)) ∙ found in
     let same = c.in-Err.ensures.err in
     rw (← c.self.view_is)
-    (c.in-Some.job.now, live, refl, c.in-Err.ensures.why, λ i. record { limits = m.limits; active = m.active; frozen = m.frozen; served = same.0 i; edits = same.1 i; last = m.newest; snapshots = m.live.items; made = m.made; floor = 1; book = m.book })
+    (c.in-Some.job.now, live, refl, c.in-Err.ensures.why, λ i. record { limits = m.limits; active = m.active; frozen = m.frozen; served = (same i).served; edits = (same i).edits; last = m.newest; snapshots = m.live.items; made = m.made; floor = 1; book = m.book })
 
 pub returns-in-None-clause-sound : goal.returns-in-None-clause-sound
-returns-in-None-clause-sound c = λ live job is_live merge. nothing_keeps c.args.self.now _ (returns-in-None-clause-became c).3
+returns-in-None-clause-sound c = λ job named sound merge. nothing_keeps c.args.self.now _ (returns-in-None-clause-became c).3
 
 pub returns-in-Err-clause-sound : goal.returns-in-Err-clause-sound
-returns-in-Err-clause-sound c = λ live job is_live merge. nothing_keeps c.args.self.now _ (returns-in-Err-clause-became c).4
+returns-in-Err-clause-sound c = λ job named sound merge. nothing_keeps c.args.self.now _ (returns-in-Err-clause-became c).4
 
 pub returns-in-Ok-clause-sound : goal.returns-in-Ok-clause-sound
-returns-in-Ok-clause-sound c = λ live job is_live merge.
-    let listed = c.listing-listing.ensures.sound in
+returns-in-Ok-clause-sound c = λ job named sound merge.
     let view = c.self.view_is in
-    install_keeps c.args.self.now _ c.args.claim live c.args.made.now c.in-Ok.number c.in-Ok.files job
+    install_keeps c.args.self.now _ c.args.claim c.args.made.now c.in-Ok.number c.in-Ok.files job
     (subst (λ (v : CoordValue). IsBook v.book) view c.live.ensures.sound)
-    (subst (λ (v : CoordValue). IsServed v.served) view listed.0)
-    (subst (λ (v : CoordValue). IsVersion v.served.version) view listed.1)
+    (subst (λ (v : CoordValue). IsServed v.served) view (subst IsServed c.served.ensures.served c.listing-listing.ensures.sound.0))
+    (subst (λ (v : CoordValue). IsVersion v.served.version) view (subst (λ (s : ServedValue). IsVersion s.version) c.served.ensures.served c.listing-listing.ensures.sound.1))
     (subst (λ (v : CoordValue). AreLegal v.served.version.files v.book.live) view c.self.invariant.legal)
-    (returns-in-Ok-clause-became c) is_live merge
+    (returns-in-Ok-clause-became c) named sound merge
 
 pub returns-in-None-clause-refused : goal.returns-in-None-clause-refused
 returns-in-None-clause-refused c = stale_steps c.args.self.now _ (returns-in-None-clause-became c).3

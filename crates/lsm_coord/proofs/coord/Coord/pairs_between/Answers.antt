@@ -1,9 +1,9 @@
 use Rattle.std.proofs.Common.{◌≡◌, List, ℕ, Option, true, subst, sym, ap, ◌∙◌, arith}
 use Rattle.std.specs.Ordering.{is_ge}
 use Rattle.std.specs.Option.{IfSome}
-use Rattle.lsm_key.specs.Order.{key_le}
+use Rattle.lsm_key.specs.Order.{key_le, key_lt}
 use Rattle.lsm_coord.specs.Calls.{Scans}
-use Rattle.lsm_coord.proofs.Keys.{upto_back, upto_on, upto_itself, upto_trans}
+use Rattle.lsm_coord.proofs.Keys.{below_is_upto, upto_back, upto_on, upto_itself, upto_trans}
 use Rattle.lsm_coord.proofs.Windows.{scans_nothing, scans_full}
 use Rattle.lsm_coord.proofs.coord.Coord.pairs_between.Goals as goal
 
@@ -26,15 +26,16 @@ returns-then-len-limit c =
 pub loop-window-preserved : goal.loop-window-preserved
 loop-window-preserved c =
     let i = c.loop-window.invariant in
-    let ends : (key_le c.deref.result.now c.in-Some.end ≡ true) × (key_le c.in-Some.end c.args.hi.now ≡ true) = subst (λ (o : Option (List ℕ)). IfSome o (λ end. (key_le c.deref.result.now end ≡ true) × (key_le end c.args.hi.now ≡ true))) c.in-Some.is c.in_ok-end.ensures in
+    let onward : key_lt c.deref.result.now c.in-Some.end ≡ true = subst (λ (o : Option (List ℕ)). IfSome o (λ end. key_lt c.deref.result.now end ≡ true)) c.in-Some.is c.in_ok-end.ensures.onward in
+    let within : key_le c.in-Some.end c.args.hi.now ≡ true = subst (λ (o : Option (List ℕ)). IfSome o (λ end. key_le end c.args.hi.now ≡ true)) c.in-Some.is c.in_ok-end.ensures.within in
     let start : key_le c.args.lo.now c.deref-in-loop-window.result.now ≡ true = rw c.deref-in-loop-window.ensures i.2 in
     let before : Scans c.args.self.now c.args.point c.args.lo.now c.deref-in-loop-window.result.now c.args.limit c.loop-window.pairs.items = rw c.deref-in-loop-window.ensures i.0 in
     let after = c.in_ok-go_on.ensures.more c.args.lo.now start before in
-    let next : key_le c.loop-window.from c.in-Some.end ≡ true = subst (λ (k : List ℕ). key_le k c.in-Some.end ≡ true) c.deref.ensures ends.0 in (
+    let next : key_le c.loop-window.from c.in-Some.end ≡ true = subst (λ (k : List ℕ). key_le k c.in-Some.end ≡ true) c.deref.ensures (below_is_upto c.deref.result.now c.in-Some.end onward) in (
       subst (λ (k : List ℕ). Scans c.args.self.now c.args.point c.args.lo.now k c.args.limit c.go_on.new.pairs.items) c.deref-in-loop-window-2.ensures after,
       c.in_ok-go_on.ensures.few,
       upto_trans c.args.lo.now c.loop-window.from c.in-Some.end i.2 next,
-      ends.1,
+      within,
     )
 
 pub go_on-requires-2-clause-onward : goal.go_on-requires-2-clause-onward

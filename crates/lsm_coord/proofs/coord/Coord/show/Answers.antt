@@ -1,5 +1,10 @@
-use Rattle.std.proofs.Common.{◌≡◌, ap, sym, ◌∙◌, refl, arith, map, Some, List}
+use Rattle.std.proofs.Common.{◌≡◌, ap, sym, subst, ◌∙◌, refl, arith, map, Some, List}
 use Rattle.lsm_edit.specs.declared.file.FileMeta.{FileMeta}
+use Rattle.lsm_claim.specs.Book.{IsBook}
+use Rattle.lsm_edit.specs.Served.{IsServed, ServedValue}
+use Rattle.lsm_edit.specs.Version.{IsVersion}
+use Rattle.lsm_coord.specs.Memory.{IsFit}
+use Rattle.lsm_coord.specs.Value.{CoordValue}
 use Rattle.lsm_coord.specs.State.{current, last_flushed, current_files}
 use Rattle.lsm_coord.specs.Step.{Lists}
 use Rattle.lsm_coord.specs.Manifest.{place_of}
@@ -12,10 +17,21 @@ pub returns-clause-step : goal.returns-clause-step
 returns-clause-step c =
     rw (← c.self.view_is) (λ s h.
     let t = h.tables in
-    let count = version_count c.self.inside.manifest.items c.self.inside.current s t in
-    let number : c.listing.result.number ≡ current s = omega (arith, count, c.listing.ensures.number) in
-    let seq : last_flushed s ≡ c.listing.result.flushed = flushed_is c.self.inside.manifest.items c.self.inside.current s t ∙ sym c.listing.ensures.flushed in
-    let files : current_files s ≡ map place_of c.listing.result.files.now = files_are c.self.inside.manifest.items c.self.inside.current s t ∙ ap (λ (fs : List FileMeta). map place_of fs) (sym c.listing.ensures.files) in
+    let count = version_count c.self.inside.versions.edits c.self.inside.versions.served s t in
+    let number : c.listing.result.number ≡ current s = omega (arith, count, c.listing.ensures.number, ap (λ (v : ServedValue). v.version.number) c.served.ensures.served) in
+    let seq : last_flushed s ≡ c.listing.result.flushed = flushed_is c.self.inside.versions.edits c.self.inside.versions.served s t ∙ sym (c.listing.ensures.flushed ∙ ap (λ (v : ServedValue). v.version.flushed) c.served.ensures.served) in
+    let files : current_files s ≡ map place_of c.listing.result.files.now = files_are c.self.inside.versions.edits c.self.inside.versions.served s t ∙ ap (λ (fs : List FileMeta). map place_of fs) (sym (c.listing.ensures.files ∙ ap (λ (v : ServedValue). v.version.files) c.served.ensures.served)) in
     let lists : Lists s c.listing.result.number c.listing.result.flushed (map place_of c.listing.result.files.now) =
     rw number (lists_current s (omega (arith, count)) ∙ (λ i. Some (record { flushed = seq i; files = files i }))) in
     (s, (show_may s h.up, (number, lists, refl)), h))
+
+pub returns-clause-fit : goal.returns-clause-fit
+returns-clause-fit c = subst IsFit c.self.view_is (record {
+  manifest = c.served.ensures.folds;
+  version = subst (λ (v : ServedValue). IsVersion v.version) c.served.ensures.served c.listing.ensures.sound.1;
+  served = subst IsServed c.served.ensures.served c.listing.ensures.sound.0;
+  book = c.live-live.ensures.sound;
+  epoch = c.self.invariant.same_epoch;
+  legal = c.self.invariant.legal;
+  orderly = c.self.invariant.orderly;
+})

@@ -19,13 +19,13 @@ returns-in-Some-clause-step c = λ s h.
 pub returns-clause-step : goal.returns-clause-step
 returns-clause-step c =
     let none : snapshot_fault c.args.self.now ≡ None = sym c.snapshot_fault.ensures ∙ c.in-None.is in
-    let epoch : c.epoch.result ≡ c.self.inside.current.version.epoch = c.epoch.ensures.value ∙ ap (λ (v : VersionValue). v.epoch) c.version.ensures in
+    let epoch : c.epoch.result ≡ c.self.inside.versions.served.version.epoch = c.epoch.ensures.value ∙ ap (λ (v : VersionValue). v.epoch) c.version.ensures in
     rw (c.in_ok-push.ensures.items, epoch, ← c.self.view_is) (λ s h.
     let may : refusal s say.Snap ≡ None = snapshot_forced _ s h ∙ ap (option_map refusal_of) (ap snapshot_fault c.self.view_is ∙ none) in
-    let id : record { epoch = c.self.inside.current.version.epoch; number = c.self.inside.made + 1 } ≡ next_snapshot s = λ i. record { epoch = sym h.tables.epoch i; number = sym h.made i + 1 } in
+    let id : record { epoch = c.self.inside.versions.served.version.epoch; number = c.self.inside.made + 1 } ≡ next_snapshot s = λ i. record { epoch = sym h.tables.epoch i; number = sym h.made i + 1 } in
     (with_snapshot s, (may, (id, sym h.last, refl)), Shows-snapped _ s h))
 
 pub returns-clause-sound : goal.returns-clause-sound
 returns-clause-sound c =
-    let epoch : c.epoch.result ≡ c.self.inside.current.version.epoch = c.epoch.ensures.value ∙ ap (λ (v : VersionValue). v.epoch) c.version.ensures in
+    let epoch : c.epoch.result ≡ c.self.inside.versions.served.version.epoch = c.epoch.ensures.value ∙ ap (λ (v : VersionValue). v.epoch) c.version.ensures in
     rw (c.in_ok-push.ensures.items, epoch, ← c.self.view_is) (λ s h. snapshot_keeps _ s h)

@@ -23,7 +23,7 @@ returns-in-Some-clause-step c = λ s h.
 pub apply-requires-clause-newer : goal.apply-requires-clause-newer
 apply-requires-clause-newer c =
     let first : c.new-first.result ≡ c.self.inside.newest + 1 = omega (arith, c.new-first.ensures, c.number-before.ensures.value) in
-    rw first (last_below c.self.inside.active c.self.inside.frozen c.self.inside.newest c.self.inside.current c.self.inside.book c.self.inside.live.items c.self.invariant)
+    rw first (last_below c.self.inside.active c.self.inside.frozen c.self.inside.newest c.self.inside.versions.served c.self.inside.book c.self.inside.live.items c.self.invariant)
 
 pub invariant_of-self-2 : goal.invariant_of-self-2
 invariant_of-self-2 c =
@@ -32,7 +32,7 @@ invariant_of-self-2 c =
     let last : c.new-self-inside.result ≡ c.self.inside.newest + length ops = omega (arith, c.new-self-inside.ensures, count, c.number-before.ensures.value) in
     let before : c.new-first.result - 1 ≡ c.self.inside.newest = omega (arith, c.new-first.ensures, c.number-before.ensures.value) in
     let perm : IsPermutation (c.self.inside.active ++ entries_after c.self.inside.newest ops) c.apply.new.self = subst (λ (n : ℕ). IsPermutation (c.self.inside.active ++ entries_after n ops) c.apply.new.self) before c.in_ok-apply.ensures.ok in
-    rw last (after_write c.self.inside.active c.apply.new.self c.self.inside.frozen c.self.inside.newest c.self.inside.current c.self.inside.book c.self.inside.live.items ops c.self.invariant perm)
+    rw last (after_write c.self.inside.active c.apply.new.self c.self.inside.frozen c.self.inside.newest c.self.inside.versions.served c.self.inside.book c.self.inside.live.items ops c.self.invariant perm)
 
 pub returns-clause-step : goal.returns-clause-step
 returns-clause-step c =

@@ -1,13 +1,15 @@
-use Rattle.std.proofs.Common.{◌≡◌, ◌+◌, ◌∙◌, None, ◌++◌, ◌∷◌, [], List, ℕ, refl, sym, ap, subst, arith, length, map}
+use Rattle.std.proofs.Common.{◌≡◌, ◌+◌, ◌∙◌, None, Some, ◌++◌, ◌∷◌, [], List, ℕ, refl, sym, ap, subst, arith, length, map}
 use Rattle.std.proofs.lemmas.Grind.{common_steps}
 use Rattle.lsm_key.specs.Sets.{IsIn}
 use Rattle.lsm_edit.specs.declared.edit.Edit.{Edit}
 use Rattle.lsm_edit.specs.declared.file.FileMeta.{FileMeta}
-use Rattle.lsm_edit.specs.Edit.{IsSpelled, edit as spelling}
-use Rattle.lsm_edit.specs.Served.{AreAsRecorded, advanced}
+use Rattle.lsm_edit.specs.Edit.{IsEdit}
+use Rattle.lsm_edit.specs.Served.{AreAsRecorded}
 use Rattle.lsm_edit.specs.Version.{VersionValue, apply_fault}
-use Rattle.lsm_coord.specs.Installing.{AreOutputs, edit_of}
+use Rattle.lsm_coord.specs.Installing.{AreOutputs, edit_of, number_fault}
+use Rattle.lsm_coord.specs.Manifest.{after_edit}
 use Rattle.lsm_coord.proofs.Editing.{records_recorded}
+use Rattle.lsm_coord.proofs.InstallRefusals.{has_numbers, lacks_numbers}
 use Rattle.lsm_coord.proofs.Outputs.{tables_each, tables_length}
 use Rattle.lsm_coord.proofs.coord.install.put_outputs.Goals as goal
 
@@ -24,8 +26,8 @@ edit_of-requires-clause-sound c = λ t m.
     let o = c.in_ok-tables.ensures.ok in
     tables_each c.as_slice.result.now c.in_ok-tables.tables.items o.tables t (subst (IsIn t) c.deref.ensures.value m)
 
-pub go_on_listed-requires-clause-recorded : goal.go_on_listed-requires-clause-recorded
-go_on_listed-requires-clause-recorded c =
+pub log_and_apply-requires-clause-recorded : goal.log_and_apply-requires-clause-recorded
+log_and_apply-requires-clause-recorded c =
     let o = c.in_ok-tables.ensures.ok in
     let is = ap (λ (e : Edit). e.added) (c.in_ok-edit.ensures.edit ∙ ap (edit_of c.version-version.result.now c.args.job.now.want) c.deref.ensures.value) in
     subst (λ (fs : List FileMeta). AreAsRecorded fs c.in_ok-tables.tables.items) (sym is)
@@ -33,24 +35,28 @@ go_on_listed-requires-clause-recorded c =
 
 pub returns-clause-ok : goal.returns-clause-ok
 returns-clause-ok c =
-    let s = c.args.current.now in
+    let s = c.args.versions.now.served in
     let want = c.args.job.now.want in
     let ts = c.in_ok-tables.tables.items in
     let is : c.in_ok-edit.edit ≡ edit_of s.version want ts =
     c.in_ok-edit.ensures.edit ∙ (λ i. edit_of (c.version-version.ensures i) want (c.deref.ensures.value i)) in
-    let here : c.number.result ≡ s.version.number = c.number.ensures.value ∙ ap (λ (v : VersionValue). v.number) c.version-version.ensures in
-    let next : c.next_file.result ≡ s.version.next_file = c.next_file.ensures.value ∙ ap (λ (v : VersionValue). v.next_file) c.version-version.ensures in
     let len : c.len.result ≡ length ts = grind (arith, common_steps) in
     record {
       named = (c.are_same.ensures).0 c.if-not-are_same.false;
       tables = ts;
       outputs = subst (λ (texts : List (List ℕ)). AreOutputs want.hull texts ts) c.as_slice.ensures c.in_ok-tables.ensures.ok;
-      fit = record { number = omega (arith, here, c.if-number-ge-MAX_NUMBER.false); next_file = omega (arith, next, len, c.if-len-next_file.false) };
-      text = spelling c.in_ok-edit.edit;
-      spelled = subst (IsSpelled (spelling c.in_ok-edit.edit)) is (record { sound = c.in_ok-edit.ensures.sound; spelled = refl });
+      fit = has_numbers s.version ts ((λ i. number_fault (sym c.version-version.ensures i) (sym len i)) ∙ sym c.number_fault.ensures ∙ c.in-None.is);
+      valid = subst IsEdit is c.in_ok-edit.ensures.sound;
       applies = subst (λ (e : Edit). apply_fault s.version e ≡ None) is (subst (λ (v : VersionValue). apply_fault v c.in_ok-edit.edit ≡ None) c.version-version.ensures c.in_ok-edit.ensures.applies);
-      served = c.in_ok-go_on_listed.ensures.ok ∙ ap (λ (e : Edit). advanced s e ts) is;
-      listed = c.in_ok-go_on_listed.ensures.listed;
+      new_is = c.in_ok-log_and_apply.ensures.ok ∙ ap (λ (e : Edit). after_edit c.args.versions.now e ts) is;
       number_is = ap (λ (n : ℕ). n + 1) (c.number-number.ensures.value ∙ ap (λ (v : VersionValue). v.number) c.version-version.ensures);
       files_are = c.from_vec.ensures ∙ c.in_ok-files.ensures ∙ ap (map (λ (f : FileMeta). f.number)) (c.as_slice-2.ensures ∙ ap (λ (e : Edit). e.added) is);
     }
+
+pub returns-in-Some-clause-why : goal.returns-in-Some-clause-why
+returns-in-Some-clause-why c =
+    let ts = c.in_ok-tables.tables.items in
+    let len : c.len.result ≡ length ts = grind (arith, common_steps) in
+    let outputs : AreOutputs c.args.job.now.want.hull c.args.made.now.tables ts = subst (λ (texts : List (List ℕ)). AreOutputs c.args.job.now.want.hull texts ts) c.as_slice.ensures c.in_ok-tables.ensures.ok in
+    let some : number_fault c.args.versions.now.served.version (length ts) ≡ Some c.in-Some.why = (λ i. number_fault (sym c.version-version.ensures i) (sym len i)) ∙ sym c.number_fault.ensures ∙ c.in-Some.is in
+    lacks_numbers c.args.versions.now.served.version c.args.job.now c.args.made.now ts c.in-Some.why ((c.are_same.ensures).0 c.if-not-are_same.false) outputs some
