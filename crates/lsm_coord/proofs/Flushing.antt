@@ -22,7 +22,7 @@ use Rattle.lsm_edit.proofs.VersionLaws.{files_after-is}
 use Rattle.lsm_coord.specs.declared.frozen.Frozen.{Frozen}
 use Rattle.lsm_coord.specs.State.{State, Version, Place, last_seq, last_flushed, active_start, current_files}
 use Rattle.lsm_coord.specs.Changes.{after_flush, flush_end, flushed_version, with_version}
-use Rattle.lsm_coord.specs.Manifest.{VersionSetValue, after_edit, listed, place_of, versions_of}
+use Rattle.lsm_coord.specs.Manifest.{VersionSetValue, after_logging, listed, place_of, versions_of}
 use Rattle.lsm_coord.specs.Value.{CoordValue, frozen_entries, stored}
 use Rattle.lsm_msg.specs.Installs.{with_flushed}
 use Rattle.lsm_coord.specs.Calls.{taken_of, active_after, froze}
@@ -41,7 +41,7 @@ flushed_to c frozen f t text = record c { active = active_after c.active frozen;
 
 -- what is logged of a flush: the new table is searched first
 pub logged_is : (old : VersionSetValue) (end : ℕ) (f : FileMeta) (t : Opened) (ts : List Opened) (e : Edit) → IsVersion old.served.version → IsServed old.served → IsEdit e → AreAsRecorded e.added ts → apply_fault old.served.version e ≡ None → e ≡ flush_edit old.served.version end f → ts ≡ t ∷ []
-    → after_edit old e ts ≡ record { served = with_flushed old.served end f t; edits = old.edits ++ spelling (flush_edit old.served.version end f) ∷ [] }
+    → after_logging old e ts ≡ record { served = with_flushed old.served end f t; edits = old.edits ++ spelling (flush_edit old.served.version end f) ∷ [] }
 logged_is old end f t ts e version served sound recorded applies is one =
     let plain : e.kind ≡ kind.Install → ⊥ = λ h. let no : kind.Flush ≡ kind.Install = sym (ap (λ (x : Edit). x.kind) is) ∙ h in absurd cc in
     let places = places_are old.served e ts version served sound plain recorded applies ∙ (λ i. placed_of (is i).added (one i) ++ old.served.places) in

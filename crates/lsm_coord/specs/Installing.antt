@@ -28,7 +28,7 @@ use Rattle.lsm_coord.specs.declared.coord.install.Install.TheVariants as became
 use Rattle.lsm_coord.specs.declared.coord.install.InstallError.{InstallError}
 use Rattle.lsm_coord.specs.declared.coord.install.InstallError.TheVariants.{WrongJob, BadResult, NumbersExhausted, OutOfMemory}
 use Rattle.lsm_coord.specs.Event.{Deliver, Installed, OldEpoch, Refused}
-use Rattle.lsm_coord.specs.Manifest.{VersionSetValue, after_edit}
+use Rattle.lsm_coord.specs.Manifest.{VersionSetValue, after_logging}
 use Rattle.lsm_coord.specs.Replies.{error_of, refusal_of}
 use Rattle.lsm_coord.specs.Shows.{Follows}
 use Rattle.lsm_coord.specs.Value.{CoordValue}
@@ -113,7 +113,7 @@ pub record Puts (old : VersionSetValue) (live : LiveJob) (made : JobResult) (num
   pub fit : HasNumbers old.served.version tables
   pub valid : IsEdit (edit_of old.served.version live.want tables)
   pub applies : apply_fault old.served.version (edit_of old.served.version live.want tables) ≡ None
-  pub new_is : new ≡ after_edit old (edit_of old.served.version live.want tables) tables
+  pub new_is : new ≡ after_logging old (edit_of old.served.version live.want tables) tables
   pub number_is : number ≡ old.served.version.number + 1
   pub files_are : files ≡ numbers_of old.served.version live.want tables
 

@@ -64,8 +64,8 @@ abbrev pub first_version_set : VersionSetValue
 first_version_set = record { served = first_served; edits = [] }
 
 -- the edit is the last of the manifest, and the version after it stands with the tables of the files that it adds
-abbrev pub after_edit : VersionSetValue → Edit → List Opened → VersionSetValue
-after_edit v e tables = record { served = advanced v.served e tables; edits = v.edits ++ edit e ∷ [] }
+abbrev pub after_logging : VersionSetValue → Edit → List Opened → VersionSetValue
+after_logging v e tables = record { served = advanced v.served e tables; edits = v.edits ++ edit e ∷ [] }
 
 -- the edit of a flush to a file is logged, and the file is searched first
 pub record AddsFile (old : VersionSetValue) (end : ℕ) (file : FileMeta) (table : Opened) (new : VersionSetValue) : Type 0 where

@@ -4,7 +4,7 @@ ghost use Rattle.std.specs.Prelude.{◌≡◌, ◌↔◌, IfOk, IsTrue};
 
 use crate::{CoordError, Flushed, SnapId};
 use bytes::Bytes;
-use lsm_claim::{JobId, Settled};
+use lsm_claim::JobId;
 use lsm_edit::{FileMeta, Listing, same_files, same_numbers};
 use lsm_key::{Items, Seq};
 use lsm_msg::Job;
@@ -31,7 +31,7 @@ pub enum Answer {
     Froze(Seq),
     Flushed(Flushed),
     /// A snapshot, and the sequence that it reads at.
-    Snapshot(SnapId, Seq),
+    Snapped(SnapId, Seq),
     Released,
     /// The value of a key, where it has one.
     Got(Option<Bytes>),
@@ -46,8 +46,6 @@ pub enum Answer {
     Installed(u64, Items<u64>),
     /// The claim of this name is of no live job in the current epoch, which is the number.
     Stale(JobId, u64),
-    /// Whether a claim that was given back was live.
-    GaveBack(Settled),
 }
 
 impl ShownVersion {
@@ -96,7 +94,7 @@ impl Answer {
             Answer::Wrote(first, last) => Ok(Answer::Wrote(*first, *last)),
             Answer::Froze(seq) => Ok(Answer::Froze(*seq)),
             Answer::Flushed(flushed) => Ok(Answer::Flushed(*flushed)),
-            Answer::Snapshot(id, at) => Ok(Answer::Snapshot(*id, *at)),
+            Answer::Snapped(id, at) => Ok(Answer::Snapped(*id, *at)),
             Answer::Released => Ok(Answer::Released),
             Answer::Got(value) => Ok(Answer::Got(copied_value(value)?)),
             Answer::Scanned(pairs) => Ok(Answer::Scanned(copied_pairs(pairs, alloc)?)),
@@ -107,7 +105,6 @@ impl Answer {
                 Ok(Answer::Installed(*number, copied_numbers(files, alloc)?))
             }
             Answer::Stale(claim, epoch) => Ok(Answer::Stale(*claim, *epoch)),
-            Answer::GaveBack(settled) => Ok(Answer::GaveBack(*settled)),
         }
     }
 
@@ -120,7 +117,7 @@ impl Answer {
             (Answer::Wrote(a, p), Answer::Wrote(b, q)) => a == b && p == q,
             (Answer::Froze(a), Answer::Froze(b)) => a == b,
             (Answer::Flushed(a), Answer::Flushed(b)) => a == b,
-            (Answer::Snapshot(a, p), Answer::Snapshot(b, q)) => a == b && p == q,
+            (Answer::Snapped(a, p), Answer::Snapped(b, q)) => a == b && p == q,
             (Answer::Released, Answer::Released) => true,
             (Answer::Got(a), Answer::Got(b)) => a == b,
             (Answer::Scanned(a), Answer::Scanned(b)) => same_pairs(a.as_slice(), b.as_slice()),
@@ -131,7 +128,6 @@ impl Answer {
                 a == b && same_numbers(f.as_slice(), g.as_slice())
             }
             (Answer::Stale(a, p), Answer::Stale(b, q)) => a == b && p == q,
-            (Answer::GaveBack(a), Answer::GaveBack(b)) => a == b,
             _ => false,
         }
     }

@@ -26,7 +26,7 @@ pub enum Call {
     Write(Items<Op>),
     Freeze,
     Flush,
-    Snapshot,
+    Snap,
     Release(SnapId),
     /// Read a key, at the present or at a snapshot.
     Get(Bytes, Option<SnapId>),
@@ -37,8 +37,6 @@ pub enum Call {
     Pick,
     /// Install what was made of a job, under the claim of this name.
     Install(JobId, JobResult),
-    /// End the claim of this name without a result.
-    GiveBack(JobId),
 }
 
 impl ScanRange {
@@ -78,14 +76,13 @@ impl Call {
             }
             Call::Freeze => Ok(Call::Freeze),
             Call::Flush => Ok(Call::Flush),
-            Call::Snapshot => Ok(Call::Snapshot),
+            Call::Snap => Ok(Call::Snap),
             Call::Release(id) => Ok(Call::Release(*id)),
             Call::Get(key, at) => Ok(Call::Get(key.clone()?, *at)),
             Call::Scan(range) => Ok(Call::Scan(range.copy()?)),
             Call::Show => Ok(Call::Show),
             Call::Pick => Ok(Call::Pick),
             Call::Install(claim, made) => Ok(Call::Install(*claim, made.copy(alloc)?)),
-            Call::GiveBack(claim) => Ok(Call::GiveBack(*claim)),
         }
     }
 
@@ -97,14 +94,13 @@ impl Call {
             (Call::Write(a), Call::Write(b)) => same_ops(a.as_slice(), b.as_slice()),
             (Call::Freeze, Call::Freeze) => true,
             (Call::Flush, Call::Flush) => true,
-            (Call::Snapshot, Call::Snapshot) => true,
+            (Call::Snap, Call::Snap) => true,
             (Call::Release(a), Call::Release(b)) => a == b,
             (Call::Get(a, p), Call::Get(b, q)) => a == b && p == q,
             (Call::Scan(a), Call::Scan(b)) => a.same(b),
             (Call::Show, Call::Show) => true,
             (Call::Pick, Call::Pick) => true,
             (Call::Install(a, r), Call::Install(b, s)) => a == b && r.same(s),
-            (Call::GiveBack(a), Call::GiveBack(b)) => a == b,
             _ => false,
         }
     }

@@ -5,7 +5,7 @@ ghost use Rattle.lsm_edit.specs.File.{IsFile};
 ghost use Rattle.lsm_edit.specs.Edit.{IsEdit};
 ghost use Rattle.lsm_edit.specs.Served.{AreAsRecorded, IsAsRecorded};
 ghost use Rattle.lsm_edit.specs.Version.{apply_fault};
-ghost use Rattle.lsm_coord.specs.Manifest.{AddsFile, CanNumber, Folds, after_edit, first_version_set};
+ghost use Rattle.lsm_coord.specs.Manifest.{AddsFile, CanNumber, Folds, after_logging, first_version_set};
 
 use bytes::Bytes;
 use lsm_edit::{Edit, FileMeta, Served, Version, encode_edit};
@@ -96,7 +96,7 @@ impl VersionSet {
         requires sound { IsEdit edit.now }
         requires recorded { AreAsRecorded edit.now.added tables.items }
         requires applies { apply_fault self.old.served.version edit.now ≡ None }
-        ensures ok { OnOk result (self.new ≡ after_edit self.old edit.now tables.items) }
+        ensures ok { OnOk result (self.new ≡ after_logging self.old edit.now tables.items) }
         ensures err { OnErr result (self.new ≡ self.old) }
     {
         let bytes = encode_edit(self.alloc, edit)?;

@@ -1,8 +1,9 @@
 //! Calls and answers that are copied and compared.
 
-use crate::{Answer, Call, CoordError, ScanRange, SnapId};
+use crate::{Answer, Call, CoordError, ScanRange, ShownVersion, SnapId};
 use bytes::Bytes;
-use lsm_claim::{JobId, Settled};
+use lsm_claim::JobId;
+use lsm_edit::Listing;
 use lsm_key::{Items, Op, Seq};
 use std::alloc::{AllocError, Global};
 use std::test::Fail;
@@ -38,7 +39,7 @@ fn call_of(alloc: Global, place: u32) -> Result<Call, AllocError> {
             limit: 10,
         }),
         5 => Call::Pick,
-        _ => Call::GiveBack(JOB),
+        _ => Call::Release(SNAPSHOT),
     })
 }
 
@@ -71,7 +72,7 @@ fn answer_of(alloc: Global, place: u32) -> Result<Answer, AllocError> {
         4 => scan_of_a(alloc)?,
         5 => Answer::Scanned(Items::new(alloc)),
         6 => Answer::Idle,
-        _ => Answer::GaveBack(Settled::Live),
+        _ => Answer::Stale(JOB, 2),
     })
 }
 
@@ -84,5 +85,17 @@ fn a_copied_answer_is_the_same(rt: HostRuntime) -> Result<(), Fail> {
             assert!(rt; same == (i == j), "answer {i} and answer {j}");
         }
     }
+    Ok(())
+}
+
+#[test]
+fn a_shown_version_is_a_copy_of_a_listing(rt: HostRuntime) -> Result<(), Fail> {
+    let listing = Listing {
+        number: 2,
+        flushed: Seq::new(1),
+        files: &[],
+    };
+    let shown = ShownVersion::of(rt.alloc(), listing)?;
+    assert!(rt; shown.number == 2 && shown.flushed == Seq::new(1) && shown.files.len() == 0);
     Ok(())
 }

@@ -7,7 +7,7 @@ use Rattle.lsm_edit.specs.Edit.{IsEdit}
 use Rattle.lsm_edit.specs.Served.{AreAsRecorded}
 use Rattle.lsm_edit.specs.Version.{VersionValue, apply_fault}
 use Rattle.lsm_coord.specs.Installing.{AreOutputs, edit_of, number_fault}
-use Rattle.lsm_coord.specs.Manifest.{after_edit}
+use Rattle.lsm_coord.specs.Manifest.{after_logging}
 use Rattle.lsm_coord.proofs.Editing.{records_recorded}
 use Rattle.lsm_coord.proofs.InstallRefusals.{has_numbers, lacks_numbers}
 use Rattle.lsm_coord.proofs.Outputs.{tables_each, tables_length}
@@ -48,7 +48,7 @@ returns-clause-ok c =
       fit = has_numbers s.version ts ((λ i. number_fault (sym c.version-version.ensures i) (sym len i)) ∙ sym c.number_fault.ensures ∙ c.in-None.is);
       valid = subst IsEdit is c.in_ok-edit.ensures.sound;
       applies = subst (λ (e : Edit). apply_fault s.version e ≡ None) is (subst (λ (v : VersionValue). apply_fault v c.in_ok-edit.edit ≡ None) c.version-version.ensures c.in_ok-edit.ensures.applies);
-      new_is = c.in_ok-log_and_apply.ensures.ok ∙ ap (λ (e : Edit). after_edit c.args.versions.now e ts) is;
+      new_is = c.in_ok-log_and_apply.ensures.ok ∙ ap (λ (e : Edit). after_logging c.args.versions.now e ts) is;
       number_is = ap (λ (n : ℕ). n + 1) (c.number-number.ensures.value ∙ ap (λ (v : VersionValue). v.number) c.version-version.ensures);
       files_are = c.from_vec.ensures ∙ c.in_ok-files.ensures ∙ ap (map (λ (f : FileMeta). f.number)) (c.as_slice-2.ensures ∙ ap (λ (e : Edit). e.added) is);
     }
