@@ -17,18 +17,18 @@ use Rattle.lsm_claim.specs.Jobs.{NumbersRise, AreApart, IsLeastConflict, first_c
 
 pub record BookValue : Type 0 where
   pub epoch : ℕ
-  pub made : ℕ  -- how many claims were given
+  pub made : ℕ  -- how many claims were issued
   pub installed : ℕ
   pub returned : ℕ
   pub live : List LiveJob  -- by number
 
--- no claim was given yet
+-- no claim was issued yet
 abbrev pub new_book : ℕ → BookValue
 new_book epoch = record { epoch = epoch; made = 0; installed = 0; returned = 0; live = [] }
 
 -- ---- what it keeps
 
--- a name that the book gave
+-- a name that the book issued
 pub record IsGiven (b : BookValue) (id : JobId) : Type 0 where
   pub epoch : id.epoch ≡ b.epoch
   pub first : 1 ≤ id.number
@@ -52,7 +52,7 @@ fault_without_conflict b =
     else if nat_le MAX_NUMBER b.made then Some NumbersExhausted
     else None
 
--- a conflict is told first
+-- a conflict is reported first
 abbrev pub fault_by : Option JobId → BookValue → Option ClaimError
 fault_by None b = fault_without_conflict b
 fault_by (Some id) b = Some (Overlaps id)
@@ -69,7 +69,7 @@ NamesLeast b want e = (id : JobId) → e ≡ Overlaps id → IsLeastConflict b.l
 abbrev pub next_job : BookValue → Want → LiveJob
 next_job b want = record { id = record { epoch = b.epoch; number = b.made + 1 }; want = want }
 
--- it is live, and its number is given
+-- it is live, under the next number
 abbrev pub claimed : BookValue → Want → BookValue
 claimed b want = record b { made = b.made + 1; live = b.live ++ next_job b want ∷ [] }
 
@@ -87,7 +87,7 @@ abbrev pub with_ending : Ending → BookValue → BookValue
 with_ending Installed b = record b { installed = b.installed + 1 }
 with_ending Returned b = record b { returned = b.returned + 1 }
 
--- a live job goes and its ending counts; else the book stays
+-- a live job is removed and its ending is counted; otherwise the book stays as it was
 abbrev pub after_settling : BookValue → JobId → Ending → BookValue
 after_settling b id ending =
     if holds b id then with_ending ending (record b { live = without_job id b.live })

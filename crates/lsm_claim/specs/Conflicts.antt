@@ -9,7 +9,7 @@ use Rattle.lsm_claim.specs.Levels.{shares_level}
 abbrev pub is_within : List ℕ → List ℕ → List ℕ → Bool
 is_within lo hi key = key_le lo key && key_le key hi
 
--- the keys from lo to hi and those from other_lo to other_hi have one in common, where there are any of each
+-- the keys from lo to hi and those from other_lo to other_hi have one in common, if neither range is empty
 abbrev pub ranges_meet : List ℕ → List ℕ → List ℕ → List ℕ → Bool
 ranges_meet lo hi other_lo other_hi = key_le lo other_hi && key_le other_lo hi
 

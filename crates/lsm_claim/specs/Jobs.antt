@@ -23,7 +23,7 @@ ShareNoKey jobs =
     (j k : LiveJob) → IsIn j jobs → IsIn k jobs → (level : ℕ) → uses_level j.want.level level ≡ true → uses_level k.want.level level ≡ true
     → (key : List ℕ) → covers j.want.hull key ≡ true → covers k.want.hull key ≡ true → j ≡ k
 
--- of the jobs, which stand by number, the first that conflicts
+-- of the jobs, which are in order of number, the first that conflicts
 abbrev pub first_conflict : List LiveJob → Want → Option JobId
 first_conflict jobs want = option_map (λ j. j.id) (find (λ j. conflicts j.want want) jobs)
 

@@ -5,11 +5,11 @@ use Rattle.lsm_claim.specs.declared.job.Want.{Want}
 use Rattle.lsm_claim.specs.Levels.{uses_level, shares_level}
 use Rattle.lsm_claim.specs.Conflicts.{covers, meets, conflicts}
 
--- hulls meet exactly where some key is in both
+-- hulls meet exactly when some key is in both
 abbrev pub HullsMeetWhereTheyShareAKey : Type 0
 HullsMeetWhereTheyShareAKey = (h g : Hull) → (meets h g ≡ true) ↔ ((key : List ℕ) × (covers h key ≡ true) × (covers g key ≡ true))
 
--- jobs share a level exactly where both use one
+-- jobs share a level exactly when both use one
 abbrev pub JobsShareTheLevelsThatBothUse : Type 0
 JobsShareTheLevelsThatBothUse = (a b : ℕ) → (shares_level a b ≡ true) ↔ ((level : ℕ) × (uses_level a level ≡ true) × (uses_level b level ≡ true))
 

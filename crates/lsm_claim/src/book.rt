@@ -1,7 +1,7 @@
-//! The book of claims, and the claims that it gives.
+//! The book of claims, and the claims that it issues.
 //!
-//! The two stand alone in this module. Their fields are private to it, so that no other code makes a claim or takes one
-//! apart, and `settle` is the only end of one.
+//! The two stand alone in this module. Their fields are private to it, so that no other code can make a claim or take
+//! one apart, and `settle` is the only way to end one.
 
 ghost use Rattle.std.specs.Prelude.{◌≡◌};
 ghost use Rattle.lsm_claim.specs.Jobs.{without_job};
@@ -12,8 +12,8 @@ use lsm_key::MAX_NUMBER;
 use std::alloc::Global;
 use std::marker::Model;
 
-/// The right to install the result of a job. It is neither `Drop` nor `Copy`: `ClaimBook::claim` makes it, and
-/// `ClaimBook::settle` alone ends it.
+/// The right to install the result of a job. It is neither `Drop` nor `Copy`: `ClaimBook::claim` makes it, and only
+/// `ClaimBook::settle` ends it.
 pub struct Claim {
     job: LiveJob,
 }
@@ -63,7 +63,7 @@ impl Claim {
 pub struct ClaimBook {
     alloc: Global,
     epoch: u64,
-    // How many claims it gave, which is the number of the last one.
+    // How many claims it issued, which is the number of the last one.
     made: u64,
     installed: u64,
     returned: u64,
@@ -87,7 +87,7 @@ impl ClaimBook {
     ghost use Rattle.lsm_claim.specs.Jobs.{ShareNoKey, first_conflict};
     ghost use Rattle.lsm_claim.specs.Book.{IsBook, NamesLeast, new_book, holds, claim_fault, next_job, claimed, settled, after_settling};
 
-    /// A book of an epoch that has given no claim yet. It takes no memory.
+    /// A book of an epoch that has issued no claim yet. Allocates nothing.
     pub fn new(alloc: Global, epoch: u64) -> ClaimBook
         ensures { result ≡ new_book epoch }
     {
@@ -108,7 +108,7 @@ impl ClaimBook {
         self.epoch
     }
 
-    /// How many claims it gave, at most `MAX_NUMBER`.
+    /// How many claims it issued, at most `MAX_NUMBER`.
     pub fn made(&self) -> u64
         ensures value { result ≡ self.now.made }
         ensures bound { result ≤ MAX_NUMBER }
@@ -146,8 +146,8 @@ impl ClaimBook {
         self.has(claim.job.id)
     }
 
-    /// Claims a job, under the next number of the epoch. It refuses a job that conflicts with a live one, one past
-    /// `MAX_LIVE_CLAIMS`, and one whose number would pass `MAX_NUMBER`. A refusal changes nothing.
+    /// Claims a job, under the next number of the epoch. It refuses a job that conflicts with a live one, one that
+    /// would exceed `MAX_LIVE_CLAIMS`, and one whose number would exceed `MAX_NUMBER`. A refusal changes nothing.
     pub fn claim(&mut self, want: Want) -> Result<Claim, ClaimError>
         ensures free { IfOk result (λ claim. claim_fault self.old want ≡ None) }
         ensures given { IfOk result (λ claim. claim ≡ next_job self.old want) }
@@ -171,8 +171,8 @@ impl ClaimBook {
         })
     }
 
-    /// Ends a claim. Where its job is live here, the job goes and its ending counts; else the claim is stale, and the book
-    /// stays. It takes no memory.
+    /// Ends a claim. If its job is live here, the job is removed and its ending is counted; otherwise the claim is
+    /// stale, and the book stays as it was. Allocates nothing.
     pub fn settle(&mut self, claim: Claim, ending: Ending) -> Settled
         ensures answer { result ≡ settled self.old claim.id }
         ensures book { self.new ≡ after_settling self.old claim.id ending }
@@ -190,14 +190,14 @@ impl ClaimBook {
         Settled::Live
     }
 
-    // The job is live.
+    // Whether the job is live.
     fn has(&self, id: JobId) -> bool
         ensures { result ≡ holds self.now id }
     {
         self.live.iter().any(|job| job.id == id)
     }
 
-    // Why the job is not claimed.
+    // Why the job can't be claimed, if it can't.
     fn claim_fault(&self, want: &Want) -> Option<ClaimError>
         ensures { result ≡ claim_fault self.now want.now }
     {
@@ -222,7 +222,7 @@ impl ClaimBook {
     }
 }
 
-// Takes a job out of those that are live.
+// Removes a job from the live ones.
 fn take_out(live: &mut Vec<LiveJob>, id: JobId)
     ensures { live.new.items ≡ without_job id live.old.items }
 {

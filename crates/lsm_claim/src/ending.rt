@@ -12,8 +12,8 @@ pub enum Ending {
 /// Whether a settled claim was still live.
 #[derive(Clone, Copy, Debug, PartialEq, Eq)]
 pub enum Settled {
-    /// The book had it, and has it no more.
+    /// The book had its job, and has removed it.
     Live,
-    /// The book did not have it, and stays as it was.
+    /// The book did not have its job, and stays as it was.
     Stale,
 }

@@ -4,7 +4,7 @@ use crate::JobId;
 use std::alloc::{AllocError, AllocFailed};
 use thiserror::Error;
 
-/// Why a claim is refused, the first reason that holds.
+/// Why a claim is refused: the first reason that holds.
 #[derive(Clone, Copy, Debug, PartialEq, Eq, Error)]
 pub enum ClaimError {
     #[error("the live job {}.{} shares a level, and has a key in common", .0.epoch, .0.number)]

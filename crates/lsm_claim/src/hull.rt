@@ -6,8 +6,8 @@ ghost use Rattle.lsm_key.specs.Order.{key_le};
 use bytes::Bytes;
 use std::alloc::AllocError;
 
-/// The keys of a job, from its least one to its greatest one, both in it. Its type keeps the two in order, so that no hull
-/// is empty: one that has no key could still meet others by its ends, and would stand in their way for nothing.
+/// The keys of a job, from the least to the greatest, both included. Its type keeps the two in order, so that no hull
+/// is empty: an empty one could still meet others by its ends, and would block them needlessly.
 #[derive(Debug, Drop)]
 pub struct Hull {
     /// Its least key.
@@ -22,7 +22,7 @@ impl Hull {
     ghost use Rattle.lsm_key.specs.Order.{key_le};
     ghost use Rattle.lsm_claim.specs.Conflicts.{ranges_meet};
 
-    /// The keys from `lo` to `hi`, or `None` where `lo` stands after `hi`.
+    /// The keys from `lo` to `hi`, or `None` if `lo` is after `hi`.
     pub fn new(lo: Bytes, hi: Bytes) -> Option<Hull>
         ensures proper { IsSome result ↔ (key_le lo hi ≡ true) }
         ensures kept { IfSome result (λ hull. (hull.lo ≡ lo) × (hull.hi ≡ hi)) }
@@ -33,7 +33,7 @@ impl Hull {
         Some(Hull { lo, hi })
     }
 
-    /// Whether it has a key in common with the keys from `lo` to `hi`, both in them, where there are any.
+    /// Whether it overlaps the keys from `lo` to `hi`, both included, if there are any.
     pub fn meets(&self, lo: &[u8], hi: &[u8]) -> bool
         ensures { result ≡ ranges_meet self.now.lo self.now.hi lo.now hi.now }
     {
@@ -46,7 +46,7 @@ impl Clone for Hull {
 
     ghost is_clone = { λ hull copy. copy ≡ hull };
 
-    /// The same hull. It shares the bytes.
+    /// The same hull. Shares the bytes.
     fn clone(&self) -> Result<Hull, AllocError> {
         let lo = self.lo.clone()?;
         let hi = self.hi.clone()?;

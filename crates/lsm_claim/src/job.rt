@@ -7,17 +7,17 @@ use crate::Hull;
 use lsm_key::Items;
 use std::alloc::{AllocError, Global};
 
-/// As many claims as may be live at a time: one for each dispatcher.
+/// The most claims that may be live at a time: one for each dispatcher.
 pub const MAX_LIVE_CLAIMS: usize = 4;
 
-/// The name of a job: the epoch that gave it, and its number there, from 1.
+/// The name of a job: the epoch that issued it, and its number there, from 1.
 #[derive(Clone, Copy, Debug, PartialEq, Eq)]
 pub struct JobId {
     pub epoch: u64,
     pub number: u64,
 }
 
-/// What a job is to merge: files of a level and of the next one, and the keys that these have.
+/// The inputs of one compaction: files of a level and of the next one, and their key range.
 #[derive(Debug, Drop)]
 pub struct Want {
     /// The upper one of its two levels.
@@ -38,7 +38,7 @@ impl Want {
     ghost use Rattle.std.specs.Prelude.{◌≡◌, IfOk};
     ghost use Rattle.lsm_claim.specs.Conflicts.{conflicts};
 
-    /// Whether two jobs get in each other's way: they share a level, and have a key in common.
+    /// Whether two jobs conflict: they share a level and have a key in common.
     pub fn conflicts_with(&self, other: &Want) -> bool
         ensures { result ≡ conflicts self.now other.now }
     {
@@ -67,7 +67,7 @@ pub fn shares_level(a: u8, b: u8) -> bool
     uses_level(a, b) || uses_level(b, a)
 }
 
-// A job of a level uses that level and the next.
+// Whether a job of a level uses the other one: it uses its own and the next.
 fn uses_level(job: u8, level: u8) -> bool
     ensures { result ≡ uses_level job level }
 {

@@ -1,4 +1,4 @@
-//! Claims: the right to install the result of a job, as a value that has to be spent.
+//! Claims: the right to install the result of a job, as a linear value that must be consumed.
 //!
 //! Jobs run on other nodes, so that several are live at a time. It promises that live jobs which share a level have no key
 //! in common, and that each claim ends once, by `settle`: a claim that is dropped, copied or taken apart does not compile.

@@ -13,7 +13,8 @@ fn hull_of(rt: &impl Abort, lo: &'static str, hi: &'static str) -> Hull {
     Hull::new(lo, hi).expect(rt, "no hull")
 }
 
-/// A job of a level with these keys and two files. A claim can't be left behind by `?`, so that want of memory ends the test.
+/// A job of a level with these keys and two files. A claim can't be left behind by `?`, so running out of memory ends
+/// the test.
 fn want_of(rt: &impl Abort, alloc: Global, level: u8, lo: &'static str, hi: &'static str) -> Want {
     let files = [7, 9].to_vec(alloc).expect(rt, "no files");
     Want {
@@ -70,7 +71,7 @@ fn counts(book: &ClaimBook) -> (u64, u64, u64) {
     (book.made(), book.installed(), book.returned())
 }
 
-// What is found is compared once the claims are spent.
+// Results are compared once the claims are settled.
 #[test]
 fn jobs_that_share_a_level_and_a_key_wait_for_each_other(rt: HostRuntime) {
     let alloc = rt.alloc();

@@ -1,4 +1,4 @@
--- An edit that is read is spelled so, and what is spelled so is read.
+-- A decoded edit encodes to the bytes, and what encodes to the bytes is decoded.
 use Rattle.std.proofs.Common.{◌≡◌, ℕ, ◌-◌, ◌^◌, ◌<◌, ◌≤◌, false, not, cond, eqb, List, [], ◌∷◌, ◌++◌, length, Result, Ok, Err, refl, sym, ap, subst, ◌∙◌, append_assoc, arith, inl, inr}
 use Rattle.std.specs.Int.{w8, w32, w64, to_be_bytes}
 use Rattle.std.specs.List.{All, AllByRecursion}

@@ -35,7 +35,7 @@ module _ {S X F : Type 0} (Good : S → Type 0) (Is : S → X → Type 0) (read 
       ∙ ap (λ (r : Result (X × List ℕ) F). r >>= λ y. items_at read next (length xs) (next y.0) y.1 >>= λ ys. Ok (y.0 ∷ ys.0, ys.1)) a
       ∙ ap (λ (r : Result (List X × List ℕ) F). r >>= λ ys. Ok (x ∷ ys.0, ys.1)) b
 
-  -- a count within a range, and so many items
+  -- a count within a range, and that many items
   pub counted_reads : (short bad : F) (low high : ℕ) (s : S) → high < 2 ^ 32 → Good s
       → Reads (λ bytes. within_at short bad w32 low high bytes >>= λ count. items_at read next count.0 s count.1) (λ xs. to_be_bytes w32 (length xs) ++ flat_map spell xs) (λ xs. (low ≤ length xs) × (length xs ≤ high) × AreInTurn Is next s xs)
   counted_reads short bad low high s lt good = record {

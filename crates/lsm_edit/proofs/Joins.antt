@@ -7,7 +7,7 @@ use Rattle.std.proofs.lemmas.List.Concat.{flat_map-append}
 pub six : (o a b c d e f p q r s t u : List ℕ) → p ≡ o ++ a → q ≡ p ++ b → r ≡ q ++ c → s ≡ r ++ d → t ≡ s ++ e → u ≡ t ++ f → u ≡ o ++ (a ++ b ++ c ++ d ++ e ++ f)
 six o a b c d e f p q r s t u h1 h2 h3 h4 h5 h6 = rw (h6, h5, h4, h3, h2, h1) (simp append_assoc)
 
--- one more item of a list, each spelled by a function
+-- one more item of a list, each encoded by a function
 pub one_more : {X : Type 0} (spell : X → List ℕ) (o b n : List ℕ) (xs : List X) (i : ℕ) (x : X) → i < length xs → x ≡ get_or xs i x → b ≡ o ++ flat_map spell (take i xs) → n ≡ b ++ spell x → n ≡ o ++ flat_map spell (take (i + 1) xs)
 one_more {X} spell o b n xs i x lt is before after =
     let parts : flat_map spell (take (i + 1) xs) ≡ flat_map spell (take i xs) ++ spell x =

@@ -1,4 +1,4 @@
--- Edits: what they may say, and how they are spelled (LevelDB, version edits).
+-- Edits: what they may say, and how they are encoded (LevelDB, version edits).
 use Rattle.std.specs.Prelude.{◌≡◌, ℕ, zero, suc, ◌+◌, ◌<◌, ◌≤◌, ◌-◌, ◌^◌, List, [], ◌∷◌, ◌++◌, length, Result, Ok, Err, ◌==◌, if◌then◌else◌}
 use Rattle.std.specs.Int.{w8, w32, w64, to_be_bytes}
 use Rattle.std.specs.List.{flat_map}
@@ -24,7 +24,7 @@ shape Flush = record { least_removed = 0; most_removed = 0; least_added = 1; mos
 shape Install = record { least_removed = 1; most_removed = 4294967295; least_added = 0; most_added = 4294967295; lowest = 1; deepest = 6 }
 shape Epoch = record { least_removed = 0; most_removed = 0; least_added = 0; most_added = 0; lowest = 0; deepest = 0 }
 
--- each item is as the one before it asks for
+-- each item is as the one before it requires
 abbrev pub AreInTurn : {S X : Type 0} → (S → X → Type 0) → (X → S) → S → List X → Type 0
 AreInTurn Is next s [] = Unit {0}
 AreInTurn Is next s (x ∷ xs) = Is s x × AreInTurn Is next (next x) xs
@@ -92,7 +92,7 @@ kind_at bytes = do
   kind ← kind_from code.0
   Ok (kind, code.1)
 
--- so many items, each read as the one before it asks for
+-- n items, each read as the one before it requires
 abbrev pub items_at : {S X F : Type 0} → (S → List ℕ → Result (X × List ℕ) F) → (X → S) → ℕ → S → List ℕ → Result (List X × List ℕ) F
 items_at read next zero s bytes = Ok ([], bytes)
 items_at read next (suc n) s bytes = do
@@ -100,11 +100,11 @@ items_at read next (suc n) s bytes = do
   xs ← items_at read next n (next x.0) x.1
   Ok (x.0 ∷ xs.0, xs.1)
 
--- so many numbers of files, ascending
+-- count numbers of files, ascending
 abbrev pub numbers_at : ℕ → ℕ → List ℕ → Result (List ℕ × List ℕ) FormatFault
 numbers_at count least bytes = items_at (λ from. within_at Truncated BadField w64 from MAX_NUMBER) after_number count least bytes
 
--- so many files of one level, with ascending numbers
+-- count files of one level, with ascending numbers
 abbrev pub files_at : ℕ → ℕ × ℕ × ℕ → List ℕ → Result (List FileMeta × List ℕ) FormatFault
 files_at count from bytes = items_at (λ from. file_at from.0 from.1 from.2) after_file count from bytes
 

@@ -1,4 +1,4 @@
--- File records: what they may say, and how they are spelled (LevelDB, FileMetaData).
+-- File records: what they may say, and how they are encoded (LevelDB, FileMetaData).
 use Rattle.std.specs.Prelude.{◌≡◌, ℕ, ◌<◌, ◌≤◌, ◌^◌, true, not, List, ◌++◌, Result, Ok, Err, if◌then◌else◌}
 use Rattle.std.specs.Int.{w8, w32, w64, to_be_bytes}
 use Rattle.lsm_key.specs.declared.limits.TheConstants.{MAX_KEY_BYTES, MAX_NUMBER, MAX_TABLE_BYTES}

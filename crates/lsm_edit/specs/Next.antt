@@ -13,11 +13,11 @@ flush_edit v flushed f = record { number = v.number + 1; kind = Flush; flushed =
 abbrev pub epoch_edit : VersionValue → Edit
 epoch_edit v = record { number = v.number + 1; kind = Epoch; flushed = v.flushed; epoch = v.epoch + 1; next_file = v.next_file; removed = []; added = [] }
 
--- the number after those of files with ascending numbers, or the one given
+-- the number after those of files with ascending numbers, or the given one if there are none
 abbrev pub number_after : ℕ → List FileMeta → ℕ
 number_after n [] = n
 number_after n (f ∷ fs) = number_after (f.number + 1) fs
 
--- new files take the place of others
+-- new files replace others
 abbrev pub install_edit : VersionValue → List ℕ → List FileMeta → Edit
 install_edit v removed added = record { number = v.number + 1; kind = Install; flushed = v.flushed; epoch = v.epoch; next_file = number_after v.next_file added; removed = removed; added = added }

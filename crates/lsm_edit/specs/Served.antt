@@ -50,12 +50,12 @@ placed_of [] ts = []
 placed_of (f ∷ fs) [] = []
 placed_of (f ∷ fs) (t ∷ ts) = record { meta = f; table = t } ∷ placed_of fs ts
 
--- put before the first place that it is searched before
+-- inserted before the first file that it is searched before
 abbrev pub put_in_order : Placed → List Placed → List Placed
 put_in_order p [] = p ∷ []
 put_in_order p (q ∷ qs) = if is_before p.meta q.meta then p ∷ q ∷ qs else q ∷ put_in_order p qs
 
--- places put among others that are in the order of a search
+-- files inserted among others that are in search order
 abbrev pub put_all : List Placed → List Placed → List Placed
 put_all [] qs = qs
 put_all (p ∷ ps) qs = put_in_order p (put_all ps qs)
@@ -78,11 +78,11 @@ tables_of ps = map (λ p. p.table.entries) ps
 abbrev pub is_covered : FileMeta → List ℕ → Bool
 is_covered f key = key_le f.smallest key && key_le key f.largest
 
--- a table shows nothing of the key
+-- a table has no visible entry of the key
 abbrev pub ShowsNone : List ℕ → ℕ → Placed → Type 0
 ShowsNone key at p = visible p.table.entries key at ≡ None
 
--- no table of the levels above this one shows anything of the key
+-- no table of the levels above this one has a visible entry of the key
 abbrev pub UpperShowNone : List Placed → ℕ → List ℕ → ℕ → Type 0
 UpperShowNone ps level key at = (p : Placed) → IsIn p ps → p.meta.level < level → ShowsNone key at p
 

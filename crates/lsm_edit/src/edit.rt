@@ -1,7 +1,7 @@
 //! Edits: what one version adds to the one before it.
 //!
-//! An edit is spelled as: u64 number, u8 kind (1 flush, 2 install, 3 epoch), u64 flushed, u64 epoch, u64 next_file, u32 count of
-//! removed files and u64 each, u32 count of added files and a file record each; all numbers are big-endian.
+//! An edit is encoded as: u64 number, u8 kind (1 flush, 2 install, 3 epoch), u64 flushed, u64 epoch, u64 next_file, u32
+//! count of removed files and u64 each, u32 count of added files and a file record each; all numbers are big-endian.
 
 ghost use Rattle.std.specs.Prelude.{◌≡◌, ◌≤◌, ◌<◌, ◌^◌, ◌++◌, ◌↔◌, length, All, IfOk, IsTrue, OnOk, Ok};
 ghost use Rattle.std.specs.List.{flat_map};
@@ -41,9 +41,9 @@ pub struct Edit {
     pub epoch: u64,
     /// The number of the next file: every file's number is below it.
     pub next_file: u64,
-    /// The numbers of the files that go, ascending.
+    /// The numbers of the removed files, ascending.
     pub removed: Items<u64>,
-    /// The files that come, by number.
+    /// The added files, by number.
     pub added: Items<FileMeta>,
 }
 
@@ -81,7 +81,7 @@ impl Edit {
     }
 }
 
-/// How many files an edit removes and adds, and from which level to which those are that it adds.
+/// How many files an edit may remove and add, and between which levels the added ones may be.
 #[derive(Clone, Copy)]
 pub(crate) struct Shape {
     least_removed: u32,
@@ -157,7 +157,7 @@ fn kind_of(rest: &mut Bytes) -> Result<EditKind, FormatError>
     }
 }
 
-// So many numbers of files, ascending.
+// `count` numbers of files, ascending.
 fn numbers_of(alloc: Global, count: u32, rest: &mut Bytes) -> Result<Items<u64>, FormatError>
     ensures { Gives (λ numbers. (numbers, rest.new)) result (numbers_at count 1 rest.old) }
 {
@@ -181,7 +181,7 @@ fn removed_of(alloc: Global, kind: EditKind, rest: &mut Bytes) -> Result<Items<u
     numbers_of(alloc, count, rest)
 }
 
-// So many files of one level, from `lowest` to `deepest`, with ascending numbers.
+// `count` files of one level, from `lowest` to `deepest`, with ascending numbers.
 fn files_of(
     alloc: Global,
     count: u32,
@@ -234,20 +234,20 @@ fn fields_of(alloc: Global, rest: &mut Bytes) -> Result<Edit, FormatError>
     })
 }
 
-/// The edit that the bytes spell, all of the bytes. The first fault decides.
+/// The edit that the bytes encode, all of the bytes, or the first fault.
 pub fn decode_edit(alloc: Global, bytes: Bytes) -> Result<Edit, FormatError>
-    // What is read is spelled so.
+    // What is decoded encodes to these bytes.
     ensures found { IfOk result (λ e. IsSpelled bytes e) }
-    // What is spelled so is read, unless memory runs out.
+    // What encodes to these bytes is decoded, unless memory runs out.
     ensures only { (e : Edit) → IsSpelled bytes e → Gives (λ x. x) result (Ok e) }
-    // Which fault it is.
+    // The fault is the first one.
     ensures exact { Gives (λ x. x) result (edit_of bytes) }
 {
     know_bytes(&bytes);
     whole_of(alloc, bytes)
 }
 
-// The edit that the bytes spell, with no byte left.
+// The edit that the bytes encode, with no byte left.
 #[tactic(auto, unfolding(crate::specs::Edit::edit_of))]
 fn whole_of(alloc: Global, bytes: Bytes) -> Result<Edit, FormatError>
     ensures { Gives (λ x. x) result (edit_of bytes) }
@@ -260,13 +260,13 @@ fn whole_of(alloc: Global, bytes: Bytes) -> Result<Edit, FormatError>
     Ok(edit)
 }
 
-// An edit without its files: five numbers of eight bytes but the kind, and two counts.
+// The size of an edit without its files: four numbers of eight bytes, the kind, and two counts.
 const HEAD_BYTES: usize = 41;
 
-// A file record at its longest: its numbers, and two keys of the greatest length.
+// The largest size of a file record: its numbers, and two keys of the greatest length.
 const MOST_FILE_BYTES: usize = 17 + 2 * (2 + MAX_KEY_BYTES);
 
-// Adds what comes before the files that are added.
+// Appends what comes before the added files.
 fn put_head(out: &mut BytesMut, e: &Edit) -> Result<(), AllocError>
     requires { IsEdit e.now }
     ensures { OnOk result (out.new.items ≡ out.old.items ++ head e.now) }
@@ -280,7 +280,7 @@ fn put_head(out: &mut BytesMut, e: &Edit) -> Result<(), AllocError>
     Ok(())
 }
 
-// Adds a count of numbers, and each.
+// Appends a count of numbers, and each number.
 fn put_numbers(out: &mut BytesMut, numbers: &[u64]) -> Result<(), AllocError>
     requires { length numbers.now < 2 ^ 32 }
     ensures { OnOk result (out.new.items ≡ out.old.items ++ removed numbers.now) }
@@ -292,7 +292,7 @@ fn put_numbers(out: &mut BytesMut, numbers: &[u64]) -> Result<(), AllocError>
     Ok(())
 }
 
-// Adds the files, without their count.
+// Appends the files, without their count.
 fn put_files(out: &mut BytesMut, files: &[FileMeta]) -> Result<(), AllocError>
     requires { All IsFile files.now }
     ensures { OnOk result (out.new.items ≡ out.old.items ++ flat_map file files.now) }
@@ -303,7 +303,7 @@ fn put_files(out: &mut BytesMut, files: &[FileMeta]) -> Result<(), AllocError>
     Ok(())
 }
 
-/// The one spelling of the edit.
+/// The one encoding of the edit.
 pub fn encode_edit(alloc: Global, e: &Edit) -> Result<Bytes, AllocError>
     requires { IsEdit e.now }
     ensures { IfOk result (λ b. b ≡ edit e.now) }

@@ -1,6 +1,6 @@
 //! File records.
 //!
-//! A record is spelled as: u64 number, u8 level, smallest key, largest key, u32 bytes, u32 entries; a key is u16 length
+//! A record is encoded as: u64 number, u8 level, smallest key, largest key, u32 bytes, u32 entries; a key is u16 length
 //! and its bytes, and all numbers are big-endian.
 
 ghost use Rattle.std.specs.Prelude.{◌≡◌, ◌++◌, ◌↔◌, IsTrue, OnOk, IfOk};
@@ -19,10 +19,10 @@ use std::alloc::AllocError;
 /// The deepest level.
 pub const MAX_LEVEL: u8 = 6;
 
-/// What a version knows of a table: where it stands, and what is in it.
+/// What a version knows of a table: its level, and what is in it.
 #[derive(Debug, Drop, Clone, PartialEq, Eq)]
 pub struct FileMeta {
-    /// Its number, which no other table ever has. From 1.
+    /// Its number, from 1, which no other table ever has.
     pub number: u64,
     /// Its level, 0 to 6.
     pub level: u8,
@@ -69,7 +69,7 @@ pub(crate) fn file_of(
     })
 }
 
-/// Adds a record.
+/// Appends a record.
 pub(crate) fn put_file(out: &mut BytesMut, meta: &FileMeta) -> Result<(), AllocError>
     requires { IsFile meta.now }
     ensures { OnOk result (out.new.items ≡ out.old.items ++ file meta.now) }

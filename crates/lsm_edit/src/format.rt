@@ -2,7 +2,7 @@
 
 use lsm_key::Refused;
 
-/// What is wrong with the bytes, the first fault from left to right.
+/// What is wrong with the bytes: the first fault from left to right.
 #[derive(Clone, Copy, Debug, PartialEq, Eq)]
 pub enum FormatFault {
     /// The bytes end inside a field.
@@ -13,5 +13,5 @@ pub enum FormatFault {
     TrailingBytes,
 }
 
-/// A fault of the bytes, or want of memory.
+/// A fault of the bytes, or out of memory.
 pub type FormatError = Refused<FormatFault>;

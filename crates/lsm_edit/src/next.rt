@@ -19,7 +19,7 @@ use lsm_table::Table;
 use std::alloc::{AllocError, Global};
 
 impl FileMeta {
-    /// The record of a table that is to stand at a level under a number. It shares the table's keys.
+    /// The record of a table, for a level and a number. Shares the table's keys.
     pub fn of_table(number: u64, level: u8, table: &Table) -> Result<FileMeta, AllocError>
         requires some { 1 ≤ number }
         requires most { number ≤ MAX_NUMBER }
@@ -43,7 +43,7 @@ impl FileMeta {
 }
 
 impl Edit {
-    /// The edit that adds a file of the writes up to a sequence, under the version's next file number.
+    /// The edit that adds a file with the writes up to a sequence, under the version's next file number.
     pub fn flush(
         alloc: Global,
         version: &Version,
@@ -62,7 +62,7 @@ impl Edit {
     {
         let number = version.number() + 1;
         let next_file = version.next_file() + 1;
-        // That the sequence fits and the version is sound, as the proof wants to know.
+        // Proof hint: the sequence fits, and the version's invariant.
         let _written = flushed.number();
         let _files = version.files();
         let mut added = Items::new(alloc);
@@ -78,9 +78,9 @@ impl Edit {
         })
     }
 
-    /// The edit by which new files take the place of others, as a merge makes them: at least one goes, and those that
-    /// come are of one level from 1 to 6, with new numbers in ascending order. The next file number is the one after
-    /// the last of them, or stays where none comes.
+    /// The edit that replaces files by the outputs of a merge: at least one is removed, and the added ones are of one
+    /// level from 1 to 6, with new numbers in ascending order. The next file number is the one after the last of them,
+    /// or stays the same if none is added.
     pub fn install(version: &Version, removed: Items<u64>, added: Items<FileMeta>) -> Edit
         requires number { version.now.number + 1 ≤ MAX_NUMBER }
         requires epoch { 1 ≤ version.now.epoch }
@@ -94,7 +94,7 @@ impl Edit {
         ensures sound { IsEdit result }
         ensures applies { apply_fault version.now result ≡ None }
     {
-        // That the version is sound, as the proof wants to know.
+        // Proof hint: the version's invariant.
         let _files = version.files();
         let next_file = number_past(added.as_slice(), version.next_file());
         Edit {
@@ -116,7 +116,7 @@ impl Edit {
         ensures sound { IsEdit result }
         ensures applies { apply_fault version.now result ≡ None }
     {
-        // That the version is sound, as the proof wants to know.
+        // Proof hint: the version's invariant.
         let _files = version.files();
         Edit {
             number: version.number() + 1,
@@ -130,7 +130,7 @@ impl Edit {
     }
 }
 
-// The number after those of files with ascending numbers, or the one given.
+// The number after those of files with ascending numbers, or the given one if there are none.
 fn number_past(files: &[FileMeta], least: u64) -> u64
     requires { number_after least files.now ≤ MAX_NUMBER }
     ensures { result ≡ number_after least files.now }
@@ -141,7 +141,7 @@ fn number_past(files: &[FileMeta], least: u64) -> u64
     }
 }
 
-// What a table's type says of it, as a proof wants to know.
+// Proof hint: the table's invariant.
 fn know_table(table: &Table)
     ensures { IsTable table.now.bytes table.now.entries }
 {

@@ -1,4 +1,4 @@
-//! A version with its tables: what is read of it.
+//! A version with its open tables, and reads of it.
 
 mod range;
 
@@ -22,7 +22,7 @@ use lsm_table::Table;
 use std::alloc::{AllocError, Global};
 use std::marker::Model;
 
-/// A file with its opened table.
+/// A file with its open table.
 #[derive(Debug, Drop)]
 pub struct Placed {
     pub meta: FileMeta,
@@ -37,8 +37,8 @@ pub struct Listing<'a> {
     pub files: &'a [FileMeta],
 }
 
-/// A version with its tables, each as its file record says, in the order of a search: level 0 from the newest file to
-/// the oldest, then each deeper level by key.
+/// A version with its open tables, each as its file record says, in search order: level 0 from the newest file to the
+/// oldest, then each deeper level by key.
 #[derive(Debug, Drop)]
 pub struct Served {
     current: Version,
@@ -76,7 +76,7 @@ impl Served {
         &self.current
     }
 
-    /// The files with their tables, in the order of a search.
+    /// The files with their tables, in search order.
     pub fn places(&self) -> &[Placed]
         ensures { result.now ≡ self.now.places }
     {
@@ -97,8 +97,8 @@ impl Served {
         }
     }
 
-    /// Becomes the next version by an edit, with the tables of the files that it adds, by number. It refuses as
-    /// `Version::apply` does, and a refusal changes nothing.
+    /// Becomes the next version by an edit, with the tables of the files that it adds, by number. Refuses as
+    /// `Version::apply` does. A refusal changes nothing.
     pub fn advance(&mut self, edit: &Edit, tables: Vec<Table>) -> Result<(), ApplyError>
         requires sound { IsEdit edit.now }
         requires recorded { AreAsRecorded edit.now.added tables.items }
@@ -145,17 +145,17 @@ impl Served {
         Ok(())
     }
 
-    /// The entry of the key with the greatest sequence at most `at`. It takes no memory.
+    /// The entry of the key with the greatest sequence at most `at`. Allocates nothing.
     pub fn get_at(&self, key: &[u8], at: Seq) -> Option<EntryRef<'_>>
         ensures first { option_map lent result ≡ first_visible (tables_of self.now.places) key.now at }
         ensures found { AreOrdered (tables_of self.now.places) → option_map lent result ≡ visible (all_entries (tables_of self.now.places)) key.now at }
     {
-        // That their levels are in range, as the proof wants to know.
+        // Proof hint: their levels are in range.
         let _files = self.current.files();
         first_in(&self.placed, key, at)
     }
 
-    /// The same at the version's flushed sequence, from which on it has no entry.
+    /// The same at the version's flushed sequence, above which it has no entry.
     pub fn get(&self, key: &[u8]) -> Option<EntryRef<'_>>
         ensures first { option_map lent result ≡ first_visible (tables_of self.now.places) key.now self.now.version.flushed }
         ensures found { AreOrdered (tables_of self.now.places) → option_map lent result ≡ visible (all_entries (tables_of self.now.places)) key.now self.now.version.flushed }
@@ -195,7 +195,7 @@ fn placed_for(
     Ok(placed)
 }
 
-// The files with their tables, in the order of a search.
+// The files with their tables, in search order.
 fn places_of(
     alloc: Global,
     files: &[FileMeta],
@@ -218,7 +218,7 @@ fn copy_at(files: &[FileMeta], index: usize) -> Result<FileMeta, AllocError>
     files[index].clone()
 }
 
-// Puts places among others, which have room for them, so that all are in the order of a search.
+// Inserts files among others, which have room for them, in search order.
 fn put_each(places: &mut Vec<Placed>, placed: Vec<Placed>)
     requires room { length places.old.items + length placed.items ≤ vec_capacity places.old }
     requires ordered { AreInSearchOrder (put_all placed.items places.old.items) }
@@ -230,7 +230,7 @@ fn put_each(places: &mut Vec<Placed>, placed: Vec<Placed>)
     }
 }
 
-// Puts a place before the first one that it is searched before, where there is room.
+// Inserts a file before the first one that it is searched before. There is room.
 fn put_in(places: &mut Vec<Placed>, placed: Placed)
     requires room { length places.old.items < vec_capacity places.old }
     requires ordered { AreInSearchOrder (put_in_order placed places.old.items) }
@@ -241,7 +241,7 @@ fn put_in(places: &mut Vec<Placed>, placed: Placed)
     places.insert(spot, placed).unwrap();
 }
 
-// How many places stand before the first one that the place is searched before.
+// The index of the first file that the file is searched before.
 fn spot_of(places: &[Placed], placed: &Placed) -> usize
     requires { AreInSearchOrder (put_in_order placed.now places.now) }
     ensures within { result ≤ length places.now }
@@ -250,7 +250,7 @@ fn spot_of(places: &[Placed], placed: &Placed) -> usize
     places.partition_point(|other| !goes_first(&placed.meta, &other.meta))
 }
 
-// The one file is searched before the other.
+// Whether the one file is searched before the other.
 fn goes_first(file: &FileMeta, other: &FileMeta) -> bool
     ensures { result ≡ is_before file.now other.now }
 {
@@ -264,8 +264,8 @@ fn goes_first(file: &FileMeta, other: &FileMeta) -> bool
     }
 }
 
-// What the first place shows that shows anything: level 0 is searched file by file, and of each deeper level at most
-// one table is asked.
+// The match in the first source that has one: level 0 is searched file by file, and of each deeper level at most one
+// table.
 fn first_in<'a>(places: &'a [Placed], key: &[u8], at: Seq) -> Option<EntryRef<'a>>
     requires recorded { AllRecorded places.now }
     requires ordered { AreInSearchOrder places.now }
@@ -285,7 +285,7 @@ fn first_in<'a>(places: &'a [Placed], key: &[u8], at: Seq) -> Option<EntryRef<'a
     None
 }
 
-// What the first file of level 0 shows that shows anything.
+// The match in the first file of level 0 that has one.
 fn in_level_zero<'a>(places: &'a [Placed], key: &[u8], at: Seq) -> Option<EntryRef<'a>>
     requires recorded { AllRecorded places.now }
     requires ordered { AreInSearchOrder places.now }
@@ -304,7 +304,7 @@ fn in_level_zero<'a>(places: &'a [Placed], key: &[u8], at: Seq) -> Option<EntryR
     None
 }
 
-// What the one file of a deeper level shows that may have the key.
+// The match in the one file of a deeper level that may have the key.
 fn in_level<'a>(places: &'a [Placed], level: u8, key: &[u8], at: Seq) -> Option<EntryRef<'a>>
     requires recorded { AllRecorded places.now }
     requires ordered { AreInSearchOrder places.now }
@@ -324,7 +324,7 @@ fn in_level<'a>(places: &'a [Placed], level: u8, key: &[u8], at: Seq) -> Option<
     shown_by(placed, key, at)
 }
 
-// How many places come left of the key in a level.
+// The index of the first file at or after the key in a level, or after the level.
 fn place_in(places: &[Placed], level: u8, key: &[u8]) -> usize
     requires recorded { AllRecorded places.now }
     requires ordered { AreInSearchOrder places.now }
@@ -334,7 +334,7 @@ fn place_in(places: &[Placed], level: u8, key: &[u8]) -> usize
     places.partition_point(|placed| stands_left(placed, level, key))
 }
 
-// The file is of an upper level, or of this one with all its keys below the key.
+// Whether the file is of an upper level, or of this one with all its keys below the key.
 fn stands_left(placed: &Placed, level: u8, key: &[u8]) -> bool
     ensures { result ≡ comes_left level key.now placed.now }
 {
@@ -344,7 +344,7 @@ fn stands_left(placed: &Placed, level: u8, key: &[u8]) -> bool
     key.cmp(placed.meta.largest.as_slice()).is_gt()
 }
 
-// What a table shows, which is not asked where its range misses the key.
+// The match in a table, which is not searched if the key is outside its range.
 fn shown_by<'a>(placed: &'a Placed, key: &[u8], at: Seq) -> Option<EntryRef<'a>>
     requires { IsAsRecorded placed.now.meta placed.now.table }
     ensures { option_map lent result ≡ visible placed.now.table.entries key.now at }
@@ -355,7 +355,7 @@ fn shown_by<'a>(placed: &'a Placed, key: &[u8], at: Seq) -> Option<EntryRef<'a>>
     placed.table.get(key, at)
 }
 
-// The key is in the file's range.
+// Whether the key is in the file's range.
 fn covers(meta: &FileMeta, key: &[u8]) -> bool
     ensures { result ≡ is_covered meta.now key.now }
 {

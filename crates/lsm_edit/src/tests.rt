@@ -77,7 +77,7 @@ fn fault_of(alloc: Global, bytes: &[u8]) -> Result<Option<FormatFault>, Fail> {
     }
 }
 
-// The edit that the bytes spell.
+// The edit that the bytes encode.
 fn edit_of(alloc: Global, bytes: &[u8]) -> Result<Edit, Fail>
     ensures { IfOk result IsEdit }
 {
@@ -95,7 +95,7 @@ fn is_spelled(alloc: Global, bytes: &[u8], wanted: &Edit) -> Result<bool, Fail> 
     Ok(edit.same(wanted) && written.as_slice() == bytes)
 }
 
-// The bytes are refused as an edit, or are its one spelling.
+// The bytes are refused as an edit, or are its one encoding.
 fn is_refused_or_spelled(alloc: Global, bytes: &[u8]) -> Result<bool, Fail> {
     match decode_edit(alloc, Bytes::copy_from_slice(alloc, bytes)?) {
         Ok(edit) => Ok(encode_edit(alloc, &edit)?.as_slice() == bytes),

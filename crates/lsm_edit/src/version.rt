@@ -14,14 +14,14 @@ use std::alloc::{AllocError, AllocFailed, Global};
 use std::marker::Model;
 use thiserror::Error;
 
-/// Why an edit does not apply to a version, the first reason that holds.
+/// Why an edit does not apply to a version: the first reason that holds.
 #[derive(Clone, Copy, Debug, PartialEq, Eq, Error)]
 pub enum ApplyError {
-    #[error("the edit does not make the next version")]
+    #[error("the edit is not for the next version")]
     WrongNumber,
-    #[error("a file that goes is not in the version")]
+    #[error("a removed file is not in the version")]
     NoSuchFile,
-    #[error("a file that comes has a number that was given before")]
+    #[error("an added file reuses a file number")]
     FileExists,
     #[error("two files of one level below level 0 overlap")]
     Overlap,
@@ -55,8 +55,8 @@ impl<T: Drop> From<AllocFailed<T>> for ApplyError {
     }
 }
 
-/// A store's files at one point of its history: the fold of its edits up to a number. Files have numbers of their own,
-/// all below `next_file`; within a level from 1 up their key ranges are disjoint.
+/// The files of a store at one point of its history: the result of applying its edits up to a number. File numbers are
+/// distinct and below `next_file`; within a level from 1 up the files' key ranges are disjoint.
 #[derive(Debug, Drop)]
 pub struct Version {
     alloc: Global,
@@ -94,7 +94,7 @@ impl Version {
         }
     }
 
-    /// Its number, of at most `MAX_NUMBER`.
+    /// Its number, at most `MAX_NUMBER`.
     pub fn number(&self) -> u64
         ensures value { result ≡ self.now.number }
         ensures bound { result ≤ MAX_NUMBER }
@@ -109,7 +109,7 @@ impl Version {
         self.flushed
     }
 
-    /// How often the store was opened, up to it.
+    /// The epoch: how often the store had been opened.
     pub fn epoch(&self) -> u64
         ensures value { result ≡ self.now.epoch }
         ensures bound { result ≤ MAX_NUMBER }
@@ -193,14 +193,14 @@ impl Version {
             && same_files(self.files(), other.files())
     }
 
-    // Where its memory comes from.
+    // Its allocator.
     pub(crate) fn alloc(&self) -> Global
         ensures sound { IsVersion self.now }
     {
         self.alloc
     }
 
-    // Why the edit does not apply.
+    // Why the edit does not apply, if it does not.
     pub(crate) fn fault_of(&self, edit: &Edit) -> Option<ApplyError>
         requires { IsEdit edit.now }
         ensures fault { result ≡ apply_fault self.now edit.now }
@@ -228,7 +228,7 @@ impl Version {
         None
     }
 
-    // The next file number or the epoch is wrong.
+    // Whether the next file number or the epoch is wrong.
     fn miscounts(&self, edit: &Edit) -> bool
         ensures { result ≡ (is_low self.now edit.now || miscounts edit.now.kind self.now.epoch edit.now.epoch) }
     {
@@ -238,7 +238,7 @@ impl Version {
     }
 }
 
-// The numbers of the files that go, which ascend.
+// The numbers of the removed files, which ascend.
 pub(crate) fn removed_by(edit: &Edit) -> &[u64]
     requires { IsEdit edit.now }
     ensures all { result.now ≡ edit.now.removed }
@@ -247,7 +247,7 @@ pub(crate) fn removed_by(edit: &Edit) -> &[u64]
     edit.removed.as_slice()
 }
 
-// The number is one of these, which ascend.
+// Whether the number is one of these, which ascend.
 pub(crate) fn is_among(numbers: &[u64], number: u64) -> bool
     requires { IsNonDecreasing numbers.now }
     ensures { result ≡ list_any (λ n. nat_eq number n) numbers.now }
@@ -255,7 +255,7 @@ pub(crate) fn is_among(numbers: &[u64], number: u64) -> bool
     numbers.binary_search(&number).is_ok()
 }
 
-// One of the numbers is no file's.
+// Whether one of the numbers is no file's.
 fn lacks(files: &[FileMeta], numbers: &[u64]) -> bool
     requires { NumbersRise files.now }
     ensures { result ≡ list_any (λ n. not (list_any (has_number n) files.now)) numbers.now }
@@ -263,7 +263,7 @@ fn lacks(files: &[FileMeta], numbers: &[u64]) -> bool
     numbers.iter().any(|number| !has_file(files, *number))
 }
 
-// The number is a file's.
+// Whether the number is a file's.
 fn has_file(files: &[FileMeta], number: u64) -> bool
     requires { NumbersRise files.now }
     ensures { result ≡ list_any (has_number number) files.now }
@@ -273,7 +273,7 @@ fn has_file(files: &[FileMeta], number: u64) -> bool
         .is_ok()
 }
 
-// Two of the files overlap, once these are removed and added.
+// Whether two of the files overlap, once these are removed and added.
 fn overlaps_after(files: &[FileMeta], removed: &[u64], added: &[FileMeta]) -> bool
     requires disjoint { has_overlap files.now ≡ false }
     requires ascending { IsNonDecreasing removed.now }
@@ -282,7 +282,7 @@ fn overlaps_after(files: &[FileMeta], removed: &[u64], added: &[FileMeta]) -> bo
     meets_kept(files, removed, added) || overlaps(added)
 }
 
-// A file that stays overlaps one that comes.
+// Whether a remaining file overlaps an added one.
 fn meets_kept(files: &[FileMeta], removed: &[u64], added: &[FileMeta]) -> bool
     requires { IsNonDecreasing removed.now }
     ensures { result ≡ list_any (λ f. not (list_any (λ n. has_number n f) removed.now) && list_any (clashes f) added.now) files.now }
@@ -290,7 +290,7 @@ fn meets_kept(files: &[FileMeta], removed: &[u64], added: &[FileMeta]) -> bool
     files.iter().any(|file| !is_among(removed, file.number) && has_clash(file, added))
 }
 
-// Two of the files overlap.
+// Whether two of the files overlap.
 fn overlaps(files: &[FileMeta]) -> bool
     ensures { result ≡ has_overlap files.now }
 {
@@ -304,14 +304,14 @@ fn overlaps(files: &[FileMeta]) -> bool
     false
 }
 
-// The file overlaps one of the others.
+// Whether the file overlaps one of the others.
 fn has_clash(file: &FileMeta, others: &[FileMeta]) -> bool
     ensures { result ≡ list_any (clashes file.now) others.now }
 {
     others.iter().any(|other| clash(file, other))
 }
 
-// Two files of a level from 1 up have a key in common, by their ranges.
+// Whether two files of one level from 1 up have a key in common, by their ranges.
 fn clash(file: &FileMeta, other: &FileMeta) -> bool
     ensures { result ≡ clashes file.now other.now }
 {
@@ -321,14 +321,14 @@ fn clash(file: &FileMeta, other: &FileMeta) -> bool
         && other.smallest.cmp(&file.largest).is_le()
 }
 
-// A file has a number that was given before.
+// Whether a file reuses a number.
 fn has_below(files: &[FileMeta], next_file: u64) -> bool
     ensures { result ≡ list_any (λ f. nat_lt f.number next_file) files.now }
 {
     files.iter().any(|f| f.number < next_file)
 }
 
-// A file has the next number, or a later one.
+// Whether a file has the next number, or a later one.
 fn reaches(files: &[FileMeta], next_file: u64) -> bool
     ensures { result ≡ list_any (λ f. nat_le next_file f.number) files.now }
 {

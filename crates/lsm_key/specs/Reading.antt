@@ -17,7 +17,7 @@ abbrev pub Fails : {Y F : Type 0} → Refused F → Result Y F → Type 0
 Fails OutOfMemory read = Unit {0}
 Fails (Fault f) read = read ≡ Err f
 
--- what a function returned, seen by view, is what reading gives, unless memory ran out
+-- what a function returned, through view, is what reading gives, unless memory ran out
 abbrev pub Gives : {X Y F : Type 0} → (X → Y) → Result X (Refused F) → Result Y F → Type 0
 Gives view (Ok x) read = read ≡ Ok (view x)
 Gives view (Err e) read = Fails e read
@@ -45,7 +45,7 @@ abbrev pub instead : {A E F : Type 0} → F → Result A E → Result A F
 instead f (Ok x) = Ok x
 instead f (Err e) = Err f
 
--- a key of at most so many bytes: of two faults, the first where the bytes end
+-- a key of at most limit bytes; the fault is short if the bytes end, and bad if the length is out of range
 unfoldable pub key_at : {F : Type 0} → ℕ → F → F → List ℕ → Result (List ℕ × List ℕ) F
 key_at limit short bad bytes = do
   n ← number_at short w16 bytes

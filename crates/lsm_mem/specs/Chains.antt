@@ -36,7 +36,7 @@ abbrev pub SequencesRise : List Entry → Type 0
 SequencesRise [] = Unit {0}
 SequencesRise (e ∷ es) = ((f : Entry) → IsIn f es → e.ikey.seq < f.ikey.seq) × SequencesRise es
 
--- the entry was written by the point
+-- the entry was written by then
 abbrev pub is_written : ℕ → Entry → Bool
 is_written point e = nat_le e.ikey.seq point
 
@@ -46,7 +46,7 @@ pub record IsChain (chain : Chain) : Type 0 where
   pub own : (e : Entry) → IsIn e chain.versions → e.ikey.key ≡ chain.key
   pub rising : SequencesRise chain.versions
 
--- the key stands before that of each chain
+-- the key is before that of each chain
 abbrev pub StandsBefore : List ℕ → List Chain → Type 0
 StandsBefore key chains = (c : Chain) → IsIn c chains → slice_cmp nat_cmp key c.key ≡ Less
 
@@ -71,7 +71,7 @@ with_entries es chains = fold (λ cs e. with_entry e cs) chains es
 abbrev pub older : List Entry → List Entry
 older versions = take (length versions - 1) versions
 
--- a chain with these versions, where there are any
+-- a chain with these versions, if there are any
 abbrev pub chain_if : List ℕ → List Entry → List Chain
 chain_if key [] = []
 chain_if key (e ∷ es) = record { key = key; versions = e ∷ es } ∷ []
@@ -83,7 +83,7 @@ without_newest key (c ∷ cs) =
     if is_eq (slice_cmp nat_cmp key c.key) then chain_if c.key (older c.versions) ++ cs
     else c ∷ without_newest key cs
 
--- the chains whose key stands at or after lo, and before hi
+-- the chains whose key is at or after lo and before hi
 abbrev pub chains_between : List ℕ → List ℕ → List Chain → List Chain
 chains_between lo hi chains = filter (λ c. key_between lo hi c.key) chains
 

@@ -9,7 +9,7 @@ use Rattle.lsm_key.specs.Limits.{entry_weight}
 use Rattle.lsm_key.specs.Entries.{AreSound}
 use Rattle.lsm_key.specs.Order.{IsAscending}
 
--- the greatest sequence, 0 where there is no entry
+-- the greatest sequence, 0 if there is no entry
 abbrev pub last_sequence : List Entry → ℕ
 last_sequence [] = 0
 last_sequence (e ∷ es) = max e.ikey.seq (last_sequence es)

@@ -33,7 +33,7 @@ impl Chains {
     ghost use Rattle.lsm_key.specs.Places.{entry_of, entries_after};
     ghost use Rattle.lsm_mem.specs.Chains.{Chain, AreChains, entries_in, with_entry, with_entries, without_newest, chains_between, keys_in};
 
-    /// No key yet.
+    /// No keys.
     pub(crate) fn new(alloc: Global) -> Chains
         ensures { result ≡ [] }
     {
@@ -58,7 +58,7 @@ impl Chains {
         Some(self.by_key.get(key)?.as_slice())
     }
 
-    // Adds the entry of an operation as the newest one of its key. A refusal changes nothing.
+    // Adds the entry of an operation as the newest of its key. If memory runs out, nothing changes.
     fn put(&mut self, op: &Op, seq: Seq) -> Result<(), AllocError>
         ensures ok { OnOk result (self.new ≡ with_entry (entry_of seq op.now) self.old) }
         ensures err { OnErr result (self.new ≡ self.old) }
@@ -75,7 +75,7 @@ impl Chains {
         Ok(())
     }
 
-    /// Adds the entries of operations from a sequence on. A refusal changes nothing.
+    /// Adds the entries of operations, from a sequence on. If memory runs out, nothing changes.
     pub(crate) fn put_all(&mut self, ops: &[Op], first: Seq) -> Result<(), AllocError>
         requires chained { AreChains self.old }
         requires some { 1 ≤ first }
@@ -93,7 +93,7 @@ impl Chains {
         Ok(())
     }
 
-    // Takes back what `put_all` added.
+    // Removes what `put_all` added.
     fn take_all(&mut self, ops: &[Op])
         ensures { (before : List Chain) (after : ℕ) → AreChains before
             → self.old ≡ with_entries (entries_after after ops.now) before → self.new ≡ before }
@@ -116,7 +116,7 @@ impl Chains {
         }
     }
 
-    /// Copies of all entries, in order. They share the bytes.
+    /// Copies of all entries, in order. Shares the bytes.
     pub(crate) fn entries(&self) -> Result<Vec<Entry>, AllocError>
         ensures { IfOk result (λ copies. copies.items ≡ entries_in self.now) }
     {
@@ -127,7 +127,7 @@ impl Chains {
         Ok(copies)
     }
 
-    /// Copies of the entries whose key stands at or after `lo`, and before `hi`, in order. They share the bytes.
+    /// Copies of the entries whose key is at or after `lo` and before `hi`, in order. Shares the bytes.
     pub(crate) fn entries_between(&self, lo: &[u8], hi: &[u8]) -> Result<Vec<Entry>, AllocError>
         ensures { IfOk result (λ copies. copies.items ≡ entries_in (chains_between lo.now hi.now self.now)) }
     {
@@ -143,7 +143,7 @@ impl Chains {
         Ok(copies)
     }
 
-    /// The key that stands `count` keys after the first one at or after `lo`, where there is one.
+    /// The key `count` keys after the first one at or after `lo`, if there is one.
     pub(crate) fn key_after(&self, lo: &[u8], count: usize) -> Result<Option<&[u8]>, AllocError>
         ensures { IfOk result (λ found. option_copied found ≡ slice_get (filter (key_le lo.now) (keys_in self.now)) count) }
     {
@@ -167,7 +167,7 @@ pub(crate) fn newest_at(versions: &[Entry], at: Seq) -> Option<&Entry>
     Some(&versions[place - 1])
 }
 
-// Adds copies of the entries at the end, the last one first.
+// Appends copies of the entries, the last one first.
 fn push_newest_first(copies: &mut Vec<Entry>, versions: &[Entry]) -> Result<(), AllocError>
     ensures { OnOk result (copies.new.items ≡ copies.old.items ++ reverse versions.now) }
 {

@@ -9,7 +9,7 @@ use std::marker::Model;
 #[derive(Debug, Drop)]
 pub struct Memtable {
     chains: Chains,
-    // What the entries take in a block, in bytes.
+    // The size that the entries take in a block, in bytes.
     weight: usize,
     // How many entries there are.
     count: usize,
@@ -42,7 +42,7 @@ impl Memtable {
     ghost use Rattle.lsm_mem.specs.Memtable.{IsMemtable, keys_of, last_sequence};
     ghost use Rattle.lsm_key.specs.Order.{is_between, key_le};
 
-    /// No entry yet.
+    /// An empty memtable.
     pub fn new(alloc: Global) -> Memtable
         ensures { result ≡ [] }
     {
@@ -54,9 +54,9 @@ impl Memtable {
         }
     }
 
-    /// Adds the entries of a batch: its operation number i, from 0, gets the sequence `first_seq` + i. `first_seq` comes after
-    /// every sequence in the memtable, the last operation's is at most `Seq::MAX`, and the entries fit the memtable's weight.
-    /// Where memory does not suffice the memtable stays as it was.
+    /// Adds the entries of a batch: its operation number i, from 0, gets the sequence `first_seq` + i. `first_seq`
+    /// comes after every sequence in the memtable, the last operation's is at most `Seq::MAX`, and the entries fit the
+    /// memtable's weight. If memory runs out, the memtable stays as it was.
     pub fn apply(&mut self, first_seq: Seq, batch: &Batch) -> Result<(), AllocError>
         requires newer { last_sequence self.old < first_seq }
         requires room { sum_by entry_weight self.old + total_weight batch.now ≤ MAX_MEMTABLE_WEIGHT }
@@ -74,8 +74,8 @@ impl Memtable {
         Ok(())
     }
 
-    /// The entry of the key with the greatest sequence at most `at`. It takes no memory, and as many comparisons as the
-    /// counts of keys and of the key's versions have bits.
+    /// The entry of the key with the greatest sequence at most `at`. O(log n) comparisons for the key and for its
+    /// versions, no allocation.
     pub fn get(&self, key: &[u8], at: Seq) -> Option<EntryRef<'_>>
         ensures { option_map lent result ≡ visible self.now key.now at }
     {
@@ -89,7 +89,7 @@ impl Memtable {
         })
     }
 
-    /// Copies of all entries, in the order of internal keys, or want of memory. They share the bytes.
+    /// Copies of all entries, in the order of internal keys, or out of memory. Shares the bytes.
     pub fn entries(&self) -> Result<Vec<Entry>, AllocError>
         ensures all { IfOk result (λ copies. copies.items ≡ self.now) }
         ensures sound { IsMemtable self.now }
@@ -97,9 +97,8 @@ impl Memtable {
         self.chains.entries()
     }
 
-    /// Copies of the entries whose key stands at or after `lo`, and before `hi`, in the order of internal keys, or want of
-    /// memory. They share the bytes. It takes as many comparisons as the count of keys has bits, and a step for each entry
-    /// that it gives.
+    /// Copies of the entries whose key is at or after `lo` and before `hi`, in the order of internal keys, or out of
+    /// memory. Shares the bytes. O(log n) comparisons, and a step for each entry returned.
     pub fn range(&self, lo: &[u8], hi: &[u8]) -> Result<Vec<Entry>, AllocError>
         ensures all { IfOk result (λ copies. copies.items ≡ filter (is_between lo.now hi.now) self.now) }
         ensures sound { IsMemtable self.now }
@@ -107,15 +106,15 @@ impl Memtable {
         self.chains.entries_between(lo, hi)
     }
 
-    /// The key that stands `count` keys after the first one at or after `lo`, where there is one, or want of memory. It takes
-    /// as many comparisons as the count of keys has bits, and a step for each key that it passes over.
+    /// The key `count` keys after the first one at or after `lo`, if there is one, or out of memory. O(log n)
+    /// comparisons, and a step for each key skipped.
     pub fn key_after(&self, lo: &[u8], count: usize) -> Result<Option<&[u8]>, AllocError>
         ensures { IfOk result (λ found. option_copied found ≡ slice_get (filter (key_le lo.now) (keys_of self.now)) count) }
     {
         self.chains.key_after(lo, count)
     }
 
-    /// The greatest sequence, 0 where there is no entry.
+    /// The greatest sequence, 0 if there is no entry.
     pub fn last_seq(&self) -> Seq
         ensures value { result ≡ last_sequence self.now }
         ensures early { (e : Entry) → IsIn e self.now → e.ikey.seq ≤ result }
@@ -124,7 +123,7 @@ impl Memtable {
         self.last
     }
 
-    /// What the entries take in a block, in bytes.
+    /// The size that the entries take in a block, in bytes.
     pub fn weight(&self) -> usize
         ensures value { result ≡ sum_by entry_weight self.now }
         ensures bound { result ≤ MAX_MEMTABLE_WEIGHT }

@@ -96,7 +96,7 @@ module _ (points : List ℕ) (deeper : List KeyRange) (whole : List Entry) (uniq
     earlier : (z : Entry) → IsIn z a → Precedes z x
     later : (z : Entry) → IsIn z b → Precedes x z
 
-  -- seen by a test of its key that no entry before it passes
+  -- seen by a test of its key that no entry before it satisfies
   seen_by : (a b : List Entry) (x : Entry) → Stands a x b → (test : Entry → Bool) → ((z : Entry) → test z ≡ true → z.ikey.key ≡ x.ikey.key) → test x ≡ true
       → ((z : Entry) → IsIn z a → test z ≡ true → ⊥) → latest test whole ≡ Some x
   seen_by a b x s test of_key passes none =

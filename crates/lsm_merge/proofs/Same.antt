@@ -1,4 +1,4 @@
--- Lists in order have an entry of one key and sequence exactly where the list of all has two.
+-- Sorted lists share an entry's key and sequence exactly when the merged list has two of them.
 use Rattle.std.proofs.Common.{◌≡◌, ℕ, ◌≤◌, Bool, true, false, cond, ◌&&◌, ◌⊎◌, List, [], ◌∷◌, zero, suc, eqb, refl, sym, ap, ◌∙◌, subst, inl, inr, arith}
 use Rattle.std.specs.declared.cmp.Ordering.{Ordering}
 use Rattle.std.specs.declared.cmp.Ordering.TheVariants.{Less, Equal, Greater}

@@ -57,7 +57,7 @@ one_list (x ∷ xs) (y ∷ ys) a b same =
 
 -- ---- where it is cut
 
--- two fronts of one list: they are one, or one goes on where the other ends
+-- two prefixes of one list: they are equal, or one continues where the other ends
 data Fronts (one other one_rest other_rest : List Entry) : Type 0 where
   equal : one ≡ other → one_rest ≡ other_rest → Fronts one other one_rest other_rest
   longer : (e : Entry) (mid : List Entry) → other ≡ one ++ e ∷ mid → one_rest ≡ (e ∷ mid) ++ other_rest → Fronts one other one_rest other_rest
@@ -156,7 +156,7 @@ one_cut (xs ∷ one) (ys ∷ other) a b e = by (one_cut one other (rest_of xs on
     by again (longer z mid same rest) = absurd (never_longer xs ys (all_entries one) (all_entries other) z mid (first_of xs one a) (first_of ys other b).late same rest)
     by again (shorter z mid same rest) = absurd (never_longer ys xs (all_entries other) (all_entries one) z mid (first_of ys other b) (first_of xs one a).late same rest)
 
--- ---- and spelled
+-- ---- and encoded
 
 one_spelling : (one other : List (List ℕ)) (lists : List (List Entry)) → AreTables one lists → AreTables other lists → one ≡ other
 one_spelling [] [] [] a b = refl

@@ -1,4 +1,4 @@
--- What a merge makes (LevelDB, db_impl.cc, DoCompactionWork: an output is closed at a size; the rule that no key stands in two of them is RocksDB's, wiki, Leveled Compaction).
+-- What a merge makes (LevelDB, db_impl.cc, DoCompactionWork: an output is closed at a size; the rule that no key is in two of them is RocksDB's, wiki, Leveled Compaction).
 use Rattle.std.specs.Prelude.{◌≡◌, ℕ, ◌<◌, ◌≤◌, true, not, List, [], ◌∷◌, length, filter, sum_by, All, AllPairs}
 use Rattle.lsm_key.specs.declared.entry.Entry.{Entry}
 use Rattle.lsm_key.specs.Limits.{entry_weight}
@@ -19,7 +19,7 @@ weight_of entries = sum_by entry_weight entries
 abbrev pub before_last_key : List Entry → List Entry
 before_last_key entries = filter (λ e. not (has_key (largest_key entries) e)) entries
 
--- each key of the one stands before each of the other
+-- each key of the one is before each of the other
 abbrev pub HasLowerKeys : List Entry → List Entry → Type 0
 HasLowerKeys entries later = (e f : Entry) → IsIn e entries → IsIn f later → key_lt e.ikey.key f.ikey.key ≡ true
 

@@ -1,4 +1,4 @@
--- Ranges of keys, made fit for one look (LevelDB, version_set.cc, SomeFileOverlapsRange: a binary search among ranges that are in order; the pass of the code).
+-- Ranges of keys, prepared for a binary search (LevelDB, version_set.cc, SomeFileOverlapsRange: a binary search among ranges that are in order; the pass of the code).
 use Rattle.std.specs.Prelude.{◌≡◌, ℕ, ◌≤◌, ◌<◌, true, List, [], ◌∷◌, length, slice_index_or, if◌then◌else◌}
 use Rattle.lsm_key.specs.Order.{key_le}
 use Rattle.lsm_msg.specs.declared.job.KeyRange.{KeyRange}
@@ -15,12 +15,12 @@ IsByGreatest ranges = (i j : ℕ) (d : KeyRange) → i ≤ j → j < length rang
 abbrev pub greater : List ℕ → List ℕ → List ℕ
 greater a b = if key_le b a then a else b
 
--- each as far as the ranges before it, and a key, reach
+-- each end raised to the maximum of the ends so far and a key
 abbrev pub widened : List ℕ → List KeyRange → List KeyRange
 widened reach [] = []
 widened reach (r ∷ rs) = record { lo = r.lo; hi = greater reach r.hi } ∷ widened (greater reach r.hi) rs
 
--- ranges that tell by one look whether a key is in one
+-- ranges in which a binary search tells whether a key is in one
 pub record AreReaching (ranges : List KeyRange) : Type 0 where
   pub least : IsByLeast ranges
   pub greatest : IsByGreatest ranges

@@ -12,11 +12,11 @@ use lsm_key::{ENTRY_OVERHEAD, Entry};
 use lsm_table::encode_table;
 use std::alloc::{AllocError, Global};
 
-/// An output is closed before the next key once its entries weigh so much, about as LevelDB's files: few files for a level,
-/// and each of them small beside what a later merge may take. In bytes, as the entries stand in a block.
+/// An output is closed before the next key once its entries weigh this much, about as LevelDB's files: few files for a
+/// level, and each of them small compared to what a later merge may take. In bytes, as the entries take in a block.
 pub const OUTPUT_TARGET: usize = 2_000_000;
 
-// The tables of entries in order, of which no key has many.
+// The tables of entries in order. No key has many entries.
 pub(crate) fn outputs_of(alloc: Global, entries: &[Entry]) -> Result<Vec<Bytes>, AllocError>
     requires sound { AreEntries entries.now }
     requires few { AreFew entries.now }
@@ -34,7 +34,7 @@ pub(crate) fn outputs_of(alloc: Global, entries: &[Entry]) -> Result<Vec<Bytes>,
     Ok(outputs)
 }
 
-// How many entries the first output takes: no key has some in it and some behind it.
+// How many entries the first output takes: all of a key or none.
 fn output_end(entries: &[Entry]) -> usize
     requires some { 0 < length entries.now }
     requires sound { AreEntries entries.now }
@@ -44,7 +44,7 @@ fn output_end(entries: &[Entry]) -> usize
     key_end(entries, heavy_end(entries))
 }
 
-// How many entries from the front weigh enough for an output, or all.
+// How many entries from the front weigh enough for an output, or all of them.
 fn heavy_end(entries: &[Entry]) -> usize
     requires some { 0 < length entries.now }
     requires sound { AreEntries entries.now }
@@ -63,7 +63,7 @@ fn heavy_end(entries: &[Entry]) -> usize
     entries.len()
 }
 
-// What it takes in a block.
+// Its size in a block.
 fn entry_weight(entry: &Entry) -> usize
     requires { IsEntry entry.now }
     ensures { result ≡ entry_weight entry.now }
@@ -71,7 +71,7 @@ fn entry_weight(entry: &Entry) -> usize
     ENTRY_OVERHEAD + entry.ikey.key.len() + entry.value.len()
 }
 
-// Where the entries end that have the key of the last of so many.
+// The index after the last entry with the key of entry `count - 1`.
 fn key_end(entries: &[Entry], count: usize) -> usize
     requires some { 0 < count }
     requires within { count ≤ length entries.now }

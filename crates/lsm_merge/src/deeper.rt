@@ -12,8 +12,8 @@ use lsm_msg::KeyRange;
 use std::alloc::{AllocError, Global};
 use std::marker::Model;
 
-/// The keys of some ranges: in the order of their least keys, each as far as any before it reaches, so that a search finds
-/// the one that tells. As many comparisons as the count of ranges has bits, where each range had to be asked.
+/// Union of key ranges, sorted by start, each end raised to the running maximum, so that membership is one binary
+/// search: O(log n) comparisons, not one a range.
 #[derive(Drop)]
 pub(crate) struct DeeperKeys {
     ranges: Vec<KeyRange>,
@@ -28,7 +28,7 @@ impl Model for DeeperKeys {
 }
 
 impl DeeperKeys {
-    /// The keys of the ranges. They share the bytes.
+    /// The union of the ranges. Shares the bytes.
     pub(crate) fn of(alloc: Global, ranges: &[KeyRange]) -> Result<DeeperKeys, AllocError>
         ensures { IfOk result (λ keys. (key : List ℕ) → is_in_ranges keys key ≡ is_in_ranges ranges.now key) }
     {
@@ -37,7 +37,7 @@ impl DeeperKeys {
         Ok(DeeperKeys { ranges })
     }
 
-    /// Whether the key is one of them.
+    /// Whether the key is in one of them.
     pub(crate) fn have(&self, key: &[u8]) -> bool
         ensures { result ≡ is_in_ranges self.now key.now }
     {
@@ -56,7 +56,7 @@ fn by_least(alloc: Global, ranges: &[KeyRange]) -> Result<Vec<KeyRange>, AllocEr
     Ok(sorted)
 }
 
-// Each range as far as any before it reaches.
+// The ranges, each end raised to the maximum so far.
 fn widened(alloc: Global, ranges: &[KeyRange]) -> Result<Vec<KeyRange>, AllocError>
     ensures { IfOk result (λ wide. wide.items ≡ widened [] ranges.now) }
 {

@@ -3,15 +3,15 @@
 use std::alloc::{AllocError, AllocFailed};
 use thiserror::Error;
 
-/// Why tables are not merged, the first reason that holds.
+/// Why tables are not merged: the first reason that holds.
 #[derive(Clone, Copy, Debug, PartialEq, Eq, Error)]
 pub enum MergeError {
-    /// There is not one table for each input of the job, or a table is not as the file record of its place says: by its
-    /// least and greatest key, its length in bytes or its number of entries.
+    /// There is not one table for each input of the job, or a table is not as the file record at its position says: by
+    /// its least and greatest key, its length in bytes or its number of entries.
     #[error("the tables are not the inputs of the job")]
     WrongInputs,
-    /// Of an entry that is there twice no read could tell which one is meant.
-    #[error("two inputs have an entry of one key and sequence")]
+    /// A read could not tell the two apart.
+    #[error("two inputs share an entry's key and sequence")]
     SameEntry,
     #[error("out of memory")]
     OutOfMemory,

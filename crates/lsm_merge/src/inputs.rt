@@ -1,4 +1,4 @@
-//! Whether tables are what a job is to merge.
+//! Whether tables are the inputs of a job.
 
 ghost use Rattle.std.specs.Prelude.{◌≡◌, ◌↔◌, All, IfOk, IsTrue, map};
 ghost use Rattle.lsm_key.specs.Order.{IsAscending, IsInOrder, precedes};
@@ -12,7 +12,7 @@ use lsm_key::{Entry, InternalKey, compare_place};
 use lsm_table::Table;
 use std::alloc::{AllocError, Global};
 
-// One table for each record, as it says.
+// Whether there is one table for each record, as it says.
 pub(crate) fn are_as_recorded(files: &[FileMeta], tables: &[Table]) -> bool
     ensures { IsTrue result ↔ AreAsRecorded files.now tables.now }
 {
@@ -36,7 +36,7 @@ fn is_as_recorded(file: &FileMeta, table: &Table) -> bool
         && file.entries as usize == table.count()
 }
 
-// Copies of the entries of each table. They share the bytes.
+// Copies of the entries of each table. Shares the bytes.
 pub(crate) fn copies_of(alloc: Global, tables: &[Table]) -> Result<Vec<Vec<Entry>>, AllocError>
     requires { AllTables tables.now }
     ensures all { IfOk result (λ lists. map (λ list. list.items) lists.items ≡ lists_of tables.now) }
@@ -50,7 +50,7 @@ pub(crate) fn copies_of(alloc: Global, tables: &[Table]) -> Result<Vec<Vec<Entry
     Ok(lists)
 }
 
-// Whether each entry stands before the next one.
+// Whether each entry is before the next one.
 pub(crate) fn is_ascending(entries: &[Entry]) -> bool
     ensures { IsTrue result ↔ IsAscending entries.now }
 {
@@ -68,8 +68,8 @@ fn stands_before(entry: &Entry, next: &Entry) -> bool
     compare_place(&entry.ikey, next.ikey.key.as_slice(), next.ikey.seq).is_lt()
 }
 
-// Whether two of the tables have an entry of one key and sequence. It takes no memory, and looks each entry up in each
-// later table.
+// Whether two of the tables share an entry's key and sequence. Allocates nothing: each entry is looked up in each later
+// table.
 pub(crate) fn have_same_entry(tables: &[Table]) -> bool
     ensures { IsTrue result ↔ HaveSameEntry (lists_of tables.now) }
 {
@@ -81,7 +81,7 @@ pub(crate) fn have_same_entry(tables: &[Table]) -> bool
     false
 }
 
-// Whether it has one with a later table.
+// Whether it shares one with a later table.
 fn shares_entry(table: &Table, later: &[Table]) -> bool
     ensures { result ≡ list_any (λ e. list_any (λ t. has_place e.ikey t.entries) later.now) table.now.entries }
 {

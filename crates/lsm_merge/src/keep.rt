@@ -12,7 +12,7 @@ use lsm_key::{Entry, Kind, Seq};
 use lsm_msg::Job;
 use std::alloc::{AllocError, Global};
 
-// The kept ones of entries in order. They share the bytes.
+// The entries to keep of entries in order. Shares the bytes.
 pub(crate) fn kept_of(alloc: Global, entries: &[Entry], job: &Job) -> Result<Vec<Entry>, AllocError>
     ensures { IfOk result (λ kept. kept.items ≡ kept_list job.now.points job.now.deeper None entries.now) }
 {
@@ -20,7 +20,7 @@ pub(crate) fn kept_of(alloc: Global, entries: &[Entry], job: &Job) -> Result<Vec
     kept_beside(alloc, entries, job.points(), &deeper)
 }
 
-// The same in one pass, where deeper files may have these keys.
+// The same in one pass, given the keys that deeper files may have.
 fn kept_beside(
     alloc: Global,
     entries: &[Entry],
@@ -40,7 +40,7 @@ fn kept_beside(
     Ok(kept)
 }
 
-// Whether an entry is kept, after the one before it.
+// Whether an entry is kept, given the one before it.
 fn stays(points: &[Seq], deeper: &DeeperKeys, before: Option<&Entry>, entry: &Entry) -> bool
     ensures { result ≡ stays points.now deeper.now (option_map (λ (b : Bor Entry). b.now) before.entry) entry.now }
 {
@@ -67,7 +67,9 @@ fn is_seen_alone(points: &[Seq], newer: Seq, seq: Seq) -> bool
     points.iter().any(|point| seq <= *point && *point < newer)
 }
 
-// Whether it is a deletion that hides nothing any more.
+// Whether it is a deletion that hides nothing any more, and so may be dropped even though a read needs it: no snapshot
+// is older than it, so that no entry of its key in the inputs that it hides is kept; and no file below the output level
+// may hold the key. Newer levels hold only newer entries.
 fn may_go(points: &[Seq], deeper: &DeeperKeys, entry: &Entry) -> bool
     ensures { result ≡ may_go points.now deeper.now entry.now }
 {

@@ -1,11 +1,11 @@
-//! What the definition of a merge comes to, and the weight at which an output is closed as a number. The functions do nothing:
-//! each is the proof of its contract.
+//! What the definition of a merge implies, and the weight at which an output is closed as a number. The functions do
+//! nothing: each is the proof of its contract.
 
 ghost use Rattle.std.specs.Prelude.{◌≡◌};
 ghost use Rattle.lsm_merge.specs.declared.cut.TheConstants.{OUTPUT_TARGET};
 ghost use Rattle.lsm_merge.specs.Laws.{AMergeHasOneOutcome};
 
-/// The outputs of a job's tables are decided, to the byte: whoever merges them makes the same.
+/// The outputs of a job's tables are determined, to the byte: every worker produces the same.
 pub fn a_merge_has_one_outcome()
     ensures { AMergeHasOneOutcome }
 {}

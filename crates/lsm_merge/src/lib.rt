@@ -1,9 +1,9 @@
 //! Merging the tables of a job into the tables that take their place.
 //!
-//! It promises that the outputs of a merge hold just the entries that some read still needs, in order, and no key in two
-//! outputs; that tables which are not the job's inputs are refused, and so are inputs of which two have an entry of one
-//! key and sequence. It stands on `lsm_msg` for jobs and for what a merge keeps, on `lsm_table` for tables, on `lsm_edit`
-//! for the records of files, and on `lsm_key` for entries, their order and the merging of lists.
+//! It promises that the outputs of a merge hold exactly the entries that some read still needs, in order, and no key in
+//! two outputs; that tables which are not the job's inputs are refused, and so are inputs of which two share an entry's
+//! key and sequence. It stands on `lsm_msg` for jobs and for what a merge keeps, on `lsm_table` for tables, on
+//! `lsm_edit` for the records of files, and on `lsm_key` for entries, their order and the merging of lists.
 #![tactic(auto)]
 
 mod cut;

@@ -19,7 +19,7 @@ use std::alloc::{AllocError, Global};
 
 /// Merges the tables of a job, one for each of its inputs and in their order, into the bytes of the tables that take
 /// their place: the entries that some read still needs, in order. An output is closed, before the next key, once its
-/// entries weigh `OUTPUT_TARGET`; where nothing is kept there is no output.
+/// entries weigh `OUTPUT_TARGET`; if nothing is kept there is no output.
 pub fn merge(alloc: Global, tables: &[Table], job: &Job) -> Result<Vec<Bytes>, MergeError>
     ensures ok { IfOk result (λ outputs. CanMerge tables.now job.now × IsMerge tables.now job.now outputs.items) }
     ensures refused { IfErr result (IsRefused tables.now job.now) }
@@ -33,7 +33,7 @@ pub fn merge(alloc: Global, tables: &[Table], job: &Job) -> Result<Vec<Bytes>, M
     Ok(outputs)
 }
 
-// The entries of all tables, in order, of which no two tables may have one. They share the bytes.
+// The entries of all tables, in order. No two tables may share one. Shares the bytes.
 fn merged_of(alloc: Global, tables: &[Table]) -> Result<Vec<Entry>, MergeError>
     requires { AllTables tables.now }
     ensures all { IfOk result (λ merged. IsPermutation (all_entries (lists_of tables.now)) merged.items) }
@@ -42,7 +42,7 @@ fn merged_of(alloc: Global, tables: &[Table]) -> Result<Vec<Entry>, MergeError>
 {
     let merged = match all_of(alloc, tables) {
         Ok(merged) => merged,
-        // Each entry is looked up in the other tables instead, which takes no memory, but more time.
+        // Each entry is looked up in the other tables instead, which allocates nothing but takes more time.
         Err(_) if have_same_entry(tables) => return Err(MergeError::SameEntry),
         Err(_) => return Err(MergeError::OutOfMemory),
     };
@@ -53,7 +53,7 @@ fn merged_of(alloc: Global, tables: &[Table]) -> Result<Vec<Entry>, MergeError>
     }
 }
 
-// The same, of which some tables may have one.
+// The same, but tables may share entries.
 fn all_of(alloc: Global, tables: &[Table]) -> Result<Vec<Entry>, AllocError>
     requires { AllTables tables.now }
     ensures all { IfOk result (λ merged. IsPermutation (all_entries (lists_of tables.now)) merged.items) }

@@ -63,7 +63,7 @@ fn entry_of(alloc: Global, row: Row) -> Result<Entry, Fail>
     }
 }
 
-// What the builder then has is not said: no test rests on it.
+// Proof hint: nothing is claimed about the builder afterwards.
 fn add(builder: &mut TableBuilder, entry: Entry) -> Result<(), BuildError>
     requires { IsEntry entry }
 {
@@ -98,7 +98,7 @@ fn files_of(alloc: Global, tables: &[Table]) -> Result<Vec<FileMeta>, Fail> {
     Ok(files)
 }
 
-// Of the outputs nothing is said: the tests compare them.
+// Proof hint: nothing is claimed about the outputs; the tests compare them.
 fn outputs_of(alloc: Global, tables: &[Table], job: &Job) -> Result<Vec<Bytes>, MergeError> {
     merge(alloc, tables, job)
 }

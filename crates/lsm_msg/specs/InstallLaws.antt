@@ -17,7 +17,7 @@ use Rattle.lsm_msg.specs.Laws.{ReadAlike}
 use Rattle.lsm_msg.specs.Legal.{IsLegal, KnowsDeeper}
 use Rattle.lsm_msg.specs.Installs.{IsJobOf, AreInputsOf, AddNoEntry, Installs, entries_of, with_flushed}
 
--- reads after an install of what is kept give what they gave before, with newer entries above the version or none
+-- reads after an install of what is kept return what they returned before, with newer entries above the version or none
 abbrev pub InstallsKeepReads : Type 0
 InstallsKeepReads =
     (s : ServedValue) (want : Want) (job : JobParts) (edit : Edit) (tables : List Opened) (inputs above : List Entry)

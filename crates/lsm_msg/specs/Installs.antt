@@ -15,7 +15,7 @@ use Rattle.lsm_edit.specs.Served.{ServedValue, AreAsRecorded}
 use Rattle.lsm_msg.specs.declared.job.JobParts.{JobParts}
 use Rattle.lsm_msg.specs.Legal.{Takes, encloses}
 
--- the job merges just the files that the want takes
+-- the job merges exactly the files of the want
 pub record IsJobOf (files : List FileMeta) (want : Want) (job : JobParts) : Type 0 where
   pub level : job.level ≡ want.level
   pub inputs : (f : FileMeta) → IsIn f job.inputs ↔ Takes files want f

@@ -1,4 +1,4 @@
--- What the definition of a merge comes to, in general and in cases that a reader can check by hand (LevelDB, db_impl.cc, DoCompactionWork).
+-- What the definition of a merge implies, in general and in cases that a reader can check by hand (LevelDB, db_impl.cc, DoCompactionWork).
 use Rattle.std.specs.Prelude.{◌≡◌, ℕ, ◌<◌, ◌≤◌, List, [], ◌∷◌}
 use Rattle.std.specs.Option.{option_and_then}
 use Rattle.lsm_key.specs.declared.entry.Entry.{Entry}
@@ -12,14 +12,14 @@ use Rattle.lsm_msg.specs.Merge.{IsKept, HoldsKept}
 abbrev pub KeptAreInputs : Type 0
 KeptAreInputs = (inputs : List Entry) (points : List ℕ) (deeper : List KeyRange) (e : Entry) → IsKept inputs points deeper e → IsIn e inputs
 
--- of two entries of a key the older goes where no point sees it alone
+-- of two entries of a key the older one is dropped if no point sees it without the newer
 abbrev pub HiddenEntriesGo : Type 0
 HiddenEntriesGo =
     (inputs : List Entry) (points : List ℕ) (deeper : List KeyRange) (older later : Entry) → IsIn later inputs → older.ikey.key ≡ later.ikey.key
     → older.ikey.seq < later.ikey.seq → ((p : ℕ) → IsIn p points → older.ikey.seq ≤ p → later.ikey.seq ≤ p)
     → IsKept inputs points deeper older → ⊥
 
--- reads of the two give the same: at the end, at each point, and where every input is seen
+-- reads of the two return the same: the latest read, a read at each point, and one that sees every input
 abbrev pub ReadAlike : List ℕ → List Entry → List Entry → List Entry → Type 0
 ReadAlike points inputs one other =
     (key : List ℕ)
@@ -27,7 +27,7 @@ ReadAlike points inputs one other =
     × ((p : ℕ) → IsIn p points → value_at one key p ≡ value_at other key p)
     × ((p : ℕ) → ((e : Entry) → IsIn e inputs → e.ikey.seq ≤ p) → value_at one key p ≡ value_at other key p)
 
--- reads of the outputs give what reads of the inputs gave
+-- reads of the outputs return what reads of the inputs returned
 abbrev pub ReadsStay : Type 0
 ReadsStay =
     (inputs outputs : List Entry) (points : List ℕ) (deeper : List KeyRange) → IsUnique inputs → HoldsKept inputs points deeper outputs

@@ -9,7 +9,7 @@ use Rattle.lsm_key.specs.Visible.{visible, newest}
 use Rattle.lsm_claim.specs.Conflicts.{is_within}
 use Rattle.lsm_msg.specs.declared.job.KeyRange.{KeyRange}
 
--- some read needs the entry: at the end, or at a point
+-- some read needs the entry: the latest one, or one at a point
 abbrev pub IsNeeded : List Entry → List ℕ → Entry → Type 0
 IsNeeded inputs points e = (newest inputs e.ikey.key ≡ Some e) ⊎ ((p : ℕ) × IsIn p points × (visible inputs e.ikey.key p ≡ Some e))
 
@@ -17,14 +17,14 @@ abbrev pub is_deletion : Kind → Bool
 is_deletion Delete = true
 is_deletion Put = false
 
--- the sequence is at most every point, and so at most any where there is none
+-- the sequence is at most every point; with no point, any sequence is
 abbrev pub is_at_most_all : List ℕ → ℕ → Bool
 is_at_most_all points seq = list_all (λ p. nat_le seq p) points
 
 abbrev pub is_in_ranges : List KeyRange → List ℕ → Bool
 is_in_ranges ranges key = list_any (λ r. is_within r.lo r.hi key) ranges
 
--- a deletion that hides nothing any more: no point lies before it, and no deeper file may have its key
+-- a deletion that hides nothing any more: no snapshot is older than it, and no file below the output level may have its key
 abbrev pub may_go : List ℕ → List KeyRange → Entry → Bool
 may_go points deeper e = is_deletion e.ikey.kind && (is_at_most_all points e.ikey.seq && not (is_in_ranges deeper e.ikey.key))
 

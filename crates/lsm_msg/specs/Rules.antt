@@ -10,7 +10,7 @@ use Rattle.lsm_edit.specs.File.{IsFile}
 use Rattle.lsm_msg.specs.declared.rules.TheConstants.{MAX_DEEPER, MAX_INPUTS, MAX_POINTS}
 use Rattle.lsm_msg.specs.declared.job.KeyRange.{KeyRange}
 
--- a name that an epoch may give
+-- a name that an epoch may issue
 pub record IsJobId (id : JobId) : Type 0 where
   pub some_epoch : 1 ≤ id.epoch
   pub epoch : id.epoch ≤ MAX_NUMBER
@@ -34,7 +34,7 @@ pub record AreInputs (upper : ℕ) (files : List FileMeta) : Type 0 where
   pub rising : AllPairs (λ f g. f.number < g.number) files
   pub own : Any (λ f. f.level ≡ upper) files
 
--- two keys of which the first does not stand after the second
+-- two keys, the first not after the second
 pub record AreKeys (lo hi : List ℕ) : Type 0 where
   pub first : IsKey MAX_KEY_BYTES lo
   pub last : IsKey MAX_KEY_BYTES hi

@@ -9,7 +9,7 @@ use lsm_key::{Items, MAX_TABLE_BYTES, Seq};
 use std::alloc::{AllocError, Global};
 use std::marker::Model;
 
-/// The keys from one to another, both in it: those of a file, as its record says. Within the rules or not.
+/// A closed range of keys: those of a file, as its record says. It may break the rules.
 #[derive(Debug, Drop, Clone, PartialEq, Eq)]
 pub struct KeyRange {
     /// Its least key.
@@ -18,7 +18,7 @@ pub struct KeyRange {
     pub hi: Bytes,
 }
 
-/// What a job is made of, within the rules or not.
+/// The parts of a job, which may break the rules.
 #[derive(Debug, Drop)]
 pub struct JobParts {
     /// Its name.
@@ -27,7 +27,7 @@ pub struct JobParts {
     pub level: u8,
     /// The block target of its outputs, 1 to 16,777,216. In bytes.
     pub block: u32,
-    /// The sequences of the snapshots that are to read as before, at most 64, ascending.
+    /// The sequences of the snapshots whose reads must not change, at most 64, ascending.
     pub points: Items<Seq>,
     /// The files to merge, 1 to 1,024, by number; each of its level or the next one, and one of its level.
     pub inputs: Items<FileMeta>,
@@ -39,7 +39,7 @@ impl JobParts {
     ghost use Rattle.std.specs.Prelude.{◌≡◌, ◌↔◌, IfOk, IsTrue};
     ghost use Rattle.lsm_msg.specs.Jobs.{IsJob};
 
-    /// Whether they are within the rules.
+    /// Whether they keep the rules.
     pub fn is_job(&self) -> bool
         ensures { IsTrue result ↔ IsJob self.now }
     {
@@ -81,7 +81,7 @@ impl JobParts {
     }
 }
 
-/// A merge that a worker is to do. Its type keeps it within the rules, so that who receives one need not look.
+/// A merge for a worker to do. Its type keeps the rules, so a receiver need not check them.
 #[derive(Debug, Drop)]
 pub struct Job {
     parts: JobParts,
@@ -103,7 +103,7 @@ impl Job {
     ghost use Rattle.std.specs.Prelude.{◌≡◌, ◌≤◌, ◌↔◌, IfOk, IfSome, IsSome, IsTrue};
     ghost use Rattle.lsm_msg.specs.Jobs.{IsJob};
 
-    /// The job of these parts, or `None` where they break a rule.
+    /// The job of these parts, or `None` if they break a rule.
     pub fn new(parts: JobParts) -> Option<Job>
         ensures within { IsSome result ↔ IsJob parts }
         ensures kept { IfSome result (λ job. job ≡ parts) }
@@ -115,7 +115,7 @@ impl Job {
         }
     }
 
-    /// What it is made of, within the rules.
+    /// Its parts, which keep the rules.
     pub fn parts(&self) -> &JobParts
         ensures all { result.now ≡ self.now }
         ensures sound { IsJob self.now }
@@ -146,7 +146,7 @@ impl Job {
         self.parts.block
     }
 
-    /// The sequences at which reads are to stay as they are, ascending.
+    /// The sequences at which reads must not change, ascending.
     pub fn points(&self) -> &[Seq]
         ensures all { result.now ≡ self.now.points }
         ensures sound { IsJob self.now }

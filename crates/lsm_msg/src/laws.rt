@@ -1,53 +1,53 @@
-//! What the definition of a merge comes to, what installs and flushes leave as it was, and the limits of a job as numbers. The
-//! functions do nothing: each is the proof of its contract.
+//! What the definition of a merge implies, what installs and flushes leave unchanged, and the limits of a job as
+//! numbers. The functions do nothing: each is the proof of its contract.
 
 ghost use Rattle.std.specs.Prelude.{◌≡◌};
 ghost use Rattle.lsm_msg.specs.declared.rules.TheConstants.{MAX_DEEPER, MAX_INPUTS, MAX_JOB_LEVEL, MAX_POINTS};
 ghost use Rattle.lsm_msg.specs.Laws.{KeptAreInputs, HiddenEntriesGo, ReadsStay, ASnapshotKeepsBoth, BothGo, ADeeperFileKeepsTheDeletion};
 ghost use Rattle.lsm_msg.specs.InstallLaws.{InstallsKeepReads, InstallsAddNoEntry, InstallsKeepOrder, InstallsKeepJobs, FlushesKeepOrder, FlushesKeepJobs};
 
-/// A merge makes no entry: what is kept was there.
+/// A merge makes no entry: what is kept was in its inputs.
 pub fn kept_are_inputs()
     ensures { KeptAreInputs }
 {}
 
-/// Of two entries of a key the older goes where no point sees it alone.
+/// Of two entries of a key the older one is dropped if no point sees it without the newer.
 pub fn hidden_entries_go()
     ensures { HiddenEntriesGo }
 {}
 
-/// Reads of what is kept give what reads of the inputs gave, at the end, at each point and where every input is seen. No two
-/// inputs may have one key and sequence.
+/// Reads of what is kept return what reads of the inputs returned: the latest read, a read at each point, and one that
+/// sees every input. No two inputs may share a key and sequence.
 pub fn reads_stay()
     ensures { ReadsStay }
 {}
 
-/// An install of what is kept changes no read: at the end, at the points of the job, and where every input is seen. There may
-/// be newer entries above the version, as those of memtables.
+/// An install of what is kept changes no read: the latest, those at the points of the job, and those that see every
+/// input. There may be newer entries above the version, such as those of memtables.
 pub fn installs_keep_reads()
     ensures { InstallsKeepReads }
 {}
 
-/// An install whose outputs hold entries of its inputs alone, kept or not, adds no entry, and the newer entries of a key are
-/// still in the place that is searched first.
+/// An install whose outputs hold only entries of its inputs, kept or not, adds no entry, and the newer entries of a key
+/// are still in the source that is searched first.
 pub fn installs_keep_order()
     ensures entries { InstallsAddNoEntry }
     ensures order { InstallsKeepOrder }
 {}
 
-/// An install leaves each want that does not conflict legal, its jobs their inputs and, if its outputs hold entries of its own
-/// inputs alone, what they know of deeper keys.
+/// An install keeps each want legal that does not conflict. Their jobs keep their inputs and, if its outputs hold only
+/// entries of its own inputs, what they know of deeper keys.
 pub fn installs_keep_jobs()
     ensures { InstallsKeepJobs }
 {}
 
-/// After a flush of entries that are newer than all others the newer entries of a key are still in the place that is searched
+/// After a flush of entries newer than all others, the newer entries of a key are still in the source that is searched
 /// first.
 pub fn flushes_keep_order()
     ensures { FlushesKeepOrder }
 {}
 
-/// A flush under a new number leaves each want legal, its jobs their inputs and what they know of deeper keys.
+/// A flush under a new number keeps each want legal. Their jobs keep their inputs and what they know of deeper keys.
 pub fn flushes_keep_jobs()
     ensures { FlushesKeepJobs }
 {}

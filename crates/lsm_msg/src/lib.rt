@@ -1,10 +1,11 @@
 //! Jobs and messages as plain data, and what a merge keeps.
 //!
-//! Nodes speak in messages, and a job is the one with rules. It promises that every job is within the rules of its format,
-//! and that a copy is the same value, however often a message was copied on its way. Its definitions say which files may be
-//! merged and which entries the outputs of a job hold; its laws, that the install of such outputs changes no read, and that
-//! neither it nor a flush gets in the way of other jobs. It stands on `lsm_edit` for versions with their tables, on
-//! `lsm_claim` for the names of jobs, their wants and ranges of keys, and on `lsm_key` for what a set of entries shows.
+//! Nodes exchange messages; of these only a job has rules. It promises that every job keeps the rules of its format,
+//! and that a copy is the same value, however often a message was copied on its way. Its definitions say which files
+//! may be merged and which entries the outputs of a job hold; its laws, that the install of such outputs changes no
+//! read, and that neither it nor a flush invalidates other jobs. It stands on `lsm_edit` for versions with their
+//! tables, on `lsm_claim` for the names of jobs, their wants and ranges of keys, and on `lsm_key` for what is visible
+//! in a set of entries.
 #![tactic(auto)]
 
 mod job;

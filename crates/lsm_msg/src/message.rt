@@ -7,30 +7,30 @@ use bytes::Bytes;
 use lsm_edit::{Edit, Version};
 use std::alloc::{AllocError, Global};
 
-/// What a message says.
+/// The body of a message.
 #[derive(Debug, Drop)]
 pub enum Body {
-    /// Do this merge.
+    /// Asks for this merge.
     Job(Job),
-    /// Send the table of this file.
+    /// Asks for the table of this file.
     Fetch(u64),
     /// The table of a file.
     Table(u64, Bytes),
-    /// This file's table is served no more.
+    /// This file's table is no longer served.
     Gone(u64),
-    /// What a merge gave.
+    /// The result of a merge.
     Result(JobResult),
-    /// What comes after this version?
+    /// Asks what comes after this version.
     Ask(u64),
-    /// How the next version comes about.
+    /// The next edit.
     Edit(Edit),
-    /// A whole version, for who is too far behind to go on by edits.
+    /// A full version, for a follower too far behind to catch up by edits.
     Base(Version),
-    /// There is no later version than this one.
+    /// You are up to date: this is the latest version.
     Current(u64),
 }
 
-/// A message on its way.
+/// A message in transit.
 #[derive(Debug, Drop)]
 pub struct Message {
     pub src: Node,

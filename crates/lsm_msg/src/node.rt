@@ -1,8 +1,8 @@
-//! Nodes: who sends and receives messages.
+//! Nodes, which send and receive messages.
 
 use std::marker::Model;
 
-/// As many workers, and as many followers, as a coordinator may have: one worker for each live claim.
+/// The most workers, and the most followers, that a coordinator may have: one worker for each live claim.
 pub const MAX_NODES: u8 = 4;
 
 /// Which worker or follower it is, from 1 to `MAX_NODES`.
@@ -27,7 +27,7 @@ impl Model for NodeIndex {
 impl NodeIndex {
     ghost use Rattle.std.specs.Prelude.{◌≡◌, ◌≤◌, ◌↔◌, IfSome, IsSome};
 
-    /// The index of this number, or `None` where there is none.
+    /// The index of this number, or `None` if it is out of range.
     pub fn new(number: u8) -> Option<NodeIndex>
         ensures within { IsSome result ↔ ((1 ≤ number) × (number ≤ MAX_NODES)) }
         ensures kept { IfSome result (λ index. index ≡ number) }

@@ -12,10 +12,10 @@ use lsm_claim::JobId;
 use lsm_edit::FileMeta;
 use lsm_key::{MAX_KEY_BYTES, MAX_NUMBER, MAX_TABLE_BYTES, Seq};
 
-/// The deepest level that has a next one to merge with.
+/// The deepest level that has a level below to merge into.
 pub const MAX_JOB_LEVEL: u8 = 5;
 
-/// As many snapshots as may be live, since each may need a point.
+/// The most snapshots that may be live, since each may need a point.
 pub const MAX_POINTS: usize = 64;
 
 /// A worker has all inputs in memory at a time. In files.
@@ -24,14 +24,14 @@ pub const MAX_INPUTS: usize = 1024;
 /// A job is sent in one message, which the ranges of deeper files must not fill. In ranges.
 pub const MAX_DEEPER: usize = 65_536;
 
-// A name that an epoch may give.
+// Whether an epoch may issue this name.
 pub(crate) fn is_job_id(id: JobId) -> bool
     ensures { IsTrue result ↔ IsJobId id }
 {
     id.epoch >= 1 && id.epoch <= MAX_NUMBER && id.number >= 1 && id.number <= MAX_NUMBER
 }
 
-// At most so many, ascending.
+// Whether there are at most `MAX_POINTS`, ascending.
 pub(crate) fn are_points(points: &[Seq]) -> bool
     ensures { IsTrue result ↔ ArePoints points.now }
 {
@@ -49,7 +49,8 @@ fn points_rise(points: &[Seq]) -> bool
     true
 }
 
-// At most so many file records, by number, each of the level or the next one, and one of the level.
+// Whether there are at most `MAX_INPUTS` file records, by number, each of the level or the next one, and one of the
+// level.
 pub(crate) fn are_inputs(level: u8, files: &[FileMeta]) -> bool
     ensures { IsTrue result ↔ AreInputs level files.now }
 {
@@ -94,7 +95,7 @@ fn uses_level(job: u8, level: u8) -> bool
     level == job || level as u16 == job as u16 + 1
 }
 
-// A file record within its limits.
+// Whether a file record is within its limits.
 fn is_file(file: &FileMeta) -> bool
     ensures { IsTrue result ↔ IsFile file.now }
 {
@@ -107,14 +108,14 @@ fn is_file(file: &FileMeta) -> bool
         && file.entries >= 1
 }
 
-// At most so many ranges.
+// Whether there are at most `MAX_DEEPER` ranges, each in order.
 pub(crate) fn are_deeper(ranges: &[KeyRange]) -> bool
     ensures { IsTrue result ↔ AreDeeper ranges.now }
 {
     ranges.len() <= MAX_DEEPER && ranges.iter().all(|range| are_keys(&range.lo, &range.hi))
 }
 
-// Two keys of which the first does not stand after the second.
+// Whether these are two keys, the first not after the second.
 fn are_keys(lo: &Bytes, hi: &Bytes) -> bool
     ensures { IsTrue result ↔ AreKeys lo.now hi.now }
 {

@@ -19,8 +19,8 @@ static LONGEST: [u8; 1024] = [97; 1024];
 
 static LONG: [u8; 1025] = [97; 1025];
 
-// A job's level, its inputs by number and level, and whether it may have them: they are of its level or the next, with one
-// of its level, and their numbers rise.
+// A job's level, its inputs by number and level, and whether it may have them: they must be of its level or the next,
+// one of its level, with ascending numbers.
 const INPUTS: [(u8, &[(u64, u8)], bool); 10] = [
     (0, &[(1, 0)], true),
     (5, &[(1, 6), (2, 5)], true),
@@ -98,7 +98,7 @@ fn inputs_of(alloc: Global, files: &[(u64, u8)]) -> Result<Items<FileMeta>, Allo
     Ok(inputs)
 }
 
-// So many ranges.
+// `count` ranges.
 fn deeper_of(alloc: Global, count: u32) -> Result<Items<KeyRange>, AllocError> {
     let mut deeper = Items::new(alloc);
     for _ in 0..count {
@@ -148,7 +148,7 @@ fn takes_range(alloc: Global, lo: &'static [u8], hi: &'static [u8]) -> Result<bo
     Ok(parts.is_job())
 }
 
-// Whether a job may have so many deeper ranges.
+// Whether a job may have `count` deeper ranges.
 fn takes_deeper(alloc: Global, count: u32) -> Result<bool, AllocError> {
     let mut parts = parts(alloc)?;
     parts.deeper = deeper_of(alloc, count)?;
@@ -304,7 +304,7 @@ fn first_version(alloc: Global) -> Result<Version, Fail> {
     Ok(version)
 }
 
-// A body of each kind, by its place from 0 to 8.
+// A body of each kind, by its index from 0 to 8.
 fn body_of(alloc: Global, place: u32) -> Result<Body, Fail> {
     Ok(match place {
         0 => Body::Job(job(alloc)?),

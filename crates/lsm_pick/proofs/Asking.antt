@@ -1,4 +1,4 @@
--- What a trial asks for, once its closure's hull is known.
+-- What a candidate proposes, once its closure's hull is known.
 use Rattle.std.proofs.Common.{◌≡◌, ℕ, ◌+◌, ◌≤◌, Bool, true, false, not, cond, ◌&&◌, ◌||◌, List, [], ◌∷◌, ◌⊎◌, inl, inr, refl, sym, ap, ◌∙◌, subst, arith, map, eqb, ltb, leb, length}
 use Rattle.std.specs.List.{filter, list_any, sum_by}
 use Rattle.std.proofs.lemmas.Bool.{true≢false, or_cases, or_left, or_right, and_parts, and_from, eq-eqb, eqb-true, lt-ltb}
@@ -95,7 +95,7 @@ module _ (files : List FileMeta) (rise : NumbersRise files) (each : (f : FileMet
         | inr joined ↦ full.full f parts.0 joined.0 joined.1
       ]
 
-  -- a file of level 0 in a narrow closure is no newer than the first
+  -- a file of level 0 in a closure of older files only is no newer than the first
   no_newer : t.first.level ≡ 0 → t.narrow ≡ true → (h : FileMeta) → IsIn h set → h.level ≡ 0 → h.number ≤ t.first.number
   no_newer zero narrow h m level = elim (set_cases h m).1 [
     | inl same ↦ let e : h.number ≡ t.first.number = ap (λ (f : FileMeta). f.number) same in omega (arith, e)

@@ -1,4 +1,4 @@
--- A trial asks for one want at most: its closure is least, and a hull has its ends among the closure's keys.
+-- A candidate proposes at most one compaction: its closure is least, and a hull has its ends among the closure's keys.
 use Rattle.std.proofs.Common.{◌≡◌, ℕ, true, not, List, refl, sym, ap, subst, ◌∙◌, map, eqb}
 use Rattle.std.proofs.Math.Bool.{Bool-set}
 use Rattle.std.proofs.Math.Path.{PathP, to_path_p}

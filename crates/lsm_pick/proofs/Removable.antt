@@ -1,4 +1,4 @@
--- The numbers of what a trial asks for are those that an edit may remove.
+-- The numbers of what a candidate proposes are those that an edit may remove.
 use Rattle.std.proofs.Common.{ℕ, ◌+◌, ◌<◌, ◌≤◌, Bool, true, false, cond, List, [], ◌∷◌, inl, inr, refl, sym, ap, subst, ◌∙◌, arith, map, length, eqb}
 use Rattle.std.specs.List.{filter, list_any}
 use Rattle.std.proofs.lemmas.Bool.{leb-true, and_parts}

@@ -1,4 +1,4 @@
--- What comes of trials one after another.
+-- Outcomes of candidates, one after another.
 use Rattle.std.proofs.Common.{◌≡◌, ℕ, zero, suc, ◌+◌, ◌<◌, ◌≤◌, Bool, true, false, List, [], ◌∷◌, ◌++◌, inl, inr, refl, sym, ap, ◌∙◌, subst, arith, length, get_or, take, drop, Result, Ok, Err}
 use Rattle.std.specs.List.{filter, flat_map}
 use Rattle.std.specs.Result.{IfErr, OnErr}

@@ -4,13 +4,13 @@ use Rattle.lsm_key.specs.Sets.{IsIn}
 use Rattle.lsm_key.specs.Order.{key_le}
 use Rattle.lsm_edit.specs.declared.file.FileMeta.{FileMeta}
 
--- A file to begin with. A narrow trial of level 0 leaves out the files there that are newer than all of its own, so that a
+-- A file to begin with. With older files only, a candidate of level 0 leaves out the newer files there, so that a
 -- backlog can be merged in parts.
 pub record Trial : Type 0 where
   pub first : FileMeta
   pub narrow : Bool
 
--- the file meets the hull of the set: it neither ends before all of the set begins, nor begins after all of it ends
+-- the file overlaps the key range of the set
 abbrev pub MeetsHull : List FileMeta → FileMeta → Type 0
 MeetsHull set g =
     ((a : FileMeta) × IsIn a set × (key_le a.smallest g.largest ≡ true))
@@ -20,14 +20,14 @@ MeetsHull set g =
 abbrev pub HasNewer : List FileMeta → FileMeta → Type 0
 HasNewer set g = (h : FileMeta) × IsIn h set × (h.level ≡ 0) × (g.number < h.number)
 
--- a file that the set must have: of the next level, or of level 0 too, and in a narrow trial there only an older one
+-- a file that the set must have: of the next level, or of level 0 too, and with older files only an older one there
 abbrev pub Joins : Trial → List FileMeta → FileMeta → Type 0
 Joins t set g = MeetsHull set g × ((g.level ≡ t.first.level + 1) ⊎ ((t.first.level ≡ 0) × (g.level ≡ 0) × ((t.narrow ≡ false) ⊎ HasNewer set g)))
 
 abbrev pub IsClosed : List FileMeta → Trial → List FileMeta → Type 0
 IsClosed files t set = (g : FileMeta) → IsIn g files → Joins t set g → IsIn g set
 
--- the least closed set of the files that has the first one
+-- the least closed set of files that has the first one
 pub record IsClosure (files : List FileMeta) (t : Trial) (set : List FileMeta) : Type 0 where
   pub has : IsIn t.first set
   pub among : (g : FileMeta) → IsIn g set → IsIn g files

@@ -1,4 +1,4 @@
--- The limits of a job, of the closure that reaches from one key to another.
+-- The job limits, for the closure with a given key range.
 use Rattle.std.specs.Prelude.{ℕ, ◌+◌, Bool, ◌&&◌, List, Option, None, Some, filter, length, nat_lt, nat_le, sum_by, if◌then◌else◌}
 use Rattle.lsm_edit.specs.declared.file.FileMeta.{FileMeta}
 use Rattle.lsm_msg.specs.declared.rules.TheConstants.{MAX_DEEPER, MAX_INPUTS}
@@ -6,7 +6,7 @@ use Rattle.lsm_pick.specs.declared.limit.TheConstants.{MAX_INPUT_BYTES}
 use Rattle.lsm_pick.specs.Closure.{Trial}
 use Rattle.lsm_pick.specs.Reach.{is_met, is_taken}
 
--- the bytes of a job's inputs, where there are not too many of these
+-- the bytes of a job's inputs, if there are not too many of these
 abbrev pub counted : List FileMeta → Option ℕ
 counted files = if nat_le (length files) MAX_INPUTS then Some (sum_by (λ f. f.bytes) files) else None
 

@@ -7,7 +7,7 @@ use Rattle.lsm_edit.specs.declared.file.FileMeta.{FileMeta}
 abbrev pub of_level : ℕ → List FileMeta → List FileMeta
 of_level level files = filter (λ f. nat_eq f.level level) files
 
--- level 0 is due by the number of its files
+-- level 0 needs compaction by the number of its files
 abbrev pub is_full : Limits → List FileMeta → Bool
 is_full limits files = nat_le limits.l0 (length (of_level 0 files))
 
@@ -26,6 +26,6 @@ is_due limits files level = if nat_eq level 0 then is_full limits files else is_
 abbrev pub levels : List ℕ
 levels = 0 ∷ 1 ∷ 2 ∷ 3 ∷ 4 ∷ 5 ∷ []
 
--- those that are, the uppermost first
+-- the levels that need compaction, the lowest number first
 abbrev pub due_levels : Limits → List FileMeta → List ℕ
 due_levels limits files = filter (is_due limits files) levels

@@ -1,4 +1,4 @@
--- The keys that a closure reaches while it is searched for, and the files that it takes in the end.
+-- The key range of a closure while it is searched for, and the files that it has in the end.
 use Rattle.std.specs.Prelude.{◌≡◌, ◌⊎◌, ℕ, ◌+◌, Bool, true, not, ◌&&◌, ◌||◌, List, nat_eq, nat_lt, if◌then◌else◌}
 use Rattle.lsm_key.specs.Sets.{IsIn}
 use Rattle.lsm_key.specs.Order.{key_le}
@@ -17,19 +17,19 @@ lower lo key = if key_le lo key then lo else key
 abbrev pub higher : List ℕ → List ℕ → List ℕ
 higher hi key = if key_le key hi then hi else key
 
--- the file has a key from lo to hi, by its range
+-- the file's range overlaps the keys from lo to hi
 abbrev pub is_met : List ℕ → List ℕ → FileMeta → Bool
 is_met lo hi f = ranges_meet lo hi f.smallest f.largest
 
--- it has no other
+-- its range is inside them
 abbrev pub is_inside : List ℕ → List ℕ → FileMeta → Bool
 is_inside lo hi f = key_le lo f.smallest && key_le f.largest hi
 
--- a file that the closure takes where it meets it
+-- a file that joins the closure if it overlaps its key range
 abbrev pub may_join : Trial → FileMeta → Bool
 may_join t f = nat_eq f.level (t.first.level + 1) || (nat_eq t.first.level 0 && (nat_eq f.level 0 && (not t.narrow || nat_lt f.number t.first.number)))
 
--- the first file, or one of those
+-- the first file, or one that may join
 abbrev pub IsEligible : Trial → FileMeta → Type 0
 IsEligible t f = (f ≡ t.first) ⊎ (may_join t f ≡ true)
 
@@ -41,14 +41,14 @@ pub record IsReach (files : List FileMeta) (t : Trial) (lo hi : List ℕ) : Type
   pub greatest : (b : FileMeta) × IsIn b files × IsEligible t b × (b.largest ≡ hi) × (key_le lo b.smallest ≡ true)
   pub forced : (set : List FileMeta) → IsIn t.first set → IsClosed files t set → ((a : FileMeta) × IsIn a set × (a.smallest ≡ lo)) × ((b : FileMeta) × IsIn b set × (b.largest ≡ hi))
 
--- the reach has grown by files that join, and has taken in all of the level that it met
+-- the range has grown by files that join, and covers all files of the level that it overlapped
 pub record Grows (t : Trial) (places : List Placed) (test : FileMeta → Bool) (lo hi new_lo new_hi : List ℕ) : Type 0 where
   pub low : key_le new_lo lo ≡ true
   pub high : key_le hi new_hi ≡ true
   pub taken : (p : Placed) → IsIn p places → test p.meta ≡ true → is_met lo hi p.meta ≡ true → is_inside new_lo new_hi p.meta ≡ true
   pub sound : (files : List FileMeta) → ((p : Placed) → IsIn p places → IsIn p.meta files) → IsReach files t lo hi → IsReach files t new_lo new_hi
 
--- nothing is left to be taken in
+-- no file is left to join
 pub record IsFull (files : List FileMeta) (t : Trial) (lo hi : List ℕ) : Type 0 where
   pub reach : IsReach files t lo hi
   pub full : (f : FileMeta) → IsIn f files → may_join t f ≡ true → is_met lo hi f ≡ true → is_inside lo hi f ≡ true

@@ -1,4 +1,4 @@
--- What has come of some trials, as the search keeps it.
+-- The outcome of a prefix of the candidates.
 use Rattle.std.specs.Prelude.{Bool, true, false, List}
 use Rattle.lsm_claim.specs.declared.job.LiveJob.{LiveJob}
 use Rattle.lsm_edit.specs.declared.file.FileMeta.{FileMeta}
@@ -13,11 +13,11 @@ Comes files live ts (tried.Taken want) = IsFirst files live ts want
 Comes files live ts tried.TooWide = AreTooWide files live ts
 Comes files live ts tried.Claimed = AreClaimed files live ts
 
--- memory is wanted only where there is something to take
+-- there is something to pick, and so to allocate
 abbrev pub Wants : List FileMeta → List LiveJob → List Trial → Type 0
 Wants files live ts = (want : Want) × IsFirst files live ts want
 
--- what comes of trials and of those after them
+-- the outcome of candidates and of those after them
 abbrev pub or_later : Tried → Tried → Tried
 or_later (tried.Taken want) later = tried.Taken want
 or_later tried.TooWide (tried.Taken want) = tried.Taken want

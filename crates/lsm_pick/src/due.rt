@@ -1,4 +1,4 @@
-//! Levels that are due.
+//! Levels that need compaction (are due).
 
 ghost use Rattle.std.specs.Prelude.{◌≡◌, ◌≤◌, ◌*◌, ◌^◌, ◌-◌, ◌+◌, count_by, sum_by, length, nat_eq, nat_le, nat_lt};
 ghost use Rattle.lsm_key.specs.declared.limits.TheConstants.{MAX_BASE};
@@ -7,7 +7,7 @@ ghost use Rattle.lsm_pick.specs.Due.{is_due, is_full, is_heavy, of_level, allowe
 use lsm_edit::FileMeta;
 use lsm_key::Limits;
 
-/// The level is due. The deepest one, which has no next, never is.
+/// Whether the level needs compaction. The deepest one, which has none below it, never does.
 pub(crate) fn is_due(limits: &Limits, files: &[FileMeta], level: u8) -> bool
     requires { level ≤ 5 }
     ensures { result ≡ is_due limits.now files.now level }
@@ -19,7 +19,7 @@ pub(crate) fn is_due(limits: &Limits, files: &[FileMeta], level: u8) -> bool
     }
 }
 
-// Level 0 has as many files as make it due.
+// Whether level 0 has enough files to need compaction.
 fn is_full(limits: &Limits, files: &[FileMeta]) -> bool
     ensures { result ≡ is_full limits.now files.now }
 {
@@ -33,7 +33,7 @@ fn level_zero_count(files: &[FileMeta]) -> usize
     files.iter().filter(|file| file.level == 0).count()
 }
 
-// How many bytes a deeper level may have.
+// The most bytes that a deeper level may have before it needs compaction.
 fn allowed(limits: &Limits, level: u8) -> u64
     requires some { 1 ≤ level }
     requires most { level ≤ 5 }
@@ -43,7 +43,7 @@ fn allowed(limits: &Limits, level: u8) -> u64
     limits.base * FACTORS[level as usize - 1]
 }
 
-// The files of the level have more bytes than that.
+// Whether the files of the level have more bytes than that.
 fn exceeds(files: &[FileMeta], level: u8, most: u64) -> bool
     requires { most ≤ MAX_BASE * 10000 }
     ensures { result ≡ is_heavy files.now level most }

@@ -3,10 +3,10 @@
 use std::alloc::{AllocError, AllocFailed};
 use thiserror::Error;
 
-/// Why nothing can be picked though a level is due.
+/// Why nothing can be picked though a level needs compaction.
 #[derive(Clone, Copy, Debug, PartialEq, Eq, Error)]
 pub enum PickError {
-    #[error("every merge that no job stands against passes a limit of a job")]
+    #[error("every compaction that no running job blocks exceeds a job size limit")]
     TooWide,
     #[error("out of memory")]
     OutOfMemory,

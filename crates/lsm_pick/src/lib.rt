@@ -1,8 +1,9 @@
 //! The picker: which files to merge next.
 //!
-//! It promises the rule exactly: due levels from the lowest up, in each the files by number, and of these the first whose
-//! closure no live job stands against and no limit of a job forbids. It stands on `lsm_edit` for versions and the order of
-//! their places, on `lsm_claim` for live jobs, and on `lsm_msg` for the limits of a job and for what may be merged.
+//! It promises the rule exactly: levels that need compaction from the lowest up, in each the files by number, and of
+//! these the first whose closure conflicts with no running job and is within the job limits. It stands on `lsm_edit`
+//! for versions and the search order of their files, on `lsm_claim` for live jobs, and on `lsm_msg` for the limits of a
+//! job and for what may be merged.
 #![tactic(auto)]
 
 mod due;

@@ -12,7 +12,7 @@ use lsm_msg::{MAX_DEEPER, MAX_INPUTS};
 /// A worker has all inputs of a job in memory at a time, whatever their number. In bytes.
 pub const MAX_INPUT_BYTES: u64 = 268_435_456;
 
-/// The closure passes no limit of a job.
+/// Whether the closure is within the job limits.
 pub(crate) fn is_within(
     files: &[FileMeta],
     first: &FileMeta,
@@ -29,7 +29,7 @@ pub(crate) fn is_within(
     bytes <= MAX_INPUT_BYTES && deeper_count(files, first.level, reach) <= MAX_DEEPER
 }
 
-// The bytes of the closure's files, or `None` where there are more of these than a job may have.
+// The bytes of the closure's files, or `None` if there are more of these than a job may have.
 fn input_bytes(files: &[FileMeta], first: &FileMeta, narrow: bool, reach: Reach<'_>) -> Option<u64>
     requires { first.now.level ≤ 5 }
     ensures { result ≡ counted (filter (is_taken (trial_of first.now narrow) reach.entry.lo.now reach.entry.hi.now) files.now) }

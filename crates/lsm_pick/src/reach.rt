@@ -1,7 +1,7 @@
-//! Closures, by the keys that they reach.
+//! Closures, by their key ranges.
 //!
-//! A closure is known by its hull: it takes the first file, and of the files that may join it those that the hull meets. So
-//! the search only widens the hull, level by level, until no file widens it any more.
+//! A closure is determined by its key range: it has the first file, and of the files that may join it those that
+//! overlap the range. So the search only widens the range, level by level, until no file widens it any more.
 
 ghost use Rattle.std.specs.Prelude.{◌≡◌, ◌≤◌, ◌&&◌, ◌+◌, false, true, IsTrue, ◌↔◌, drop, if◌then◌else◌, length, nat_eq, take};
 ghost use Rattle.lsm_key.specs.Sets.{IsIn};
@@ -12,7 +12,7 @@ ghost use Rattle.lsm_pick.specs.Reach.{Grows, IsFull, higher, is_met, joins_at, 
 
 use lsm_edit::{FileMeta, Placed, Served};
 
-/// The keys from the least one of a closure to its greatest, both in it, while it grows.
+/// The key range of a closure while it grows: from the least key to the greatest, both included.
 #[derive(Clone, Copy, Debug)]
 pub(crate) struct Reach<'a> {
     pub(crate) lo: &'a [u8],
@@ -30,7 +30,7 @@ impl<'a> Reach<'a> {
         }
     }
 
-    // With the keys of a file.
+    // Extended by the keys of a file.
     fn with(self, file: &'a FileMeta) -> Reach<'a>
         ensures lo { result.lo.now ≡ lower self.entry.lo.now file.now.smallest }
         ensures hi { result.hi.now ≡ higher self.entry.hi.now file.now.largest }
@@ -50,7 +50,7 @@ impl<'a> Reach<'a> {
         }
     }
 
-    // With the keys of a file, where it may join and is met.
+    // Extended by the keys of a file, if it may join and overlaps.
     fn taking(self, first: &FileMeta, narrow: bool, file: &'a FileMeta) -> Reach<'a>
         requires { first.now.level ≤ 5 }
         ensures lo { result.lo.now ≡ if may_join (trial_of first.now narrow) file.now && is_met self.entry.lo.now self.entry.hi.now file.now then lower self.entry.lo.now file.now.smallest else self.entry.lo.now }
@@ -63,7 +63,7 @@ impl<'a> Reach<'a> {
         }
     }
 
-    /// The file has a key of these, by its range.
+    /// Whether the file's range overlaps this one.
     pub(crate) fn meets(self, file: &FileMeta) -> bool
         ensures { result ≡ is_met self.entry.lo.now self.entry.hi.now file.now }
     {
@@ -78,14 +78,14 @@ impl<'a> Reach<'a> {
     }
 }
 
-/// The keys of the closure of a file. In each round the files of the next level are found by a binary search; those of
-/// level 0, which are in no order of keys, are looked through once.
+/// The key range of the closure of a file. In each round the files of the next level are found by a binary search;
+/// those of level 0, which are not sorted by key, are scanned once.
 pub(crate) fn closure<'a>(served: &'a Served, first: &'a FileMeta, narrow: bool) -> Reach<'a>
     requires level { first.now.level ≤ 5 }
     requires listed { IsIn first.now served.now.version.files }
     ensures { IsFull served.now.version.files (trial_of first.now narrow) result.lo.now result.hi.now }
 {
-    // That the places are sound and are those of the listed files, as the proof wants to know.
+    // Proof hint: the version's invariant, and that its places have the listed files.
     let _listing = served.listing();
     let places = served.places();
     let mut reach = Reach::of(first);
@@ -97,7 +97,7 @@ pub(crate) fn closure<'a>(served: &'a Served, first: &'a FileMeta, narrow: bool)
     reach
 }
 
-// Widened by all files that join and meet it.
+// Widened by all files that may join and overlap it.
 fn widened<'a>(places: &'a [Placed], first: &FileMeta, narrow: bool, reach: Reach<'a>) -> Reach<'a>
     requires level { first.now.level ≤ 5 }
     requires recorded { AllRecorded places.now }
@@ -111,7 +111,7 @@ fn widened<'a>(places: &'a [Placed], first: &FileMeta, narrow: bool, reach: Reac
     with_level_zero(places, first, narrow, below)
 }
 
-// Widened by the files of the next level that meet it.
+// Widened by the files of the next level that overlap it.
 fn with_next<'a>(
     places: &'a [Placed],
     first: &FileMeta,
@@ -135,7 +135,7 @@ fn with_next<'a>(
     wider
 }
 
-// Widened by the files of level 0 that join and meet it.
+// Widened by the files of level 0 that may join and overlap it.
 fn with_level_zero<'a>(
     places: &'a [Placed],
     first: &FileMeta,
@@ -156,7 +156,7 @@ fn with_level_zero<'a>(
     wider
 }
 
-/// The file is taken where it is met.
+/// Whether the file joins the closure if it overlaps its range.
 pub(crate) fn may_join(first: &FileMeta, narrow: bool, file: &FileMeta) -> bool
     requires { first.now.level ≤ 5 }
     ensures { result ≡ may_join (trial_of first.now narrow) file.now }
@@ -165,7 +165,7 @@ pub(crate) fn may_join(first: &FileMeta, narrow: bool, file: &FileMeta) -> bool
         || (first.level == 0 && file.level == 0 && (!narrow || file.number < first.number))
 }
 
-// How many places come left of the key in a level.
+// The index of the first file at or after the key in a level, or after the level.
 fn place_in(places: &[Placed], level: u8, key: &[u8]) -> usize
     requires recorded { AllRecorded places.now }
     requires ordered { AreInSearchOrder places.now }
@@ -177,7 +177,7 @@ fn place_in(places: &[Placed], level: u8, key: &[u8]) -> usize
     places.partition_point(|placed| stands_left(placed, level, key))
 }
 
-// The file is of an upper level, or of this one with all its keys below the key.
+// Whether the file is of an upper level, or of this one with all its keys below the key.
 fn stands_left(placed: &Placed, level: u8, key: &[u8]) -> bool
     ensures { result ≡ comes_left level key.now placed.now }
 {
@@ -187,7 +187,7 @@ fn stands_left(placed: &Placed, level: u8, key: &[u8]) -> bool
     key.cmp(placed.meta.largest.as_slice()).is_gt()
 }
 
-// The file is of the level, and its smallest key is no greater than the key.
+// Whether the file is of the level and its smallest key is no greater than the key.
 fn begins_by(placed: &Placed, level: u8, key: &[u8]) -> bool
     ensures { result ≡ (nat_eq placed.now.meta.level level && key_le placed.now.meta.smallest key.now) }
 {

@@ -27,12 +27,13 @@ use lsm_key::Limits;
 use lsm_msg::MAX_JOB_LEVEL;
 use std::alloc::{AllocError, Global};
 
-/// What to merge next: the want of the first trial that no live job stands against and that passes no limit of a job, or
-/// `None` where nothing is due or live jobs stand against all. It is refused as `TooWide` where a limit alone stands against one and nothing
-/// comes of any. Memory is wanted only for a want that is given.
+/// What to merge next: the first candidate that conflicts with no running job and is within the job limits. `None` if
+/// no level needs compaction or all candidates conflict. `TooWide` if at least one candidate failed only by size and
+/// none is eligible. Allocates only for the compaction that it returns.
 ///
-/// A trial costs a binary search and the files that it meets in each round, and one of level 0 a pass over level 0 too; a
-/// round widens the hull by a file at least. One that no job stands against costs a pass over the version's files.
+/// In each round a candidate costs a binary search and the files that it overlaps, and at level 0 a pass over level 0
+/// too; each round adds at least one file. A candidate that conflicts with no job costs a pass over the version's
+/// files.
 pub fn pick(
     alloc: Global,
     served: &Served,
@@ -47,7 +48,7 @@ pub fn pick(
     ensures too_wide { IfErr result (λ e. e ≡ TooWide → AreTooWide served.now.version.files book.now.live (trials limits.now served.now.version.files)) }
     ensures memory { IfErr result (λ e. e ≡ OutOfMemory → Wants served.now.version.files book.now.live (trials limits.now served.now.version.files)) }
 {
-    // That the files are sound, as the proof wants to know.
+    // Proof hint: the version's invariant.
     let _listing = served.listing();
     match try_all(alloc, served, book.live(), limits)? {
         Tried::Taken(want) => Ok(Some(want)),
@@ -56,7 +57,7 @@ pub fn pick(
     }
 }
 
-// What comes of all trials.
+// The outcome of all candidates.
 fn try_all(
     alloc: Global,
     served: &Served,
@@ -79,7 +80,7 @@ fn try_all(
     Ok(tried)
 }
 
-// What comes of the trials of a level.
+// The outcome of a level's candidates.
 fn try_level(
     alloc: Global,
     served: &Served,
@@ -103,7 +104,7 @@ fn try_level(
     Ok(tried)
 }
 
-// What comes of the trials of a file: at level 0 a narrow one follows.
+// The outcome of a file's candidates: at level 0 the one with older files only comes second.
 fn try_file(
     alloc: Global,
     served: &Served,
@@ -123,7 +124,7 @@ fn try_file(
     Ok(wide.or(narrow))
 }
 
-// What comes of a trial.
+// The outcome of one candidate.
 fn try_closure(
     alloc: Global,
     served: &Served,
@@ -148,7 +149,7 @@ fn try_closure(
     Ok(Tried::Taken(want))
 }
 
-// A live job shares a level, and has a key in common.
+// Whether a live job shares a level and has a key in common.
 fn is_claimed(live: &[LiveJob], level: u8, reach: Reach<'_>) -> bool
     ensures { result ≡ list_any (λ j. shares_level j.want.level level && ranges_meet j.want.hull.lo j.want.hull.hi reach.entry.lo.now reach.entry.hi.now) live.now }
 {

@@ -39,14 +39,14 @@ fn push_key(text: &mut String, key: &[u8]) -> Result<(), Fail> {
     Ok(())
 }
 
-/// What is picked where no job is live.
+/// What is picked if no job is live.
 fn first_pick(alloc: Global, served: &Served, l0: u64, base: u64) -> Result<String, Fail> {
     let book = ClaimBook::new(alloc, 1);
     let limits = limits_of(l0, base)?;
     shown(alloc, pick(alloc, served, &book, &limits)?)
 }
 
-/// What is picked next, while that is claimed.
+/// What is picked next, while that one is claimed.
 fn second_pick(alloc: Global, served: &Served, l0: u64) -> Result<String, Fail> {
     let mut book = ClaimBook::new(alloc, 1);
     let limits = limits_of(l0, DEFAULT_BASE)?;
@@ -169,7 +169,7 @@ fn a_refusal_says_why(rt: HostRuntime) -> Result<(), Fail> {
     let texts = [
         (
             PickError::TooWide,
-            "every merge that no job stands against passes a limit of a job",
+            "every compaction that no running job blocks exceeds a job size limit",
         ),
         (PickError::OutOfMemory, "out of memory"),
     ];

@@ -1,23 +1,23 @@
-//! What comes of trials.
+//! Outcomes of candidates.
 
 ghost use Rattle.std.specs.Prelude.{◌≡◌};
 ghost use Rattle.lsm_pick.specs.Tried.{is_some_taken, or_later};
 
 use lsm_claim::Want;
 
-/// What comes of some trials, in their order.
+/// The outcome of a prefix of the candidates.
 #[derive(Debug, Drop)]
 pub(crate) enum Tried {
-    /// The first of which something comes asks for this.
+    /// The first eligible candidate proposes this.
     Taken(Want),
-    /// Nothing comes of any, and against one a limit alone stands.
+    /// No candidate is eligible, and at least one failed only by size.
     TooWide,
-    /// A live job stands against each.
+    /// Every candidate conflicts with a running job.
     Claimed,
 }
 
 impl Tried {
-    /// Something comes of one.
+    /// Whether a candidate is eligible.
     pub(crate) fn is_taken(&self) -> bool
         ensures { result ≡ is_some_taken self.now }
     {
@@ -27,7 +27,7 @@ impl Tried {
         }
     }
 
-    /// What comes of these trials and of those after them.
+    /// The outcome of these candidates and of those after them.
     pub(crate) fn or(self, later: Tried) -> Tried
         ensures { result ≡ or_later self later }
     {

@@ -1,4 +1,4 @@
-//! The want that a closure becomes.
+//! The compaction of a closure.
 
 ghost use Rattle.std.specs.Prelude.{◌≡◌, ◌≤◌, IfOk, filter, map, true};
 ghost use Rattle.lsm_key.specs.Order.{key_le};
@@ -11,7 +11,7 @@ use lsm_edit::FileMeta;
 use lsm_key::Items;
 use std::alloc::{AllocError, Global};
 
-/// The file is of the closure.
+/// Whether the file is in the closure.
 pub(crate) fn takes(first: &FileMeta, narrow: bool, reach: Reach<'_>, file: &FileMeta) -> bool
     requires { first.now.level ≤ 5 }
     ensures { result ≡ is_taken (trial_of first.now narrow) reach.entry.lo.now reach.entry.hi.now file.now }
@@ -19,7 +19,7 @@ pub(crate) fn takes(first: &FileMeta, narrow: bool, reach: Reach<'_>, file: &Fil
     file.number == first.number || (may_join(first, narrow, file) && reach.meets(file))
 }
 
-/// The want of a closure.
+/// The compaction of a closure.
 pub(crate) fn want_of(
     alloc: Global,
     files: &[FileMeta],

@@ -148,7 +148,7 @@ module _ (old mid : CoordValue) (claim : LiveJob) (job : JobParts) (ver : IsVers
       let others = and_parts _ _ limits.1 in
       subst (λ (fs : List FileMeta). sum_by (λ f. f.bytes) fs ≤ 268435456) (sym picked.job_is.inputs) (leb-true _ _ others.0)
 
-  -- of a state that is shown no two inputs have one entry
+  -- if a state is shown, no two inputs share an entry
   pub none_same : (s : State) → Shows old s → HaveSameEntry (lists_of (tables_at mid.served.places job.inputs)) → ⊥
   none_same s h = none_shared mid.served mid_ver mid_is job.inputs inputs_of_version inputs_rise (subst (λ (v : ServedValue). AreOrdered (tables_of v.places)) (sym served_is) h.tables.ordered)
 

@@ -1,4 +1,4 @@
--- A run goes on by one step.
+-- A run continues by one step.
 use Rattle.std.proofs.Common.{◌≡◌, ℕ, List, [], ◌∷◌, ◌++◌, Option, refl, sym, ap, subst, ◌∙◌, map, append_assoc, append-nil}
 use Rattle.std.proofs.Common.{Result, Ok, Err, OnOk}
 use Rattle.std.proofs.lemmas.List.{map-append}

@@ -1,4 +1,4 @@
--- What a word spells, from its first byte on.
+-- What a word encodes, from its first byte on.
 use Rattle.std.proofs.Common.{◌≡◌, ℕ, ◌<◌, ◌≤◌, false, eqb, List, [], ◌∷◌, ◌++◌, length, drop, get_or, Option, Some, None, refl, ap, ◌∙◌, arith, append_assoc}
 use Rattle.std.specs.Option.{option_map}
 use Rattle.lsm_sim.specs.Tokens.{literal, escape, onto, spelled}

@@ -1,4 +1,4 @@
--- What each call of the coordinator answers tells the refusal that is forced.
+-- The answer of each call of the coordinator reports the refusal that is forced.
 use Rattle.std.proofs.Common.{◌≡◌, ℕ, List, Option, Some, None, inl, inr, refl, ap, ◌∙◌, IfSome, cond, is_none}
 use Rattle.std.specs.Prelude.{MatchOption}
 use Rattle.std.specs.Option.{option_map}
@@ -20,7 +20,7 @@ use Rattle.lsm_coord.specs.declared.error.CoordError.TheVariants as error
 use Rattle.lsm_coord.proofs.Faults.{write_forced, freeze_forced, flush_forced, snapshot_forced, release_forced}
 use Rattle.lsm_sim.specs.Runs.{Tells}
 
--- where nothing is forced, nothing need be told
+-- if nothing is forced, nothing need be reported
 pub none_told : (s : State) (event : Event) (reply : Reply) → refusal s event ≡ None → Tells s event reply
 none_told s event reply none = rw none tt
 
@@ -31,7 +31,7 @@ one_told s event why one = rw one refl
 fault_told : (s : State) (event : Event) (fault : Option CoordError) (e : CoordError) → refusal s event ≡ option_map refusal_of fault → fault ≡ Some e → Tells s event (say.Refused (refusal_of e))
 fault_told s event fault e forced is = one_told s event (refusal_of e) (forced ∙ ap (option_map refusal_of) is)
 
--- and want of memory comes only where there is none
+-- and out of memory is reported only if there is none
 refusal_told : (s : State) (event : Event) (fault : Option CoordError) (e : CoordError) → refusal s event ≡ option_map refusal_of fault → Refuses error.OutOfMemory fault e → Tells s event (say.Refused (refusal_of e))
 refusal_told s event fault e forced (inl is) = fault_told s event fault e forced is
 refusal_told s event fault e forced (inr none) = none_told s event _ (forced ∙ ap (option_map refusal_of) none.0)

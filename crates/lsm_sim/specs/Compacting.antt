@@ -42,14 +42,14 @@ abbrev pub Brings : Body → Option Opened → Type 0
 Brings (body.Table file bytes) table = (t : Opened) × (table ≡ Some t) × (t.bytes ≡ bytes) × IsTable bytes t.entries
 Brings said table = table ≡ None
 
--- a merge of the tables makes this result, or two of them have one entry
+-- a merge of the tables makes this result, or two of them share an entry
 abbrev pub Merges : List Opened → JobParts → Option JobResult → Type 0
 Merges tables job None = HaveSameEntry (lists_of tables)
 Merges tables job (Some made) = (made.job ≡ job.id) × merge.IsMerge tables job made.tables
 
 -- ---- the install
 
--- a result of the claim's job is kept back for this reason
+-- a result of the claim's job is refused for this reason
 pub record KeptBack (c : CoordValue) (claim : LiveJob) (made : JobResult) (e : CoordError) : Type 0 where
   pub live : LiveJob
   pub is_live : IsLive c claim.id live
@@ -59,7 +59,7 @@ pub record KeptBack (c : CoordValue) (claim : LiveJob) (made : JobResult) (e : C
 
 -- ---- a compaction
 
--- a pick, a result that holds just what a merge keeps of the job's inputs, and its install
+-- a pick, a result that holds exactly what a merge keeps of the job's inputs, and its install
 pub record IsCompaction (old : CoordValue) (number : ℕ) (files : List ℕ) (new : CoordValue) : Type 0 where
   pub claim : LiveJob
   pub job : JobParts
@@ -69,12 +69,12 @@ pub record IsCompaction (old : CoordValue) (number : ℕ) (files : List ℕ) (ne
   pub merged : HoldsMergeOf claimed.served job made
   pub installed : Became claimed claim made (became.Done number files) new
 
--- The old value, but that the book may count one claim more as given and taken back: no claim is left behind.
+-- The old value, except that the book may count one more claim as issued and returned: no claim is left behind.
 pub record IsLeft (old new : CoordValue) : Type 0 where
   pub rest : new ≡ record old { book = new.book }
   pub book : (new.book ≡ old.book) ⊎ (new.book ≡ record old.book { made = old.book.made + 1; returned = old.book.returned + 1 })
 
--- None is answered where the rule of a pick gives nothing: of a state that is shown there is no other cause
+-- None is returned if the rule of a pick gives nothing: if a state is shown there is no other cause
 abbrev pub Compacts : {Z : Type 0} → CoordValue → CoordValue → Option (ℕ × Vec ℕ Z) → Type 0
 Compacts old new None = IsLeft old new × ((s : State) → Shows old s → HasRoom old × GivesNone old × (new ≡ old))
 Compacts old new (Some made) = IsCompaction old made.0 made.1.items new

@@ -23,11 +23,11 @@ abbrev pub error_of : Refused Fault → RunError
 error_of refused.OutOfMemory = OutOfMemory
 error_of (refused.Fault fault) = Script fault.line fault.reason
 
--- the refusal that the state forces, where it forces one, is what is told
+-- the refusal that the state forces, if it forces one, is what is reported
 abbrev pub Tells : State → say.Event → say.Reply → Type 0
 Tells s event reply = IfSome (refusal s event) (λ why. reply ≡ say.Refused why)
 
--- A run in which each refusal that is forced is told: want of memory is answered only where none is.
+-- A run in which each forced refusal is reported: out of memory is reported only if none is forced.
 abbrev pub TellingRun : State → List say.Event → List say.Reply → State → Type 0
 TellingRun s [] [] new = new ≡ s
 TellingRun s (event ∷ events) (reply ∷ replies) new = (next : State) × Step s event reply next × Tells s event reply × TellingRun next events replies new
@@ -39,7 +39,7 @@ abbrev pub IsWrite : say.Event → Type 0
 IsWrite (say.Write ops) = Unit {0}
 IsWrite event = ⊥
 
--- Of each state that is shown before, the events and their replies are a telling run to one that is shown after.
+-- For every state shown before, the events and their replies are a telling run to one shown after.
 abbrev pub RunsTo : CoordValue → List Event → List Reply → CoordValue → Type 0
 RunsTo old events replies new = (s : State) → Shows old s → (t : State) × TellingRun s (map event_of events) (map reply_of replies) t × Shows new t
 
@@ -51,15 +51,15 @@ Prints events text = (replies : List Reply) × (last : State) × TellingRun firs
 abbrev pub PrintsScript : List ℕ → Option (List ℕ) → Option (List ℕ) → Type 0
 PrintsScript script_text old new = (events : List say.Event) × (script script_text ≡ Ok events) × (text : List ℕ) × Prints events text × Appends old new text
 
--- a first part of the events was run, and what was written is a beginning of the lines of its replies
+-- a first part of the events was run, and what was written is a prefix of the lines of its replies
 abbrev pub RunsAPart : CoordValue → List Event → CoordValue → Option (List ℕ) → Option (List ℕ) → Type 0
 RunsAPart old events new was held = (n : ℕ) × (replies : List Reply) × (k : ℕ) × RunsTo old (take n events) replies new × Appends was held (take k (lines replies))
 
--- what was written after what a writer held is a beginning of what a first part of the events of the script prints
+-- what was written after what a writer held is a prefix of what a first part of the events of the script prints
 abbrev pub PrintsAPart : List ℕ → Option (List ℕ) → Option (List ℕ) → Type 0
 PrintsAPart script_text old new = (events : List say.Event) × (script script_text ≡ Ok events) × (n : ℕ) × (text : List ℕ) × (k : ℕ) × Prints (take n events) text × Appends old new (take k text)
 
--- what each error says of the script, where that is known, and of what was written
+-- what each error says of the script, if that is known, and of what was written
 abbrev pub StopsFor : RunError → Option (List ℕ) → Option (List ℕ) → Option (List ℕ) → Type 0
 StopsFor (Script line reason) known old new = IfSome known (λ text. script text ≡ Err (record { line = line; reason = reason })) × (new ≡ old)
 StopsFor ReadFault known old new = new ≡ old

@@ -57,7 +57,7 @@ abbrev pub paired : Option ℕ → Option ℕ → Option SnapId
 paired (Some epoch) (Some number) = Some (record { epoch = epoch; number = number })
 paired epoch number = None
 
--- the word before the place of a point, and the word after it
+-- the word before the index of a point, and the word after it
 abbrev pub parted : List ℕ → Option ℕ → Option SnapId
 parted word None = None
 parted word (Some point) = paired (number (take point word)) (number (drop (point + 1) word))
@@ -71,7 +71,7 @@ abbrev pub reading_at : List ℕ → Option SnapId
 reading_at [] = None
 reading_at (byte ∷ name) = if byte == 64 then snapshot_of name else None
 
--- a word that is to name something
+-- a word that must name something
 abbrev pub named : Option SnapId → Result SnapId Reason
 named None = Err BadName
 named (Some id) = Ok id
@@ -96,7 +96,7 @@ with_first first rest = do
   Ok (first ∷ ops)
 
 unfoldable mutual
-  -- the operations of a batch, read from left to right: a word that is wrong is told before one that is missing after it
+  -- the operations of a batch, read from left to right: a wrong word is reported before one that is missing after it
   pub operations : List (List ℕ) → Result (List Op) Reason
   operations [] = Ok []
   operations (name ∷ args) =
@@ -150,7 +150,7 @@ release (name ∷ []) = do
   Ok (say.Release id)
 release args = Err WrongWordCount
 
--- a get names the snapshot that it reads at, or reads the present
+-- a get names the snapshot that it reads at, or reads the latest
 abbrev pub get : List (List ℕ) → Result say.Event Reason
 get (key ∷ []) = do
   k ← key_or_value key
@@ -161,12 +161,12 @@ get (key ∷ name ∷ []) = do
   Ok (say.Get k (Some id))
 get args = Err WrongWordCount
 
--- a word that is to be a number
+-- a word that must be a number
 abbrev pub counted : Option ℕ → Result ℕ Reason
 counted None = Err BadNumber
 counted (Some n) = Ok n
 
--- a scan of a range of keys, at the present or at a snapshot
+-- a scan of a range of keys, latest or at a snapshot
 abbrev pub scan_at : List ℕ → List ℕ → List ℕ → Result (Option SnapId) Reason → Result say.Event Reason
 scan_at lo hi limit at = do
   l ← key_or_value lo

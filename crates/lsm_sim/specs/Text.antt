@@ -15,11 +15,11 @@ abbrev pub is_word : List ℕ → Bool
 is_word [] = false
 is_word (byte ∷ piece) = true
 
--- what stands between line feeds; after a last line feed that is one line more, without words
+-- the pieces between line feeds; after a last line feed there is one more line, without words
 unfoldable pub lines : List ℕ → List (List ℕ)
 lines text = slice_split is_line_feed text
 
--- what stands between separators
+-- the pieces between separators
 unfoldable pub words : List ℕ → List (List ℕ)
 words line = filter is_word (slice_split is_separator line)
 

@@ -25,7 +25,7 @@ literal byte = if is_between 33 126 byte && not (byte == 37) then Some byte else
 abbrev pub onto : Option ℕ → Option (List ℕ) → Option (List ℕ)
 onto byte rest = option_and_then (λ b. option_map (λ bs. b ∷ bs) rest) byte
 
--- the bytes that a word spells
+-- the bytes that a word encodes
 abbrev pub spelled : List ℕ → Option (List ℕ)
 spelled [] = Some []
 spelled (a ∷ []) = onto (literal a) (spelled [])

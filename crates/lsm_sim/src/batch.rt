@@ -1,5 +1,5 @@
-//! The command `batch`: operations of one line, which are written together. Its words are read from left to right, so that
-//! a word that is wrong is told before one that is missing after it.
+//! The command `batch`: operations of one line, which are written together. Its words are read from left to right, so
+//! that a wrong word is reported before one that is missing after it.
 
 ghost use Rattle.std.specs.Prelude.{◌∷◌, ◌≤◌, length};
 ghost use Rattle.lsm_key.specs.Reading.{Gives};
@@ -14,8 +14,8 @@ use crate::words::Words;
 use lsm_key::{Op, Refused};
 use std::alloc::Global;
 
-/// `batch`, and any number of `put K V` and `del K`. None at all is no fault here, nor are more than a batch takes: the
-/// store refuses them by name. It takes one pass over the words.
+/// `batch`, and any number of `put K V` and `del K`. No operation is no fault here, nor are too many for a batch: the
+/// store refuses them by name. One pass over the words.
 pub fn batch(alloc: Global, mut args: Words<'_>) -> Result<Event, Refused<Reason>>
     ensures { Gives event_of result (batch (words args.entry.rest.now)) }
 {
@@ -27,7 +27,7 @@ pub fn batch(alloc: Global, mut args: Words<'_>) -> Result<Event, Refused<Reason
     Ok(Event::Write(ops))
 }
 
-/// The operation of this name, with its words. It leaves those after them.
+/// The operation of this name, with its words. Leaves the words after them.
 #[tactic(auto, unfolding(crate::specs::Script::operations))]
 fn operation(alloc: Global, name: &[u8], args: &mut Words<'_>) -> Result<Op, Refused<Reason>>
     ensures first { GivesFirst result (operations (name.now ∷ words args.old.rest.now)) (words args.new.rest.now) }

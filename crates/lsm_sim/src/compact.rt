@@ -1,4 +1,4 @@
-//! Compactions: one merge that is due, from its pick to its install.
+//! Compactions: one that is due, from its pick to its install.
 
 ghost use Rattle.std.specs.Prelude.{◌≡◌, ℕ, false, IfErr, IfOk, IfSome, None, OnErr, Option, Some};
 ghost use Rattle.lsm_key.specs.Sets.{IsIn};
@@ -27,9 +27,10 @@ use lsm_msg::{Body, Job, JobResult, Message, Node};
 use lsm_table::Table;
 use std::alloc::{AllocError, Global};
 
-/// Makes the merge that is due, where one is: picks its job, merges the tables that the coordinator serves, and installs the
-/// outputs. It answers the number of the new version and its new files, or `None` where nothing is picked, or where two of the
-/// inputs have one entry, as in no coordinator that shows a state. A refusal leaves the version as it was, and no claim behind.
+/// Runs the next compaction, if a level needs one: picks its job, merges the tables that the coordinator serves, and
+/// installs the outputs. Returns the number of the new version and its new files, or `None` if nothing is picked.
+/// `None` also if two inputs share an internal key; that cannot happen in a coordinator that represents a valid state.
+/// A refusal leaves the version as it was, and no claim behind.
 pub fn compact_once(alloc: Global, coord: &mut Coord) -> Result<Option<(u64, Vec<u64>)>, CoordError>
     ensures ok { IfOk result (Compacts coord.old coord.new) }
     ensures err { OnErr result (IsLeft coord.old coord.new) }
@@ -37,14 +38,14 @@ pub fn compact_once(alloc: Global, coord: &mut Coord) -> Result<Option<(u64, Vec
     ensures step { (dispatcher message : ℕ) → IsIndex dispatcher → (s : State) → Shows coord.old s → IsReached dispatcher message s result coord.new }
     ensures sound { KeepsSound coord.old coord.new }
 {
-    // That it is sound, as the proof wants to know.
+    // Proof hint: the coordinator's invariant.
     let _listing = coord.show();
     let Some((claim, job)) = coord.pick()? else {
         return Ok(None);
     };
     match result_of(alloc, coord, &job) {
         Ok(Some(made)) => install(coord, claim, &made),
-        // Two inputs have one entry: of no coordinator that shows a state.
+        // Two inputs share an entry: never in a coordinator that represents a valid state.
         Ok(None) => {
             coord.give_back(claim);
             Ok(None)
@@ -56,7 +57,7 @@ pub fn compact_once(alloc: Global, coord: &mut Coord) -> Result<Option<(u64, Vec
     }
 }
 
-/// Installs the result of a picked job. One that is kept back ends with its claim.
+/// Installs the result of a picked job. If it is refused, its claim is given back.
 fn install(
     coord: &mut Coord,
     claim: Claim,
@@ -80,7 +81,7 @@ fn install(
     }
 }
 
-/// What a merge makes of a job, or `None` where it refuses the tables.
+/// The result of a job's merge, or `None` if the merge refuses the tables.
 #[tactic(auto, using(crate::proofs::Fetching::are_recorded))]
 fn result_of(alloc: Global, coord: &Coord, job: &Job) -> Result<Option<JobResult>, AllocError>
     requires version { IsVersion coord.now.served.version }
@@ -95,7 +96,7 @@ fn result_of(alloc: Global, coord: &Coord, job: &Job) -> Result<Option<JobResult
             tables: Items::from_vec(outputs),
         })),
         Err(MergeError::OutOfMemory) => Err(AllocError),
-        // What is served are the inputs: this never comes.
+        // Unreachable: the tables served are the inputs.
         Err(MergeError::WrongInputs) => Ok(None),
         Err(MergeError::SameEntry) => Ok(None),
     }

@@ -14,10 +14,10 @@ pub enum RunError {
     /// The script could not be read. Nothing was run or written.
     #[error("read fault")]
     ReadFault,
-    /// A reply could not be written. A beginning of the lines was.
+    /// A reply could not be written. A prefix of the lines was.
     #[error("write fault")]
     WriteFault,
-    /// Memory ran out outside an event, or for the batch of a write. A beginning of the lines was written.
+    /// Memory ran out outside an event, or for the batch of a write. A prefix of the lines was written.
     #[error("out of memory")]
     OutOfMemory,
 }

@@ -9,18 +9,18 @@ use lsm_key::Op;
 pub enum Event {
     /// Write these operations as one batch.
     Write(Vec<Op>),
-    /// Take no more writes into the memtable.
+    /// Freeze the memtable, so that writes go to a new one.
     Freeze,
     /// Write a memtable as a table.
     Flush,
-    /// Make a snapshot of the present.
+    /// Make a snapshot of the latest state.
     Snap,
-    /// Let a snapshot go.
+    /// Release a snapshot.
     Release(SnapId),
-    /// Read a key, at present or at a snapshot.
+    /// Read a key, latest or at a snapshot.
     Get(Bytes, Option<SnapId>),
-    /// Read a range of keys, from the first up to but not including the second, at present or at a snapshot: so many of
-    /// those that have a value.
+    /// Read a range of keys, from the first up to but not including the second, latest or at a snapshot: at most a
+    /// limit of those that have a value.
     Scan(Bytes, Bytes, Option<SnapId>, u64),
     /// List the coordinator's version.
     Show,

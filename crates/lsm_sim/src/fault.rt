@@ -3,7 +3,7 @@
 use thiserror::Error;
 
 /// What is wrong with a line. Of several faults of a line the first from left to right counts, but the number of words
-/// is tested before any of them is read. In a batch it is told where an operation lacks a word.
+/// is tested before any of them is read. In a batch it is reported for an operation that lacks a word.
 #[derive(Clone, Copy, Debug, PartialEq, Eq, Error)]
 pub enum Reason {
     #[error("unknown command")]

@@ -14,7 +14,7 @@ use lsm_coord::{CoordError, Flushed, SnapId};
 use lsm_key::{KeyError, Seq};
 use std::alloc::{AllocError, Global};
 
-/// `seq F`, or `seq F-L` where F and L differ
+/// `seq F`, or `seq F-L` if F and L differ
 pub fn put_wrote(out: &mut Vec<u8>, first: Seq, last: Seq) -> Result<(), AllocError>
     ensures { OnOk result (out.new.items ≡ out.old.items ++ wrote first last) }
 {

@@ -31,10 +31,10 @@ use std::process::ExitCode;
 use std::rt::Env;
 use std::{env, io};
 
-/// The exit status where the arguments or the script are refused.
+/// The exit status if the arguments or the script are refused.
 const REFUSED: u8 = 2;
 
-/// The exit status after a read or write fault or want of memory.
+/// The exit status after a read or write fault or out of memory.
 const FAILED: u8 = 1;
 
 fn status_of(error: RunError) -> ExitCode {
@@ -46,13 +46,13 @@ fn status_of(error: RunError) -> ExitCode {
     }
 }
 
-/// Tells the error on standard error.
+/// Reports the error on standard error.
 fn fail(rt: &impl Eprint, error: RunError) -> ExitCode {
     let _ = rt.eprintln(error);
     status_of(error)
 }
 
-/// Tells what is wrong with the arguments on standard error, or gives the help that they ask for on standard output.
+/// Reports what is wrong with the arguments on standard error, or prints the help that they ask for on standard output.
 fn answer(rt: &(impl Print + Eprint), error: clap::Error) -> ExitCode {
     if error.kind() == clap::error::ErrorKind::OutOfMemory {
         return fail(rt, RunError::OutOfMemory);
@@ -79,7 +79,7 @@ fn main(rt: HostRuntime) -> ExitCode {
             if error.kind() == ErrorKind::OutOfMemory {
                 return fail(&rt, RunError::OutOfMemory);
             }
-            let _ = rt.eprintln("error: an argument is no text");
+            let _ = rt.eprintln("error: an argument is not valid UTF-8");
             return ExitCode::from(REFUSED);
         }
     };

@@ -10,14 +10,14 @@ fn command<'a>(alloc: Global) -> Result<Command<'a>, AllocError> {
     let l0 = Arg::new(alloc, "l0")
         .long("l0")
         .value_name("N")
-        .help("Level 0 is due from this many files on, 1 to 1000")
+        .help("Compact level 0 from this many files on, 1 to 1000")
         .value_parser(value_parser!(u64).range(1..=1000))
         .default_value("4");
     let base = Arg::new(alloc, "base")
         .long("base")
         .value_name("N")
         .help(
-            "Level 1 is due past this many bytes, 1 to 1000000000000; each deeper level holds ten times as many",
+            "Compact level 1 above this many bytes, 1 to 1000000000000; each deeper level may hold ten times as many",
         )
         .value_parser(value_parser!(u64).range(1..=1_000_000_000_000))
         .default_value("10485760");

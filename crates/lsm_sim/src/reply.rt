@@ -7,13 +7,13 @@ use lsm_key::{KeyError, Seq};
 /// Why a command is refused.
 #[derive(Clone, Copy, Debug, PartialEq, Eq)]
 pub enum Refusal {
-    /// An operation does not go into a batch.
+    /// A batch refuses an operation.
     Key(KeyError),
     /// The coordinator refuses the call.
     Coord(CoordError),
 }
 
-/// A file, and the level that it stands in.
+/// A file, and its level.
 #[derive(Clone, Copy, Debug, PartialEq, Eq)]
 pub struct Place {
     pub level: u8,

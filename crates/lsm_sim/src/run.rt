@@ -17,11 +17,11 @@ use lsm_key::Limits;
 use std::alloc::Global;
 use std::io::{Read, Write};
 
-/// How many bytes of lines are gathered before they are written.
+/// How many bytes of lines are buffered before they are written.
 const BUFFER_BYTES: usize = 65_536;
 
 /// Runs the script that the reader gives against a new store, and writes a line for each reply. The script is read
-/// whole first; where it is faulty nothing is written.
+/// whole first; if it is faulty, nothing is written.
 pub fn run_script<R: Read, W: Write>(
     alloc: Global,
     reader: &mut R,

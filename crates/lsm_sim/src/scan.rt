@@ -30,7 +30,7 @@ pub fn scan(alloc: Global, mut args: Words<'_>) -> Result<Event, Refused<Reason>
     }
 }
 
-// At the present.
+// At the latest sequence.
 fn scan_now(alloc: Global, lo: &[u8], hi: &[u8], limit: &[u8]) -> Result<Event, Refused<Reason>>
     ensures { Gives event_of result (scan_at lo.now hi.now limit.now (Ok None)) }
 {
@@ -57,7 +57,7 @@ fn scan_then(
     Ok(Event::Scan(lo, hi, Some(id), limit))
 }
 
-/// The number that a word is to be.
+/// The number that a word must be.
 fn counted(number: Option<u64>) -> Result<u64, Refused<Reason>>
     ensures { Gives (λ n. n) result (counted number) }
 {

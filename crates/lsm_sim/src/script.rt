@@ -43,7 +43,7 @@ fn delete(alloc: Global, mut args: Words<'_>) -> Result<Event, Refused<Reason>>
     Ok(Event::Write(vec![in alloc; Op::Delete(key)]?))
 }
 
-/// The snapshot that a word is to name.
+/// The snapshot that a word must name.
 pub fn named(id: Option<SnapId>) -> Result<SnapId, Refused<Reason>>
     ensures { Gives (λ id. id) result (named id) }
 {
@@ -164,7 +164,7 @@ fn event_in(alloc: Global, line: &[u8]) -> Result<Option<Event>, Refused<Reason>
     asked(alloc, command_of(word), words).map(Some)
 }
 
-/// The events of a script, or its first fault. It takes one pass over the text.
+/// The events of a script, or its first fault. One pass over the text.
 pub fn parse(alloc: Global, text: &[u8]) -> Result<Vec<Event>, Refused<Fault>>
     ensures { Gives (λ events. map event_of events.items) result (script text.now) }
 {

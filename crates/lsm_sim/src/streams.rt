@@ -13,14 +13,14 @@ const MAX_READS: u64 = 4_294_967_296;
 /// How much is read at once. In bytes.
 const READ_BYTES: usize = 65_536;
 
-/// A buffer of so many bytes.
+/// A buffer of `len` bytes.
 fn buffer_of(alloc: Global, len: usize) -> Result<Vec<u8>, AllocError>
     ensures { IfOk result (λ buffer. vec_len buffer ≡ len) }
 {
     vec![in alloc; 0; len]
 }
 
-/// Reads to the end by way of a buffer that has room.
+/// Reads to the end through a buffer that has room.
 fn read_through<R: Read>(
     alloc: Global,
     reader: &mut R,
@@ -45,7 +45,7 @@ fn read_through<R: Read>(
     Err(RunError::ReadFault)
 }
 
-/// All bytes of a reader. One that fails, or has not ended after `MAX_READS` reads, is a read fault.
+/// All bytes of a reader. A reader that fails, or has not ended after `MAX_READS` reads, is a read fault.
 pub fn read_all<R: Read>(alloc: Global, reader: &mut R) -> Result<Vec<u8>, RunError>
     ensures bytes { IfOk result (λ bytes. IfSome (R.remaining reader.old) (λ xs. bytes.items ≡ xs)) }
     ensures errors { IfErr result (λ e. (e ≡ RunError.ReadFault) ⊎ (e ≡ RunError.OutOfMemory)) }
@@ -54,7 +54,7 @@ pub fn read_all<R: Read>(alloc: Global, reader: &mut R) -> Result<Vec<u8>, RunEr
     read_through(alloc, reader, &mut buffer)
 }
 
-/// Writes all bytes. After a write fault a beginning of them is written.
+/// Writes all bytes. After a write fault a prefix of them is written.
 pub fn write_all<W: Write>(writer: &mut W, bytes: &[u8]) -> Result<(), RunError>
     ensures ok { OnOk result (Appends (W.contents writer.old) (W.contents writer.new) bytes.now) }
     ensures err { OnErr result ((k : ℕ) × Appends (W.contents writer.old) (W.contents writer.new) (take k bytes.now)) }

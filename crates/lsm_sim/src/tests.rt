@@ -31,7 +31,7 @@ fn every_command_is_read(rt: HostRuntime) -> Result<(), Fail> {
     Ok(())
 }
 
-/// Gives a byte of a script at a time, and fails after so many.
+/// Returns a byte of a script at a time, and fails after `left` bytes.
 #[derive(Drop)]
 struct Failing {
     script: &'static [u8],
@@ -53,7 +53,7 @@ impl Read for Failing {
     }
 }
 
-/// Takes a byte at a time, and fails after so many.
+/// Takes a byte at a time, and fails after `room` bytes.
 #[derive(Drop)]
 struct Full {
     taken: Vec<u8>,
@@ -78,7 +78,7 @@ impl Write for Full {
     }
 }
 
-/// Runs a script. What it promises a test that runs need not know.
+/// Runs a script. Proof hint: a test that runs needs none of its promises.
 fn run<R: Read, W: Write>(alloc: Global, reader: &mut R, writer: &mut W) -> Result<(), RunError> {
     match Limits::new(4, 10_485_760) {
         Some(limits) => run_script(alloc, reader, writer, limits),

@@ -1,4 +1,4 @@
-//! Pieces of lines: text, numbers, keys and values, added to a buffer.
+//! Pieces of lines: text, numbers, keys and values, appended to a buffer.
 
 ghost use Rattle.std.specs.Prelude.{◌≡◌, ◌++◌, ◌∷◌, [], ◌<◌, OnOk, length, map};
 ghost use Rattle.std.specs.Fmt.{decimal};
@@ -8,21 +8,21 @@ ghost use Rattle.lsm_sim.specs.Lines.{hex_digit, prints_as_itself, printed_byte,
 use std::alloc::AllocError;
 use std::io::Write;
 
-/// Adds text.
+/// Appends text.
 pub fn put_text(out: &mut Vec<u8>, text: &str) -> Result<(), AllocError>
     ensures { OnOk result (out.new.items ≡ out.old.items ++ text.now) }
 {
     out.extend_from_slice(text.as_bytes())
 }
 
-/// Adds the decimal digits of a number.
+/// Appends the decimal digits of a number.
 pub fn put_number(out: &mut Vec<u8>, number: u64) -> Result<(), AllocError>
     ensures { OnOk result (out.new.items ≡ out.old.items ++ decimal number) }
 {
     write!(out, "{number}").map_err(|_| AllocError)
 }
 
-/// Adds the end of a line.
+/// Appends the end of a line.
 pub fn put_line_end(out: &mut Vec<u8>) -> Result<(), AllocError>
     ensures { OnOk result (out.new.items ≡ out.old.items ++ 10 ∷ []) }
 {
@@ -49,7 +49,7 @@ fn prints_as_itself(byte: u8) -> bool
     byte >= b'!' && byte <= b'~' && !(byte == b'%' || byte == b'"' || byte == b'=')
 }
 
-/// Adds a byte of a key or value.
+/// Appends a byte of a key or value.
 fn put_byte(out: &mut Vec<u8>, byte: u8) -> Result<(), AllocError>
     ensures { OnOk result (out.new.items ≡ out.old.items ++ printed_byte byte) }
 {
@@ -61,8 +61,8 @@ fn put_byte(out: &mut Vec<u8>, byte: u8) -> Result<(), AllocError>
     }
 }
 
-/// Adds a key or value: a byte from `!` to `~` but `%`, `"` and `=` as itself, any other as `%` and two hexadecimal
-/// digits, and the empty text as `""`.
+/// Appends a key or value: a byte from `!` to `~` except `%`, `"` and `=` as itself, any other as `%` and two
+/// hexadecimal digits, and the empty text as `""`.
 pub fn put_bytes(out: &mut Vec<u8>, bytes: &[u8]) -> Result<(), AllocError>
     ensures { OnOk result (out.new.items ≡ out.old.items ++ printed bytes.now) }
 {
@@ -75,7 +75,7 @@ pub fn put_bytes(out: &mut Vec<u8>, bytes: &[u8]) -> Result<(), AllocError>
     Ok(())
 }
 
-/// Adds numbers with commas between them.
+/// Appends numbers with commas between them.
 pub fn put_numbers(out: &mut Vec<u8>, numbers: &[u64]) -> Result<(), AllocError>
     ensures { OnOk result (out.new.items ≡ out.old.items ++ join_with_byte 44 (map decimal numbers.now)) }
 {

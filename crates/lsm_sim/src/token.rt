@@ -1,5 +1,5 @@
-//! Keys and values as scripts write them: the word `""` is the empty text; else `%` and two hexadecimal digits are that
-//! byte, and any other byte from `!` to `~` is itself.
+//! Keys and values as scripts write them: the word `""` is the empty text; otherwise `%` and two hexadecimal digits are
+//! that byte, and any other byte from `!` to `~` is itself.
 
 ghost use Rattle.std.specs.Prelude.{◌≡◌, ◌<◌, IfOk, length};
 ghost use Rattle.lsm_key.specs.Reading.{Gives};
@@ -41,7 +41,7 @@ fn literal_of(byte: u8) -> Option<u8>
     }
 }
 
-/// The first byte that the word spells, and the rest of the word.
+/// The first byte that the word encodes, and the rest of the word.
 fn first_of(word: &[u8]) -> (Option<u8>, &[u8])
     requires { 0 < length word.now }
     ensures value { spelled word.now ≡ onto result.0 (spelled result.1.now) }
@@ -57,7 +57,7 @@ fn first_of(word: &[u8]) -> (Option<u8>, &[u8])
     }
 }
 
-/// The bytes that a key or value word means, or `None` where it is no such word.
+/// The bytes that a key or value word means, or `None` if it is no such word.
 #[tactic(auto, unfolding(crate::specs::Tokens::token))]
 pub fn token_of(alloc: Global, word: &[u8]) -> Result<Option<Bytes>, AllocError>
     ensures { IfOk result (λ bytes. bytes ≡ token word.now) }
@@ -77,7 +77,7 @@ pub fn token_of(alloc: Global, word: &[u8]) -> Result<Option<Bytes>, AllocError>
     Ok(Some(Bytes::from_vec(bytes)?))
 }
 
-/// The bytes of a word that is to be a key or a value.
+/// The bytes of a word that must be a key or a value.
 pub fn key_or_value(alloc: Global, word: &[u8]) -> Result<Bytes, Refused<Reason>>
     ensures { Gives (λ bytes. bytes) result (key_or_value word.now) }
 {

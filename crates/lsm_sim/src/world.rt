@@ -51,7 +51,7 @@ fn shown(alloc: Global, listing: Listing<'_>) -> Result<Shown, AllocError>
     })
 }
 
-/// What the coordinator answers to a write. Where memory for the batch runs out it is not asked, and nothing changes.
+/// What the coordinator answers to a write. If memory for the batch runs out it is not asked, and nothing changes.
 #[tactic(auto, using(crate::proofs::Telling::batch_told, crate::proofs::Telling::write_told, crate::proofs::Telling::none_told))]
 fn write(alloc: Global, coord: &mut Coord, ops: Vec<Op>) -> Result<Reply, AllocError>
     ensures follows { IfOk result (λ reply. Follows coord.old (Write ops.items) (reply_of reply) coord.new) }
@@ -68,8 +68,9 @@ fn write(alloc: Global, coord: &mut Coord, ops: Vec<Op>) -> Result<Reply, AllocE
     }
 }
 
-/// What the coordinator answers to a command: the refusal that its state forces, where it forces one. Only a write takes
-/// memory before the coordinator is asked, for its batch; where that runs out it is not asked, and nothing changes.
+/// What the coordinator answers to a command: the refusal that its state forces, if it forces one. Only a write
+/// allocates before the coordinator is asked, for its batch; if memory runs out there, it is not asked, and nothing
+/// changes.
 #[tactic(auto, using(crate::proofs::Telling::freeze_told, crate::proofs::Telling::flush_told, crate::proofs::Telling::snapshot_told, crate::proofs::Telling::release_told, crate::proofs::Telling::get_told, crate::proofs::Telling::scan_told, crate::proofs::Telling::show_told, crate::proofs::Telling::none_told))]
 pub fn step(alloc: Global, coord: &mut Coord, event: Event) -> Result<Reply, AllocError>
     ensures follows { IfOk result (λ reply. Follows coord.old (event_of event) (reply_of reply) coord.new) }

@@ -37,7 +37,7 @@ impl Model for Block {
 }
 
 impl Block {
-    /// The entry of the key with the greatest sequence at most `at`. It takes no memory.
+    /// The entry of the key with the greatest sequence at most `at`. Allocates nothing.
     pub fn seek(&self, key: &[u8], at: Seq) -> Option<EntryRef<'_>>
         ensures { option_map lent result ≡ visible self.now key.now at }
     {
@@ -52,7 +52,7 @@ impl Block {
         &self.entries
     }
 
-    // Entries that are known to be sound and in order.
+    // Entries known to be valid and in order.
     pub(crate) fn of(entries: Vec<Entry>) -> Block
         requires { AreEntries entries.items }
         ensures { result ≡ entries.items }
@@ -61,7 +61,7 @@ impl Block {
     }
 }
 
-/// Whether an entry may stand right after these ones.
+/// Whether an entry may come right after these.
 pub(crate) fn may_come(before: &[Entry], entry: &Entry) -> bool
     ensures { result ≡ may_follow (last_of before.now) entry.now }
 {
@@ -73,7 +73,7 @@ pub(crate) fn may_come(before: &[Entry], entry: &Entry) -> bool
     }
 }
 
-// An entry that may follow those that were read.
+// The next entry, which must follow those before it.
 #[tactic(auto, unfolding(crate::specs::BlockReading::next_at))]
 fn next_of(before: &[Entry], rest: &mut Bytes) -> Result<Entry, BlockError>
     ensures { Gives (λ e. (e, rest.new)) result (next_at before.now rest.old) }
@@ -85,8 +85,8 @@ fn next_of(before: &[Entry], rest: &mut Bytes) -> Result<Entry, BlockError>
     Ok(entry)
 }
 
-// The entries that the bytes spell, all of the bytes. Room is made for as many as there are said to be, if the bytes can hold
-// them: a list that grows would move its entries.
+// The entries that the bytes encode, all of the bytes. Room is reserved for as many as `about` says, if the bytes can
+// hold them, since growing the list would move its entries.
 pub(crate) fn entries_of(alloc: Global, bytes: Bytes, about: usize) -> Result<Block, BlockError>
     ensures { Gives (λ b. b) result (block_of bytes) }
 {
@@ -103,13 +103,13 @@ pub(crate) fn entries_of(alloc: Global, bytes: Bytes, about: usize) -> Result<Bl
     }
 }
 
-/// The block that the bytes are, all of them. It shares the bytes.
+/// The block that the bytes encode, all of them. Shares the bytes.
 pub fn decode_block(alloc: Global, bytes: Bytes) -> Result<Block, BlockError>
-    // What is read is spelled so.
+    // What is decoded encodes to these bytes.
     ensures found { IfOk result (λ b. IsBlock bytes b) }
-    // What is spelled so is read, unless memory runs out.
+    // What encodes to these bytes is decoded, unless memory runs out.
     ensures only { (es : List Entry) → IsBlock bytes es → Gives (λ b. b) result (Ok es) }
-    // Which fault it is: the first one.
+    // The fault is the first one.
     ensures exact { Gives (λ b. b) result (block_of bytes) }
 {
     know_bytes(&bytes);

@@ -1,9 +1,9 @@
 //! Tables: entries in the order of their internal keys, as bytes that never change.
 //!
-//! It promises that bytes are opened as a table exactly where they are the one spelling of valid entries in order, that
-//! the first fault is named where they are not, that a look-up in a table finds the newest entry that it may see, and
-//! that a builder makes the table of the entries that it was given. It stands on `lsm_key` for entries, their order and
-//! the fields of a format, and on `bytes` for what is shared.
+//! It promises that bytes are opened as a table exactly when they are the one encoding of valid entries in order, that
+//! otherwise the first fault is named, that a look-up in a table finds the newest visible entry, and that a builder
+//! makes the table of the entries that it was given. It stands on `lsm_key` for entries, their order and the fields of
+//! a format, and on `bytes` for shared buffers.
 #![tactic(auto)]
 
 mod block;

@@ -39,7 +39,7 @@ pub(crate) const NO_PICK: TimingError = TimingError::Plain("no merge was picked"
 pub(crate) const EXHAUSTED: TimingError = TimingError::Plain("numbers are exhausted");
 
 impl TimingError {
-    // What it tells before the reason of another crate.
+    // The text before the reason of another crate.
     fn text(self) -> &'static str {
         match self {
             TimingError::Plain(reason) => reason,

@@ -17,7 +17,7 @@ impl Figure {
         Ok(Figure { name, start })
     }
 
-    /// Stops the clock, and prints the figure: over so many, with a checksum of what they gave.
+    /// Stops the clock, and prints the figure: for `count` of them, with a checksum of their results.
     pub(crate) fn end(self, rt: &HostRuntime, count: u64, checksum: u64) -> io::Result<()> {
         let nanoseconds = self.start.elapsed(rt)?.as_nanos();
         let name = self.name;

@@ -13,7 +13,7 @@ use lsm_table::Table;
 use std::alloc::Global;
 use std::io;
 
-/// How many levels there are.
+/// The number of levels.
 const LEVELS: usize = 7;
 
 /// A store, and how many bytes of tables it wrote to each level.
@@ -25,7 +25,7 @@ pub(crate) struct Store {
 }
 
 impl Store {
-    /// A new store, with the limits that hold unless told otherwise.
+    /// A new store, with the default limits.
     pub(crate) fn new(alloc: Global) -> Result<Store, TimingError> {
         let limits = Limits {
             l0: DEFAULT_L0,
@@ -39,7 +39,7 @@ impl Store {
         })
     }
 
-    /// Writes a batch. Where the memtable is full it is flushed first, and all that is due is merged.
+    /// Writes a batch. If the memtable is full it is flushed first, and all due levels are compacted.
     pub(crate) fn write(&mut self, batch: &Batch) -> Result<(), TimingError> {
         match self.coord.write(batch) {
             Ok(_) => return Ok(()),
@@ -51,7 +51,7 @@ impl Store {
         Ok(())
     }
 
-    // Flushes, and merges until nothing is due.
+    // Flushes, and compacts until no level needs it.
     fn settle(&mut self) -> Result<(), TimingError> {
         self.flush()?;
         for _merge in 0..u64::MAX {
@@ -62,7 +62,7 @@ impl Store {
         Ok(())
     }
 
-    /// Flushes the memtable, and answers the number of its file.
+    /// Flushes the memtable, and returns the number of its file.
     pub(crate) fn flush(&mut self) -> Result<u64, TimingError> {
         let flushed = self.coord.flush()?;
         if let Some(file) = self.coord.show().files.last() {
@@ -88,7 +88,7 @@ impl Store {
         total
     }
 
-    // Does the next merge that is due, and answers whether there was one.
+    // Runs the next compaction, and returns whether there was one.
     fn merge_next(&mut self) -> Result<bool, TimingError> {
         let Some((claim, job)) = self.coord.pick()? else {
             return Ok(false);
@@ -97,7 +97,7 @@ impl Store {
         self.spend(claim, made)
     }
 
-    // What a worker makes of a job.
+    // The result of a job, as a worker makes it.
     fn result_of(&self, job: &Job) -> Result<JobResult, TimingError> {
         let tables = self.inputs_of(job)?;
         let outputs = merge(self.alloc, &tables, job)?;
@@ -135,7 +135,7 @@ impl Store {
         }
     }
 
-    // Installs a result, and spends its claim.
+    // Installs a result, and settles its claim.
     fn install(&mut self, claim: Claim, made: &JobResult) -> Result<bool, TimingError> {
         let level = (claim.level() as usize).saturating_add(1);
         match self.coord.install(claim, made) {
@@ -188,7 +188,7 @@ fn bytes_of(tables: &[Bytes]) -> u64 {
     total
 }
 
-/// A settled store of so many entries, put in random order in batches.
+/// A store of `entries` entries, put in random order in batches, with no level due.
 pub(crate) fn filled(alloc: Global, entries: u64, batch: u64) -> Result<Store, TimingError> {
     let mut store = Store::new(alloc)?;
     fill(&mut store, entries, batch)?;
@@ -202,7 +202,7 @@ fn fill(store: &mut Store, entries: u64, batch: u64) -> Result<(), TimingError> 
     store.settle()
 }
 
-// Makes the same batches, and lets them go: what of a fill is not the store's.
+// Makes the same batches, and drops them: the part of a fill that is not the store's.
 fn made(alloc: Global, entries: u64, batch: u64) -> Result<u64, TimingError> {
     let mut checksum = 0;
     for number in 0..batch_count(entries, batch) {
@@ -212,7 +212,8 @@ fn made(alloc: Global, entries: u64, batch: u64) -> Result<u64, TimingError> {
     Ok(checksum)
 }
 
-/// Times the filling of a store, and the making of its batches alone, and tells its write amplification and its levels.
+/// Times the filling of a store, and the making of its batches alone, and prints its write amplification and its
+/// levels.
 pub(crate) fn time_fill(rt: &HostRuntime, entries: u64, batch: u64) -> Result<(), TimingError> {
     time_making(rt, entries, batch)?;
     let store = time_filling(rt, entries, batch)?;

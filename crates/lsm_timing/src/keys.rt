@@ -24,7 +24,7 @@ pub(crate) fn mix(number: u64) -> u64 {
     twice ^ (twice >> 31)
 }
 
-/// The key of an index: 16 bytes, in random order, and no two indices have one.
+/// The key of an index: 16 bytes, in random order, and different for each index.
 pub(crate) fn key_of(index: u64) -> [u8; 16] {
     (((mix(index) as u128) << 64) | index as u128).to_be_bytes()
 }

@@ -19,19 +19,19 @@ use std::io::ErrorKind;
 use std::process::ExitCode;
 use std::{env, io};
 
-/// The exit status where the arguments are refused.
+/// The exit status if the arguments are refused.
 const REFUSED: u8 = 2;
 
-/// The exit status where a figure is not taken.
+/// The exit status if a figure is not taken.
 const FAILED: u8 = 1;
 
-/// Tells the error on standard error.
+/// Reports the error on standard error.
 fn fail(rt: &HostRuntime, error: TimingError) -> ExitCode {
     let _ = rt.eprintln(error);
     ExitCode::from(FAILED)
 }
 
-/// Tells what is wrong with the arguments on standard error, or gives the help that they ask for on standard output.
+/// Reports what is wrong with the arguments on standard error, or prints the help that they ask for on standard output.
 fn answer(rt: &HostRuntime, error: clap::Error) -> ExitCode {
     if error.kind() == clap::error::ErrorKind::OutOfMemory {
         return fail(rt, OUT_OF_MEMORY);
@@ -88,7 +88,7 @@ fn main(rt: HostRuntime) -> ExitCode {
             if error.kind() == ErrorKind::OutOfMemory {
                 return fail(&rt, OUT_OF_MEMORY);
             }
-            let _ = rt.eprintln("error: an argument is no text");
+            let _ = rt.eprintln("error: an argument is not valid UTF-8");
             return ExitCode::from(REFUSED);
         }
     };

@@ -17,7 +17,8 @@ use std::alloc::{AllocError, Global};
 /// The upper one of the two levels.
 const UPPER: u8 = 1;
 
-/// Times the merge of the tables of two levels, of so many megabytes of keys and values in all. One key in eight is in both.
+/// Times the merge of the tables of two levels, with `megabytes` MB of keys and values in all. One key in eight is in
+/// both.
 pub(crate) fn time_merge(rt: &HostRuntime, megabytes: u64) -> Result<(), TimingError> {
     let alloc = rt.alloc();
     let (tables, lower) = tables_in(alloc, megabytes)?;
@@ -86,7 +87,7 @@ fn joined(lower: Vec<Bytes>, upper: Vec<Bytes>) -> Result<Vec<Bytes>, AllocError
     Ok(tables)
 }
 
-// The job that merges the tables, of which so many are of the lower level.
+// The job that merges the tables, of which the first `lower` are of the lower level.
 fn job_of(alloc: Global, tables: &[Table], lower: usize) -> Result<Job, TimingError> {
     let mut inputs = Items::new(alloc);
     for (place, table) in tables.iter().enumerate() {

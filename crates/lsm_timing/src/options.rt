@@ -12,7 +12,7 @@ const MAX_ENTRIES: i64 = 100_000_000;
 pub(crate) enum Task {
     Fill { entries: u64, batch: u64 },
     Get { entries: u64, reads: u64 },
-    /// One scan of all, or so many short ones.
+    /// One scan of all, or a number of short ones.
     Scan { entries: u64, scans: Option<u64> },
     Merge { megabytes: u64 },
     Flush { entries: u64 },
@@ -23,12 +23,12 @@ pub(crate) enum Task {
     All,
 }
 
-/// Whether a number of a command has to be given.
+/// Whether a number of a command must be given.
 #[derive(Clone, Copy)]
 enum Need {
     Always,
     Never,
-    /// Else it is this one.
+    /// Optional, with this default.
     OrElse(&'static str),
 }
 
@@ -65,13 +65,13 @@ const FILL: Form = Form {
         id: "BATCH",
         most: 1_000,
         need: Need::Always,
-        help: "How many a batch has",
+        help: "Entries of a batch",
     }),
 };
 
 const GET: Form = Form {
     name: "get",
-    about: "Get random keys that are there, and keys that are not",
+    about: "Get random keys that exist, and keys that do not",
     number: ENTRIES,
     other: Some(Number {
         id: "M",
@@ -89,7 +89,7 @@ const SCAN: Form = Form {
         id: "K",
         most: MAX_ENTRIES,
         need: Need::Never,
-        help: "How many scans of 20 keys, in place of one of all",
+        help: "How many scans of 20 keys, instead of one of all",
     }),
 };
 
@@ -239,6 +239,6 @@ pub(crate) fn task_of<'a>(alloc: Global, words: &'a [String]) -> Result<Task, Er
     let mut command = command(alloc)?;
     match task_by(&mut command, words)? {
         Some(task) => Ok(task),
-        None => Err(command.error(ErrorKind::MissingSubcommand, "no figure is asked for")?),
+        None => Err(command.error(ErrorKind::MissingSubcommand, "no figure was requested")?),
     }
 }

@@ -23,10 +23,10 @@ const PICKS: u64 = 20;
 /// The level that the files are in.
 const LEVEL: u8 = 1;
 
-/// Level 1 is due past one byte.
+/// Level 1 is due above one byte.
 const TIGHT: Limits = Limits { l0: 1, base: 1 };
 
-/// Times picks from a version with so many files in level 1, which is due while no job is live.
+/// Times picks from a version with `files` files in level 1, which needs compaction, with no job running.
 pub(crate) fn time_picks(rt: &HostRuntime, files: u64) -> Result<(), TimingError> {
     let served = version_of(rt.alloc(), files)?;
     time_picks_of(rt, &served)
@@ -54,7 +54,7 @@ fn picked(alloc: Global, served: &Served) -> Result<u64, TimingError> {
     Ok(checksum)
 }
 
-// A version with so many files of one entry each.
+// A version with `files` files of one entry each.
 fn version_of(alloc: Global, files: u64) -> Result<Served, TimingError> {
     let mut served = Served::new(alloc);
     open_epoch(alloc, &mut served)?;
@@ -65,7 +65,7 @@ fn version_of(alloc: Global, files: u64) -> Result<Served, TimingError> {
     Ok(served)
 }
 
-// Adds a table as a file of level 1, by way of level 0.
+// Adds a table as a file of level 1, through level 0.
 fn add_file(alloc: Global, served: &mut Served, bytes: &Bytes) -> Result<(), TimingError> {
     let file = flush(alloc, served, opened(alloc, bytes)?)?;
     replace(alloc, served, file, opened(alloc, bytes)?)
@@ -101,7 +101,7 @@ fn open_epoch(alloc: Global, served: &mut Served) -> Result<(), TimingError> {
     Ok(())
 }
 
-// Adds a table as a file of level 0, and answers its number.
+// Adds a table as a file of level 0, and returns its number.
 fn flush(alloc: Global, served: &mut Served, table: Table) -> Result<u64, TimingError> {
     let version = served.version();
     let (file, flushed) = (version.next_file(), version.flushed());
@@ -118,7 +118,7 @@ fn flush(alloc: Global, served: &mut Served, table: Table) -> Result<u64, Timing
     Ok(file)
 }
 
-// Puts a table in the place of a file, in level 1.
+// Replaces a file by a table, in level 1.
 fn replace(alloc: Global, served: &mut Served, file: u64, table: Table) -> Result<(), TimingError> {
     let version = served.version();
     if version.number() >= MAX_NUMBER || version.next_file() >= MAX_NUMBER {
@@ -132,7 +132,7 @@ fn replace(alloc: Global, served: &mut Served, file: u64, table: Table) -> Resul
     go_on(alloc, served, &edit, table)
 }
 
-// Goes on by an edit that adds one table.
+// Advances by an edit that adds one table.
 fn go_on(alloc: Global, served: &mut Served, edit: &Edit, table: Table) -> Result<(), TimingError>
     requires sound { IsEdit edit.now }
     requires recorded { AreAsRecorded edit.now.added (table ∷ []) }
@@ -150,7 +150,7 @@ fn alone(alloc: Global, table: Table) -> Result<Vec<Table>, AllocError>
     Ok(tables)
 }
 
-// The edit that puts a file in the place of another.
+// The edit that replaces a file by another.
 fn replacement(
     alloc: Global,
     served: &Served,
@@ -171,7 +171,7 @@ fn replacement(
     removed.push(file)?;
     let mut added = Items::new(alloc);
     added.push(meta)?;
-    // That the sequence fits, as the proof wants to know.
+    // Proof hint: the sequence fits.
     let _written = version.flushed().number();
     Ok(Edit {
         number: version.number() + 1,

@@ -8,7 +8,7 @@ use bytes::Bytes;
 use lsm_coord::Coord;
 use std::alloc::{AllocError, Global};
 
-/// How large the batches are that fill the store.
+/// The size of the batches that fill the store.
 const BATCH: u64 = 100;
 
 /// How many keys a scan of the whole store asks for at a time.
@@ -71,7 +71,7 @@ fn with_value(checksum: u64, value: Option<Bytes>) -> u64 {
     }
 }
 
-/// Times one scan of the whole store, or so many short ones.
+/// Times one scan of the whole store, or a number of short ones.
 pub(crate) fn time_scans(
     rt: &HostRuntime,
     entries: u64,

@@ -4,10 +4,10 @@ use crate::error::TimingError;
 use crate::keys::mix;
 use std::fmt;
 
-/// As many keys as a script speaks of.
+/// How many keys a script uses.
 const KEYS: u64 = 100_000;
 
-/// A flush comes after so many lines.
+/// A flush comes after this many lines.
 const FLUSH_EVERY: u64 = 10_000;
 
 /// A command of a script.
@@ -30,7 +30,7 @@ impl fmt::Display for Line {
     }
 }
 
-/// Prints a script of so many lines: five puts and four gets to a deletion, and flushes.
+/// Prints a script of `lines` lines: five puts and four gets to a deletion, and flushes.
 pub(crate) fn print_script(rt: &HostRuntime, lines: u64) -> Result<(), TimingError> {
     for number in 0..lines {
         rt.println(line_of(number))?;
@@ -38,7 +38,7 @@ pub(crate) fn print_script(rt: &HostRuntime, lines: u64) -> Result<(), TimingErr
     Ok(())
 }
 
-// The line of a number. A flush finds a write before it.
+// The line of a number. There is a write before each flush.
 fn line_of(number: u64) -> Line {
     if number % FLUSH_EVERY == FLUSH_EVERY - 1 {
         return Line::Flush;

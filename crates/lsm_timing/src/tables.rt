@@ -14,10 +14,10 @@ const BATCH: usize = 1_000;
 /// How many entries a table has: about as much as the outputs of a merge.
 const TABLE_ENTRIES: usize = 15_000;
 
-/// How many bytes a megabyte has here.
+/// The bytes of a megabyte, here.
 const MEGABYTE: u64 = 1_000_000;
 
-/// How many entries take so many megabytes of keys and values.
+/// How many entries take `megabytes` MB of keys and values.
 pub(crate) fn entries_in(megabytes: u64) -> u64 {
     megabytes.wrapping_mul(MEGABYTE) / ENTRY_BYTES
 }
@@ -66,13 +66,13 @@ pub(crate) fn opened(alloc: Global, tables: &[Bytes]) -> Result<Vec<Table>, Timi
     Ok(opened)
 }
 
-/// Times the flush of a memtable of so many entries.
+/// Times the flush of a memtable of `entries` entries.
 pub(crate) fn time_flush(rt: &HostRuntime, entries: u64) -> Result<(), TimingError> {
     let mut store = unflushed(rt.alloc(), entries)?;
     time_flush_of(rt, &mut store, entries)
 }
 
-// A store with so many entries in its memtable.
+// A store with `entries` entries in its memtable.
 fn unflushed(alloc: Global, entries: u64) -> Result<Store, TimingError> {
     let indices: Vec<u64> = (0..entries).collect(alloc)?;
     let mut store = Store::new(alloc)?;
@@ -87,14 +87,14 @@ fn time_flush_of(rt: &HostRuntime, store: &mut Store, entries: u64) -> Result<()
     Ok(())
 }
 
-/// Times the opening of tables of so many megabytes of keys and values.
+/// Times the opening of tables of `megabytes` MB of keys and values.
 pub(crate) fn time_open(rt: &HostRuntime, megabytes: u64) -> Result<(), TimingError> {
     let count = entries_in(megabytes);
     let tables = made(rt.alloc(), count)?;
     time_open_of(rt, &tables, count)
 }
 
-// The tables of the entries of so many indices.
+// The tables of the entries of the first `count` indices.
 fn made(alloc: Global, count: u64) -> Result<Vec<Bytes>, TimingError> {
     let indices = sorted_indices(alloc, count)?;
     let mut store = Store::new(alloc)?;

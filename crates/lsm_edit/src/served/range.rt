@@ -16,13 +16,13 @@ use lsm_key::{Entry, merge_lists};
 use std::alloc::{AllocError, Global};
 
 impl Served {
-    /// Copies of the entries of all tables whose key stands at or after `lo`, and before `hi`, in the order of internal
-    /// keys, or want of memory. They share the bytes.
+    /// Copies of the entries of all tables whose key is at or after `lo` and before `hi`, in the order of internal
+    /// keys, or out of memory. Shares the bytes.
     pub fn range(&self, lo: &[u8], hi: &[u8]) -> Result<Vec<Entry>, AllocError>
         ensures all { IfOk result (λ entries. IsPermutation (filter (is_between lo.now hi.now) (all_entries (tables_of self.now.places))) entries.items) }
         ensures order { IfOk result (λ entries. IsInOrder entries.items) }
     {
-        // That their levels are in range, as the proof wants to know.
+        // Proof hint: their levels are in range.
         let _files = self.current.files();
         let alloc = self.current.alloc();
         let lists = lists_of(alloc, &self.placed, lo, hi)?;
@@ -75,8 +75,8 @@ fn lists_in_level_zero(
     Ok(lists)
 }
 
-// The entries of the range in a deeper level, whose files are in order: those before the range are passed over by a
-// binary search, and none after it is looked at.
+// The entries of the range in a deeper level, whose files are in order: those before the range are skipped by a binary
+// search, and none after it is read.
 fn list_in_level(
     alloc: Global,
     places: &[Placed],
@@ -102,14 +102,14 @@ fn list_in_level(
     Ok(list)
 }
 
-// The file is of the level, and its smallest key is below the key.
+// Whether the file is of the level and its smallest key is below the key.
 fn begins_below(placed: &Placed, level: u8, key: &[u8]) -> bool
     ensures { result ≡ (nat_eq placed.now.meta.level level && not (key_le key.now placed.now.meta.smallest)) }
 {
     placed.meta.level == level && key.cmp(placed.meta.smallest.as_slice()).is_gt()
 }
 
-// Copies of entries. They share the bytes.
+// Copies of entries. Shares the bytes.
 fn copies_of(alloc: Global, entries: &[Entry]) -> Result<Vec<Entry>, AllocError>
     ensures { IfOk result (λ copies. copies.items ≡ entries.now) }
 {
@@ -117,7 +117,7 @@ fn copies_of(alloc: Global, entries: &[Entry]) -> Result<Vec<Entry>, AllocError>
     Ok(copies)
 }
 
-// The same at the end of a list.
+// The same, appended to a list.
 fn append_copies(list: &mut Vec<Entry>, entries: &[Entry]) -> Result<(), AllocError>
     ensures { OnOk result (list.new.items ≡ list.old.items ++ entries.now) }
 {

@@ -1,4 +1,4 @@
-//! Installs: their spelling, and which of them apply to a version.
+//! Installs: their encoding, and which of them apply to a version.
 
 use super::versions::{Change, NEXT, refusal_of, see_refusals, version_after};
 use super::{EPOCH, FLUSH, changed, fault_of, file_of, is_spelled};

@@ -1,4 +1,4 @@
-//! A version with its tables on its way, and what is read of it.
+//! A version with its tables through several edits, and reads of it.
 
 ghost use Rattle.std.specs.Prelude.{◌≡◌, IfOk, IsTrue, [], ◌∷◌};
 ghost use Rattle.lsm_edit.specs.Served.{AreAsRecorded, IsAsRecorded};
@@ -42,7 +42,7 @@ const OF_BOTH: &[u8] =
 fn fits(file: &FileMeta, table: &Table) -> bool
     ensures { IsTrue result → IsAsRecorded file.now table.now }
 {
-    // That its bytes spell what it holds, as the proof wants to know.
+    // Proof hint: its bytes encode what it holds.
     let _entries = table.entries();
     file.smallest == *table.smallest()
         && file.largest == *table.largest()
@@ -73,7 +73,7 @@ fn table_of(alloc: Global, bytes: &'static [u8]) -> Result<Table, Fail> {
     Ok(Table::open(alloc, Bytes::from_static(bytes))?)
 }
 
-// Goes on by an edit that adds one file, with its table.
+// Advances by an edit that adds one file, with its table.
 fn step(alloc: Global, served: &mut Served, edit: &[u8], table: Table) -> Result<(), Fail> {
     let edit = edit_of(alloc, edit)?;
     if !is_recorded(edit.added.as_slice(), &table) {
@@ -137,7 +137,7 @@ fn lists(served: &Served, number: u64, flushed: u64, files: &[u64]) -> bool {
         && are_numbered(listing.files, files)
 }
 
-// Whether the files with their tables are just this one.
+// Whether this is the only file with its table.
 fn has_only(served: &Served, number: u64) -> bool {
     match served.places() {
         [place] => place.meta.number == number && served.table(number).is_some(),

@@ -30,7 +30,7 @@ const REOPEN: [u8; 41] = [
 // Two bytes that are changed in an edit, and why it does not apply then.
 pub(super) type Change = ((usize, u8), (usize, u8), Option<ApplyError>);
 
-// Of two reasons the first is told, in the order: number, files, flushed sequence, counters.
+// If two reasons hold, the first is reported, in the order: number, files, flushed sequence, counters.
 const CHANGES_OF_NEXT: [Change; 14] = [
     ((7, 3), (7, 3), None),
     ((16, 9), (32, 9), None),
@@ -62,16 +62,13 @@ const CHANGES_OF_REOPEN: [Change; 8] = [
 const TEXTS: [(ApplyError, &str); 7] = [
     (
         ApplyError::WrongNumber,
-        "the edit does not make the next version",
+        "the edit is not for the next version",
     ),
     (
         ApplyError::NoSuchFile,
-        "a file that goes is not in the version",
+        "a removed file is not in the version",
     ),
-    (
-        ApplyError::FileExists,
-        "a file that comes has a number that was given before",
-    ),
+    (ApplyError::FileExists, "an added file reuses a file number"),
     (
         ApplyError::Overlap,
         "two files of one level below level 0 overlap",

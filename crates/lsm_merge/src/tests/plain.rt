@@ -1,10 +1,10 @@
-//! Merges of tables by chance, against a body that follows the definition of what is kept word for word.
+//! Random merges, against a body that follows the definition of what is kept word for word.
 
 use super::{Row, files_of, job_of, outputs_of, rows_in, table_of};
 use std::alloc::Global;
 use std::test::Fail;
 
-/// Numbers by chance (Knuth's linear congruential generator, MMIX).
+/// Random numbers (Knuth's linear congruential generator, MMIX).
 #[derive(Drop)]
 struct Chance {
     state: u64,
@@ -13,7 +13,7 @@ struct Chance {
 impl Chance {
     ghost use Rattle.std.specs.Prelude.{◌≤◌, ◌-◌};
 
-    /// A number below the bound, or 0 where that is 0.
+    /// A number below the bound, or 0 if that is 0.
     fn below(&mut self, bound: u8) -> u8
         ensures { result ≤ bound - 1 }
     {
@@ -26,14 +26,14 @@ impl Chance {
     }
 }
 
-/// Whether a read of the entry's key at the point, or at the end, shows this entry.
+/// Whether a read of the entry's key at the point, or the latest, finds this entry.
 fn is_shown(rows: &[Row], point: Option<u16>, row: &Row) -> bool {
     let sees = |seq: u16| point.is_none_or(|p| seq <= p);
     sees(row.seq)
         && rows.iter().all(|other| other.key != row.key || !sees(other.seq) || other.seq <= row.seq)
 }
 
-/// Whether the entry is a deletion that may go.
+/// Whether the entry is a deletion that may be dropped.
 fn may_go(points: &[u16], deeper: &[(u8, u8)], row: &Row) -> bool {
     row.value.is_none()
         && points.iter().all(|point| row.seq <= *point)
@@ -131,7 +131,7 @@ fn all_of(alloc: Global, lists: &[Vec<Row>]) -> Result<Vec<Row>, Fail> {
     Ok(all)
 }
 
-/// One merge by chance: what it kept, and what it should keep.
+/// One random merge: what it kept, and what it should keep.
 fn a_merge(alloc: Global, chance: &mut Chance) -> Result<(Vec<Row>, Vec<Row>), Fail> {
     let points = some_points(alloc, chance)?;
     let lo = b'a' + chance.below(4);

@@ -45,7 +45,7 @@ fn tables_of(alloc: Global, keys: &[u8]) -> Result<Vec<Table>, Fail> {
     Ok(tables)
 }
 
-/// Why the tables are not merged by the job, if memory does not end.
+/// Why the tables are not merged by the job, unless memory runs out.
 fn why_not(alloc: Global, tables: &[Table], job: &Job) -> Result<Option<MergeError>, Fail> {
     match outputs_of(alloc, tables, job) {
         Ok(_) => Ok(None),
@@ -118,7 +118,7 @@ fn texts_of_refusals(rt: HostRuntime) -> Result<(), Fail> {
         ),
         (
             MergeError::SameEntry,
-            "two inputs have an entry of one key and sequence",
+            "two inputs share an entry's key and sequence",
         ),
         (MergeError::OutOfMemory, "out of memory"),
     ] {

@@ -1,4 +1,4 @@
-//! Versions that are made file by file.
+//! Versions built file by file.
 
 ghost use Rattle.std.specs.Prelude.{◌≡◌, ◌≤◌, ◌∷◌, [], IfOk};
 ghost use Rattle.lsm_key.specs.Entries.{IsEntry};
@@ -37,7 +37,7 @@ pub(super) fn add(
     Ok(())
 }
 
-// A put. No rule of a pick asks for sequences.
+// A put. The rule of a pick does not depend on sequences.
 fn put_of(alloc: Global, key: &[u8]) -> Result<Entry, Fail>
     ensures { IfOk result IsEntry }
 {
@@ -122,7 +122,7 @@ fn install(alloc: Global, version: &Version, number: u64, file: FileMeta) -> Res
     })
 }
 
-// Goes on by an edit, with the table of its one file.
+// Advances by an edit, with the table of its one file.
 fn step(alloc: Global, served: &mut Served, edit: &Edit, table: Table) -> Result<(), Fail>
     requires sound { IsEdit edit.now }
     requires recorded { AreAsRecorded edit.now.added (table ∷ []) }

@@ -21,11 +21,11 @@ enum Step {
     Snapshot,
     /// A compaction makes a version of this number, with these new files.
     Compact(u64, &'static [u64]),
-    /// A compaction that is made again where memory is wanting, which leaves the version as it was.
+    /// A compaction that is repeated if memory runs out, which leaves the version as it was.
     CompactAtLast,
     /// Nothing is compacted.
     Idle,
-    /// The key has this value at the present.
+    /// The key has this value now.
     Read(Option<&'static [u8]>),
     /// And at the first snapshot.
     ReadAtFirst(Option<&'static [u8]>),
@@ -69,7 +69,7 @@ const AT_LAST: [Step; 7] = [
     Step::Read(None),
 ];
 
-// The calls without their promises, which a test that runs need not know: so its proof is short.
+// The calls without their promises, which a test that runs does not need: so its proof is short.
 
 fn compact(alloc: Global, coord: &mut Coord) -> Result<Option<(u64, Vec<u64>)>, CoordError> {
     compact_once(alloc, coord)
@@ -110,7 +110,7 @@ fn number_of(coord: &Coord) -> u64 {
     coord.show().number
 }
 
-/// A new store whose level 0 is due with so many files, and level 1 with so many bytes.
+/// A new store with limits of `files` files for level 0 and `base` bytes for level 1.
 fn store_due(alloc: Global, files: u64, base: u64) -> Result<Coord, Fail> {
     let limits = Limits::new(files, base).ok_or("no limits")?;
     Ok(Coord::new(alloc, limits)?)
@@ -142,7 +142,7 @@ fn is_compacted(
     }
 }
 
-/// Compacts again where memory was wanting, and then says whether the version was left as it was.
+/// Compacts again if memory ran out, and then says whether the version was left as it was.
 fn is_compacted_at_last(alloc: Global, coord: &mut Coord) -> Result<bool, CoordError> {
     let before = number_of(coord);
     match compact(alloc, coord) {

@@ -78,7 +78,7 @@ fn example(alloc: Global) -> Result<Vec<Placed>, Fail>
     Ok(places)
 }
 
-// The places are in the order of a search.
+// The files are in search order.
 fn are_ordered(places: &[Placed]) -> bool
     ensures { result ≡ true → AreInSearchOrder places.now }
 {

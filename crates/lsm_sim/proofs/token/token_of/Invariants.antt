@@ -1,4 +1,4 @@
--- the bytes so far, and what the rest of the word spells
+-- the bytes so far, and what the rest of the word encodes
 use Rattle.std.proofs.Common.{◌≡◌, ◌++◌, length}
 use Rattle.std.specs.Option.{option_map}
 use Rattle.lsm_sim.specs.Tokens.{spelled}
