@@ -41,6 +41,13 @@ fn kept_beside(
 }
 
 // Whether an entry is kept, given the one before it.
+//
+// An entry is dropped if
+// (A) a newer entry of its key in the inputs is visible to every read that would see it: the latest read, and each snapshot
+//     at or after it.
+// A deletion that survives (A) is dropped if also
+// (B) no snapshot is older than it, so that no read needs it to hide an entry of the inputs: by (A) those are dropped; and
+// (C) no file below the output level may have the key, so that it hides nothing there. Newer levels have newer entries only.
 fn stays(points: &[Seq], deeper: &DeeperKeys, before: Option<&Entry>, entry: &Entry) -> bool
     ensures { result ≡ stays points.now deeper.now (option_map (λ (b : Bor Entry). b.now) before.entry) entry.now }
 {
@@ -67,9 +74,7 @@ fn is_seen_alone(points: &[Seq], newer: Seq, seq: Seq) -> bool
     points.iter().any(|point| seq <= *point && *point < newer)
 }
 
-// Whether it is a deletion that hides nothing any more, and so may be dropped even though a read needs it: no snapshot
-// is older than it, so that no entry of its key in the inputs that it hides is kept; and no file below the output level
-// may hold the key. Newer levels hold only newer entries.
+// Whether it is a deletion of which (B) and (C) hold.
 fn may_go(points: &[Seq], deeper: &DeeperKeys, entry: &Entry) -> bool
     ensures { result ≡ may_go points.now deeper.now entry.now }
 {
