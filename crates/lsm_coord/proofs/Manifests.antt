@@ -12,7 +12,8 @@ use Rattle.lsm_edit.specs.Served.{ServedValue}
 use Rattle.lsm_edit.proofs.EditLaws.{edit_again}
 use Rattle.lsm_edit.proofs.VersionLaws.{none_passed}
 use Rattle.lsm_coord.specs.State.{State, Version, current, current_version, current_files, last_flushed, empty_version}
-use Rattle.lsm_coord.specs.Manifest.{Apply, folded, ok_items, read_edits, versions_from, versions_of, listed, place_of, Folds}
+use Rattle.lsm_edit.specs.Edits.{Apply, folded, versions_from}
+use Rattle.lsm_coord.specs.Manifest.{ok_items, read_edits, versions_of, listed, place_of, Folds}
 use Rattle.lsm_coord.specs.Shows.{ShowsStored}
 
 -- ---- one edit more

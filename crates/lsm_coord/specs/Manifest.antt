@@ -7,8 +7,9 @@ use Rattle.lsm_table.specs.Tables.{Opened}
 use Rattle.lsm_edit.specs.declared.file.FileMeta.{FileMeta}
 use Rattle.lsm_edit.specs.declared.edit.Edit.{Edit}
 use Rattle.lsm_edit.specs.Edit.{IsEdit, IsSpelled, edit, edit_of}
+use Rattle.lsm_edit.specs.Edits.{Apply, folded, versions_from}
 use Rattle.lsm_edit.specs.Next.{flush_edit}
-use Rattle.lsm_edit.specs.Version.{VersionValue, first_version, apply_fault, applied}
+use Rattle.lsm_edit.specs.Version.{VersionValue, first_version, apply_fault}
 use Rattle.lsm_edit.specs.Served.{ServedValue, advanced, first_served}
 use Rattle.lsm_msg.specs.Installs.{with_flushed}
 use Rattle.lsm_coord.specs.State.{Version, Place}
@@ -21,21 +22,6 @@ ok_items (Err fault) = []
 -- the edits that the bytes of a manifest spell, in order
 abbrev pub read_edits : List (List ℕ) → List Edit
 read_edits texts = flat_map (λ text. ok_items (edit_of text)) texts
-
--- each edit applies to the version that those before it make
-abbrev pub Apply : VersionValue → List Edit → Type 0
-Apply v [] = Unit {0}
-Apply v (edit ∷ edits) = (apply_fault v edit ≡ None) × Apply (applied v edit) edits
-
--- the version after all edits
-abbrev pub folded : VersionValue → List Edit → VersionValue
-folded v [] = v
-folded v (edit ∷ edits) = folded (applied v edit) edits
-
--- the version before all edits, and the one after each
-abbrev pub versions_from : VersionValue → List Edit → List VersionValue
-versions_from v [] = v ∷ []
-versions_from v (edit ∷ edits) = v ∷ versions_from (applied v edit) edits
 
 -- version 0, and the one after each edit of a manifest
 abbrev pub versions_of : List (List ℕ) → List VersionValue

@@ -1,5 +1,7 @@
 pub mod File
 pub mod Edit
 pub mod Version
+pub mod Edits
+pub mod Laws
 pub mod Served
 pub mod Next

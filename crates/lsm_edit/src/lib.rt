@@ -7,6 +7,7 @@
 mod edit;
 mod file;
 mod format;
+mod laws;
 mod next;
 mod served;
 #[cfg(test)]
@@ -16,5 +17,6 @@ mod version;
 pub use edit::{Edit, EditKind, decode_edit, encode_edit, same_numbers};
 pub use file::{FileMeta, same_files};
 pub use format::{FormatError, FormatFault};
+pub use laws::{a_number_names_one_file, no_file_is_removed_twice, worked_edits};
 pub use served::{Listing, Placed, Served};
 pub use version::{ApplyError, Version};

@@ -13,11 +13,23 @@ use lsm_table::{Table, TableBuilder};
 use std::alloc::Global;
 use std::test::Fail;
 
+/// A file: its level, and the keys at its ends.
+pub(super) type File = (u8, u8, u8);
+
 /// The first version that an opened store has, without files.
 pub(super) fn opened(alloc: Global) -> Result<Served, Fail> {
     let mut served = Served::new(alloc);
     let opening = Edit::epoch(alloc, served.version());
     served.advance(&opening, Vec::new(alloc))?;
+    Ok(served)
+}
+
+/// The version with these files, added one by one.
+pub(super) fn with_files(alloc: Global, files: &[File]) -> Result<Served, Fail> {
+    let mut served = opened(alloc)?;
+    for (level, lo, hi) in files {
+        add(alloc, &mut served, *level, &[*lo], &[*hi])?;
+    }
     Ok(served)
 }
 
