@@ -7,12 +7,13 @@ use Rattle.std.proofs.Math.ListN.{get_or-map}
 use Rattle.lsm_edit.specs.declared.edit.Edit.{Edit}
 use Rattle.lsm_key.proofs.Sets.{IsIn-append_cases}
 use Rattle.lsm_edit.specs.Edit.{IsSpelled, edit_of}
-use Rattle.lsm_edit.specs.Version.{VersionValue, first_version, apply_fault, applied}
+use Rattle.lsm_edit.specs.Version.{IsVersion, VersionValue, first_version, apply_fault, applied}
 use Rattle.lsm_edit.specs.Served.{ServedValue}
 use Rattle.lsm_edit.proofs.EditLaws.{edit_again}
+use Rattle.lsm_edit.proofs.EditsLemmas.{removed_once}
 use Rattle.lsm_edit.proofs.VersionLaws.{none_passed}
 use Rattle.lsm_coord.specs.State.{State, Version, current, current_version, current_files, last_flushed, empty_version}
-use Rattle.lsm_edit.specs.Edits.{Apply, folded, versions_from}
+use Rattle.lsm_edit.specs.Edits.{Apply, RemovedOnce, folded, versions_from}
 use Rattle.lsm_coord.specs.Manifest.{ok_items, read_edits, versions_of, listed, place_of, Folds}
 use Rattle.lsm_coord.specs.Shows.{ShowsStored}
 
@@ -38,6 +39,13 @@ folded-push v (x ∷ edits) e = folded-push (applied v x) edits e
 versions_from-push : (v : VersionValue) (edits : List Edit) (e : Edit) → versions_from v (edits ++ e ∷ []) ≡ versions_from v edits ++ applied (folded v edits) e ∷ []
 versions_from-push v [] e = refl
 versions_from-push v (x ∷ edits) e = ap (λ (vs : List VersionValue). v ∷ vs) (versions_from-push (applied v x) edits e)
+
+pub first_is : IsVersion first_version
+first_is = record { number = omega arith; flushed = omega arith; epoch = omega arith; some_file = omega arith; next_file = omega arith; files = λ f m. absurd m; below = λ f m. absurd m; rising = tt; disjoint = refl }
+
+-- no file is removed by two edits of a manifest that replays
+pub removed_by_one : (texts : List (List ℕ)) (v : VersionValue) → Folds texts v → RemovedOnce (read_edits texts)
+removed_by_one texts v h = removed_once first_version (read_edits texts) first_is h.apply
 
 pub Folds-none : Folds [] first_version
 Folds-none = record { spelled = λ text m. absurd m; apply = tt; makes = refl }

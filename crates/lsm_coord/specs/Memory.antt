@@ -8,6 +8,7 @@ use Rattle.lsm_claim.specs.Book.{BookValue, IsBook}
 use Rattle.lsm_edit.specs.declared.edit.EditKind.TheVariants.{Install}
 use Rattle.lsm_edit.specs.Edit.{AreRemoved}
 use Rattle.lsm_edit.specs.declared.file.FileMeta.{FileMeta}
+use Rattle.lsm_edit.specs.Edits.{RemovedOnce}
 use Rattle.lsm_edit.specs.Served.{IsServed, ServedValue}
 use Rattle.lsm_edit.specs.Version.{IsVersion}
 use Rattle.lsm_msg.specs.declared.rules.TheConstants.{MAX_JOB_LEVEL}
@@ -15,7 +16,7 @@ use Rattle.lsm_msg.specs.Legal.{IsLegal}
 use Rattle.lsm_coord.specs.declared.frozen.Frozen.{Frozen}
 use Rattle.lsm_coord.specs.declared.snapshot.Snapshot.{Snapshot}
 use Rattle.lsm_coord.specs.declared.snapshot.TheConstants.{MAX_SNAPSHOTS}
-use Rattle.lsm_coord.specs.Manifest.{Folds}
+use Rattle.lsm_coord.specs.Manifest.{Folds, read_edits}
 use Rattle.lsm_coord.specs.Value.{CoordValue, start_of}
 
 -- entries that were written after one sequence, and up to another
@@ -45,9 +46,11 @@ pub record IsCoord (active : List Entry) (frozen : Option Frozen) (last : ℕ) (
   pub few : length snapshots ≤ MAX_SNAPSHOTS
 
 -- What a store keeps of its versions, files and claims, whatever the results held that were installed: the manifest replays to
--- the current version, each file has its table as recorded, and the live claims stand for jobs whose inputs may still be merged.
+-- the current version, no file is removed by two of its edits, each file has its table as recorded, claims are counted, and each
+-- live one is of a job whose inputs may still be merged.
 pub record IsFit (c : CoordValue) : Type 0 where
   pub manifest : Folds c.edits c.served.version
+  pub once : RemovedOnce (read_edits c.edits)
   pub version : IsVersion c.served.version
   pub served : IsServed c.served
   pub book : IsBook c.book

@@ -10,7 +10,7 @@ use Rattle.lsm_coord.specs.Step.{Lists}
 use Rattle.lsm_coord.specs.Manifest.{place_of}
 use Rattle.lsm_coord.proofs.Refusals.{show_may}
 use Rattle.lsm_coord.proofs.States.{lists_current}
-use Rattle.lsm_coord.proofs.Manifests.{version_count, flushed_is, files_are}
+use Rattle.lsm_coord.proofs.Manifests.{version_count, flushed_is, files_are, removed_by_one}
 use Rattle.lsm_coord.proofs.coord.Coord.show.Goals as goal
 
 pub returns-clause-step : goal.returns-clause-step
@@ -28,6 +28,7 @@ returns-clause-step c =
 pub returns-clause-fit : goal.returns-clause-fit
 returns-clause-fit c = subst IsFit c.self.view_is (record {
   manifest = c.served.ensures.folds;
+  once = removed_by_one _ _ c.served.ensures.folds;
   version = subst (λ (v : ServedValue). IsVersion v.version) c.served.ensures.served c.listing.ensures.sound.1;
   served = subst IsServed c.served.ensures.served c.listing.ensures.sound.0;
   book = c.live-live.ensures.sound;
