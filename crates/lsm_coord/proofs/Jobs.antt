@@ -243,6 +243,6 @@ pub claimed_or_not : (r : Result LiveJob ClaimError) (old new : BookValue) (want
 claimed_or_not (Ok claim) old new want ok err = inl ok
 claimed_or_not (Err e) old new want ok err = inr err
 
--- the reason why memory may be wanting
+-- the reason why memory may run out
 pub wants_memory : (c : CoordValue) (want : Want) → MayClaim c want → PickRefuses c OutOfMemory
 wants_memory c want may = (may.room, (want, may.given), may.fits)

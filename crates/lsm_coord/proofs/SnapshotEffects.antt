@@ -10,7 +10,7 @@ use Rattle.lsm_coord.specs.Changes.{next_snapshot}
 use Rattle.lsm_coord.specs.Rules.{snapshot_refusal}
 use Rattle.lsm_coord.specs.Step.{Step, Leaves}
 
--- the epoch goes on
+-- the epoch continues
 pub record Goes (s t : State) (more : List Op) : Type 0 where
   pub writes : t.writes ≡ s.writes ++ more
   pub epoch : t.epoch ≡ s.epoch

@@ -1,4 +1,4 @@
--- Of each state that is shown, a scan goes on from window to window.
+-- In every state that is shown, a scan proceeds from window to window.
 use Rattle.std.proofs.Common.{◌≡◌, ℕ, ◌≤◌, Bool, true, cond, is_none, List, [], ◌++◌, Option, None, Some, subst, refl, sym, ap, ◌∙◌, length, take}
 use Rattle.std.specs.List.{filter}
 use Rattle.std.specs.List.Sorted.{IsPermutation}

@@ -1,4 +1,4 @@
--- What each call of the coordinator refuses and makes, of the value that contracts see (LevelDB, db_impl.cc: Write, CompactMemTable, Get, GetSnapshot).
+-- What each call of the coordinator refuses and does, on the value that contracts see (LevelDB, db_impl.cc: Write, CompactMemTable, Get, GetSnapshot).
 use Rattle.std.specs.Prelude.{◌≡◌, ℕ, ◌+◌, ◌≤◌, not, List, ◌++◌, [], ◌∷◌, Option, None, Some, IsSome, MatchOption, length, filter, sum_by, is_none, is_some, nat_eq, nat_lt, nat_le, ◌&&◌, ◌||◌, ◌⊎◌, if◌then◌else◌}
 use Rattle.std.specs.List.Sorted.{IsPermutation}
 use Rattle.lsm_key.specs.declared.entry.Entry.{Entry}
@@ -65,7 +65,7 @@ flush_fault c =
     else if nat_le MAX_NUMBER c.served.version.number || nat_le MAX_NUMBER c.served.version.next_file then Some NumbersExhausted
     else None
 
--- a flush takes the frozen memtable, or where none is frozen the active one
+-- a flush takes the frozen memtable, or the active one if none is frozen
 abbrev pub taken_of : List Entry → ℕ → Option Frozen → Frozen
 taken_of active last None = record { memtable = active; end = last }
 taken_of active last (Some f) = f
@@ -73,7 +73,7 @@ taken_of active last (Some f) = f
 abbrev pub taken : CoordValue → Frozen
 taken c = taken_of c.active c.last c.frozen
 
--- the active memtable after it: a new one, where it was taken
+-- the active memtable after it: a new one, if it was taken
 abbrev pub active_after : List Entry → Option Frozen → List Entry
 active_after active None = []
 active_after active (Some f) = active
@@ -106,15 +106,15 @@ snapshot_fault c =
 abbrev pub next_id : CoordValue → SnapId
 next_id c = record { epoch = c.served.version.epoch; number = c.made + 1 }
 
--- one snapshot more, of the present
+-- one more snapshot, of the latest sequence
 abbrev pub snapped : CoordValue → CoordValue
 snapped c = record c { snapshots = c.snapshots ++ record { id = next_id c; at = c.last } ∷ []; made = c.made + 1 }
 
--- a snapshot that is not live can't be let go
+-- a snapshot that is not live can't be released
 abbrev pub release_fault : CoordValue → SnapId → Option CoordError
 release_fault c id = if is_none (snapshot_at c.snapshots id) then Some NoSnapshot else None
 
--- the snapshots but this one
+-- all snapshots except this one
 abbrev pub released : CoordValue → SnapId → CoordValue
 released c id = record c { snapshots = filter (λ live. not (same_id live.id id)) c.snapshots }
 
@@ -131,26 +131,26 @@ abbrev pub point_of : CoordValue → Option SnapId → Option ℕ
 point_of c None = Some c.last
 point_of c (Some id) = snapshot_at c.snapshots id
 
--- the present, or a live snapshot's sequence
+-- the latest sequence, or a live snapshot's
 abbrev pub IsPoint : CoordValue → ℕ → Type 0
 IsPoint c point = (point ≡ c.last) ⊎ ((x : Snapshot) × IsIn x c.snapshots × (x.at ≡ point))
 
--- the value of a key at a sequence, of each state that is shown
+-- the value of a key at a sequence, in every state that is shown
 abbrev pub Answers : CoordValue → ℕ → List ℕ → Option (List ℕ) → Type 0
 Answers c point key value = (s : State) → Shows c s → value ≡ answer s.writes point key
 
--- the key has a value at a sequence, in each state that is shown
+-- the key has a value at a sequence, in every state that is shown
 abbrev pub HasValue : CoordValue → ℕ → List ℕ → Type 0
 HasValue c point key = (s : State) → Shows c s → IsSome (answer s.writes point key)
 
--- a get is refused where its snapshot is absent, or where there is a value to copy and memory is wanting
+-- a get is refused if its snapshot does not exist, or if there is a value to copy and memory runs out
 abbrev pub GetRefuses : CoordValue → List ℕ → Option SnapId → CoordError → Type 0
 GetRefuses c key at e = MatchOption (point_of c at) (e ≡ NoSnapshot) (λ point. (e ≡ OutOfMemory) × HasValue c point key)
 
--- a scan where its snapshot is absent, or memory is wanting
+-- a scan is refused if its snapshot does not exist, or if memory runs out
 abbrev pub ScanRefuses : CoordValue → Option SnapId → CoordError → Type 0
 ScanRefuses c at e = MatchOption (point_of c at) (e ≡ NoSnapshot) (λ point. e ≡ OutOfMemory)
 
--- the pairs of a scan at a sequence, of each state that is shown
+-- the pairs of a scan at a sequence, in every state that is shown
 abbrev pub Scans : CoordValue → ℕ → List ℕ → List ℕ → ℕ → List (List ℕ × List ℕ) → Type 0
 Scans c point lo hi limit pairs = (s : State) → Shows c s → IsRange (answer s.writes point) lo hi limit pairs

@@ -1,4 +1,4 @@
--- What events make of a state (LevelDB, implementation notes: level 0, compactions, recovery).
+-- What events do to a state (LevelDB, implementation notes: level 0, compactions, recovery).
 use Rattle.std.specs.Prelude.{◌≡◌, ℕ, ◌+◌, ◌-◌, ◌≤◌, List, [], ◌∷◌, ◌++◌, Option, None, Some, length, map, filter, take, max, Bool, true, false, not, nat_eq, ◌&&◌, slice_get, slice_set}
 use Rattle.std.specs.List.{list_any, range_with_len}
 use Rattle.std.specs.Option.{unwrap_or}
@@ -7,7 +7,7 @@ use Rattle.lsm_key.specs.Sets.{IsIn}
 use Rattle.lsm_coord.specs.State.{State, Version, Place, last_seq, last_flushed, current_version, current_files, snapshot_at, same_id}
 use Rattle.lsm_coord.specs.declared.snapshot.SnapId.{SnapId}
 
--- the sequence of a read: the present, or that of a live snapshot
+-- the sequence of a read: the latest, or that of a live snapshot
 abbrev pub read_at : State → Option SnapId → ℕ
 read_at s None = last_seq s
 read_at s (Some id) = unwrap_or (snapshot_at s.snapshots id) 0
@@ -16,7 +16,7 @@ read_at s (Some id) = unwrap_or (snapshot_at s.snapshots id) 0
 abbrev pub next_snapshot : State → SnapId
 next_snapshot s = record { epoch = s.epoch; number = s.made + 1 }
 
--- the next snapshot, at the present
+-- with the next snapshot, at the latest sequence
 abbrev pub with_snapshot : State → State
 with_snapshot s = record s { snapshots = s.snapshots ++ record { id = next_snapshot s; at = last_seq s } ∷ []; made = s.made + 1 }
 
@@ -24,15 +24,15 @@ with_snapshot s = record s { snapshots = s.snapshots ++ record { id = next_snaps
 abbrev pub without_snapshot : State → SnapId → State
 without_snapshot s id = record s { snapshots = filter (λ live. not (same_id live.id id)) s.snapshots }
 
--- a version follows, and file numbers go on from here
+-- with one more version, and file numbers that continue from here
 abbrev pub with_version : State → Version → ℕ → State
 with_version s version next_file = record s { versions = s.versions ++ version ∷ []; next_file = next_file }
 
--- where a flush ends: with the frozen memtable, or without one with the active
+-- the last sequence of a flush: that of the frozen memtable, or of the active one if none is frozen
 abbrev pub flush_end : State → ℕ
 flush_end s = unwrap_or s.frozen (last_seq s)
 
--- one file more in level 0
+-- one more file in level 0
 abbrev pub flushed_version : State → Version
 flushed_version s = record { flushed = flush_end s; files = current_files s ++ record { level = 0; file = s.next_file } ∷ [] }
 
@@ -56,7 +56,7 @@ risen s = record (with_version (fallen s) (current_version s) s.next_file) { epo
 abbrev pub same_place : Place → Place → Bool
 same_place a b = nat_eq a.level b.level && nat_eq a.file b.file
 
--- the files that are none of the inputs
+-- the files except the inputs
 abbrev pub without : List Place → List Place → List Place
 without inputs files = filter (λ p. not (list_any (same_place p) inputs)) files
 
@@ -64,7 +64,7 @@ without inputs files = filter (λ p. not (list_any (same_place p) inputs)) files
 abbrev pub at_level : ℕ → List ℕ → List Place
 at_level level files = map (λ file. record { level = level; file = file }) files
 
--- a merge took some files of the current version and put others, newly numbered, into one level below level 0
+-- a merge replaced some files of the current version by others, newly numbered, in one level below level 0
 pub record IsInstalled (s : State) (number : ℕ) (files : List ℕ) (new : State) : Type 0 where
   pub inputs : List Place
   pub level : ℕ

@@ -1,4 +1,4 @@
--- Dispatchers and their desk: who holds the claims of the jobs that were handed out (RocksDB wiki, Remote Compaction: the primary waits for each job that it handed out).
+-- Dispatchers and their desk: the holders of the claims of jobs that were handed out (RocksDB wiki, Remote Compaction: the primary waits for each job that it handed out).
 use Rattle.std.specs.Prelude.{ℕ, ◌-◌, List, [], ◌∷◌, Option, None, Some, get_or, slice_set, flat_map}
 use Rattle.lsm_claim.specs.declared.job.JobId.{JobId}
 use Rattle.lsm_claim.specs.declared.job.LiveJob.{LiveJob}
@@ -12,7 +12,7 @@ abbrev pub job_of : Dispatcher → Option LiveJob
 job_of Idle = None
 job_of (Busy job) = Some job
 
--- its name, where there is one
+-- its name, if there is one
 abbrev pub held_by : Dispatcher → List JobId
 held_by Idle = []
 held_by (Busy job) = job.id ∷ []

@@ -10,7 +10,7 @@ pub data Node : Type 0 where
   Worker : (index : ℕ) → Node
   Follower : (index : ℕ) → Node
 
--- a read is at the present where it names no snapshot
+-- a read is at the latest sequence if it names no snapshot
 pub data Event : Type 0 where
   Write : (ops : List Op) → Event
   Freeze : Event
@@ -28,7 +28,7 @@ pub data Event : Type 0 where
   Trim : (number : ℕ) → Event
   Restart : (node : Node) → Event
 
--- why nothing was answered
+-- why an event was refused
 pub data Refusal : Type 0 where
   -- of a batch
   EmptyKey : Refusal
@@ -59,10 +59,10 @@ pub data Refusal : Type 0 where
   NoClaim : Refusal
   OldEpoch : Refusal
   NoMessage : Refusal
-  -- of anything that takes memory
+  -- of anything that allocates
   OutOfMemory : Refusal
 
--- what an event was answered
+-- the answer to an event
 pub data Reply : Type 0 where
   Wrote : (first last : ℕ) → Reply  -- the sequences of the operations
   Froze : (seq : ℕ) → Reply  -- the last sequence of the frozen memtable
@@ -79,4 +79,4 @@ pub data Reply : Type 0 where
   Restarted : (epoch number last : ℕ) → Reply  -- of the coordinator: its epoch, version and last sequence
   Reset : Reply  -- of a worker or a follower
   Refused : (why : Refusal) → Reply
-  Other : Reply  -- says nothing of the state
+  Other : Reply  -- says nothing about the state

@@ -1,4 +1,4 @@
--- Runs of a new store, written out: what a reader can check by hand, and some that are none.
+-- Runs of a new store, written out: what a reader can check by hand, and some that are not runs.
 use Rattle.std.specs.Prelude.{ℕ, List, [], ◌∷◌, None, Some}
 use Rattle.lsm_key.specs.declared.op.Op.TheVariants.{Put, Delete}
 use Rattle.lsm_coord.specs.declared.snapshot.SnapId.{SnapId}
@@ -34,13 +34,13 @@ FlushedWriteIsFound = RunOfNew
     (say.Write (Put a one ∷ []) ∷ say.Flush ∷ say.Get a None ∷ [])
     (say.Wrote 1 1 ∷ say.Flushed 2 1 1 ∷ say.Got (Some one) ∷ [])
 
--- a restart loses what was not flushed, and gives its sequence again
+-- a restart loses what was not flushed, and reuses its sequence
 abbrev pub RestartLosesWrites : Type 0
 RestartLosesWrites = RunOfNew
     (say.Write (Put a one ∷ []) ∷ say.Restart say.Coordinator ∷ say.Get a None ∷ say.Write (Put b two ∷ []) ∷ [])
     (say.Wrote 1 1 ∷ say.Restarted 2 2 0 ∷ say.Got None ∷ say.Wrote 1 1 ∷ [])
 
--- of a batch the last write of a key counts, and a scan leaves out what was deleted
+-- in a batch the last write of a key counts, and a scan leaves out deleted keys
 abbrev pub LastOfABatchCounts : Type 0
 LastOfABatchCounts = RunOfNew
     (say.Write (Put a one ∷ Put b two ∷ Delete a ∷ []) ∷ say.Get a None ∷ say.Scan none z None 10 ∷ [])
@@ -70,7 +70,7 @@ MergeKeepsAnswers = RunOfNew
     (say.Write (Put a one ∷ []) ∷ say.Flush ∷ say.Snap ∷ say.Write (Delete a ∷ []) ∷ say.Flush ∷ say.Pick 1 ∷ say.Deliver 6 ∷ say.Show say.Coordinator ∷ say.Get a (Some first_snapshot) ∷ say.Get a None ∷ [])
     (say.Wrote 1 1 ∷ say.Flushed 2 1 1 ∷ say.Snapped first_snapshot 1 ∷ say.Wrote 2 2 ∷ say.Flushed 3 2 2 ∷ say.Other ∷ say.Installed 4 (3 ∷ []) ∷ say.Shown 4 2 (record { level = 1; file = 3 } ∷ []) ∷ say.Got (Some one) ∷ say.Got None ∷ [])
 
--- a follower answers from its version, which may lie behind, and begins again at version 0
+-- a follower answers from its version, which may be behind, and begins again at version 0
 abbrev pub FollowerLiesBehind : Type 0
 FollowerLiesBehind = RunOfNew
     (say.Write (Put a one ∷ []) ∷ say.Flush ∷ say.Write (Put a two ∷ []) ∷ say.Flush ∷ say.Ask 1 ∷ say.Deliver 2 ∷ say.Read 1 a ∷ say.Show (say.Follower 1) ∷ say.Trim 3 ∷ say.Deliver 4 ∷ say.Read 1 a ∷ say.Restart (say.Follower 1) ∷ say.Read 1 a ∷ [])
@@ -96,7 +96,7 @@ KeptWriteIsNoRun = RunOfNew
     (say.Write (Put a one ∷ []) ∷ say.Restart say.Coordinator ∷ say.Get a None ∷ [])
     (say.Wrote 1 1 ∷ say.Restarted 2 2 0 ∷ say.Got (Some one) ∷ []) → ⊥
 
--- A refusal comes only where it holds.
+-- A refusal is given only if it holds.
 abbrev pub UnforcedRefusalIsNoRun : Type 0
 UnforcedRefusalIsNoRun = RunOfNew (say.Write (Put a one ∷ []) ∷ []) (say.Refused say.MemtableFull ∷ []) → ⊥
 
@@ -122,7 +122,7 @@ FileForgottenIsNoRun = RunOfNew
     (say.Write (Put a one ∷ []) ∷ say.Flush ∷ say.Write (Put b two ∷ []) ∷ say.Flush ∷ say.Show say.Coordinator ∷ [])
     (say.Wrote 1 1 ∷ say.Flushed 2 1 1 ∷ say.Wrote 2 2 ∷ say.Flushed 3 2 2 ∷ say.Shown 3 2 (record { level = 0; file = 2 } ∷ []) ∷ []) → ⊥
 
--- A flush takes nothing from what reads give.
+-- A flush changes no read.
 abbrev pub FlushLosesWriteIsNoRun : Type 0
 FlushLosesWriteIsNoRun = RunOfNew
     (say.Write (Put a one ∷ []) ∷ say.Flush ∷ say.Get a None ∷ [])

@@ -1,4 +1,4 @@
--- What an install accepts, and what it makes (RocksDB wiki, Remote Compaction: the primary verifies and installs the result of a job; LevelDB, db_impl.cc: InstallCompactionResults).
+-- What an install accepts, and what it does (RocksDB wiki, Remote Compaction: the primary verifies and installs the result of a job; LevelDB, db_impl.cc: InstallCompactionResults).
 use Rattle.std.specs.Prelude.{◌≡◌, ◌↔◌, ℕ, ◌+◌, ◌<◌, ◌≤◌, ◌^◌, Bool, true, false, ◌&&◌, List, [], ◌∷◌, ◌++◌, Option, None, Some, find, length, map, nat_le, if◌then◌else◌}
 use Rattle.lsm_key.specs.declared.entry.Entry.{Entry}
 use Rattle.lsm_key.specs.declared.limits.TheConstants.{MAX_NUMBER}
@@ -46,16 +46,16 @@ AreTables (text ∷ texts) [] = ⊥
 abbrev pub is_inside : Hull → Opened → Bool
 is_inside hull t = key_le hull.lo (smallest_key t.entries) && key_le (largest_key t.entries) hull.hi
 
--- all keys of the one table stand before those of the other
+-- all keys of the one table are before those of the other
 abbrev pub StandsBefore : Opened → Opened → Type 0
 StandsBefore t u = key_lt (largest_key t.entries) (smallest_key u.entries) ≡ true
 
--- each stands before all after it
+-- each is before all after it
 abbrev pub AreAscending : List Opened → Type 0
 AreAscending [] = Unit {0}
 AreAscending (t ∷ ts) = ((u : Opened) → IsIn u ts → StandsBefore t u) × AreAscending ts
 
--- what the outputs of a job may be: tables with keys of its hull alone, each after the one before it
+-- what the outputs of a job may be: tables with only keys of its hull, in ascending order
 pub record AreOutputs (hull : Hull) (texts : List (List ℕ)) (ts : List Opened) : Type 0 where
   pub few : length texts < 2 ^ 32
   pub tables : AreTables texts ts
@@ -71,14 +71,14 @@ comes_next hull (Some last) t = is_inside hull t && key_lt (largest_key last.ent
 abbrev pub record_of : ℕ → ℕ → Opened → FileMeta
 record_of level number t = record { number = number; level = level; smallest = smallest_key t.entries; largest = largest_key t.entries; bytes = length t.bytes; entries = length t.entries }
 
--- the records of tables under numbers in turn
+-- the records of tables under consecutive numbers
 abbrev pub records : ℕ → ℕ → List Opened → List FileMeta
 records level number [] = []
 records level number (t ∷ ts) = record_of level number t ∷ records level (number + 1) ts
 
 -- ---- the next version
 
--- the outputs take the place of the inputs, one level deeper, under the next file numbers
+-- the outputs replace the inputs, one level deeper, under the next file numbers
 abbrev pub edit_of : VersionValue → Want → List Opened → Edit
 edit_of v want ts = install_edit v want.files (records (want.level + 1) v.next_file ts)
 
@@ -98,7 +98,7 @@ number_fault v files = if nat_le (v.number + 1) MAX_NUMBER && nat_le (v.next_fil
 abbrev pub next_served : ServedValue → Want → List Opened → ServedValue
 next_served s want ts = advanced s (edit_of s.version want ts) ts
 
--- the next version stands, its edit is the last of the list, and the claim is spent
+-- the next version is current, its edit is the last of the list, and the claim is settled
 pub record IsInstall (old : CoordValue) (live : LiveJob) (ts : List Opened) (new : CoordValue) : Type 0 where
   pub text : List ℕ
   pub spelled : IsSpelled text (edit_of old.served.version live.want ts)
@@ -123,15 +123,15 @@ pub record Puts (old : VersionSetValue) (live : LiveJob) (made : JobResult) (num
 abbrev pub IsLive : CoordValue → JobId → LiveJob → Type 0
 IsLive c id live = find (λ j. same_id j.id id) c.book.live ≡ Some live
 
--- why a result is not installed: the first reason that holds, unless memory is wanting
+-- why a result is not installed: the first reason that holds, unless memory runs out
 abbrev pub Explains : VersionValue → LiveJob → JobResult → InstallError → Type 0
 Explains v live made WrongJob = made.job ≡ live.id → ⊥
 Explains v live made BadResult = (made.job ≡ live.id) × ((ts : List Opened) → AreOutputs live.want.hull made.tables ts → ⊥)
 Explains v live made NumbersExhausted = (made.job ≡ live.id) × (ts : List Opened) × AreOutputs live.want.hull made.tables ts × (HasNumbers v ts → ⊥)
 Explains v live made OutOfMemory = made.job ≡ live.id
 
--- A claim that the book has not is stale, and told the epoch; a result that is not accepted leaves the claim; and else the
--- outputs are installed, and their files told.
+-- A claim that the book does not have is stale, and the epoch is reported; a refused result leaves the claim; otherwise the
+-- outputs are installed, and their files reported.
 abbrev pub Became : CoordValue → LiveJob → JobResult → Install → CoordValue → Type 0
 Became old claim made (became.Done number files) new =
     (live : LiveJob) × IsLive old claim.id live × (made.job ≡ claim.id)
@@ -146,7 +146,7 @@ StepsTo old (became.Done number files) new = (message : ℕ) → Follows old (De
 StepsTo old (became.Stale job epoch) new = Unit {0}
 StepsTo old (became.Kept back why) new = Unit {0}
 
--- a claim that is stale, and a result that is kept back, are refusals that each state allows, whatever message brought the result
+-- a stale claim and a refused result are refusals that every state allows, whatever message brought the result
 abbrev pub RefusalsStep : CoordValue → Install → CoordValue → Type 0
 RefusalsStep old (became.Done number files) new = Unit {0}
 RefusalsStep old (became.Stale job epoch) new = (message : ℕ) → Follows old (Deliver message) (Refused OldEpoch) new
@@ -158,7 +158,7 @@ RefusalsStep old (became.Kept back why) new = (message : ℕ) → Follows old (D
 abbrev pub AreEntriesOf : ServedValue → JobParts → List Entry → Type 0
 AreEntriesOf served job entries = (e : Entry) → IsIn e entries ↔ ((p : Placed) × IsIn p served.places × IsIn p.meta job.inputs × IsIn e p.table.entries)
 
--- the result's tables hold just what a merge keeps of the job's inputs
+-- the result's tables hold exactly what a merge keeps of the job's inputs
 pub record HoldsMergeOf (served : ServedValue) (job : JobParts) (made : JobResult) : Type 0 where
   pub inputs : List Entry
   pub are : AreEntriesOf served job inputs

@@ -22,7 +22,7 @@ ListingsAgree = (s t : State) (events : List Event) (replies : List Reply) → R
     → IsIn (say.Shown number seq files) replies → IsIn (say.Shown number other_seq other_files) replies
     → (seq ≡ other_seq) × (files ≡ other_files)
 
--- somewhere in a run the event was given the reply
+-- somewhere in a run the event got the reply
 abbrev pub IsAnswered : List Event → List Reply → Event → Reply → Type 0
 IsAnswered events replies event reply = (i : ℕ) × (slice_get events i ≡ Some event) × (slice_get replies i ≡ Some reply)
 
@@ -48,7 +48,7 @@ SparesKey key (say.Write ops) = last_write ops key ≡ None
 SparesKey key (say.Restart say.Coordinator) = ⊥
 SparesKey key event = Unit {0}
 
--- In a run, a get gives what the last write of its key leaves: the value of a put, none of a deletion. It is the last of
+-- In a run, a get returns what the last write of its key leaves: the value of a put, none for a deletion. It is the last of
 -- its key in a batch that was answered, and no event between them writes the key or restarts the coordinator.
 abbrev pub GetGivesTheWrite : Type 0
 GetGivesTheWrite = (s t : State) (before between after : List Event) (ops : List Op) (key : List ℕ) (write : Op)
@@ -59,16 +59,16 @@ GetGivesTheWrite = (s t : State) (before between after : List Event) (ops : List
     → ((event : Event) → IsIn event between → SparesKey key event)
     → found ≡ value_of write
 
--- A scan can give one list only.
+-- A scan can return one list only.
 abbrev pub ScansAreDetermined : Type 0
 ScansAreDetermined = (writes : List Op) (at : ℕ) (lo hi : List ℕ) (limit : ℕ) (pairs others : List (List ℕ × List ℕ))
     → IsRange (answer writes at) lo hi limit pairs → IsRange (answer writes at) lo hi limit others → pairs ≡ others
 
--- flushed sequences rise with the version number, up to the number of writes
+-- flushed sequences ascend with the version number, up to the number of writes
 pub record IsOrderly (s : State) : Type 0 where
   pub ascending : (m n : ℕ) (v w : Version) → m ≤ n → slice_get s.versions m ≡ Some v → slice_get s.versions n ≡ Some w → v.flushed ≤ w.flushed
   pub written : (n : ℕ) (v : Version) → slice_get s.versions n ≡ Some v → v.flushed ≤ last_seq s
 
--- In a run of a new store, flushed sequences rise with the version number, up to the number of writes.
+-- In a run of a new store, flushed sequences ascend with the version number, up to the number of writes.
 abbrev pub FlushedRises : Type 0
 FlushedRises = (events : List Event) (replies : List Reply) (s : State) → Run first_state events replies s → IsOrderly s

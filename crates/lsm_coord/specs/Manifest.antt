@@ -1,4 +1,4 @@
--- The list of edits, and the versions that it folds to (LevelDB, implementation notes: manifest).
+-- The list of edits, and the versions that it replays to (LevelDB, implementation notes: manifest).
 use Rattle.std.specs.Prelude.{◌≡◌, ℕ, ◌+◌, ◌≤◌, List, [], ◌∷◌, ◌++◌, None, Result, Ok, Err, map}
 use Rattle.std.specs.List.{flat_map}
 use Rattle.lsm_key.specs.declared.limits.TheConstants.{MAX_NUMBER}

@@ -1,4 +1,4 @@
--- What every coordinator keeps (LevelDB, implementation notes: the memtable has the writes after those that the tables have; RocksDB wiki, Remote Compaction: jobs stay valid while the primary goes on).
+-- What every coordinator keeps (LevelDB, implementation notes: the memtable has the writes after those that the tables have; RocksDB wiki, Remote Compaction: jobs stay valid while the primary continues).
 use Rattle.std.specs.Prelude.{◌≡◌, ℕ, ◌<◌, ◌≤◌, List, Option, Some, length}
 use Rattle.lsm_key.specs.declared.entry.Entry.{Entry}
 use Rattle.lsm_key.specs.Sets.{IsIn}
@@ -27,7 +27,7 @@ AreBetween entries after last = (e : Entry) → IsIn e entries → (after < e.ik
 abbrev pub AreLegal : List FileMeta → List LiveJob → Type 0
 AreLegal files jobs = (j : LiveJob) → IsIn j jobs → IsLegal files j.want
 
--- a want that a job may have: of a level that has a next one, its files by number
+-- inputs that a job may have: of a level that has one below it, its files by number
 pub record IsOrderly (want : Want) : Type 0 where
   pub level : want.level ≤ MAX_JOB_LEVEL
   pub files : AreRemoved Install want.files

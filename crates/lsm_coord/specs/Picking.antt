@@ -1,4 +1,4 @@
--- What a pick answers, and the job that it hands out (LevelDB, version_set.cc: PickCompaction, SetupOtherInputs; RocksDB wiki, Remote Compaction: the input of a compaction service).
+-- What a pick returns, and the job that it hands out (LevelDB, version_set.cc: PickCompaction, SetupOtherInputs; RocksDB wiki, Remote Compaction: the input of a compaction service).
 use Rattle.std.specs.Prelude.{◌≡◌, ℕ, ◌+◌, ◌-◌, ◌<◌, ◌≤◌, Bool, ◌&&◌, List, Option, None, Some, AllPairs, filter, flat_map, length, map, nat_eq}
 use Rattle.std.specs.List.{range_with_len}
 use Rattle.lsm_key.specs.declared.limits.TheConstants.{MAX_NUMBER, MAX_TABLE_BYTES}
@@ -20,7 +20,7 @@ use Rattle.lsm_coord.specs.declared.snapshot.Snapshot.{Snapshot}
 use Rattle.lsm_coord.specs.Memory.{IsOrderly}
 use Rattle.lsm_coord.specs.Value.{CoordValue}
 
--- ---- the job of a want
+-- ---- the job of a compaction
 
 -- the sequences of the snapshots, each once, ascending
 pub record ArePointsOf (snapshots : List Snapshot) (points : List ℕ) : Type 0 where
@@ -31,11 +31,11 @@ pub record ArePointsOf (snapshots : List Snapshot) (points : List ℕ) : Type 0 
 abbrev pub touches_at : Hull → ℕ → FileMeta → Bool
 touches_at hull level f = nat_eq f.level level && touches hull f
 
--- the levels that are more than one below the want's, down to the deepest
+-- the levels more than one below the compaction's, down to the deepest
 abbrev pub deeper_levels : Want → List ℕ
 deeper_levels want = range_with_len (want.level + 2) (MAX_JOB_LEVEL - want.level)
 
--- the files there that may have keys of the want, by level and number
+-- the files there that may have keys of the compaction, by level and number
 abbrev pub deeper_files : List FileMeta → Want → List FileMeta
 deeper_files files want = flat_map (λ level. filter (touches_at want.hull level) files) (deeper_levels want)
 
@@ -56,19 +56,19 @@ pub record IsJobFor (c : CoordValue) (want : Want) (job : JobParts) : Type 0 whe
 abbrev pub HasRoom : CoordValue → Type 0
 HasRoom c = length c.book.live < MAX_LIVE_CLAIMS
 
--- the rule of a pick gives this want
+-- the rule of a pick gives this compaction
 abbrev pub Gives : CoordValue → Want → Type 0
 Gives c want = IsFirst c.served.version.files c.book.live (trials c.limits c.served.version.files) want
 
--- it gives none: nothing is due, or live jobs stand against all that is
+-- it gives none: no level needs compaction, or every candidate conflicts with a running job
 abbrev pub GivesNone : CoordValue → Type 0
 GivesNone c = AreClaimed c.served.version.files c.book.live (trials c.limits c.served.version.files)
 
--- a limit of a job alone stands against some
+-- no candidate is eligible, and at least one failed only by size
 abbrev pub IsTooWide : CoordValue → Type 0
 IsTooWide c = AreTooWide c.served.version.files c.book.live (trials c.limits c.served.version.files)
 
--- the want is given, is one that a job may have, may be merged and can be claimed
+-- the compaction is given, is one that a job may have, may be merged and can be claimed
 pub record MayClaim (c : CoordValue) (want : Want) : Type 0 where
   pub room : HasRoom c
   pub fits : c.book.made < MAX_NUMBER

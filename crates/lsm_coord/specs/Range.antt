@@ -1,14 +1,14 @@
--- What a scan gives (LevelDB, general documentation: iteration).
+-- What a scan returns (LevelDB, general documentation: iteration).
 use Rattle.std.specs.Prelude.{◌≡◌, ℕ, ◌≤◌, List, Option, Some, length, true, ◌⊎◌}
 use Rattle.std.specs.List.{AllPairs}
 use Rattle.lsm_key.specs.Sets.{IsIn}
 use Rattle.lsm_key.specs.Order.{key_lt, key_between}
 
--- the one key stands before the other, by its bytes
+-- the one key is before the other, by its bytes
 abbrev pub IsBelow : List ℕ → List ℕ → Type 0
 IsBelow a b = key_lt a b ≡ true
 
--- the key stands at or after lo, and before hi
+-- the key is at or after lo and before hi
 abbrev pub IsWithin : List ℕ → List ℕ → List ℕ → Type 0
 IsWithin lo hi key = key_between lo hi key ≡ true
 
@@ -17,6 +17,6 @@ pub record IsRange (value_of : List ℕ → Option (List ℕ)) (lo hi : List ℕ
   pub few : length pairs ≤ limit
   pub ascending : AllPairs (λ p q. IsBelow p.0 q.0) pairs
   pub right : (p : List ℕ × List ℕ) → IsIn p pairs → IsWithin lo hi p.0 × (value_of p.0 ≡ Some p.1)
-  -- a key that is left out has no value, or comes after as many as were asked for
+  -- a key that is left out has no value, or is beyond the limit
   pub whole : (key value : List ℕ) → IsWithin lo hi key → value_of key ≡ Some value
       → IsIn (key, value) pairs ⊎ ((length pairs ≡ limit) × ((p : List ℕ × List ℕ) → IsIn p pairs → IsBelow p.0 key))

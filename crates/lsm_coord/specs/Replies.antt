@@ -33,7 +33,7 @@ refusal_of error.BadFloor = say.BadFloor
 refusal_of error.NumbersExhausted = say.NumbersExhausted
 refusal_of error.OutOfMemory = say.OutOfMemory
 
--- why a result is kept back, as a refusal of the coordinator
+-- why a result is refused, as a refusal of the coordinator
 abbrev pub error_of : InstallError → CoordError
 error_of kept.WrongJob = error.WrongJob
 error_of kept.BadResult = error.BadResult

@@ -25,11 +25,11 @@ key_refusal key_error.ValueTooLong = say.ValueTooLong
 key_refusal key_error.BatchFull = say.BatchFull
 key_refusal key_error.OutOfMemory = say.OutOfMemory
 
--- a coordinator that is down refuses as Down what it would refuse or do
+-- a coordinator that is down answers Down in place of everything else
 abbrev pub unless_down : State → Option Refusal → Option Refusal
 unless_down s why = if s.up then why else Some say.Down
 
--- a batch has an operation, and there are sequences and room in the memtable for it
+-- a batch must have an operation, and there must be sequences and room in the memtable for it
 abbrev pub write_refusal : State → List Op → Option Refusal
 write_refusal s ops =
     if nat_eq (length ops) 0 then Some say.EmptyBatch
@@ -51,18 +51,18 @@ flush_refusal s =
     else if nat_lt MAX_NUMBER (length s.versions) || nat_lt MAX_NUMBER (s.next_file + 1) then Some say.NumbersExhausted
     else None
 
--- few snapshots live at a time
+-- the number of live snapshots is limited
 abbrev pub snapshot_refusal : State → Option Refusal
 snapshot_refusal s =
     if nat_le MAX_SNAPSHOTS (length s.snapshots) then Some say.TooManySnapshots
     else if nat_lt MAX_NUMBER (s.made + 1) then Some say.NumbersExhausted
     else None
 
--- the snapshot lives
+-- the snapshot must be live
 abbrev pub release_refusal : State → SnapId → Option Refusal
 release_refusal s id = if is_none (snapshot_at s.snapshots id) then Some say.NoSnapshot else None
 
--- a read at the present is never refused
+-- a latest read is never refused
 abbrev pub read_refusal : State → Option SnapId → Option Refusal
 read_refusal s None = None
 read_refusal s (Some id) = release_refusal s id
@@ -97,11 +97,11 @@ refusal s (say.Restart say.Coordinator) = restart_refusal s
 refusal s (say.Restart (say.Worker i)) = None
 refusal s (say.Restart (say.Follower i)) = None
 
--- a number that an install would give, or the next file number after it, is past its limit
+-- a number that an install would issue, or the next file number after it, exceeds its limit
 abbrev pub CannotNumber : State → Type 0
 CannotNumber s = (MAX_NUMBER < length s.versions) ⊎ ((outputs : ℕ) × (outputs < MAX_OUTPUTS) × (MAX_NUMBER < s.next_file + outputs))
 
--- refusals whose cause is no part of the state: the vault, claims, messages, jobs
+-- refusals whose cause is not in the state: the vault, claims, messages, jobs
 abbrev pub MayRefuse : State → Event → Refusal → Type 0
 MayRefuse s say.Flush say.Device = Unit {0}
 MayRefuse s (say.Trim n) say.Device = Unit {0}
@@ -120,7 +120,7 @@ MayRefuse s (say.Pick d) say.NumbersExhausted = Unit {0}
 MayRefuse s (say.GiveUp d) say.NoClaim = Unit {0}
 MayRefuse s event why = ⊥
 
--- Where a refusal may come: the forced one, or where none is forced one of another cause. Memory may run out anywhere,
+-- When a refusal may be given: the forced one, or if none is forced one of another cause. Memory may run out anywhere,
 -- and the vault may fail in a restart before its numbers are known.
 abbrev pub IsAllowed : State → Event → Refusal → Type 0
 IsAllowed s event say.OutOfMemory = Unit {0}

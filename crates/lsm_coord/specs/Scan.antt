@@ -1,19 +1,19 @@
--- What entries in order show at a point, key after key: the pass of a scan.
+-- What is visible in sorted entries at a read sequence, key after key: the pass of a scan.
 use Rattle.std.specs.Prelude.{ℕ, Bool, not, false, ◌||◌, List, [], ◌∷◌, ◌++◌, Option, None, Some, nat_le, if◌then◌else◌}
 use Rattle.std.specs.Option.{option_map, option_to_list}
 use Rattle.lsm_key.specs.declared.entry.Entry.{Entry}
 use Rattle.lsm_key.specs.Visible.{has_key, entry_value}
 
--- the entry is of the key of the one before
+-- the entry has the key of the one before it
 abbrev pub is_again : Option Entry → Entry → Bool
 is_again None e = false
 is_again (Some before) e = has_key before.ikey.key e
 
--- the point does not see it, or saw a newer one of its key
+-- it is not visible at the sequence, or a newer one of its key was
 abbrev pub is_hidden : ℕ → Option Entry → Entry → Bool
 is_hidden point before e = not (nat_le e.ikey.seq point) || is_again before e
 
--- the key and its value, where it has one
+-- the key and its value, if it has one
 abbrev pub pair_of : Entry → List (List ℕ × List ℕ)
 pair_of e = option_to_list (option_map (λ (value : List ℕ). (e.ikey.key, value)) (entry_value e))
 

@@ -1,4 +1,4 @@
--- What the coordinator answers to a message (RocksDB wiki, Remote Compaction: a worker reads the input files of its job).
+-- What the coordinator replies to a message (RocksDB wiki, Remote Compaction: a worker reads the input files of its job).
 use Rattle.std.specs.Prelude.{ℕ, Option, None, Some, IsSome}
 use Rattle.lsm_table.specs.Tables.{Opened}
 use Rattle.lsm_edit.specs.Served.{table_at}
@@ -13,12 +13,12 @@ abbrev pub sent : ℕ → Option Opened → Body
 sent file None = body.Gone file
 sent file (Some table) = body.Table file table.bytes
 
--- who fetches a file is sent its table, where the current version has it; no other message is answered
+-- a fetch is answered with the table if the current version has the file, otherwise with Gone; no other message is answered
 abbrev pub answered : CoordValue → Message → Body → Option Message
 answered c asked (body.Fetch file) = Some (record { src = Coordinator; dst = asked.src; body = sent file (table_at c.served.places file) })
 answered c asked said = None
 
--- it is a fetch of a file that the current version has
+-- the message is a fetch of a file that the current version has
 abbrev pub FetchesTable : CoordValue → Body → Type 0
 FetchesTable c (body.Fetch file) = IsSome (table_at c.served.places file)
 FetchesTable c said = ⊥

@@ -1,4 +1,4 @@
--- Which states a coordinator shows (O'Neil et al. 1996, section 2: the components of the tree together are the data).
+-- Which states a coordinator represents (shows) (O'Neil et al. 1996, section 2: the components of the tree together are the data).
 use Rattle.std.specs.Prelude.{◌≡◌, ℕ, ◌≤◌, List, drop, take, map, true}
 use Rattle.std.specs.Option.{option_map}
 use Rattle.std.specs.List.Sorted.{IsPermutation}
@@ -46,6 +46,6 @@ pub record Shows (c : CoordValue) (s : State) : Type 0 where
   pub tables : ShowsStored c.edits c.served s
   pub memtables : ShowsRecent c.active (frozen_entries c.frozen) (stored c.served) s
 
--- Of each state that is shown before, the event and its reply are a step to one that is shown after.
+-- For every state shown before, the event and its reply are a step to one shown after.
 abbrev pub Follows : CoordValue → Event → Reply → CoordValue → Type 0
 Follows old event reply new = (s : State) → Shows old s → (t : State) × Step s event reply t × Shows new t

@@ -13,7 +13,7 @@ use Rattle.lsm_msg.specs.Legal.{KnowsDeeper}
 use Rattle.lsm_coord.specs.declared.snapshot.Snapshot.{Snapshot}
 use Rattle.lsm_coord.specs.Value.{CoordValue}
 
--- a live claim has the job's name, and the job merges just the files that the claim's want takes of the current version
+-- a live claim has the job's name, and the job merges exactly the files of the claim's compaction in the current version
 pub record IsClaimed (files : List FileMeta) (b : BookValue) (job : JobParts) : Type 0 where
   pub live : LiveJob
   pub member : IsIn live b.live
@@ -24,7 +24,7 @@ pub record IsClaimed (files : List FileMeta) (b : BookValue) (job : JobParts) : 
 abbrev pub AreWrittenBy : ServedValue → JobParts → ℕ → Type 0
 AreWrittenBy served job at = (p : Placed) → IsIn p served.places → IsIn p.meta job.inputs → (e : Entry) → IsIn e p.table.entries → e.ikey.seq ≤ at
 
--- The job is claimed, each live snapshot is one of its points or sees all its inputs, and it knows what lies deeper.
+-- The job is claimed, each live snapshot is one of its points or sees all its inputs, and it knows the deeper ranges.
 pub record IsSound (c : CoordValue) (job : JobParts) : Type 0 where
   pub claimed : IsClaimed c.served.version.files c.book job
   pub points : (x : Snapshot) → IsIn x c.snapshots → IsIn x.at job.points ⊎ AreWrittenBy c.served job x.at

@@ -5,7 +5,7 @@ use Rattle.lsm_key.specs.declared.op.Op.{Op}
 use Rattle.lsm_coord.specs.declared.snapshot.SnapId.{SnapId}
 use Rattle.lsm_coord.specs.declared.snapshot.Snapshot.{Snapshot}
 
--- a file and the level that it stands in
+-- a file and its level
 pub record Place : Type 0 where
   pub level : ℕ
   pub file : ℕ
@@ -15,9 +15,9 @@ pub record Version : Type 0 where
   pub flushed : ℕ
   pub files : List Place
 
--- what the store has accepted, and what its nodes have made of it
+-- what the store has accepted, and what its nodes hold
 pub record State : Type 0 where
-  pub writes : List Op  -- the accepted writes; the sequence of a write is its place, from 1
+  pub writes : List Op  -- the accepted writes; the sequence of a write is its position, from 1
   pub versions : List Version  -- the versions, by number from 0
   pub frozen : Option ℕ  -- the last sequence of the frozen memtable
   pub snapshots : List Snapshot  -- the live ones, the oldest first
@@ -28,7 +28,7 @@ pub record State : Type 0 where
   pub up : Bool  -- whether the coordinator runs
   pub followers : List ℕ  -- the version of each follower
 
--- the version that nothing was flushed into
+-- the version before any flush
 abbrev pub empty_version : Version
 empty_version = record { flushed = 0; files = [] }
 

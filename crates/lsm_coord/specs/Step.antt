@@ -12,15 +12,15 @@ use Rattle.lsm_coord.specs.Changes.{read_at, next_snapshot, with_snapshot, witho
 abbrev pub Lists : State → ℕ → ℕ → List Place → Type 0
 Lists s number seq files = slice_get s.versions number ≡ Some (record { flushed = seq; files = files })
 
--- what a follower's version gives for a key
+-- what a follower's version returns for a key
 abbrev pub Gives : State → ℕ → List ℕ → Option (List ℕ) → Type 0
 Gives s number key value = (version : Version) × (slice_get s.versions number ≡ Some version) × (value ≡ answer s.writes version.flushed key)
 
--- a follower goes up to a version
+-- a follower advances to a version
 abbrev pub Advances : State → ℕ → State → Type 0
 Advances s number new = (follower : ℕ) × (old : ℕ) × IsAt s follower old × (old < number) × (number < length s.versions) × (new ≡ moved s follower number)
 
--- The replies that are no refusal. The state stays where a reply says nothing of it.
+-- The replies that are no refusal. The state stays the same unless a reply says otherwise.
 abbrev pub Does : State → Event → Reply → State → Type 0
 Does s (say.Write ops) (say.Wrote first last) new = (first ≡ last_seq s + 1) × (last ≡ last_seq s + length ops) × (new ≡ record s { writes = s.writes ++ ops })
 Does s say.Freeze (say.Froze seq) new = (seq ≡ last_seq s) × (new ≡ record s { frozen = Some (last_seq s) })
@@ -52,7 +52,7 @@ Leaves s (say.Restart say.Coordinator) say.OutOfMemory new = (new ≡ fallen s) 
 Leaves s (say.Restart say.Coordinator) why new = new ≡ fallen s
 Leaves s event why new = new ≡ s
 
--- a refusal that may come, or a reply to what is not refused
+-- a refusal that may be given, or a reply to what is not refused
 abbrev pub Step : State → Event → Reply → State → Type 0
 Step s event (say.Refused why) new = IsAllowed s event why × Leaves s event why new
 Step s event reply new = (refusal s event ≡ None) × Does s event reply new

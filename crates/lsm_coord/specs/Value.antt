@@ -13,7 +13,7 @@ pub record CoordValue : Type 0 where
   pub active : List Entry  -- the entries of the active memtable
   pub frozen : Option Frozen
   pub served : ServedValue  -- the current version with its tables
-  pub edits : List (List ℕ)  -- the spelling of each edit, from edit 1
+  pub edits : List (List ℕ)  -- the encoding of each edit, from edit 1
   pub last : ℕ  -- the last sequence
   pub snapshots : List Snapshot  -- the live ones
   pub made : ℕ  -- how many snapshots this epoch has made
@@ -24,7 +24,7 @@ abbrev pub frozen_entries : Option Frozen → List Entry
 frozen_entries None = []
 frozen_entries (Some frozen) = frozen.memtable
 
--- where the active memtable begins
+-- the sequence after which the active memtable begins
 abbrev pub start_of : Option Frozen → ℕ → ℕ
 start_of None flushed = flushed
 start_of (Some frozen) flushed = frozen.end

@@ -10,7 +10,7 @@ use lsm_key::{Items, Seq};
 use lsm_msg::Job;
 use std::alloc::{AllocError, Global};
 
-/// What the coordinator shows of its current version.
+/// A listing of the coordinator's current version.
 #[derive(Debug, Drop)]
 pub struct ShownVersion {
     pub number: u64,
@@ -20,10 +20,10 @@ pub struct ShownVersion {
     pub files: Items<FileMeta>,
 }
 
-/// What a call of the coordinator gave, so that a history can keep it. A claim is named by its job.
+/// The answer of a call to the coordinator, so that a history can keep it. A claim is named by its job.
 #[derive(Debug, Drop)]
 pub enum Answer {
-    /// Why there is nothing else.
+    /// Why the call was refused.
     Refused(CoordError),
     /// The first and the last sequence of a batch.
     Wrote(Seq, Seq),
@@ -33,7 +33,7 @@ pub enum Answer {
     /// A snapshot, and the sequence that it reads at.
     Snapped(SnapId, Seq),
     Released,
-    /// The value of a key, where it has one.
+    /// The value of a key, if it has one.
     Got(Option<Bytes>),
     /// Keys with their values.
     Scanned(Items<(Bytes, Bytes)>),
@@ -44,7 +44,7 @@ pub enum Answer {
     Idle,
     /// The version that an install made, and the numbers of the files that it added.
     Installed(u64, Items<u64>),
-    /// The claim of this name is of no live job in the current epoch, which is the number.
+    /// The claim of this name has no live job; carries the current epoch.
     Stale(JobId, u64),
 }
 

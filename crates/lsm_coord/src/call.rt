@@ -9,7 +9,7 @@ use lsm_key::{Items, Op};
 use lsm_msg::JobResult;
 use std::alloc::{AllocError, Global};
 
-/// What a scan reads: the first `limit` keys at or after `lo`, and before `hi`, at the present or at a snapshot.
+/// What a scan reads: the first `limit` keys at or after `lo` and before `hi`, latest or at a snapshot.
 #[derive(Debug, Drop)]
 pub struct ScanRange {
     pub lo: Bytes,
@@ -19,7 +19,7 @@ pub struct ScanRange {
     pub limit: u64,
 }
 
-/// What the coordinator was asked, so that a history can keep it. A claim is named by its job.
+/// A call to the coordinator, so that a history can keep it. A claim is named by its job.
 #[derive(Debug, Drop)]
 pub enum Call {
     /// Apply the operations of a batch.
@@ -28,14 +28,14 @@ pub enum Call {
     Flush,
     Snap,
     Release(SnapId),
-    /// Read a key, at the present or at a snapshot.
+    /// Read a key, latest or at a snapshot.
     Get(Bytes, Option<SnapId>),
     Scan(ScanRange),
     /// List the current version.
     Show,
     /// Claim the next job.
     Pick,
-    /// Install what was made of a job, under the claim of this name.
+    /// Install the result of a job, under the claim of this name.
     Install(JobId, JobResult),
 }
 

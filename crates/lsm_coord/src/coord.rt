@@ -27,7 +27,7 @@ use std::marker::Model;
 #[derive(Debug, Drop)]
 pub struct Coord {
     alloc: Global,
-    // When its levels are due to be merged.
+    // When its levels need compaction.
     limits: Limits,
     versions: VersionSet,
     active: Memtable,

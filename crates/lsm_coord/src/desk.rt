@@ -5,7 +5,7 @@ use lsm_claim::{Claim, JobId};
 use lsm_msg::NodeIndex;
 use std::marker::Model;
 
-/// Four dispatchers, numbered as the workers are. It is neither `Drop` nor `Copy`: `close` alone ends it.
+/// Four dispatchers, numbered as the workers are. It is neither `Drop` nor `Copy`: only `close` ends it.
 pub struct Desk {
     first: Dispatcher,
     second: Dispatcher,
@@ -30,7 +30,7 @@ impl Desk {
     ghost use Rattle.lsm_coord.specs.Sound.{KeepsSound};
     ghost use Rattle.lsm_coord.specs.Desks.{dispatcher_of, gave_back_all, held, job_of, new_desk, with_dispatcher};
 
-    /// No dispatcher holds a claim.
+    /// A desk of dispatchers that hold no claim.
     pub fn new() -> Desk
         ensures { result ≡ new_desk }
     {
@@ -67,7 +67,7 @@ impl Desk {
         }
     }
 
-    /// Lets a dispatcher hold a claim. One that it held before comes back.
+    /// Lets a dispatcher hold a claim. One that it held before is handed back.
     pub fn hold(&mut self, index: NodeIndex, claim: Claim) -> Option<Claim>
         ensures before { result ≡ job_of (dispatcher_of self.old index) }
         ensures busy { self.new ≡ with_dispatcher self.old index (Busy claim) }
@@ -80,7 +80,7 @@ impl Desk {
         }
     }
 
-    /// Gives each claim that is held back to the coordinator, from the first dispatcher on. It takes no memory.
+    /// Gives each claim that is held back to the coordinator, from the first dispatcher on. Allocates nothing.
     pub fn close(self, coord: &mut Coord)
         ensures returned { coord.new ≡ gave_back_all coord.old (held self) }
         ensures shown { (s : State) → Shows coord.old s → Shows coord.new s }

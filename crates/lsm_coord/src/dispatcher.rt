@@ -1,4 +1,4 @@
-//! Dispatchers: who holds the claims.
+//! Dispatchers, which hold the claims.
 
 ghost use Rattle.std.specs.Prelude.{◌≡◌};
 ghost use Rattle.std.specs.Option.{option_map};
@@ -8,7 +8,8 @@ use crate::Coord;
 use lsm_claim::{Claim, JobId};
 use std::mem;
 
-/// One that hands out jobs, one at a time. It is neither `Drop` nor `Copy`, so that the claim that it holds is spent.
+/// One that hands out jobs, one at a time. It is neither `Drop` nor `Copy`, so that the claim that it holds must be
+/// settled.
 pub enum Dispatcher {
     /// It holds no claim.
     Idle,
@@ -41,7 +42,7 @@ impl Dispatcher {
         }
     }
 
-    /// Holds a claim from now on. One that it held before comes back.
+    /// Holds a claim from now on. One that it held before is handed back.
     pub fn hold(&mut self, claim: Claim) -> Option<Claim>
         ensures before { result ≡ job_of self.old }
         ensures busy { self.new ≡ Busy claim }

@@ -3,7 +3,7 @@
 use lsm_key::Seq;
 use lsm_mem::Memtable;
 
-/// A memtable that takes no more writes and waits for its flush.
+/// A memtable that accepts no more writes and waits for its flush.
 #[derive(Debug, Drop)]
 pub(crate) struct Frozen {
     pub memtable: Memtable,

@@ -1,4 +1,4 @@
-//! The parts of a job that is picked.
+//! The parts of a picked job.
 
 ghost use Rattle.std.specs.Prelude.{◌≡◌, ◌<◌, ◌≤◌, ◌↔◌, ◌++◌, IfOk, IsTrue, OnOk, filter, length, map, slice_index};
 ghost use Rattle.lsm_edit.specs.declared.file.FileMeta.{FileMeta};
@@ -31,7 +31,7 @@ fn sequences_of(alloc: Global, snapshots: &[Snapshot]) -> Result<Vec<Seq>, Alloc
     snapshots.iter().map(|live| live.at).collect(alloc)
 }
 
-/// The files of a want, whose numbers stand in the order of the version's files.
+/// The input files of a compaction, whose numbers are in the order of the version's files.
 pub(crate) fn inputs_of(
     alloc: Global,
     files: &[FileMeta],
@@ -60,14 +60,14 @@ fn copy_of(file: &FileMeta) -> Result<FileMeta, AllocError>
     file.clone()
 }
 
-// The number is the one at that place.
+// Whether the number is the one at that index.
 fn stands_at(numbers: &[u64], place: usize, number: u64) -> bool
     ensures { IsTrue result ↔ ((place < length numbers.now) × (slice_index numbers.now place ≡ number)) }
 {
     place < numbers.len() && numbers[place] == number
 }
 
-/// The key ranges of the files below both levels of a want that may have its keys, by level and number.
+/// The key ranges of the files below both levels of a compaction that may have its keys, by level and number.
 pub(crate) fn deeper_of(
     alloc: Global,
     files: &[FileMeta],
@@ -83,7 +83,7 @@ pub(crate) fn deeper_of(
     Ok(ranges)
 }
 
-// Adds the ranges of the files of a level that may have keys of the hull.
+// Appends the ranges of the files of a level that may have keys of the hull.
 fn push_ranges(
     ranges: &mut Vec<KeyRange>,
     files: &[FileMeta],
@@ -100,14 +100,14 @@ fn push_ranges(
     Ok(())
 }
 
-// The file is of the level, and may have keys of the hull.
+// Whether the file is of the level, and may have keys of the hull.
 fn is_at(file: &FileMeta, hull: &Hull, level: u8) -> bool
     ensures { result ≡ touches_at hull.now level file.now }
 {
     file.level == level && hull.meets(file.smallest.as_slice(), file.largest.as_slice())
 }
 
-// The keys of a file, as its record says.
+// The key range of a file, as its record says.
 fn range_of(file: &FileMeta) -> Result<KeyRange, AllocError>
     ensures { IfOk result (λ range. range ≡ range_of file.now) }
 {

@@ -1,4 +1,4 @@
-//! What every run of a store keeps, and runs that are written out. The functions do nothing: each is the proof of its
+//! What holds in every run of a store, and runs written out in full. The functions do nothing: each is the proof of its
 //! contract.
 
 ghost use Rattle.lsm_coord.specs.Laws.{VersionsStay, ListingsAgree, FollowersAgree, GetGivesTheWrite, FlushedRises, ScansAreDetermined, SnapshotsAgree};
@@ -21,23 +21,23 @@ pub fn followers_agree()
     ensures { FollowersAgree }
 {}
 
-/// A get gives what an answered write of its key leaves, the value of a put and none of a deletion, where no event between
-/// them writes the key or restarts the coordinator.
+/// A get returns what an answered write of its key leaves, the value of a put and none for a deletion, if no event
+/// between them writes the key or restarts the coordinator.
 pub fn get_gives_the_write()
     ensures { GetGivesTheWrite }
 {}
 
-/// In a run of a new store flushed sequences rise with the version number, up to the number of writes.
+/// In a run of a new store flushed sequences ascend with the version number, up to the number of writes.
 pub fn flushed_rises()
     ensures { FlushedRises }
 {}
 
-/// In a run of a new store two gets of one key at one snapshot give one value: no name of a snapshot is given twice.
+/// In a run of a new store two gets of one key at one snapshot give one value: no name of a snapshot is issued twice.
 pub fn snapshots_agree()
     ensures { SnapshotsAgree }
 {}
 
-/// Of the writes, the sequence, the bounds and the limit of a scan there is one list that it may give.
+/// The writes, the sequence, the bounds and the limit of a scan determine its result.
 pub fn scans_are_determined()
     ensures { ScansAreDetermined }
 {}
@@ -54,7 +54,7 @@ pub fn worked_runs()
     ensures behind { FollowerLiesBehind }
 {}
 
-/// These are none.
+/// These are not.
 pub fn wrong_runs()
     ensures lost { LostWriteIsNoRun }
     ensures short { ShortFlushIsNoRun }

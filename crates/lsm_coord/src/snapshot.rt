@@ -2,7 +2,7 @@
 
 use lsm_key::Seq;
 
-/// As many snapshots as a store may have at a time.
+/// The most snapshots that may be live at a time.
 pub const MAX_SNAPSHOTS: usize = 64;
 
 /// The name of a snapshot: the epoch that made it, and its number there, from 1.

@@ -43,7 +43,7 @@ fn copy_of(entry: &Entry) -> Result<Entry, AllocError>
     entry.clone()
 }
 
-// Adds an entry that the builder does not refuse: only memory can be wanting.
+// Adds an entry that the builder accepts; fails only on allocation.
 fn put(builder: &mut TableBuilder, entry: Entry) -> Result<(), AllocError>
     requires sound { IsEntry entry }
     requires taken { add_fault builder.old entry ≡ None }
@@ -55,7 +55,7 @@ fn put(builder: &mut TableBuilder, entry: Entry) -> Result<(), AllocError>
     }
 }
 
-// The table of a builder that has entries: only memory can be wanting.
+// The table of a builder that has entries; fails only on allocation.
 fn finished(builder: TableBuilder) -> Result<Table, AllocError>
     requires { finish_fault builder ≡ None }
     ensures { IfOk result (λ table. table.entries ≡ builder) }

@@ -22,8 +22,8 @@ use lsm_pick::{PickError, pick};
 use std::alloc::AllocError;
 
 impl Coord {
-    /// Claims the next job that has to be done, and answers its claim with the job, or `None` where nothing is due or live
-    /// jobs stand against all that is. A refusal changes nothing.
+    /// Claims the next job, and returns its claim with the job, or `None` if no level needs compaction or all
+    /// candidates conflict with running jobs. A refusal changes nothing.
     pub fn pick(&mut self) -> Result<Option<(Claim, Job)>, CoordError>
         ensures step { (dispatcher : ℕ) → IsIndex dispatcher → Follows self.old (Pick dispatcher) (pick_reply result) self.new }
         ensures ok { IfOk result (Picks self.old self.new) }
@@ -40,7 +40,7 @@ impl Coord {
         Ok(Some((claim, job)))
     }
 
-    // What the rule of a pick gives, where it can be claimed.
+    // What the rule of a pick gives, if it can be claimed.
     fn wanted(&self) -> Result<Option<Want>, CoordError>
         ensures some { IfOk result (λ wanted. IfSome wanted (MayClaim self.now)) }
         ensures none { IfOk result (λ wanted. wanted ≡ None → HasRoom self.now × GivesNone self.now) }
@@ -55,13 +55,13 @@ impl Coord {
             Ok(Some(_)) if exhausted => Err(CoordError::NumbersExhausted),
             Ok(Some(want)) => Ok(Some(want)),
             Err(PickError::TooWide) => Err(CoordError::TooWide),
-            // Memory is wanted only for a want that is given.
+            // The rule allocates only for a compaction that it returns.
             Err(PickError::OutOfMemory) if exhausted => Err(CoordError::NumbersExhausted),
             Err(PickError::OutOfMemory) => Err(CoordError::OutOfMemory),
         }
     }
 
-    // The job of a want, under the next name.
+    // The job of a compaction, under the next name.
     fn job_of(&self, want: &Want) -> Result<Job, AllocError>
         requires { MayClaim self.now want.now }
         ensures job { IfOk result (IsJobFor self.now want.now) }
@@ -86,7 +86,7 @@ impl Coord {
         Ok(Job::new(parts).unwrap())
     }
 
-    // Claims a want that nothing stands against: only memory can be wanting.
+    // Claims a compaction known to be free; fails only on allocation.
     fn claim(&mut self, want: Want) -> Result<Claim, AllocError>
         requires { MayClaim self.old want }
         ensures claim { IfOk result (λ claim. claim ≡ next_job self.old.book want) }
@@ -99,8 +99,8 @@ impl Coord {
         }
     }
 
-    /// Ends a claim without a result. Where its job is live, the job goes and its files may be picked again; else the claim
-    /// is stale, and nothing changes. It takes no memory.
+    /// Ends a claim without a result. If its job is live, the job is removed and its files may be picked again;
+    /// otherwise the claim is stale, and nothing changes. Allocates nothing.
     pub fn give_back(&mut self, claim: Claim) -> Settled
         ensures step { (dispatcher : ℕ) → IsIndex dispatcher → Follows self.old (GiveUp dispatcher) Other self.new }
         ensures answer { result ≡ settled self.old.book claim.id }

@@ -20,7 +20,7 @@ use lsm_mem::Memtable;
 use lsm_table::Table;
 use std::alloc::AllocError;
 
-/// What a flush made.
+/// What a flush produced.
 #[derive(Clone, Copy, Debug, PartialEq, Eq)]
 pub struct Flushed {
     /// The version that it made.
@@ -32,7 +32,7 @@ pub struct Flushed {
 }
 
 impl Coord {
-    /// Makes the frozen memtable, or where none is frozen the active one, a table of level 0 of the next version. A
+    /// Turns the frozen memtable, or the active one if none is frozen, into a table of level 0 in the next version. A
     /// refusal changes nothing.
     pub fn flush(&mut self) -> Result<Flushed, CoordError>
         ensures step { Follows self.old Flush (flush_reply result) self.new }
@@ -54,7 +54,7 @@ impl Coord {
         Ok(Flushed { number, seq, file })
     }
 
-    // Why nothing is flushed.
+    // Why nothing can be flushed, if nothing can.
     fn flush_fault(&self) -> Option<CoordError>
         ensures { result ≡ flush_fault self.now }
     {

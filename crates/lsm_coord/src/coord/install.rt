@@ -1,4 +1,4 @@
-//! Installs: the result of a job takes the place of its inputs.
+//! Installs: the result of a job replaces its inputs.
 
 ghost use Rattle.std.specs.Prelude.{◌≡◌, ◌↔◌, ◌<◌, ◌≤◌, ◌^◌, IfErr, IsTrue, IfOk, None, OnErr, OnOk, find, length, map, true};
 ghost use Rattle.std.specs.Option.{option_copied};
@@ -25,12 +25,12 @@ use lsm_table::Table;
 use std::alloc::{AllocError, AllocFailed, Global};
 use thiserror::Error;
 
-/// Why a result is not installed, the first reason that holds.
+/// Why a result is not installed: the first reason that holds.
 #[derive(Clone, Copy, Debug, PartialEq, Eq, Error)]
 pub enum InstallError {
     #[error("the result is of another job")]
     WrongJob,
-    #[error("the result is not what the job may give")]
+    #[error("the tables are no outputs of the job")]
     BadResult,
     #[error("the version or file numbers are exhausted")]
     NumbersExhausted,
@@ -40,11 +40,11 @@ pub enum InstallError {
 
 /// What became of a claim and its result.
 pub enum Install {
-    /// The outputs are in the version of this number, under these file numbers, and the claim is spent.
+    /// The outputs are in the version of this number, under these file numbers, and the claim is settled.
     Done(u64, Items<u64>),
-    /// The claim was of this job, which is not live. It is spent; the current epoch is told.
+    /// The claim's job is no longer running. The claim is consumed; carries the current epoch.
     Stale(JobId, u64),
-    /// The result is not installed, nothing changed, and the claim comes back.
+    /// The result is not installed, nothing changed, and the claim is handed back.
     Kept(Claim, InstallError),
 }
 
@@ -71,11 +71,13 @@ impl<T: Drop> From<AllocFailed<T>> for InstallError {
 }
 
 impl Coord {
-    /// Puts the outputs of a job in the place of its inputs, one level deeper, and spends its claim. Level, inputs and keys are
-    /// those that the book has under the claim's name. A claim whose job is not live is spent without more; a result that is
-    /// of another job, or not what the job may give, or for which numbers or memory are wanting, changes nothing.
+    /// Replaces the inputs of a job by its outputs, one level deeper, and settles its claim. Level, inputs and keys are
+    /// those that the book has under the claim's name. A claim whose job is not live is consumed and nothing else
+    /// changes. If the result is of another job or invalid, if file numbers are exhausted or memory runs out, nothing
+    /// changes.
     ///
-    /// Of what the outputs hold it only tests their keys: that they are what a merge keeps of the inputs is the worker's part.
+    /// Of the outputs' contents it tests only the keys: that they are what a merge keeps of the inputs is the worker's
+    /// responsibility.
     pub fn install(&mut self, claim: Claim, made: &JobResult) -> Install
         ensures became { Became self.old claim made.now result self.new }
         ensures refused { RefusalsStep self.old result self.new }
@@ -109,7 +111,7 @@ fn job_named(jobs: &[LiveJob], id: JobId) -> Option<&LiveJob>
     jobs.iter().find(|job| job.id == id)
 }
 
-// Makes the next version, in which the outputs have the place of the inputs. A refusal changes nothing.
+// Makes the next version, in which the outputs replace the inputs. A refusal changes nothing.
 fn put_outputs(
     alloc: Global,
     versions: &mut VersionSet,
@@ -140,7 +142,7 @@ fn put_outputs(
     Ok((number, Items::from_vec(files)))
 }
 
-// Why the next version, with so many new files, has no numbers.
+// Why the next version, with this many new files, has no numbers, if it has none.
 fn number_fault(version: &Version, files: usize) -> Option<InstallError>
     ensures { result ≡ number_fault version.now files }
 {
@@ -156,7 +158,7 @@ fn are_same(a: JobId, b: JobId) -> bool
     a == b
 }
 
-// The edit by which the outputs take the place of the inputs.
+// The edit that replaces the inputs by the outputs.
 fn edit_of(
     alloc: Global,
     version: &Version,

@@ -16,10 +16,10 @@ use lsm_key::Refused;
 use lsm_table::Table;
 use std::alloc::{AllocError, Global};
 
-/// As many tables as a result may have, so that an edit can count them.
+/// The most tables that a result may have, so that an edit can count them.
 const MAX_RESULT_TABLES: usize = u32::MAX as usize;
 
-/// The tables of a result: opened, and each with keys of the hull alone that stand after those of the one before it.
+/// The tables of a result, opened: each has only keys of the hull, after those of the one before it.
 pub(crate) fn open_outputs(
     alloc: Global,
     hull: &Hull,
@@ -55,7 +55,7 @@ fn open_output(alloc: Global, text: &Bytes) -> Result<Table, InstallError>
     }
 }
 
-// The table's keys are in the hull, and after those of the last one.
+// Whether the table's keys are in the hull, and after those of the last one.
 fn comes_next(hull: &Hull, last: Option<&Table>, table: &Table) -> bool
     ensures { result ≡ comes_next hull.now (option_copied last.entry) table.now }
 {
@@ -77,7 +77,7 @@ fn stands_before(before: &Table, table: &Table) -> bool
     before.largest().cmp(table.smallest()).is_lt()
 }
 
-/// The records of tables of a level, under numbers in turn from one on.
+/// The records of tables of a level, under consecutive numbers.
 pub(crate) fn records_of(
     alloc: Global,
     level: u8,

@@ -20,7 +20,7 @@ use lsm_key::{EntryRef, Kind, Seq};
 use std::alloc::{AllocError, Global};
 
 impl Coord {
-    /// The value of a key at the present, or at a live snapshot, as a copy.
+    /// The value of a key, latest or at a live snapshot, as a copy.
     pub fn get(&mut self, key: &[u8], at: Option<SnapId>) -> Result<Option<Bytes>, CoordError>
         ensures step { Follows self.old (Get key.now at) (get_reply result) self.new }
         ensures same { self.new ≡ self.old }
@@ -92,8 +92,8 @@ impl Coord {
         }
     }
 
-    /// What the current version lists. It takes no memory. What the store keeps of its versions, files and claims is fit,
-    /// whatever the results held that were installed.
+    /// The listing of the current version. Allocates nothing. What the store keeps of its versions, files and claims is
+    /// fit, whatever the results held that were installed.
     pub fn show(&self) -> Listing<'_>
         ensures step { Follows self.now (Show Coordinator) (show_reply result) self.now }
         ensures number { result.number ≡ self.now.served.version.number }
@@ -114,7 +114,7 @@ impl Coord {
     }
 }
 
-// What a read gives that finds the entry.
+// What a read returns that finds the entry.
 fn value_in(alloc: Global, entry: EntryRef<'_>) -> Result<Option<Bytes>, AllocError>
     ensures ok { IfOk result (λ value. value ≡ entry_value (lent entry.entry)) }
     ensures refused { IfErr result (λ _. IsSome (entry_value (lent entry.entry))) }

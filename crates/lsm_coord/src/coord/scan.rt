@@ -21,9 +21,9 @@ use lsm_key::{Entry, Kind, Seq, merge_lists};
 use std::alloc::{AllocError, Global};
 
 impl Coord {
-    /// The first `limit` keys at or after `lo`, and before `hi`, that have a value at the present, or at a live snapshot:
-    /// ascending, each with its value. They share the bytes. It takes as long as the entries that it gives and passes
-    /// over, whatever else is in the range.
+    /// The first `limit` keys at or after `lo` and before `hi` that have a value, latest or at a live snapshot:
+    /// ascending, each with its value. Shares the bytes. The cost is that of the entries returned and skipped, not of
+    /// the whole range.
     pub fn scan(
         &mut self,
         lo: &[u8],
@@ -42,7 +42,7 @@ impl Coord {
         Ok(pairs)
     }
 
-    // What a scan gives, window after window.
+    // What a scan returns, window after window.
     fn pairs_between(
         &self,
         lo: &[u8],
@@ -73,7 +73,7 @@ impl Coord {
         Ok(pairs)
     }
 
-    // Goes on with a scan that came up to `from`, up to `to`.
+    // Continues a scan from `from` up to `to`.
     fn go_on(
         &self,
         pairs: &mut Vec<(Bytes, Bytes)>,
@@ -138,7 +138,7 @@ fn merged(
     Ok(entries)
 }
 
-// Adds what entries in order show at the point, up to the limit.
+// Appends what is visible in sorted entries at the read sequence, up to the limit.
 fn push_shown(
     pairs: &mut Vec<(Bytes, Bytes)>,
     entries: &[Entry],
@@ -162,7 +162,7 @@ fn push_shown(
     Ok(())
 }
 
-// Adds the key and the value of a put.
+// Appends the key and the value of a put.
 fn push_pair(pairs: &mut Vec<(Bytes, Bytes)>, entry: &Entry) -> Result<(), AllocError>
     ensures { OnOk result (pairs.new.items ≡ pairs.old.items ++ pair_of entry.now) }
 {
@@ -177,7 +177,7 @@ fn push_pair(pairs: &mut Vec<(Bytes, Bytes)>, entry: &Entry) -> Result<(), Alloc
     Ok(())
 }
 
-// The point does not see the entry, or saw a newer one of its key before.
+// Whether the entry is not visible at the read sequence, or a newer one of its key was.
 fn hides(point: Seq, before: Option<&Entry>, entry: &Entry) -> bool
     ensures { result ≡ is_hidden point (option_map (λ (r : Bor Entry). r.now) before.entry) entry.now }
 {

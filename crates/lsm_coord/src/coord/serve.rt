@@ -11,9 +11,8 @@ use lsm_msg::{Body, Message, Node};
 use std::alloc::AllocError;
 
 impl Coord {
-    /// What is answered to a message: to who fetches a file its table, where the current version has it, or else that it is
-    /// gone. Other messages are not answered. The table shares its bytes, so that memory is wanting only where they have as
-    /// many owners as can be counted.
+    /// Replies to `Fetch`: the table if the current version has the file, else `Gone`. Ignores other messages. The
+    /// table shares its bytes, so it runs out of memory only if their reference count is full.
     pub fn serve(&self, message: &Message) -> Result<Option<Message>, AllocError>
         ensures step { (number : ℕ) → Follows self.now (Deliver number) Other self.now }
         ensures ok { IfOk result (λ answer. answer ≡ answered self.now message.now message.now.body) }

@@ -15,7 +15,7 @@ use crate::snapshot::{MAX_SNAPSHOTS, SnapId, Snapshot};
 use lsm_key::{MAX_NUMBER, Seq};
 
 impl Coord {
-    /// Makes a snapshot of the present, and answers its name and the sequence that it reads at. A refusal changes nothing.
+    /// Makes a snapshot of the latest sequence, and returns its name and that sequence. A refusal changes nothing.
     pub fn snapshot(&mut self) -> Result<(SnapId, Seq), CoordError>
         ensures step { Follows self.old Snap (snapshot_reply result) self.new }
         ensures ok { OnOk result ((snapshot_fault self.old ≡ None) × (self.new ≡ snapped self.old)) }
@@ -37,7 +37,7 @@ impl Coord {
         Ok((id, at))
     }
 
-    /// Lets a snapshot go. It takes no memory. A refusal changes nothing.
+    /// Releases a snapshot. Allocates nothing. A refusal changes nothing.
     pub fn release(&mut self, id: SnapId) -> Result<(), CoordError>
         ensures step { Follows self.old (Release id) (release_reply id result) self.new }
         ensures ok { OnOk result ((release_fault self.old id ≡ None) × (self.new ≡ released self.old id)) }
@@ -52,7 +52,7 @@ impl Coord {
         Ok(())
     }
 
-    // Why no snapshot is made.
+    // Why no snapshot can be made, if none can.
     fn snapshot_fault(&self) -> Option<CoordError>
         ensures { result ≡ snapshot_fault self.now }
     {

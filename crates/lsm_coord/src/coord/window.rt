@@ -10,17 +10,17 @@ use lsm_edit::Placed;
 use lsm_key::Entry;
 use std::alloc::AllocError;
 
-/// How many keys or entries of a source a window has, at least and at most, where they have one version each.
+/// How many keys or entries of a source a window has, at least and at most, if they have one version each.
 const FEWEST: u64 = 32;
 
 const MOST: u64 = 4_096;
 
-/// How often a window grows to twice its size before a scan takes all that is left at once.
+/// How often a window doubles before a scan takes all that is left at once.
 const MAX_GROWTHS: u32 = 32;
 
 impl Coord {
-    // The end of a window that begins at `from`, of a scan that may give so many pairs, where the window does not go as
-    // far as `hi`. A window that has versions of one key alone grows.
+    // The end of a window that begins at `from`, of a scan that may still return `wanted` pairs, or `None` if the
+    // window would reach `hi`. A window that has only versions of one key grows.
     pub(super) fn window_end(
         &self,
         from: &[u8],
@@ -46,7 +46,7 @@ impl Coord {
         Ok(None)
     }
 
-    // The least of the keys that so many others of their source come before, from `from` on.
+    // The least of the keys that are `count` entries further on in their source, from `from` on.
     fn key_after(&self, from: &[u8], count: usize) -> Result<Option<&[u8]>, AllocError> {
         let mut least = self.active.key_after(from, count)?;
         if let Some(frozen) = &self.frozen {
@@ -75,7 +75,7 @@ fn lesser<'a>(one: Option<&'a [u8]>, other: Option<&'a [u8]>) -> Option<&'a [u8]
     }
 }
 
-// The key of the entry so many entries after the first one at or after `from`.
+// The key of the entry `count` entries after the first one at or after `from`.
 fn key_in<'a>(entries: &'a [Entry], from: &[u8], count: usize) -> Option<&'a [u8]> {
     let first = entries.partition_point(|entry| entry.ikey.key.as_slice().cmp(from).is_lt());
     let entry = entries.get(first.checked_add(count)?)?;
@@ -104,7 +104,7 @@ fn key_in_level<'a>(
     None
 }
 
-// The file is of an upper level, or of this one with all its keys before the key.
+// Whether the file is of an upper level, or of this one with all its keys before the key.
 fn ends_before(placed: &Placed, level: u8, key: &[u8]) -> bool {
     if placed.meta.level != level {
         return placed.meta.level < level;

@@ -1,4 +1,4 @@
-//! Writes, and the freezing of the memtable that they went to.
+//! Writes, and freezing the memtable that they went to.
 
 ghost use Rattle.std.specs.Prelude.{◌≡◌, None, IfErr, OnOk, OnErr, Some};
 ghost use Rattle.lsm_key.specs.Faults.{Refuses};
@@ -16,7 +16,7 @@ use lsm_mem::Memtable;
 use std::mem;
 
 impl Coord {
-    /// Applies a batch, and answers the first and the last of its sequences. A refusal changes nothing.
+    /// Applies a batch, and returns the first and the last of its sequences. A refusal changes nothing.
     pub fn write(&mut self, batch: &Batch) -> Result<(Seq, Seq), CoordError>
         ensures step { Follows self.old (Write batch.now) (write_reply result) self.new }
         ensures ok { OnOk result ((write_fault self.old batch.now ≡ None) × IsWritten self.old batch.now self.new) }
@@ -36,7 +36,7 @@ impl Coord {
         Ok((first, self.newest))
     }
 
-    // Why the batch is not applied.
+    // Why the batch can't be applied, if it can't.
     fn write_fault(&self, batch: &Batch) -> Option<CoordError>
         ensures { result ≡ write_fault self.now batch.now }
     {
@@ -53,7 +53,7 @@ impl Coord {
         None
     }
 
-    /// Freezes the active memtable, so that writes go to a new one, and answers its last sequence. It takes no memory. A
+    /// Freezes the active memtable, so that writes go to a new one, and returns its last sequence. Allocates nothing. A
     /// refusal changes nothing.
     pub fn freeze(&mut self) -> Result<Seq, CoordError>
         ensures step { Follows self.old Freeze (freeze_reply result) self.new }
@@ -72,7 +72,7 @@ impl Coord {
         Ok(end)
     }
 
-    // Why nothing is frozen.
+    // Why nothing can be frozen, if nothing can.
     fn freeze_fault(&self) -> Option<CoordError>
         ensures { result ≡ freeze_fault self.now }
     {

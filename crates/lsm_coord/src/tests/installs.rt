@@ -1,4 +1,4 @@
-//! Results that are installed and kept back, and the files that are fetched before and after.
+//! Results that are installed and refused, and the files that are fetched before and after.
 
 use super::ONE;
 use super::picks::{BOTH, NONE};
@@ -28,7 +28,7 @@ const OF_B: &[u8] =
 
 const BAD: Made = Made::KeptBack(InstallError::BadResult);
 
-// A put and its deletion are merged, which leaves nothing of them; before that, results that the job does not give.
+// A put and its deletion are merged, which leaves nothing of them; before that, invalid results of the job.
 const BOTH_GO: [(Step, Made); 20] = [
     (Step::Put(b"a", b"1"), Made::Wrote(1, 1)),
     (Step::Flush, Made::Flushed(2, 1, 1)),
@@ -71,7 +71,7 @@ const TEXTS: [(InstallError, &str); 4] = [
     (InstallError::WrongJob, "the result is of another job"),
     (
         InstallError::BadResult,
-        "the result is not what the job may give",
+        "the tables are no outputs of the job",
     ),
     (
         InstallError::NumbersExhausted,

@@ -19,11 +19,11 @@ pub(super) enum Step {
     Empty,
     Put(&'static [u8], &'static [u8]),
     Delete(&'static [u8]),
-    /// So many puts of the key a, each to a value of so many bytes.
+    /// A number of puts of the key a, each with a value of a number of bytes.
     Fill(u32, usize),
     Freeze,
     Flush,
-    /// So many snapshots.
+    /// A number of snapshots.
     Snapshot(u32),
     Release(u64),
     Get(&'static [u8]),
@@ -33,11 +33,11 @@ pub(super) enum Step {
     Pick(u8),
     Holds(u8),
     GiveBack(u8),
-    /// Installs what the dispatcher's job made: the name in the result, and its tables.
+    /// Installs the result of the dispatcher's job: the name in the result, and its tables.
     Install(u8, u64, &'static [&'static [u8]]),
     /// Gives back each claim that is held.
     Close,
-    /// Whether a file that is fetched comes with this table, or is told to be gone.
+    /// Whether a fetched file is answered with this table, or reported as gone.
     Fetch(u64, Option<&'static [u8]>),
     /// Whether a message that is no fetch is not answered.
     Ask,
@@ -46,7 +46,7 @@ pub(super) enum Step {
 /// How many there are, and the first three.
 pub(super) type Few = (usize, [u64; 3]);
 
-/// What a call gives. Of several ones it is the last, or the first refusal.
+/// What a call returns. Of several, the last one, or the first refusal.
 #[derive(Clone, Copy, PartialEq)]
 pub(super) enum Made {
     Refused(CoordError),
@@ -295,7 +295,7 @@ fn served(coord: &Coord, worker: NodeIndex, body: Body) -> Result<Option<Message
     coord.serve(&asked)
 }
 
-/// Whether it brings this table of a file, or tells that the file is gone.
+/// Whether it brings this table of a file, or says that the file is gone.
 fn brings(body: &Body, file: u64, table: Option<&[u8]>) -> bool {
     match body {
         Body::Table(number, bytes) => *number == file && table == Some(bytes.as_slice()),
@@ -357,7 +357,7 @@ fn done(alloc: Global, coord: &mut Coord, desk: &mut Desk, step: Step) -> Result
     })
 }
 
-/// Whether memory was wanting.
+/// Whether memory ran out.
 fn is_out_of_memory(made: Made) -> bool {
     match made {
         Made::Refused(CoordError::OutOfMemory) | Made::KeptBack(InstallError::OutOfMemory) => true,
@@ -382,7 +382,7 @@ fn see_each(
     Ok(())
 }
 
-/// Sees that the steps give what stands beside them, in a new store whose level 0 is due with so many files.
+/// Checks that the steps return what is beside them, in a new store with this limit of level 0, in files.
 pub(super) fn see(
     rt: &impl Abort,
     alloc: Global,
