@@ -34,11 +34,6 @@ TellingRun s (event ∷ events) (reply ∷ replies) new = (next : State) × Step
 TellingRun s [] (reply ∷ replies) new = ⊥
 TellingRun s (event ∷ events) [] new = ⊥
 
--- a write, whose operations are put together before it is asked
-abbrev pub IsWrite : say.Event → Type 0
-IsWrite (say.Write ops) = Unit {0}
-IsWrite event = ⊥
-
 -- For every state shown before, the events and their replies are a telling run to one shown after.
 abbrev pub RunsTo : CoordValue → List Event → List Reply → CoordValue → Type 0
 RunsTo old events replies new = (s : State) → Shows old s → (t : State) × TellingRun s (map event_of events) (map reply_of replies) t × Shows new t

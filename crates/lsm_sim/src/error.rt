@@ -17,7 +17,7 @@ pub enum RunError {
     /// A reply could not be written. A prefix of the lines was.
     #[error("write fault")]
     WriteFault,
-    /// Memory ran out outside an event, or for the batch of a write. A prefix of the lines was written.
+    /// Memory ran out outside an event. A prefix of the lines was written.
     #[error("out of memory")]
     OutOfMemory,
 }

@@ -50,7 +50,7 @@ fn run<W: Write>(
 {
     let mut out = Vec::new(alloc);
     for event in events {
-        let reply = step(alloc, coord, event)?;
+        let reply = step(alloc, coord, event);
         put_line(alloc, &mut out, &reply)?;
         drop(reply);
         if out.len() >= BUFFER_BYTES {

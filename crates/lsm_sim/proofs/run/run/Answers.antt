@@ -25,8 +25,8 @@ loop-event-preserved-then-len-ge-BUFFER_BYTES g c =
     let held = g.W.Write.contents c.loop-event.writer in
     let out = c.put_line.new.out.items in
     let all = done_more c.loop-event.yielded c.loop-event.event-iterator.rest.items c.next.new.self.rest.items c.args.events.items c.in-Some.event c.loop-event.invariant.all c.in-Some.ensures.steps.0 in
-    let so = IsSoFar-step c.args.coord.now c.loop-event.coord c.step.new.coord c.loop-event.yielded c.in-Some.event c.in_ok-reply.reply was held c.loop-event.out.items out c.loop-event.invariant.so c.in_ok-reply.ensures.follows c.in_ok-reply.ensures.told c.in_ok-put_line.ensures in
-    record { all = all; so = IsSoFar-written c.args.coord.now c.step.new.coord _ was held (g.W.Write.contents c.write_all.new.writer) (g.W.Write.contents c.write_all.new.writer) out c.deref.result.now c.clear.new.self.items so c.deref.ensures.value c.in_ok-write_all.ensures.ok refl (search rules) }
+    let so = IsSoFar-step c.args.coord.now c.loop-event.coord c.step-reply.new.coord c.loop-event.yielded c.in-Some.event c.step-reply.result was held c.loop-event.out.items out c.loop-event.invariant.so c.step-reply.ensures.follows c.step-reply.ensures.told c.in_ok-put_line.ensures in
+    record { all = all; so = IsSoFar-written c.args.coord.now c.step-reply.new.coord _ was held (g.W.Write.contents c.write_all.new.writer) (g.W.Write.contents c.write_all.new.writer) out c.deref.result.now c.clear.new.self.items so c.deref.ensures.value c.in_ok-write_all.ensures.ok refl (search rules) }
 
 pub loop-event-preserved : goal.loop-event-preserved
 loop-event-preserved g c =
@@ -34,24 +34,17 @@ loop-event-preserved g c =
     let held = g.W.Write.contents c.loop-event.writer in
     let out = c.put_line.new.out.items in
     let all = done_more c.loop-event.yielded c.loop-event.event-iterator.rest.items c.next.new.self.rest.items c.args.events.items c.in-Some.event c.loop-event.invariant.all c.in-Some.ensures.steps.0 in
-    let so = IsSoFar-step c.args.coord.now c.loop-event.coord c.step.new.coord c.loop-event.yielded c.in-Some.event c.in_ok-reply.reply was held c.loop-event.out.items out c.loop-event.invariant.so c.in_ok-reply.ensures.follows c.in_ok-reply.ensures.told c.in_ok-put_line.ensures in
+    let so = IsSoFar-step c.args.coord.now c.loop-event.coord c.step-reply.new.coord c.loop-event.yielded c.in-Some.event c.step-reply.result was held c.loop-event.out.items out c.loop-event.invariant.so c.step-reply.ensures.follows c.step-reply.ensures.told c.in_ok-put_line.ensures in
     record { all = all; so = so }
-
-pub returns-in_err-reply-clause-err : goal.returns-in_err-reply-clause-err
-returns-in_err-reply-clause-err g c =
-    let was = g.W.Write.contents c.args.writer.now in
-    let held = g.W.Write.contents c.loop-event.writer in
-    let so : RunsAPart c.args.coord.now c.args.events.items c.step.new.coord was held = rw c.in_err-reply.ensures.err.1 (IsSoFar-halts c.args.coord.now c.loop-event.coord c.loop-event.yielded c.loop-event.event-iterator.rest.items c.args.events.items was held held c.loop-event.out.items c.loop-event.invariant.all c.loop-event.invariant.so (Keeps-same held)) in
-    on_err c.from_residual.result _ so
 
 pub returns-in_err-put_line-clause-err : goal.returns-in_err-put_line-clause-err
 returns-in_err-put_line-clause-err g c =
     let was = g.W.Write.contents c.args.writer.now in
     let held = g.W.Write.contents c.loop-event.writer in
-    let out = c.loop-event.out.items ++ line c.in_ok-reply.reply in
+    let out = c.loop-event.out.items ++ line c.step-reply.result in
     let all = done_more c.loop-event.yielded c.loop-event.event-iterator.rest.items c.next.new.self.rest.items c.args.events.items c.in-Some.event c.loop-event.invariant.all c.in-Some.ensures.steps.0 in
-    let so = IsSoFar-step c.args.coord.now c.loop-event.coord c.step.new.coord c.loop-event.yielded c.in-Some.event c.in_ok-reply.reply was held c.loop-event.out.items out c.loop-event.invariant.so c.in_ok-reply.ensures.follows c.in_ok-reply.ensures.told refl in
-    on_err c.from_residual-in_err-put_line.result _ (IsSoFar-halts c.args.coord.now c.step.new.coord _ c.next.new.self.rest.items c.args.events.items was held held out all so (Keeps-same held))
+    let so = IsSoFar-step c.args.coord.now c.loop-event.coord c.step-reply.new.coord c.loop-event.yielded c.in-Some.event c.step-reply.result was held c.loop-event.out.items out c.loop-event.invariant.so c.step-reply.ensures.follows c.step-reply.ensures.told refl in
+    on_err c.from_residual.result _ (IsSoFar-halts c.args.coord.now c.step-reply.new.coord _ c.next.new.self.rest.items c.args.events.items was held held out all so (Keeps-same held))
 
 pub returns-in_err-write_all-clause-err : goal.returns-in_err-write_all-clause-err
 returns-in_err-write_all-clause-err g c =
@@ -59,8 +52,8 @@ returns-in_err-write_all-clause-err g c =
     let held = g.W.Write.contents c.loop-event.writer in
     let out = c.put_line.new.out.items in
     let all = done_more c.loop-event.yielded c.loop-event.event-iterator.rest.items c.next.new.self.rest.items c.args.events.items c.in-Some.event c.loop-event.invariant.all c.in-Some.ensures.steps.0 in
-    let so = IsSoFar-step c.args.coord.now c.loop-event.coord c.step.new.coord c.loop-event.yielded c.in-Some.event c.in_ok-reply.reply was held c.loop-event.out.items out c.loop-event.invariant.so c.in_ok-reply.ensures.follows c.in_ok-reply.ensures.told c.in_ok-put_line.ensures in
-    on_err c.from_residual-in_err-write_all.result _ (IsSoFar-stops c.args.coord.now c.step.new.coord _ c.next.new.self.rest.items c.args.events.items was held (g.W.Write.contents c.write_all.new.writer) out c.deref.result.now all so c.deref.ensures.value c.in_err-write_all.ensures.err)
+    let so = IsSoFar-step c.args.coord.now c.loop-event.coord c.step-reply.new.coord c.loop-event.yielded c.in-Some.event c.step-reply.result was held c.loop-event.out.items out c.loop-event.invariant.so c.step-reply.ensures.follows c.step-reply.ensures.told c.in_ok-put_line.ensures in
+    on_err c.from_residual-in_err-write_all.result _ (IsSoFar-stops c.args.coord.now c.step-reply.new.coord _ c.next.new.self.rest.items c.args.events.items was held (g.W.Write.contents c.write_all.new.writer) out c.deref.result.now all so c.deref.ensures.value c.in_err-write_all.ensures.err)
 
 pub returns-in_err-write_all-2-clause-err : goal.returns-in_err-write_all-2-clause-err
 returns-in_err-write_all-2-clause-err g c =
