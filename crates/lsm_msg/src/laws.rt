@@ -2,6 +2,7 @@
 //! numbers. The functions do nothing: each is the proof of its contract.
 
 ghost use Rattle.std.specs.Prelude.{◌≡◌};
+ghost use Rattle.lsm_msg.specs.declared.node.TheConstants.{MAX_NODES};
 ghost use Rattle.lsm_msg.specs.declared.rules.TheConstants.{MAX_DEEPER, MAX_INPUTS, MAX_JOB_LEVEL, MAX_POINTS};
 ghost use Rattle.lsm_msg.specs.Laws.{KeptAreInputs, HiddenEntriesGo, ReadsStay, ASnapshotKeepsBoth, BothGo, ADeeperFileKeepsTheDeletion};
 ghost use Rattle.lsm_msg.specs.InstallLaws.{InstallsKeepReads, InstallsAddNoEntry, InstallsKeepOrder, InstallsKeepJobs, FlushesKeepOrder, FlushesKeepJobs};
@@ -65,4 +66,9 @@ pub fn job_limits_are_these()
     ensures points { MAX_POINTS ≡ 64 }
     ensures inputs { MAX_INPUTS ≡ 1024 }
     ensures deeper { MAX_DEEPER ≡ 65536 }
+{}
+
+/// There are at most so many workers, and as many followers.
+pub fn node_limits_are_these()
+    ensures { MAX_NODES ≡ 4 }
 {}

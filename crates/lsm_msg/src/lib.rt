@@ -20,8 +20,8 @@ mod tests;
 pub use job::{Job, JobParts, JobResult, KeyRange};
 pub use laws::{
     flushes_keep_jobs, flushes_keep_order, hidden_entries_go, installs_keep_jobs,
-    installs_keep_order, installs_keep_reads, job_limits_are_these, kept_are_inputs, reads_stay,
-    worked_merges,
+    installs_keep_order, installs_keep_reads, job_limits_are_these, kept_are_inputs,
+    node_limits_are_these, reads_stay, worked_merges,
 };
 pub use message::{Body, Message};
 pub use node::{MAX_NODES, Node, NodeIndex};
