@@ -23,6 +23,13 @@ abbrev pub error_of : Refused Fault → RunError
 error_of refused.OutOfMemory = OutOfMemory
 error_of (refused.Fault fault) = Script fault.line fault.reason
 
+-- the exit status of an error (the store's own)
+abbrev pub exit_status : RunError → ℕ
+exit_status (Script line reason) = 2
+exit_status ReadFault = 1
+exit_status WriteFault = 1
+exit_status OutOfMemory = 1
+
 -- the refusal that the state forces, if it forces one, is what is reported
 abbrev pub Tells : State → say.Event → say.Reply → Type 0
 Tells s event reply = IfSome (refusal s event) (λ why. reply ≡ say.Refused why)

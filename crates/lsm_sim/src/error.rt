@@ -1,9 +1,18 @@
 //! Why a script was not run to its end.
 
+ghost use Rattle.std.specs.Prelude.{◌≡◌};
+ghost use Rattle.lsm_sim.specs.Runs.{exit_status};
+
 use crate::fault::{Fault, Reason};
 use lsm_key::Refused;
 use std::alloc::{AllocError, AllocFailed};
 use thiserror::Error;
+
+/// The exit status if the arguments or the script are refused.
+pub const REFUSED: u8 = 2;
+
+/// The exit status after a read or write fault, or if memory runs out.
+const FAILED: u8 = 1;
 
 /// Why a script was not run to its end.
 #[derive(Clone, Copy, Debug, PartialEq, Eq, Error)]
@@ -55,5 +64,15 @@ impl From<Refused<Fault>> for RunError {
             Refused::OutOfMemory => RunError::OutOfMemory,
             Refused::Fault(fault) => RunError::Script(fault.line, fault.reason),
         }
+    }
+}
+
+/// The exit status of the program after an error.
+pub fn code_of(error: RunError) -> u8
+    ensures { result ≡ exit_status error }
+{
+    match error {
+        RunError::Script(_, _) => REFUSED,
+        RunError::ReadFault | RunError::WriteFault | RunError::OutOfMemory => FAILED,
     }
 }

@@ -23,7 +23,7 @@ mod token;
 mod words;
 mod world;
 
-use error::RunError;
+use error::{REFUSED, RunError, code_of};
 use options::limits_of;
 use run::run_script;
 use std::io::ErrorKind;
@@ -31,25 +31,10 @@ use std::process::ExitCode;
 use std::rt::Env;
 use std::{env, io};
 
-/// The exit status if the arguments or the script are refused.
-const REFUSED: u8 = 2;
-
-/// The exit status after a read or write fault or out of memory.
-const FAILED: u8 = 1;
-
-fn status_of(error: RunError) -> ExitCode {
-    match error {
-        RunError::Script(_, _) => ExitCode::from(REFUSED),
-        RunError::ReadFault | RunError::WriteFault | RunError::OutOfMemory => {
-            ExitCode::from(FAILED)
-        }
-    }
-}
-
 /// Reports the error on standard error.
 fn fail(rt: &impl Eprint, error: RunError) -> ExitCode {
     let _ = rt.eprintln(error);
-    status_of(error)
+    ExitCode::from(code_of(error))
 }
 
 /// Reports what is wrong with the arguments on standard error, or prints the help that they ask for on standard output.
