@@ -1,5 +1,5 @@
 -- Along edits that apply in turn no number comes back: what a later version lists was listed before, or has a number that was not given yet.
-use Rattle.std.proofs.Common.{◌≡◌, ℕ, ◌<◌, ◌≤◌, true, false, not, List, [], ◌∷◌, None, refl, sym, ap, subst, ◌∙◌, arith, inl, inr, ◌⊎◌, leb}
+use Rattle.std.proofs.Common.{◌≡◌, ℕ, ◌<◌, ◌≤◌, true, false, not, List, [], ◌∷◌, None, refl, sym, subst, ◌∙◌, arith, inl, inr, ◌⊎◌, leb}
 use Rattle.std.specs.List.{list_any}
 use Rattle.std.proofs.lemmas.Bool.{eqb-true, eq-eqb, leb-false, ltb-false, not-false, not-true, or_parts}
 use Rattle.lsm_key.specs.Sets.{IsIn}
@@ -7,10 +7,11 @@ use Rattle.lsm_key.proofs.Sets.{IsIn-append_cases}
 use Rattle.lsm_key.proofs.Falls.{IsIn-filter}
 use Rattle.lsm_edit.specs.declared.file.FileMeta.{FileMeta}
 use Rattle.lsm_edit.specs.declared.edit.Edit.{Edit}
-use Rattle.lsm_edit.specs.Version.{VersionValue, IsVersion, NumbersRise, apply_fault, applied, files_after, has_number, without}
+use Rattle.lsm_edit.specs.Version.{VersionValue, IsVersion, apply_fault, applied, files_after, has_number, without}
 use Rattle.lsm_edit.specs.Edits.{Apply, IsHistory, RemovedOnce, versions_from}
 use Rattle.lsm_edit.specs.Laws.{NoFileIsRemovedTwice, ANumberNamesOneFile}
-use Rattle.lsm_edit.proofs.Lists.{any_found, none_passes}
+use Rattle.lsm_edit.proofs.Lists.{any_is, none_is}
+use Rattle.lsm_edit.proofs.Places.{one_number}
 use Rattle.lsm_edit.proofs.VersionLaws.{passes, stays, fresh_added, applied_is}
 
 -- ---- one edit
@@ -25,8 +26,8 @@ module _ (v : VersionValue) (e : Edit) (ok : apply_fault v e ≡ None) where
   -- what an edit removes is a file of the version
   listed : (n : ℕ) → IsIn n e.removed → (f : FileMeta) × IsIn f v.files × (f.number ≡ n)
   listed n m =
-      let there : list_any (has_number n) v.files ≡ true = not-false (list_any (has_number n) v.files) (none_passes (λ k. not (list_any (has_number k) v.files)) e.removed (passes v e ok).present n m) in
-      let found = any_found (has_number n) v.files there in
+      let there : list_any (has_number n) v.files ≡ true = not-false (list_any (has_number n) v.files) (none_is (λ k. not (list_any (has_number k) v.files)) e.removed (passes v e ok).present n m) in
+      let found = any_is (has_number n) v.files there in
       (found.0, found.1, eqb-true found.0.number n found.2)
 
   came : (f : FileMeta) → IsIn f (files_after v.files e) → IsIn f v.files ⊎ (v.next_file ≤ f.number)
@@ -38,7 +39,7 @@ module _ (v : VersionValue) (e : Edit) (ok : apply_fault v e ≡ None) where
   below_after : AreBelow v → AreBelow (applied v e)
   below_after below f m = elim (IsIn-append_cases f (without e.removed v.files) e.added m) [
     | inl a ↦ let lt = below f (IsIn-filter (stays e.removed) f v.files a).0 in let up = rises in omega (arith, lt, up)
-    | inr b ↦ leb-false e.next_file f.number (none_passes (λ (g : FileMeta). leb e.next_file g.number) e.added (or_parts _ _ (passes v e ok).counted).1 f b)
+    | inr b ↦ leb-false e.next_file f.number (none_is (λ (g : FileMeta). leb e.next_file g.number) e.added (or_parts _ _ (passes v e ok).counted).1 f b)
   ]
 
   -- a file that goes is not there afterwards
@@ -46,7 +47,7 @@ module _ (v : VersionValue) (e : Edit) (ok : apply_fault v e ≡ None) where
   gone below f r m = elim (IsIn-append_cases f (without e.removed v.files) e.added m) [
     | inl a ↦
         let kept : not (list_any (λ n. has_number n f) e.removed) ≡ true = (IsIn-filter (stays e.removed) f v.files a).1 in
-        let other : has_number f.number f ≡ false = none_passes (λ n. has_number n f) e.removed (not-true (list_any (λ n. has_number n f) e.removed) kept) f.number r in
+        let other : has_number f.number f ≡ false = none_is (λ n. has_number n f) e.removed (not-true (list_any (λ n. has_number n f) e.removed) kept) f.number r in
         let bad : true ≡ false = sym (eq-eqb f.number f.number refl) ∙ other in
         absurd cc
     | inr b ↦
@@ -100,23 +101,10 @@ removed_once v es is ok = once_from v es is.below ok
 
 -- ---- a number names one file
 
-of_one_number : (fs : List FileMeta) → NumbersRise fs → (f g : FileMeta) → IsIn f fs → IsIn g fs → f.number ≡ g.number → f ≡ g
-of_one_number [] up f g m n same = absurd m
-of_one_number (x ∷ fs) up f g m n same = elim m [
-  | inl a ↦ elim n [
-    | inl b ↦ a ∙ sym b
-    | inr b ↦ let lt = up.0 g b in let at = ap (λ (h : FileMeta). h.number) a in absurd (omega (arith, lt, at, same))
-  ]
-  | inr a ↦ elim n [
-    | inl b ↦ let lt = up.0 f a in let at = ap (λ (h : FileMeta). h.number) b in absurd (omega (arith, lt, at, same))
-    | inr b ↦ of_one_number fs up.1 f g a b same
-  ]
-]
-
 -- one file is of the first version
 from_the_first : (v : VersionValue) (es : List Edit) → IsVersion v → Apply v es → (w : VersionValue) → IsIn w (versions_from v es) → (f g : FileMeta) → IsIn f v.files → IsIn g w.files → f.number ≡ g.number → f ≡ g
 from_the_first v es is ok w m f g i k same = elim (since v es ok w m g k) [
-  | inl there ↦ of_one_number v.files is.rising f g i there same
+  | inl there ↦ one_number v.files is.rising f g i there same
   | inr new ↦ let lt = is.below f i in absurd (omega (arith, lt, new, same))
 ]
 
