@@ -120,7 +120,7 @@ pub(crate) fn changed(
 }
 
 // A file of one key, as the worked examples have it.
-fn file_of(number: u64, level: u8, key: &'static [u8]) -> FileMeta {
+fn meta_of(number: u64, level: u8, key: &'static [u8]) -> FileMeta {
     FileMeta {
         number,
         level,
@@ -154,7 +154,7 @@ fn the_first_edit_of_a_store(rt: HostRuntime) -> Result<(), Fail> {
 fn the_edit_of_a_flush(rt: HostRuntime) -> Result<(), Fail> {
     let alloc = rt.alloc();
     let mut added = Items::new(alloc);
-    added.push(file_of(1, 0, b"a"))?;
+    added.push(meta_of(1, 0, b"a"))?;
     let wanted = Edit {
         number: 2,
         kind: EditKind::Flush,

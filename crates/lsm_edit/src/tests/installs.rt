@@ -1,7 +1,7 @@
 //! Installs: their encoding, and which of them apply to a version.
 
 use super::versions::{Change, NEXT, refusal_of, see_refusals, version_after};
-use super::{EPOCH, FLUSH, changed, fault_of, file_of, is_spelled};
+use super::{EPOCH, FLUSH, changed, fault_of, is_spelled, meta_of};
 use crate::{ApplyError, Edit, EditKind, FormatFault};
 use lsm_key::{Items, Seq};
 use std::test::Fail;
@@ -77,8 +77,8 @@ fn the_edit_of_an_install(rt: HostRuntime) -> Result<(), Fail> {
     removed.push(1)?;
     removed.push(2)?;
     let mut added = Items::new(alloc);
-    added.push(file_of(3, 1, b"a"))?;
-    added.push(file_of(4, 1, b"b"))?;
+    added.push(meta_of(3, 1, b"a"))?;
+    added.push(meta_of(4, 1, b"b"))?;
     let wanted = Edit {
         number: 4,
         kind: EditKind::Install,
