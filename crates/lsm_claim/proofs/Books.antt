@@ -17,10 +17,10 @@ use Rattle.lsm_claim.specs.declared.job.JobId.{JobId}
 use Rattle.lsm_claim.specs.declared.job.LiveJob.{LiveJob}
 use Rattle.lsm_claim.specs.declared.job.Want.{Want}
 use Rattle.lsm_claim.specs.Levels.{uses_level, shares_level}
-use Rattle.lsm_claim.specs.Conflicts.{conflicts, meets}
+use Rattle.lsm_claim.specs.Conflicts.{conflicts, hulls_meet}
 use Rattle.lsm_claim.specs.Laws.{ConflictsGoBothWays}
-use Rattle.lsm_claim.specs.Jobs.{NumbersRise, AreApart, ShareNoKey, IsLeastConflict, first_conflict, same_id, without_job}
-use Rattle.lsm_claim.specs.Book.{BookValue, IsBook, IsGiven, NamesLeast, claim_fault, fault_by, fault_without_conflict, next_job, claimed, holds, with_ending}
+use Rattle.lsm_claim.specs.Jobs.{JobNumbersRise, AreApart, ShareNoKey, IsLeastConflict, first_conflict, same_job_id, without_job}
+use Rattle.lsm_claim.specs.Book.{BookValue, IsBook, IsGiven, NamesLeast, claim_fault, fault_by, fault_without_conflict, next_job, after_claim, holds, with_ending}
 use Rattle.lsm_claim.proofs.KeyRanges.{ranges_meet_from}
 
 pub conflicts_sym : ConflictsGoBothWays
@@ -42,7 +42,7 @@ pub no_shared_key : (jobs : List LiveJob) → AreApart jobs → ShareNoKey jobs
 no_shared_key jobs apart j k mj mk level uj uk key ij ik =
     let h = j.want.hull in
     let g = k.want.hull in
-    apart j k mj mk (and_from (shares_level j.want.level k.want.level) (meets h g) (both_use j.want.level k.want.level level uj uk) (ranges_meet_from h.lo h.hi g.lo g.hi key ij ik))
+    apart j k mj mk (and_from (shares_level j.want.level k.want.level) (hulls_meet h g) (both_use j.want.level k.want.level level uj uk) (ranges_meet_from h.lo h.hi g.lo g.hi key ij ik))
 
 -- ---- a claim
 
@@ -70,7 +70,7 @@ none_found want (k ∷ jobs) h j m =
     ]
 
 -- the first that conflicts is the least, where numbers rise
-found_least : (want : Want) (jobs : List LiveJob) (id : JobId) → NumbersRise jobs → first_conflict jobs want ≡ Some id → IsLeastConflict jobs want id
+found_least : (want : Want) (jobs : List LiveJob) (id : JobId) → JobNumbersRise jobs → first_conflict jobs want ≡ Some id → IsLeastConflict jobs want id
 found_least want [] id up h = absurd cc
 found_least want (k ∷ jobs) id up h = by (conflicts k.want want) refl (found_least want jobs id up.1) h
   where
@@ -111,10 +111,10 @@ overlaps_by None b id h = absurd (by (nat_le MAX_LIVE_CLAIMS (length b.live)) (n
     by false true h = cc
     by false false h = cc
 
-pub names_least : (b : BookValue) (want : Want) (e : ClaimError) → NumbersRise b.live → claim_fault b want ≡ Some e → NamesLeast b want e
+pub names_least : (b : BookValue) (want : Want) (e : ClaimError) → JobNumbersRise b.live → claim_fault b want ≡ Some e → NamesLeast b want e
 names_least b want e up h id is = found_least want b.live id up (overlaps_by (first_conflict b.live want) b id (h ∙ ap Some is))
 
-NumbersRise-append : (jobs : List LiveJob) (new : LiveJob) → NumbersRise jobs → ((j : LiveJob) → IsIn j jobs → j.id.number < new.id.number) → NumbersRise (jobs ++ new ∷ [])
+NumbersRise-append : (jobs : List LiveJob) (new : LiveJob) → JobNumbersRise jobs → ((j : LiveJob) → IsIn j jobs → j.id.number < new.id.number) → JobNumbersRise (jobs ++ new ∷ [])
 NumbersRise-append [] new up below = (λ k m. absurd m, tt)
 NumbersRise-append (j ∷ jobs) new up below = (
   λ k m. elim (IsIn-append_cases k jobs (new ∷ []) m) [
@@ -142,7 +142,7 @@ AreApart-append jobs new apart free j k mj mk h =
       ]
     ]
 
-pub IsBook-claimed : (b : BookValue) (want : Want) → claim_fault b want ≡ None → IsBook b → IsBook (claimed b want)
+pub IsBook-claimed : (b : BookValue) (want : Want) → claim_fault b want ≡ None → IsBook b → IsBook (after_claim b want)
 IsBook-claimed b want free is =
     let parts = no_fault (first_conflict b.live want) b free in
     let room = with_room (nat_le MAX_LIVE_CLAIMS (length b.live)) (nat_le MAX_NUMBER b.made) parts.1 in
@@ -159,7 +159,7 @@ IsBook-claimed b want free is =
         | inl old ↦ (let was = is.given j old in record { epoch = was.epoch; first = was.first; last = omega (arith, was.last) })
         | inr one ↦
             let e = IsIn-one j new one in
-            subst (λ (x : LiveJob). IsGiven (claimed b want) x.id) (sym e) (record { epoch = refl; first = omega arith; last = omega arith })
+            subst (λ (x : LiveJob). IsGiven (after_claim b want) x.id) (sym e) (record { epoch = refl; first = omega arith; last = omega arith })
       ];
       rising = NumbersRise-append b.live new is.rising (λ j m. let was = is.given j m in omega (arith, was.last));
       apart = AreApart-append b.live new is.apart (none_found want b.live parts.0);
@@ -176,32 +176,32 @@ IsIn-filter test (k ∷ jobs) j m = by (test k) (IsIn-filter test jobs j) m
     by true rest m = elim m [ inl e ↦ inl e | inr n ↦ inr (rest n) ]
     by false rest m = inr (rest m)
 
-NumbersRise-filter : (test : LiveJob → Bool) (jobs : List LiveJob) → NumbersRise jobs → NumbersRise (filter test jobs)
+NumbersRise-filter : (test : LiveJob → Bool) (jobs : List LiveJob) → JobNumbersRise jobs → JobNumbersRise (filter test jobs)
 NumbersRise-filter test [] up = tt
 NumbersRise-filter test (j ∷ jobs) up = by (test j) (NumbersRise-filter test jobs up.1)
   where
-    by : (t : Bool) → NumbersRise (filter test jobs) → NumbersRise (cond t (j ∷ filter test jobs) (filter test jobs))
+    by : (t : Bool) → JobNumbersRise (filter test jobs) → JobNumbersRise (cond t (j ∷ filter test jobs) (filter test jobs))
     by true rest = (λ k m. up.0 k (IsIn-filter test jobs k m), rest)
     by false rest = rest
 
-same_number : (a b : JobId) → same_id a b ≡ true → a.number ≡ b.number
+same_number : (a b : JobId) → same_job_id a b ≡ true → a.number ≡ b.number
 same_number a b h = eqb-true a.number b.number (and_parts (nat_eq a.epoch b.epoch) (nat_eq a.number b.number) h).1
 
 -- where all numbers are greater, none is taken out
 none_of_later : (id : JobId) (jobs : List LiveJob) → ((j : LiveJob) → IsIn j jobs → id.number < j.id.number) → without_job id jobs ≡ jobs
 none_of_later id [] later = refl
-none_of_later id (j ∷ jobs) later = by (same_id j.id id) refl (none_of_later id jobs (λ k m. later k (inr m)))
+none_of_later id (j ∷ jobs) later = by (same_job_id j.id id) refl (none_of_later id jobs (λ k m. later k (inr m)))
   where
-    by : (t : Bool) → same_id j.id id ≡ t → without_job id jobs ≡ jobs → cond (not t) (j ∷ without_job id jobs) (without_job id jobs) ≡ j ∷ jobs
+    by : (t : Bool) → same_job_id j.id id ≡ t → without_job id jobs ≡ jobs → cond (not t) (j ∷ without_job id jobs) (without_job id jobs) ≡ j ∷ jobs
     by true e rest = (let same = same_number j.id id e in let more = later j (inl refl) in absurd (omega (arith, same, more)))
     by false e rest = ap (λ (js : List LiveJob). j ∷ js) rest
 
 -- one job is taken out
-one_less : (id : JobId) (jobs : List LiveJob) → NumbersRise jobs → list_any (λ j. same_id j.id id) jobs ≡ true → length (without_job id jobs) + 1 ≡ length jobs
+one_less : (id : JobId) (jobs : List LiveJob) → JobNumbersRise jobs → list_any (λ j. same_job_id j.id id) jobs ≡ true → length (without_job id jobs) + 1 ≡ length jobs
 one_less id [] up live = absurd cc
-one_less id (j ∷ jobs) up live = by (same_id j.id id) refl (one_less id jobs up.1) live
+one_less id (j ∷ jobs) up live = by (same_job_id j.id id) refl (one_less id jobs up.1) live
   where
-    by : (t : Bool) → same_id j.id id ≡ t → (list_any (λ k. same_id k.id id) jobs ≡ true → length (without_job id jobs) + 1 ≡ length jobs) → (t || list_any (λ k. same_id k.id id) jobs) ≡ true
+    by : (t : Bool) → same_job_id j.id id ≡ t → (list_any (λ k. same_job_id k.id id) jobs ≡ true → length (without_job id jobs) + 1 ≡ length jobs) → (t || list_any (λ k. same_job_id k.id id) jobs) ≡ true
         → length (cond (not t) (j ∷ without_job id jobs) (without_job id jobs)) + 1 ≡ length (j ∷ jobs)
     by true e rest h =
         let same = same_number j.id id e in
@@ -211,7 +211,7 @@ one_less id (j ∷ jobs) up live = by (same_id j.id id) refl (one_less id jobs u
 
 -- how a job ended changes nothing but the counts
 IsBook-ended : (b : BookValue) (ending : Ending) → b.made ≡ b.installed + b.returned + length b.live + 1 → (b.made ≤ MAX_NUMBER) → (length b.live ≤ MAX_LIVE_CLAIMS)
-    → ((j : LiveJob) → IsIn j b.live → IsGiven b j.id) → NumbersRise b.live → AreApart b.live → IsBook (with_ending ending b)
+    → ((j : LiveJob) → IsIn j b.live → IsGiven b j.id) → JobNumbersRise b.live → AreApart b.live → IsBook (with_ending ending b)
 IsBook-ended b Installed count numbered few given rising apart = record { counted = omega (arith, count); numbered = numbered; few = few; given = given_by b given; rising = rising; apart = apart }
   where
     given_by : (b : BookValue) → ((j : LiveJob) → IsIn j b.live → IsGiven b j.id) → (j : LiveJob) → IsIn j b.live → IsGiven (with_ending Installed b) j.id
@@ -223,7 +223,7 @@ IsBook-ended b Returned count numbered few given rising apart = record { counted
 
 pub IsBook-settled : (b : BookValue) (id : JobId) (ending : Ending) → holds b id ≡ true → IsBook b → IsBook (with_ending ending (record b { live = without_job id b.live }))
 IsBook-settled b id ending live is =
-    let test : LiveJob → Bool = λ j. not (same_id j.id id) in
+    let test : LiveJob → Bool = λ j. not (same_job_id j.id id) in
     let less : length (without_job id b.live) + 1 ≡ length b.live = one_less id b.live is.rising live in
     let count = is.counted in
     let few = is.few in

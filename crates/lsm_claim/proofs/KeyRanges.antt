@@ -7,7 +7,7 @@ use Rattle.std.specs.Cmp.Lexicographic.{slice_cmp}
 use Rattle.std.proofs.lemmas.Bool.{and_parts, and_from, not-true}
 use Rattle.std.proofs.lemmas.Cmp.{nat_list_cmp_total, tied_itself, upto}
 use Rattle.lsm_key.specs.Order.{key_le}
-use Rattle.lsm_claim.specs.Conflicts.{is_within, ranges_meet}
+use Rattle.lsm_claim.specs.Conflicts.{in_closed_range, ranges_meet}
 
 -- ---- keys
 
@@ -33,7 +33,7 @@ key_le_total a b = by (key_le a b) refl
 
 -- two ranges that have each a key, and meet, have one in common: the greater one of their least keys
 pub common_key : (lo hi other_lo other_hi : List ℕ) → key_le lo hi ≡ true → key_le other_lo other_hi ≡ true → ranges_meet lo hi other_lo other_hi ≡ true
-    → (key : List ℕ) × (is_within lo hi key ≡ true) × (is_within other_lo other_hi key ≡ true)
+    → (key : List ℕ) × (in_closed_range lo hi key ≡ true) × (in_closed_range other_lo other_hi key ≡ true)
 common_key lo hi other_lo other_hi some other_some m =
     let ends = and_parts (key_le lo other_hi) (key_le other_lo hi) m in
     elim (key_le_total lo other_lo) [
@@ -42,7 +42,7 @@ common_key lo hi other_lo other_hi some other_some m =
     ]
 
 -- ranges with a key in common meet
-pub ranges_meet_from : (lo hi other_lo other_hi key : List ℕ) → is_within lo hi key ≡ true → is_within other_lo other_hi key ≡ true → ranges_meet lo hi other_lo other_hi ≡ true
+pub ranges_meet_from : (lo hi other_lo other_hi key : List ℕ) → in_closed_range lo hi key ≡ true → in_closed_range other_lo other_hi key ≡ true → ranges_meet lo hi other_lo other_hi ≡ true
 ranges_meet_from lo hi other_lo other_hi key here there =
     let one = and_parts (key_le lo key) (key_le key hi) here in
     let other = and_parts (key_le other_lo key) (key_le key other_hi) there in

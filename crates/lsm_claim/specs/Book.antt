@@ -13,7 +13,7 @@ use Rattle.lsm_claim.specs.declared.error.ClaimError.TheVariants.{Overlaps, Book
 use Rattle.lsm_claim.specs.declared.job.JobId.{JobId}
 use Rattle.lsm_claim.specs.declared.job.LiveJob.{LiveJob}
 use Rattle.lsm_claim.specs.declared.job.Want.{Want}
-use Rattle.lsm_claim.specs.Jobs.{NumbersRise, AreApart, IsLeastConflict, first_conflict, same_id, without_job}
+use Rattle.lsm_claim.specs.Jobs.{JobNumbersRise, AreApart, IsLeastConflict, first_conflict, same_job_id, without_job}
 
 pub record BookValue : Type 0 where
   pub epoch : ℕ
@@ -40,7 +40,7 @@ pub record IsBook (b : BookValue) : Type 0 where
   pub numbered : b.made ≤ MAX_NUMBER
   pub few : length b.live ≤ MAX_LIVE_CLAIMS
   pub given : (j : LiveJob) → IsIn j b.live → IsGiven b j.id
-  pub rising : NumbersRise b.live
+  pub rising : JobNumbersRise b.live
   pub apart : AreApart b.live
 
 -- ---- claims
@@ -70,17 +70,17 @@ abbrev pub next_job : BookValue → Want → LiveJob
 next_job b want = record { id = record { epoch = b.epoch; number = b.made + 1 }; want = want }
 
 -- it is live, under the next number
-abbrev pub claimed : BookValue → Want → BookValue
-claimed b want = record b { made = b.made + 1; live = b.live ++ next_job b want ∷ [] }
+abbrev pub after_claim : BookValue → Want → BookValue
+after_claim b want = record b { made = b.made + 1; live = b.live ++ next_job b want ∷ [] }
 
 -- ---- ends
 
 -- the job is live
 abbrev pub holds : BookValue → JobId → Bool
-holds b id = list_any (λ j. same_id j.id id) b.live
+holds b id = list_any (λ j. same_job_id j.id id) b.live
 
-abbrev pub settled : BookValue → JobId → Settled
-settled b id = if holds b id then Live else Stale
+abbrev pub settle_answer : BookValue → JobId → Settled
+settle_answer b id = if holds b id then Live else Stale
 
 -- one more of this ending
 abbrev pub with_ending : Ending → BookValue → BookValue

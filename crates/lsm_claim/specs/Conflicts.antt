@@ -6,8 +6,8 @@ use Rattle.lsm_claim.specs.declared.job.Want.{Want}
 use Rattle.lsm_claim.specs.Levels.{shares_level}
 
 -- the key is one of those from lo to hi, both in them
-abbrev pub is_within : List ℕ → List ℕ → List ℕ → Bool
-is_within lo hi key = key_le lo key && key_le key hi
+abbrev pub in_closed_range : List ℕ → List ℕ → List ℕ → Bool
+in_closed_range lo hi key = key_le lo key && key_le key hi
 
 -- the keys from lo to hi and those from other_lo to other_hi have one in common, if neither range is empty
 abbrev pub ranges_meet : List ℕ → List ℕ → List ℕ → List ℕ → Bool
@@ -15,12 +15,12 @@ ranges_meet lo hi other_lo other_hi = key_le lo other_hi && key_le other_lo hi
 
 -- the same of a hull
 abbrev pub covers : Hull → List ℕ → Bool
-covers h key = is_within h.lo h.hi key
+covers h key = in_closed_range h.lo h.hi key
 
 -- the same of two hulls, each of which has a key
-abbrev pub meets : Hull → Hull → Bool
-meets h g = ranges_meet h.lo h.hi g.lo g.hi
+abbrev pub hulls_meet : Hull → Hull → Bool
+hulls_meet h g = ranges_meet h.lo h.hi g.lo g.hi
 
 -- two jobs share a level, and have a key in common
 abbrev pub conflicts : Want → Want → Bool
-conflicts w v = shares_level w.level v.level && meets w.hull v.hull
+conflicts w v = shares_level w.level v.level && hulls_meet w.hull v.hull

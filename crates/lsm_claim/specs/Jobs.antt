@@ -9,9 +9,9 @@ use Rattle.lsm_claim.specs.Conflicts.{covers, conflicts}
 use Rattle.lsm_claim.specs.Levels.{uses_level}
 
 -- numbers rise from job to job
-abbrev pub NumbersRise : List LiveJob → Type 0
-NumbersRise [] = Unit {0}
-NumbersRise (j ∷ js) = ((k : LiveJob) → IsIn k js → j.id.number < k.id.number) × NumbersRise js
+abbrev pub JobNumbersRise : List LiveJob → Type 0
+JobNumbersRise [] = Unit {0}
+JobNumbersRise (j ∷ js) = ((k : LiveJob) → IsIn k js → j.id.number < k.id.number) × JobNumbersRise js
 
 -- no two jobs conflict
 abbrev pub AreApart : List LiveJob → Type 0
@@ -35,9 +35,9 @@ pub record IsLeastConflict (jobs : List LiveJob) (want : Want) (id : JobId) : Ty
   pub conflicting : conflicts job.want want ≡ true
   pub least : (k : LiveJob) → IsIn k jobs → conflicts k.want want ≡ true → id.number ≤ k.id.number
 
-abbrev pub same_id : JobId → JobId → Bool
-same_id a b = nat_eq a.epoch b.epoch && nat_eq a.number b.number
+abbrev pub same_job_id : JobId → JobId → Bool
+same_job_id a b = nat_eq a.epoch b.epoch && nat_eq a.number b.number
 
 -- the jobs but the one of this name
 abbrev pub without_job : JobId → List LiveJob → List LiveJob
-without_job id jobs = filter (λ j. not (same_id j.id id)) jobs
+without_job id jobs = filter (λ j. not (same_job_id j.id id)) jobs

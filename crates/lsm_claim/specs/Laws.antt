@@ -3,11 +3,11 @@ use Rattle.std.specs.Prelude.{◌≡◌, ◌↔◌, ℕ, true, List}
 use Rattle.lsm_claim.specs.declared.hull.Hull.{Hull}
 use Rattle.lsm_claim.specs.declared.job.Want.{Want}
 use Rattle.lsm_claim.specs.Levels.{uses_level, shares_level}
-use Rattle.lsm_claim.specs.Conflicts.{covers, meets, conflicts}
+use Rattle.lsm_claim.specs.Conflicts.{covers, hulls_meet, conflicts}
 
 -- hulls meet exactly when some key is in both
 abbrev pub HullsMeetWhereTheyShareAKey : Type 0
-HullsMeetWhereTheyShareAKey = (h g : Hull) → (meets h g ≡ true) ↔ ((key : List ℕ) × (covers h key ≡ true) × (covers g key ≡ true))
+HullsMeetWhereTheyShareAKey = (h g : Hull) → (hulls_meet h g ≡ true) ↔ ((key : List ℕ) × (covers h key ≡ true) × (covers g key ≡ true))
 
 -- jobs share a level exactly when both use one
 abbrev pub JobsShareTheLevelsThatBothUse : Type 0

@@ -85,7 +85,7 @@ impl ClaimBook {
     ghost use Rattle.std.specs.Prelude.{◌≡◌, ◌≤◌, None, IfOk, IfErr, OnErr};
     ghost use Rattle.lsm_key.specs.Faults.{Refuses};
     ghost use Rattle.lsm_claim.specs.Jobs.{ShareNoKey, first_conflict};
-    ghost use Rattle.lsm_claim.specs.Book.{IsBook, NamesLeast, new_book, holds, claim_fault, next_job, claimed, settled, after_settling};
+    ghost use Rattle.lsm_claim.specs.Book.{IsBook, NamesLeast, new_book, holds, claim_fault, next_job, after_claim, settle_answer, after_settling};
 
     /// A book of an epoch that has issued no claim yet. Allocates nothing.
     pub fn new(alloc: Global, epoch: u64) -> ClaimBook
@@ -151,7 +151,7 @@ impl ClaimBook {
     pub fn claim(&mut self, want: Want) -> Result<Claim, ClaimError>
         ensures free { IfOk result (λ claim. claim_fault self.old want ≡ None) }
         ensures given { IfOk result (λ claim. claim ≡ next_job self.old want) }
-        ensures ok { IfOk result (λ claim. self.new ≡ claimed self.old want) }
+        ensures ok { IfOk result (λ claim. self.new ≡ after_claim self.old want) }
         ensures err { OnErr result (self.new ≡ self.old) }
         ensures refused { IfErr result (Refuses ClaimError.OutOfMemory (claim_fault self.old want)) }
         ensures least { IfErr result (NamesLeast self.old want) }
@@ -174,7 +174,7 @@ impl ClaimBook {
     /// Ends a claim. If its job is live here, the job is removed and its ending is counted; otherwise the claim is
     /// stale, and the book stays as it was. Allocates nothing.
     pub fn settle(&mut self, claim: Claim, ending: Ending) -> Settled
-        ensures answer { result ≡ settled self.old claim.id }
+        ensures answer { result ≡ settle_answer self.old claim.id }
         ensures book { self.new ≡ after_settling self.old claim.id ending }
     {
         let id = claim.id();

@@ -14,9 +14,9 @@ use Rattle.lsm_key.proofs.Sets.{IsIn-append_cases, SameMembers-permutation, Same
 use Rattle.lsm_key.proofs.Visible.{visible-append, visible_same}
 use Rattle.lsm_key.proofs.Writes.{entries_after-range, entries_after-unique}
 use Rattle.lsm_key.proofs.Points.{at_point, value_at-stored}
-use Rattle.lsm_coord.specs.State.{State, last_seq, last_flushed, active_start}
+use Rattle.lsm_coord.specs.Model.State.{State, last_seq, last_flushed, active_start}
 use Rattle.lsm_coord.specs.declared.snapshot.Snapshot.{Snapshot}
-use Rattle.lsm_coord.specs.Shows.{ShowsRecent}
+use Rattle.lsm_coord.specs.Contract.Shows.{ShowsRecent}
 
 -- the present or a live snapshot
 abbrev pub IsPoint : State → ℕ → Type 0

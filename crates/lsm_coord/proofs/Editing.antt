@@ -16,11 +16,11 @@ use Rattle.lsm_edit.specs.Edit.{AreAdded, AreInTurn, IsFileFrom, after_file}
 use Rattle.lsm_edit.specs.File.{IsFile}
 use Rattle.lsm_edit.specs.Next.{number_after}
 use Rattle.lsm_edit.specs.Served.{AreAsRecorded}
-use Rattle.lsm_edit.specs.Version.{VersionValue, IsVersion, clashes, has_number, has_overlap, meets, without}
+use Rattle.lsm_edit.specs.Version.{VersionValue, IsVersion, clashes, has_number, has_overlap, files_meet, files_without}
 use Rattle.lsm_edit.proofs.VersionLaws.{overlap-after, stays}
 use Rattle.lsm_msg.specs.Legal.{IsLegal, encloses}
 use Rattle.lsm_msg.proofs.Inputs.{is_listed}
-use Rattle.lsm_coord.specs.Installing.{AreAscending, is_inside, record_of, records}
+use Rattle.lsm_coord.specs.Contract.Installing.{AreAscending, is_table_inside, record_of, records}
 use Rattle.lsm_coord.proofs.Keys.{not_below_upto}
 use Rattle.lsm_coord.proofs.Lists.{any_found, any_here}
 
@@ -84,8 +84,8 @@ records_added level number ts upper deep some room few each = (omega arith, (let
 -- keys that stand before others share none with them
 apart : (f g : FileMeta) → key_lt f.largest g.smallest ≡ true → clashes f g ≡ false
 apart f g before = false_from_ne_true (clashes f g) (λ h.
-    let parts = and_parts (eqb f.level g.level) (ltb 0 f.level && meets f g) h in
-    let met = (and_parts (ltb 0 f.level) (meets f g) parts.1).1 in
+    let parts = and_parts (eqb f.level g.level) (ltb 0 f.level && files_meet f g) h in
+    let met = (and_parts (ltb 0 f.level) (files_meet f g) parts.1).1 in
     not_below_upto g.smallest f.largest (and_parts (key_le f.smallest g.largest) (key_le g.smallest f.largest) met).1 before)
 
 pub records_apart : (level number : ℕ) (ts : List Opened) → AreAscending ts → has_overlap (records level number ts) ≡ false
@@ -96,13 +96,13 @@ records_apart level number (t ∷ ts) pairs =
     apart (record_of level number t) g (subst (λ (k : List ℕ). key_lt (largest_key t.entries) k ≡ true) (sym r.3) (pairs.0 r.0 r.1))) in
     rw none (records_apart level (number + 1) ts pairs.1)
 
-module _ (v : VersionValue) (want : Want) (legal : IsLegal v.files want) (ts : List Opened) (inside : (t : Opened) → IsIn t ts → is_inside want.hull t ≡ true) where
+module _ (v : VersionValue) (want : Want) (legal : IsLegal v.files want) (ts : List Opened) (inside : (t : Opened) → IsIn t ts → is_table_inside want.hull t ≡ true) where
   -- a file of the next level that shares a key with an output is an input
   meets_input : (f g : FileMeta) → IsIn f v.files → IsIn g (records (want.level + 1) v.next_file ts) → clashes f g ≡ true → IsIn f.number want.files
   meets_input f g m n h =
       let r = recorded_of (want.level + 1) v.next_file ts g n in
-      let parts = and_parts (eqb f.level g.level) (ltb 0 f.level && meets f g) h in
-      let met = and_parts (key_le f.smallest g.largest) (key_le g.smallest f.largest) (and_parts (ltb 0 f.level) (meets f g) parts.1).1 in
+      let parts = and_parts (eqb f.level g.level) (ltb 0 f.level && files_meet f g) h in
+      let met = and_parts (key_le f.smallest g.largest) (key_le g.smallest f.largest) (and_parts (ltb 0 f.level) (files_meet f g) parts.1).1 in
       let own = and_parts (key_le want.hull.lo (smallest_key (r.0).entries)) (key_le (largest_key (r.0).entries) want.hull.hi) (inside r.0 r.1) in
       let low : key_le want.hull.lo g.smallest ≡ true = subst (λ (k : List ℕ). key_le want.hull.lo k ≡ true) (sym r.3) own.0 in
       let high : key_le g.largest want.hull.hi ≡ true = subst (λ (k : List ℕ). key_le k want.hull.hi ≡ true) (sym r.4) own.1 in
@@ -118,7 +118,7 @@ module _ (v : VersionValue) (want : Want) (legal : IsLegal v.files want) (ts : L
       let input = is_listed want.files f (meets_input f g.0 m g.1 g.2) in
       true≢false (sym parts.0 ∙ ap not input))
 
-  pub none_overlaps : IsVersion v → AreAscending ts → has_overlap (without want.files v.files ++ records (want.level + 1) v.next_file ts) ≡ false
+  pub none_overlaps : IsVersion v → AreAscending ts → has_overlap (files_without want.files v.files ++ records (want.level + 1) v.next_file ts) ≡ false
   none_overlaps is pairs =
       let added = records (want.level + 1) v.next_file ts in
       overlap-after want.files v.files added is.disjoint

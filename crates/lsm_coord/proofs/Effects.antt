@@ -1,11 +1,11 @@
 -- What a step may do to the writes, the versions and the frozen memtable.
 use Rattle.std.proofs.Common.{◌≡◌, List, [], ◌∷◌, ◌++◌, None, Some, refl, sym, subst, inl, inr, take}
 use Rattle.lsm_key.specs.declared.op.Op.{Op}
-use Rattle.lsm_coord.specs.State.{State, Version, last_seq, last_flushed}
-use Rattle.lsm_coord.specs.Event.{Event, Refusal, Reply}
-use Rattle.lsm_coord.specs.Event as say
-use Rattle.lsm_coord.specs.Changes.{flush_end}
-use Rattle.lsm_coord.specs.Step.{Step, Leaves}
+use Rattle.lsm_coord.specs.Model.State.{State, Version, last_seq, last_flushed}
+use Rattle.lsm_coord.specs.Model.Event.{Event, Refusal, Reply}
+use Rattle.lsm_coord.specs.Model.Event as say
+use Rattle.lsm_coord.specs.Model.Changes.{flush_end}
+use Rattle.lsm_coord.specs.Model.Step.{Step, Leaves}
 
 pub data Effect (s : State) (e : Event) (t : State) : Type 0 where
   stays : t.writes ≡ s.writes → t.versions ≡ s.versions → t.frozen ≡ s.frozen → Effect s e t

@@ -7,10 +7,10 @@ use Rattle.std.specs.Str.{bytes_eq}
 use Rattle.lsm_key.specs.declared.op.Op.{Op}
 use Rattle.lsm_key.specs.declared.op.Op.TheVariants.{Put, Delete}
 use Rattle.lsm_key.specs.Writes.{answer, value_of}
-use Rattle.lsm_coord.specs.Range.{IsRange}
-use Rattle.lsm_coord.specs.State.{Version, empty_version}
-use Rattle.lsm_coord.specs.Changes.{IsIndex}
-use Rattle.lsm_coord.specs.Examples.{a, b, z, one, two, none, FlushedWriteIsFound, RestartLosesWrites, LastOfABatchCounts, FrozenIsFlushedFirst, AbsentIsRefused, DownUntilRestarted, MergeKeepsAnswers, FollowerLiesBehind, FileGivenTwiceIsNoRun, NewerValueIsNoRun, LostWriteIsNoRun, ShortFlushIsNoRun, EmptyListingIsNoRun, KeptWriteIsNoRun, UnforcedRefusalIsNoRun, SecondWriteLostIsNoRun, FileForgottenIsNoRun, FlushLosesWriteIsNoRun}
+use Rattle.lsm_coord.specs.Model.Range.{IsRange}
+use Rattle.lsm_coord.specs.Model.State.{Version, empty_version}
+use Rattle.lsm_coord.specs.Model.Changes.{IsIndex}
+use Rattle.lsm_coord.specs.Model.Examples.{a, b, z, one, two, none, FlushedWriteIsFound, RestartLosesWrites, LastOfABatchCounts, FrozenIsFlushedFirst, AbsentIsRefused, DownUntilRestarted, MergeKeepsAnswers, FollowerLiesBehind, FileGivenTwiceIsNoRun, NewerValueIsNoRun, LostWriteIsNoRun, ShortFlushIsNoRun, EmptyListingIsNoRun, KeptWriteIsNoRun, UnforcedRefusalIsNoRun, SecondWriteLostIsNoRun, FileForgottenIsNoRun, FlushLosesWriteIsNoRun}
 
 pub flushed_write : FlushedWriteIsFound
 flushed_write = (_, (_, (refl, (refl, refl, refl)), (_, (refl, (refl, refl, refl, refl)), (_, (refl, (refl, refl)), refl))))

@@ -9,15 +9,15 @@ use Rattle.lsm_coord.specs.declared.error.CoordError.{CoordError}
 use Rattle.lsm_coord.specs.declared.error.CoordError.TheVariants as error
 use Rattle.lsm_coord.specs.declared.frozen.Frozen.{Frozen}
 use Rattle.lsm_coord.specs.declared.snapshot.SnapId.{SnapId}
-use Rattle.lsm_coord.specs.State.{State, last_seq, last_flushed}
-use Rattle.lsm_coord.specs.Event.{Refusal}
-use Rattle.lsm_coord.specs.Event as say
-use Rattle.lsm_coord.specs.Rules.{refusal}
-use Rattle.lsm_coord.specs.Step.{Step}
-use Rattle.lsm_coord.specs.Value.{CoordValue}
-use Rattle.lsm_coord.specs.Calls.{write_fault, freeze_fault, flush_fault, snapshot_fault, release_fault}
-use Rattle.lsm_coord.specs.Replies.{refusal_of}
-use Rattle.lsm_coord.specs.Shows.{Shows}
+use Rattle.lsm_coord.specs.Model.State.{State, last_seq, last_flushed}
+use Rattle.lsm_coord.specs.Model.Event.{Refusal}
+use Rattle.lsm_coord.specs.Model.Event as say
+use Rattle.lsm_coord.specs.Model.Rules.{refusal}
+use Rattle.lsm_coord.specs.Model.Step.{Step}
+use Rattle.lsm_coord.specs.Contract.Value.{CoordValue}
+use Rattle.lsm_coord.specs.Contract.Calls.{write_fault, freeze_fault, flush_fault, snapshot_fault, release_fault}
+use Rattle.lsm_coord.specs.Contract.Replies.{refusal_of}
+use Rattle.lsm_coord.specs.Contract.Shows.{Shows}
 use Rattle.lsm_coord.proofs.Manifests.{version_count}
 use Rattle.lsm_coord.proofs.Writing.{active_weight, active_count}
 use Rattle.lsm_coord.proofs.Freezing.{start_at_flushed}

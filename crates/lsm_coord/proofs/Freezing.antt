@@ -8,10 +8,10 @@ use Rattle.std.proofs.Math.Seq.{drop-length}
 use Rattle.lsm_key.specs.declared.op.Op.{Op}
 use Rattle.lsm_key.specs.Places.{entries_after}
 use Rattle.lsm_coord.specs.declared.frozen.Frozen.{Frozen}
-use Rattle.lsm_coord.specs.State.{State, last_seq, last_flushed, active_start}
-use Rattle.lsm_coord.specs.Value.{CoordValue}
-use Rattle.lsm_coord.specs.Calls.{froze}
-use Rattle.lsm_coord.specs.Shows.{Shows}
+use Rattle.lsm_coord.specs.Model.State.{State, last_seq, last_flushed, active_start}
+use Rattle.lsm_coord.specs.Contract.Value.{CoordValue}
+use Rattle.lsm_coord.specs.Contract.Calls.{after_freezing}
+use Rattle.lsm_coord.specs.Contract.Shows.{Shows}
 
 -- nothing is frozen
 pub none_frozen : (c : CoordValue) (s : State) → Shows c s → c.frozen ≡ None → s.frozen ≡ None
@@ -21,7 +21,7 @@ none_frozen c s h none = h.frozen ∙ ap (option_map (λ (f : Frozen). f.end)) n
 pub start_at_flushed : (c : CoordValue) (s : State) → Shows c s → c.frozen ≡ None → active_start s ≡ last_flushed s
 start_at_flushed c s h none = ap (λ (o : Option ℕ). unwrap_or o (last_flushed s)) (none_frozen c s h none)
 
-pub Shows-froze : (c : CoordValue) (s : State) → Shows c s → c.frozen ≡ None → Shows (froze c) (record s { frozen = Some (last_seq s) })
+pub Shows-froze : (c : CoordValue) (s : State) → Shows c s → c.frozen ≡ None → Shows (after_freezing c) (record s { frozen = Some (last_seq s) })
 Shows-froze c s h none =
     let m = h.memtables in
     let flushed = m.flushed in

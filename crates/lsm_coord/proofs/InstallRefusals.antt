@@ -8,14 +8,14 @@ use Rattle.lsm_edit.specs.Version.{VersionValue}
 use Rattle.lsm_msg.specs.declared.job.JobResult.{JobResult}
 use Rattle.lsm_coord.specs.declared.coord.install.InstallError.{InstallError}
 use Rattle.lsm_coord.specs.declared.coord.install.InstallError.TheVariants.{WrongJob, BadResult, NumbersExhausted, OutOfMemory}
-use Rattle.lsm_coord.specs.Event as say
-use Rattle.lsm_coord.specs.Installing.{AreOutputs, Explains, HasNumbers, number_fault}
-use Rattle.lsm_coord.specs.Replies.{error_of, refusal_of}
-use Rattle.lsm_coord.specs.Rules.{CannotNumber, IsAllowed}
-use Rattle.lsm_coord.specs.Shows.{Follows, Shows}
-use Rattle.lsm_coord.specs.State.{State}
-use Rattle.lsm_coord.specs.Step.{Leaves}
-use Rattle.lsm_coord.specs.Value.{CoordValue}
+use Rattle.lsm_coord.specs.Model.Event as say
+use Rattle.lsm_coord.specs.Contract.Installing.{AreOutputTables, Explains, HasNumbers, number_fault}
+use Rattle.lsm_coord.specs.Contract.Replies.{error_of, refusal_of}
+use Rattle.lsm_coord.specs.Model.Rules.{CannotNumber, IsAllowed}
+use Rattle.lsm_coord.specs.Contract.Shows.{Follows, Shows}
+use Rattle.lsm_coord.specs.Model.State.{State}
+use Rattle.lsm_coord.specs.Model.Step.{Leaves}
+use Rattle.lsm_coord.specs.Contract.Value.{CoordValue}
 use Rattle.lsm_coord.proofs.Manifests.{version_count}
 use Rattle.lsm_coord.proofs.Outputs.{tables_length}
 
@@ -42,7 +42,7 @@ pub has_numbers : (v : VersionValue) (ts : List Opened) → number_fault v (leng
 has_numbers v ts none = elim (fault_is v (length ts)) [ inl fits ↦ record { number = fits.1.0; next_file = fits.1.1 } | inr lacks ↦ let no = sym none ∙ lacks.0 in absurd cc ]
 
 -- a fault: there are none
-pub lacks_numbers : (v : VersionValue) (live : LiveJob) (made : JobResult) (ts : List Opened) (why : InstallError) → made.job ≡ live.id → AreOutputs live.want.hull made.tables ts → number_fault v (length ts) ≡ Some why → Explains v live made why
+pub lacks_numbers : (v : VersionValue) (live : LiveJob) (made : JobResult) (ts : List Opened) (why : InstallError) → made.job ≡ live.id → AreOutputTables live.want.hull made.tables ts → number_fault v (length ts) ≡ Some why → Explains v live made why
 lacks_numbers v live made ts why named outputs some = elim (fault_is v (length ts)) [
   | inl fits ↦ let no = sym some ∙ fits.0 in absurd cc
   | inr lacks ↦ subst (Explains v live made) (ap (λ (o : Option InstallError). unwrap_or o NumbersExhausted) (sym lacks.0 ∙ some)) (named, ts, outputs, λ has. lacks.1 (has.number, has.next_file))

@@ -6,7 +6,7 @@ use Rattle.lsm_claim.specs.declared.ending.Ending.TheVariants as ending
 use Rattle.lsm_claim.specs.declared.job.JobId.{JobId}
 use Rattle.lsm_claim.specs.declared.job.LiveJob.{LiveJob}
 use Rattle.lsm_claim.specs.Book.{IsBook, after_settling, holds}
-use Rattle.lsm_claim.specs.Jobs.{same_id}
+use Rattle.lsm_claim.specs.Jobs.{same_job_id}
 use Rattle.lsm_table.specs.Tables.{Opened}
 use Rattle.lsm_edit.specs.Served.{IsServed}
 use Rattle.lsm_edit.specs.Version.{IsVersion}
@@ -19,10 +19,10 @@ use Rattle.lsm_msg.proofs.Installed.{new_number, place_cases}
 use Rattle.lsm_msg.proofs.InstallReads.{kept_adds_no_entry}
 use Rattle.lsm_msg.proofs.OtherJobs.{installs_keep_jobs}
 use Rattle.lsm_coord.specs.declared.coord.install.Install.TheVariants as became
-use Rattle.lsm_coord.specs.Installing.{Became, IsInstall, HoldsMergeOf, edit_of, next_served}
-use Rattle.lsm_coord.specs.Memory.{AreLegal}
-use Rattle.lsm_coord.specs.Sound.{AreWrittenBy, IsSound, KeepsSound}
-use Rattle.lsm_coord.specs.Value.{CoordValue}
+use Rattle.lsm_coord.specs.Contract.Installing.{Became, IsInstallDone, HoldsMergeOf, install_edit_of, next_served}
+use Rattle.lsm_coord.specs.Contract.Memory.{AreLegal}
+use Rattle.lsm_coord.specs.Contract.Sound.{AreWrittenBy, IsSound, KeepsSound}
+use Rattle.lsm_coord.specs.Contract.Value.{CoordValue}
 use Rattle.lsm_coord.proofs.Installing.{held_by, installs_of, live_is, stays_apart}
 use Rattle.lsm_coord.proofs.InstallStep.{inputs_by_want, job_of_live, one_live}
 use Rattle.lsm_coord.proofs.Lists.{any_found}
@@ -35,8 +35,8 @@ install_keeps old new claim made number files job book served version all_legal 
     let live = b.0 in
     let found = live_is old claim.id live b.1 in
     let ts = b.3 in
-    let install : IsInstall old live ts new = b.6 in
-    let edit = edit_of old.served.version live.want ts in
+    let install : IsInstallDone old live ts new = b.6 in
+    let edit = install_edit_of old.served.version live.want ts in
     let legal = all_legal live found.0 in
     let installs = installs_of old.served live.want made.tables install.text ts legal b.4 install.spelled install.applies in
     let tables : merge.tables ≡ ts = tables_one made.tables merge.tables ts merge.opened (b.4).tables in
@@ -45,10 +45,10 @@ install_keeps old new claim made number files job book served version all_legal 
     let after = after_settling old.book live.id ending.Installed in
     let held_now : holds after other.id ≡ true = subst (λ (c : CoordValue). holds c.book other.id ≡ true) install.new_is held in
     let own = sound.claimed.live in
-    let k = any_found (λ j. same_id j.id other.id) after.live held_now in
+    let k = any_found (λ j. same_job_id j.id other.id) after.live held_now in
     let k_is : k.0 ≡ own = one_live old.book.live book.rising k.0 own (live_before old.book live.id ending.Installed k.0 k.1) sound.claimed.member (same_name (k.0).id other.id k.2 ∙ sym sound.claimed.named) in
     let stays : IsIn own after.live = subst (λ (j : LiveJob). IsIn j after.live) k_is k.1 in
-    let live_held = held_by old.book live live.id (subst (λ (i : JobId). find (λ j. same_id j.id i) old.book.live ≡ Some live) (sym found.1) b.1) in
+    let live_held = held_by old.book live live.id (subst (λ (i : JobId). find (λ j. same_job_id j.id i) old.book.live ≡ Some live) (sym found.1) b.1) in
     let apart = stays_apart old.book live.id live own book live_held found.0 refl stays in
     let keep = installs_keep_jobs old.served live.want own.want edit ts version served legal installs apart (all_legal own sound.claimed.member) in
     let of_want = keep.1 other sound.claimed.of_want in

@@ -16,14 +16,14 @@ use Rattle.lsm_claim.specs.declared.job.JobId.{JobId}
 use Rattle.lsm_claim.specs.declared.job.LiveJob.{LiveJob}
 use Rattle.lsm_claim.specs.declared.job.Want.{Want}
 use Rattle.lsm_claim.specs.Book.{IsBook, after_settling}
-use Rattle.lsm_claim.specs.Jobs.{NumbersRise}
+use Rattle.lsm_claim.specs.Jobs.{JobNumbersRise}
 use Rattle.lsm_table.specs.Tables.{Opened}
 use Rattle.lsm_edit.specs.declared.file.FileMeta.{FileMeta}
 use Rattle.lsm_edit.specs.Edit.{IsSpelled}
 use Rattle.lsm_edit.specs.Next.{number_after}
 use Rattle.lsm_edit.specs.declared.served.Placed.{Placed}
 use Rattle.lsm_edit.specs.Served.{IsServed, ServedValue}
-use Rattle.lsm_edit.specs.Version.{IsVersion, VersionValue, applied, apply_fault, has_number}
+use Rattle.lsm_edit.specs.Version.{IsVersion, VersionValue, after_apply, apply_fault, has_number}
 use Rattle.lsm_edit.specs.Version as edit
 use Rattle.lsm_edit.proofs.Places.{file_of, tables_in}
 use Rattle.lsm_edit.proofs.AfterEdit.{keeps}
@@ -37,16 +37,16 @@ use Rattle.lsm_msg.proofs.Inputs.{is_listed, listed_is}
 use Rattle.lsm_msg.proofs.InstallReads.{installs_keep_reads, kept_adds_no_entry}
 use Rattle.lsm_msg.proofs.Installed.{installs_add_no_entry, installs_keep_order}
 use Rattle.lsm_coord.specs.declared.snapshot.Snapshot.{Snapshot}
-use Rattle.lsm_coord.specs.State.{State, Version, Place, active_start, current_files, last_flushed}
-use Rattle.lsm_coord.specs.Changes.{IsInstalled, at_level, same_place, with_version}
-use Rattle.lsm_coord.specs.Changes as change
+use Rattle.lsm_coord.specs.Model.State.{State, Version, Place, active_start, current_files, last_flushed}
+use Rattle.lsm_coord.specs.Model.Changes.{IsInstalled, at_level, same_place, with_version}
+use Rattle.lsm_coord.specs.Model.Changes as change
 use Rattle.lsm_coord.specs.declared.coord.install.Install.TheVariants as became
-use Rattle.lsm_coord.specs.Installing.{AreEntriesOf, AreOutputs, Became, HasNumbers, IsInstall, IsLive, HoldsMergeOf, StepsTo, edit_of, next_served, numbers_of, records}
-use Rattle.lsm_coord.specs.Manifest.{listed, place_of, versions_of}
-use Rattle.lsm_coord.specs.Memory.{AreLegal, AreOrderly, IsOrderly}
-use Rattle.lsm_coord.specs.Shows.{Shows, ShowsStored}
-use Rattle.lsm_coord.specs.Sound.{AreWrittenBy, IsSound}
-use Rattle.lsm_coord.specs.Value.{CoordValue, frozen_entries, stored}
+use Rattle.lsm_coord.specs.Contract.Installing.{AreEntriesOf, AreOutputTables, Became, HasNumbers, IsInstallDone, IsLive, HoldsMergeOf, StepsTo, install_edit_of, next_served, numbers_of, records}
+use Rattle.lsm_coord.specs.Contract.Manifest.{listing_of, place_of, versions_of}
+use Rattle.lsm_coord.specs.Contract.Memory.{AreLegal, AreJobWants, IsJobWant}
+use Rattle.lsm_coord.specs.Contract.Shows.{Shows, ShowsStored}
+use Rattle.lsm_coord.specs.Contract.Sound.{AreWrittenBy, IsSound}
+use Rattle.lsm_coord.specs.Contract.Value.{CoordValue, frozen_entries, stored_entries}
 use Rattle.lsm_coord.proofs.Editing.{records_end, records_length}
 use Rattle.lsm_coord.proofs.Installing.{installs_of, live_is}
 use Rattle.lsm_coord.proofs.Outputs.{tables_one}
@@ -89,7 +89,7 @@ input_listed files numbers f m = one_test (list_any (same_place (place_of f)) (i
     (IsIn-map place_of f (filter (λ x. list_any (λ n. has_number n x) numbers) files) (keeps (λ x. list_any (λ n. has_number n x) numbers) f files m h))
     (and_from (eqb f.level f.level) (eqb f.number f.number) (eq-eqb f.level f.level refl) (eq-eqb f.number f.number refl)))
 
-without_is : (files : List FileMeta) (numbers : List ℕ) → change.without (input_places files numbers) (map place_of files) ≡ map place_of (edit.without numbers files)
+without_is : (files : List FileMeta) (numbers : List ℕ) → change.without_inputs (input_places files numbers) (map place_of files) ≡ map place_of (edit.files_without numbers files)
 without_is files numbers = same_stay (λ p. not (list_any (same_place p) (input_places files numbers))) (λ f. not (list_any (λ n. has_number n f) numbers)) place_of files (λ f m. ap not (input_listed files numbers f m))
 
 at_level_is : (level number : ℕ) (ts : List Opened) → at_level level (map (λ (f : FileMeta). f.number) (records level number ts)) ≡ map place_of (records level number ts)
@@ -107,15 +107,15 @@ some_in x (y ∷ xs) m = omega arith
 -- ---- the step
 
 module _ (c : CoordValue) (live : LiveJob) (ts : List Opened) (text : List ℕ) (s : State) (h : Shows c s) (version_is : IsVersion c.served.version) (served_is : IsServed c.served)
-    (legal : IsLegal c.served.version.files live.want) (orderly : IsOrderly live.want) (installs : Installs c.served live.want (edit_of c.served.version live.want ts) ts)
-    (spelled : IsSpelled text (edit_of c.served.version live.want ts)) (fit : HasNumbers c.served.version ts)
+    (legal : IsLegal c.served.version.files live.want) (orderly : IsJobWant live.want) (installs : Installs c.served live.want (install_edit_of c.served.version live.want ts) ts)
+    (spelled : IsSpelled text (install_edit_of c.served.version live.want ts)) (fit : HasNumbers c.served.version ts)
     (job : JobParts) (of_want : IsJobOf c.served.version.files live.want job) (points : (x : Snapshot) → IsIn x c.snapshots → IsIn x.at job.points ⊎ AreWrittenBy c.served job x.at) (deeper : KnowsDeeper c.served.places job)
     (inputs : List Entry) (are : AreInputsOf c.served.places live.want inputs) (kept : HoldsKept inputs job.points job.deeper (entries_of ts)) where
   abbrev numbers : List ℕ
   numbers = numbers_of c.served.version live.want ts
 
   abbrev next_version : Version
-  next_version = record { flushed = last_flushed s; files = change.without (input_places c.served.version.files live.want.files) (current_files s) ++ at_level (live.want.level + 1) numbers }
+  next_version = record { flushed = last_flushed s; files = change.without_inputs (input_places c.served.version.files live.want.files) (current_files s) ++ at_level (live.want.level + 1) numbers }
 
   abbrev pub after : State
   after = with_version s next_version (s.next_file + length numbers)
@@ -129,14 +129,14 @@ module _ (c : CoordValue) (live : LiveJob) (ts : List Opened) (text : List ℕ) 
       let first = h.tables.next_file in
       omega (arith, end, first, count_is)
 
-  listed_next : next_version ≡ listed (applied c.served.version (edit_of c.served.version live.want ts))
+  listed_next : next_version ≡ listing_of (after_apply c.served.version (install_edit_of c.served.version live.want ts))
   listed_next =
       let v = c.served.version in
       let added = records (live.want.level + 1) v.next_file ts in
-      let files : next_version.files ≡ map place_of (edit.without live.want.files v.files ++ added) =
-      ap (λ (ps : List Place). change.without (input_places v.files live.want.files) ps ++ at_level (live.want.level + 1) numbers) (files_are c.edits c.served s h.tables)
+      let files : next_version.files ≡ map place_of (edit.files_without live.want.files v.files ++ added) =
+      ap (λ (ps : List Place). change.without_inputs (input_places v.files live.want.files) ps ++ at_level (live.want.level + 1) numbers) (files_are c.edits c.served s h.tables)
       ∙ (λ i. without_is v.files live.want.files i ++ at_level_is (live.want.level + 1) v.next_file ts i)
-      ∙ sym (map-append place_of (edit.without live.want.files v.files) added) in
+      ∙ sym (map-append place_of (edit.files_without live.want.files v.files) added) in
       λ i. record { flushed = flushed_is c.edits c.served s h.tables i; files = files i }
 
   tip_is : last_flushed after ≡ last_flushed s
@@ -148,9 +148,9 @@ module _ (c : CoordValue) (live : LiveJob) (ts : List Opened) (text : List ℕ) 
   adds_none : AddNoEntry c.served.places live.want ts
   adds_none = kept_adds_no_entry c.served.places live.want ts inputs job.points job.deeper are kept
 
-  reads : ReadAlike job.points inputs (stored (next_served c.served live.want ts)) (stored c.served)
+  reads : ReadAlike job.points inputs (stored_entries (next_served c.served live.want ts)) (stored_entries c.served)
   reads =
-      installs_keep_reads c.served live.want job (edit_of c.served.version live.want ts) ts inputs [] version_is served_is h.tables.ordered legal of_want deeper installs are kept
+      installs_keep_reads c.served live.want job (install_edit_of c.served.version live.want ts) ts inputs [] version_is served_is h.tables.ordered legal of_want deeper installs are kept
       (λ e f m. absurd m) (λ e f m. absurd m)
 
   -- an input's entry is stored, and so flushed
@@ -163,17 +163,17 @@ module _ (c : CoordValue) (live : LiveJob) (ts : List Opened) (text : List ℕ) 
   stored_after : ShowsStored (c.edits ++ text ∷ []) (next_served c.served live.want ts) after
   stored_after =
       let v = c.served.version in
-      let e = edit_of v live.want ts in
+      let e = install_edit_of v live.want ts in
       record {
         manifest = Folds-push c.edits v text e h.tables.manifest spelled installs.applies;
         versions = ap (λ (vs : List Version). vs ++ next_version ∷ []) h.tables.versions
-            ∙ ap (λ (x : Version). map listed (versions_of c.edits) ++ x ∷ []) listed_next
+            ∙ ap (λ (x : Version). map listing_of (versions_of c.edits) ++ x ∷ []) listed_next
             ∙ sym (listed-push c.edits v text e h.tables.manifest spelled);
         next_file = next_is;
         epoch = h.tables.epoch;
         ordered = installs_keep_order c.served live.want e ts version_is served_is h.tables.ordered legal installs adds_none;
         old = λ x m. subst (λ (n : ℕ). x.ikey.seq ≤ n) (sym tip_is) (h.tables.old x (installs_add_no_entry c.served live.want e ts version_is served_is legal installs adds_none x m));
-        answers = λ key. subst (λ (n : ℕ). value_at (stored (next_served c.served live.want ts)) key n ≡ answer s.writes n key) (sym tip_is) ((reads key).2 (last_flushed s) seen ∙ h.tables.answers key);
+        answers = λ key. subst (λ (n : ℕ). value_at (stored_entries (next_served c.served live.want ts)) key n ≡ answer s.writes n key) (sym tip_is) ((reads key).2 (last_flushed s) seen ∙ h.tables.answers key);
       }
 
   pub shows_install : (new : CoordValue) → new.served ≡ next_served c.served live.want ts → new.edits ≡ c.edits ++ text ∷ [] → new.active ≡ c.active → new.frozen ≡ c.frozen → new.last ≡ c.last → new.snapshots ≡ c.snapshots → new.made ≡ c.made → new.floor ≡ c.floor → Shows new after
@@ -232,7 +232,7 @@ module _ (c : CoordValue) (live : LiveJob) (ts : List Opened) (text : List ℕ) 
 
 -- ---- what became of a claim
 
-pub one_live : (jobs : List LiveJob) → NumbersRise jobs → (a b : LiveJob) → IsIn a jobs → IsIn b jobs → a.id ≡ b.id → a ≡ b
+pub one_live : (jobs : List LiveJob) → JobNumbersRise jobs → (a b : LiveJob) → IsIn a jobs → IsIn b jobs → a.id ≡ b.id → a ≡ b
 one_live [] rise a b m n e = absurd m
 one_live (j ∷ jobs) rise a b m n e =
     let number : a.id.number ≡ b.id.number = ap (λ (i : JobId). i.number) e in
@@ -265,14 +265,14 @@ job_of_live c id live job book is_live named sound =
     subst (λ (k : LiveJob). IsJobOf c.served.version.files k.want job) own sound.claimed.of_want
 
 -- AN INSTALL STEPS, where a job of the claim's name is sound and the outputs hold what is kept.
-pub install_steps : (old new : CoordValue) (claim : LiveJob) (made : JobResult) (number : ℕ) (files : List ℕ) (job : JobParts) → IsBook old.book → IsServed old.served → IsVersion old.served.version → AreLegal old.served.version.files old.book.live → AreOrderly old.book.live
+pub install_steps : (old new : CoordValue) (claim : LiveJob) (made : JobResult) (number : ℕ) (files : List ℕ) (job : JobParts) → IsBook old.book → IsServed old.served → IsVersion old.served.version → AreLegal old.served.version.files old.book.live → AreJobWants old.book.live
     → Became old claim made (became.Done number files) new → job.id ≡ claim.id → IsSound old job → HoldsMergeOf old.served job made → StepsTo old (became.Done number files) new
 install_steps old new claim made number files job book served version all_legal all_orderly b named sound merge message s h =
     let live = b.0 in
     let found = live_is old claim.id live b.1 in
     let of_want = job_of_live old claim.id live job book b.1 named sound in
     let ts = b.3 in
-    let install : IsInstall old live ts new = b.6 in
+    let install : IsInstallDone old live ts new = b.6 in
     let legal = all_legal live found.0 in
     let orderly = all_orderly live found.0 in
     let installs = installs_of old.served live.want made.tables install.text ts legal b.4 install.spelled install.applies in

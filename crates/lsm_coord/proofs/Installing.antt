@@ -11,7 +11,7 @@ use Rattle.lsm_claim.specs.declared.job.LiveJob.{LiveJob}
 use Rattle.lsm_claim.specs.declared.job.Want.{Want}
 use Rattle.lsm_claim.specs.Book.{BookValue, IsBook, after_settling, holds, with_ending}
 use Rattle.lsm_claim.specs.Conflicts.{conflicts}
-use Rattle.lsm_claim.specs.Jobs.{same_id, without_job}
+use Rattle.lsm_claim.specs.Jobs.{same_job_id, without_job}
 use Rattle.lsm_table.specs.Tables.{Opened}
 use Rattle.lsm_edit.specs.Edit.{IsSpelled, edit as spelling}
 use Rattle.lsm_edit.specs.Served.{IsServed, ServedValue}
@@ -23,10 +23,10 @@ use Rattle.lsm_msg.proofs.OtherJobs.{installs_keep_jobs}
 use Rattle.lsm_coord.specs.declared.coord.install.Install.TheVariants as became
 use Rattle.lsm_coord.specs.declared.frozen.Frozen.{Frozen}
 use Rattle.lsm_coord.specs.declared.snapshot.Snapshot.{Snapshot}
-use Rattle.lsm_coord.specs.Installing.{AreOutputs, Became, IsLive, Puts, edit_of}
-use Rattle.lsm_coord.specs.Manifest.{VersionSetValue}
-use Rattle.lsm_coord.specs.Memory.{IsCoord}
-use Rattle.lsm_coord.specs.Value.{CoordValue}
+use Rattle.lsm_coord.specs.Contract.Installing.{AreOutputTables, Became, IsLive, Puts, install_edit_of}
+use Rattle.lsm_coord.specs.Contract.Manifest.{VersionSetValue}
+use Rattle.lsm_coord.specs.Contract.Memory.{IsCoord}
+use Rattle.lsm_coord.specs.Contract.Value.{CoordValue}
 use Rattle.lsm_coord.proofs.Editing.{recorded_of, records_inside, records_recorded}
 use Rattle.lsm_coord.proofs.Lists.{any_here}
 use Rattle.lsm_coord.proofs.Outputs.{tables_each}
@@ -53,7 +53,7 @@ module _ {X : Type 0} (test : X → Bool) where
 
 -- the job of a name
 pub live_is : (c : CoordValue) (id : JobId) (live : LiveJob) → IsLive c id live → IsIn live c.book.live × (live.id ≡ id)
-live_is c id live h = let r = found_some (λ j. same_id j.id id) c.book.live live h in (r.0, same_name live.id id r.1)
+live_is c id live h = let r = found_some (λ j. same_job_id j.id id) c.book.live live h in (r.0, same_name live.id id r.1)
 
 -- ---- what becomes of a claim
 
@@ -67,7 +67,7 @@ pub became_done : (old : CoordValue) (claim live : LiveJob) (made : JobResult) (
     → Puts (record { served = old.served; edits = old.edits }) live made number files new → Became old claim made (became.Done number files) (record old { served = new.served; edits = new.edits; book = after_settling old.book claim.id ending.Installed })
 became_done old claim live made number files new h p =
     let named = (live_is old claim.id live h).1 in
-    let e = edit_of old.served.version live.want p.tables in (
+    let e = install_edit_of old.served.version live.want p.tables in (
       live,
       h,
       p.named ∙ named,
@@ -87,8 +87,8 @@ became_done old claim live made number files new h p =
 -- ---- what an install keeps
 
 -- outputs of a live job make an install
-pub installs_of : (s : ServedValue) (want : Want) (texts : List (List ℕ)) (text : List ℕ) (ts : List Opened) → IsLegal s.version.files want → AreOutputs want.hull texts ts
-    → IsSpelled text (edit_of s.version want ts) → apply_fault s.version (edit_of s.version want ts) ≡ None → Installs s want (edit_of s.version want ts) ts
+pub installs_of : (s : ServedValue) (want : Want) (texts : List (List ℕ)) (text : List ℕ) (ts : List Opened) → IsLegal s.version.files want → AreOutputTables want.hull texts ts
+    → IsSpelled text (install_edit_of s.version want ts) → apply_fault s.version (install_edit_of s.version want ts) ≡ None → Installs s want (install_edit_of s.version want ts) ts
 installs_of s want texts text ts legal outputs spelled applies = record {
   sound = spelled.sound;
   applies = applies;
@@ -106,27 +106,27 @@ settled_by b id j false e h m = absurd cc
 pub stays_apart : (b : BookValue) (id : JobId) (live j : LiveJob) → IsBook b → holds b id ≡ true → IsIn live b.live → live.id ≡ id → IsIn j (after_settling b id ending.Installed).live → conflicts live.want j.want ≡ false
 stays_apart b id live j is held here named m =
     let there = settled_by b id j (holds b id) refl held m in
-    let other = IsIn-filter (λ k. not (same_id k.id id)) j b.live there in
+    let other = IsIn-filter (λ k. not (same_job_id k.id id)) j b.live there in
     false_from_ne_true (conflicts live.want j.want) (λ h.
     let one : live ≡ j = is.apart live j here other.0 h in
     true≢false (sym other.1 ∙ ap not (same_self j.id id (ap (λ (k : LiveJob). k.id) (sym one) ∙ named))))
   where
-    same_self : (a c : JobId) → a ≡ c → same_id a c ≡ true
-    same_self a c e = subst (λ (x : JobId). same_id a x ≡ true) e (rw (eq-eqb a.epoch a.epoch refl) (eq-eqb a.number a.number refl))
+    same_self : (a c : JobId) → a ≡ c → same_job_id a c ≡ true
+    same_self a c e = subst (λ (x : JobId). same_job_id a x ≡ true) e (rw (eq-eqb a.epoch a.epoch refl) (eq-eqb a.number a.number refl))
 
-pub held_by : (b : BookValue) (live : LiveJob) (id : JobId) → find (λ j. same_id j.id id) b.live ≡ Some live → holds b id ≡ true
-held_by b live id h = let r = found_some (λ j. same_id j.id id) b.live live h in passes (λ j. same_id j.id id) b.live live r.0 r.1
+pub held_by : (b : BookValue) (live : LiveJob) (id : JobId) → find (λ j. same_job_id j.id id) b.live ≡ Some live → holds b id ≡ true
+held_by b live id h = let r = found_some (λ j. same_job_id j.id id) b.live live h in passes (λ j. same_job_id j.id id) b.live live r.0 r.1
   where
     passes : (test : LiveJob → Bool) (js : List LiveJob) (j : LiveJob) → IsIn j js → test j ≡ true → list_any test js ≡ true
     passes test js j m e = any_here test j js m e
 
 pub after_install : (active : List Entry) (frozen : Option Frozen) (last : ℕ) (old new : VersionSetValue) (book : BookValue) (id : JobId) (live : LiveJob) (made : JobResult) (number : ℕ) (files : List ℕ) (snapshots : List Snapshot)
-    → IsCoord active frozen last old.served book snapshots → IsBook book → IsServed old.served → IsVersion old.served.version → find (λ j. same_id j.id id) book.live ≡ Some live → Puts old live made number files new
+    → IsCoord active frozen last old.served book snapshots → IsBook book → IsServed old.served → IsVersion old.served.version → find (λ j. same_job_id j.id id) book.live ≡ Some live → Puts old live made number files new
     → IsCoord active frozen last new.served (after_settling book id ending.Installed) snapshots
 after_install active frozen last old new book id live made number files snapshots is book_is served_is version_is h p =
     let served = old.served in
-    let e = edit_of served.version live.want p.tables in
-    let r = found_some (λ j. same_id j.id id) book.live live h in
+    let e = install_edit_of served.version live.want p.tables in
+    let r = found_some (λ j. same_job_id j.id id) book.live live h in
     let installs = installs_of served live.want made.tables (spelling e) p.tables (is.legal live r.0) p.outputs (record { sound = p.valid; spelled = refl }) p.applies in
     subst (λ (v : VersionSetValue). IsCoord active frozen last v.served (after_settling book id ending.Installed) snapshots) (sym p.new_is) (record {
       recent = is.recent;

@@ -15,12 +15,12 @@ use Rattle.lsm_claim.specs.declared.error.ClaimError.{ClaimError}
 use Rattle.lsm_claim.specs.declared.hull.Hull.{Hull}
 use Rattle.lsm_claim.specs.declared.job.LiveJob.{LiveJob}
 use Rattle.lsm_claim.specs.declared.job.Want.{Want}
-use Rattle.lsm_claim.specs.Book.{BookValue, claimed, next_job}
-use Rattle.lsm_claim.specs.Conflicts.{is_within}
+use Rattle.lsm_claim.specs.Book.{BookValue, after_claim, next_job}
+use Rattle.lsm_claim.specs.Conflicts.{in_closed_range}
 use Rattle.lsm_edit.specs.declared.file.FileMeta.{FileMeta}
 use Rattle.lsm_edit.specs.declared.served.Placed.{Placed}
 use Rattle.lsm_edit.specs.Served.{IsServed, ServedValue, is_covered}
-use Rattle.lsm_edit.specs.Version.{VersionValue, IsVersion, NumbersRise}
+use Rattle.lsm_edit.specs.Version.{VersionValue, IsVersion, FileNumbersRise}
 use Rattle.lsm_edit.proofs.Search.{key_covered}
 use Rattle.lsm_msg.specs.declared.job.JobParts.{JobParts}
 use Rattle.lsm_msg.specs.declared.job.KeyRange.{KeyRange}
@@ -33,10 +33,10 @@ use Rattle.lsm_pick.specs.declared.limit.TheConstants.{MAX_INPUT_BYTES}
 use Rattle.lsm_pick.specs.Rule.{inputs_of, is_deeper}
 use Rattle.lsm_coord.specs.declared.error.CoordError.TheVariants.{OutOfMemory}
 use Rattle.lsm_coord.specs.declared.snapshot.Snapshot.{Snapshot}
-use Rattle.lsm_coord.specs.Value.{CoordValue}
-use Rattle.lsm_coord.specs.Memory.{AreLegal, AreOrderly, IsOrderly}
-use Rattle.lsm_coord.specs.Sound.{IsSound, KeepsSound}
-use Rattle.lsm_coord.specs.Picking.{IsJobFor, IsPicked, MayClaim, PickRefuses, deeper_files, deeper_levels, range_of, touches_at}
+use Rattle.lsm_coord.specs.Contract.Value.{CoordValue}
+use Rattle.lsm_coord.specs.Contract.Memory.{AreLegal, AreJobWants, IsJobWant}
+use Rattle.lsm_coord.specs.Contract.Sound.{IsSound, KeepsSound}
+use Rattle.lsm_coord.specs.Contract.Picking.{IsJobFor, IsPicked, MayClaim, PickRefuses, deeper_files, deeper_levels, range_of, touches_at}
 use Rattle.lsm_coord.proofs.Keys.{upto_trans}
 use Rattle.lsm_coord.proofs.Lists.{any_found, any_here, IsIn-kept}
 
@@ -68,7 +68,7 @@ in_range a (suc n) x low high = elim (cases_eq a x) [
 
 -- ---- its inputs
 
-rising_pairs : (files : List FileMeta) → NumbersRise files → AllPairs (λ f g. f.number < g.number) files
+rising_pairs : (files : List FileMeta) → FileNumbersRise files → AllPairs (λ f g. f.number < g.number) files
 rising_pairs [] up = λ i j d lt within. absurd (omega arith)
 rising_pairs (f ∷ files) up = AllPairs-cons (λ x y. x.number < y.number) f files (all_from (λ (g : FileMeta). f.number < g.number) files up.0) (rising_pairs files up.1)
 
@@ -187,7 +187,7 @@ deeper_known served want job is version legal level inputs deeper p q mp mq inpu
       let kept : IsIn q.meta (filter (touches_at hull q.meta.level) files) = IsIn-kept (touches_at hull q.meta.level) q.meta files listed (and_from (nat_eq q.meta.level q.meta.level) (touches hull q.meta) (eq-eqb q.meta.level q.meta.level refl) met) in
       let among : IsIn q.meta (deeper_files files want) = in_flat (λ l. filter (touches_at hull l) files) q.meta.level q.meta (deeper_levels want) (in_range (want.level + 2) (MAX_JOB_LEVEL - want.level) q.meta.level (omega arith) (omega arith)) kept in
       let found : is_in_ranges job.deeper key ≡ true = subst (λ (rs : List KeyRange). is_in_ranges rs key ≡ true) (sym deeper)
-      (any_here (λ r. is_within r.lo r.hi key) (range_of q.meta) (map range_of (deeper_files files want)) (IsIn-map range_of q.meta (deeper_files files want) among) covered_q) in
+      (any_here (λ r. in_closed_range r.lo r.hi key) (range_of q.meta) (map range_of (deeper_files files want)) (IsIn-map range_of q.meta (deeper_files files want) among) covered_q) in
       absurd (let bad : true ≡ false = sym found ∙ clear in cc)
 ]
 
@@ -212,7 +212,7 @@ picked_sound old new claim job is version picked =
     })
 
 -- a claim leaves the others
-pub claim_keeps : (c : CoordValue) (want : Want) → KeepsSound c (record c { book = claimed c.book want })
+pub claim_keeps : (c : CoordValue) (want : Want) → KeepsSound c (record c { book = after_claim c.book want })
 claim_keeps c want job sound held =
     let claimed_before = sound.claimed in
     record {
@@ -226,20 +226,20 @@ claim_keeps c want job sound held =
       deeper = sound.deeper;
     }
 
-pub legal_claimed : (files : List FileMeta) (b : BookValue) (want : Want) → AreLegal files b.live → IsLegal files want → AreLegal files (claimed b want).live
+pub legal_claimed : (files : List FileMeta) (b : BookValue) (want : Want) → AreLegal files b.live → IsLegal files want → AreLegal files (after_claim b want).live
 legal_claimed files b want all legal j m = elim (IsIn-append_cases j b.live (next_job b want ∷ []) m) [
   | inl old ↦ all j old
   | inr one ↦ subst (λ (x : LiveJob). IsLegal files x.want) (sym (IsIn-one j (next_job b want) one)) legal
 ]
 
-pub orderly_claimed : (b : BookValue) (want : Want) → AreOrderly b.live → IsOrderly want → AreOrderly (claimed b want).live
+pub orderly_claimed : (b : BookValue) (want : Want) → AreJobWants b.live → IsJobWant want → AreJobWants (after_claim b want).live
 orderly_claimed b want all one j m = elim (IsIn-append_cases j b.live (next_job b want ∷ []) m) [
   | inl old ↦ all j old
-  | inr new ↦ subst (λ (x : LiveJob). IsOrderly x.want) (sym (IsIn-one j (next_job b want) new)) one
+  | inr new ↦ subst (λ (x : LiveJob). IsJobWant x.want) (sym (IsIn-one j (next_job b want) new)) one
 ]
 
 -- a claim is in the book, or was refused and left it
-pub claimed_or_not : (r : Result LiveJob ClaimError) (old new : BookValue) (want : Want) → IfOk r (λ claim. new ≡ claimed old want) → OnErr r (new ≡ old) → (new ≡ claimed old want) ⊎ (new ≡ old)
+pub claimed_or_not : (r : Result LiveJob ClaimError) (old new : BookValue) (want : Want) → IfOk r (λ claim. new ≡ after_claim old want) → OnErr r (new ≡ old) → (new ≡ after_claim old want) ⊎ (new ≡ old)
 claimed_or_not (Ok claim) old new want ok err = inl ok
 claimed_or_not (Err e) old new want ok err = inr err
 

@@ -9,7 +9,7 @@ use Rattle.std.proofs.lemmas.Cmp.{nat_list_cmp_total}
 use Rattle.lsm_key.specs.Order.{key_le, key_lt}
 use Rattle.lsm_key.proofs.Order.{keys_equal, is_less}
 use Rattle.lsm_key.proofs.Ranges.{not_before}
-use Rattle.lsm_coord.specs.Range.{IsBelow, IsWithin}
+use Rattle.lsm_coord.specs.Model.Range.{IsBelow, InHalfOpenRange}
 
 not_both : (o p : Ordering) → o ≡ ordering_reverse p → is_lt o ≡ true → is_lt p ≡ true → ⊥
 not_both Less Less e a b = absurd cc
@@ -105,11 +105,11 @@ upto_on a b h = by (slice_cmp nat_cmp a b) h
 
 -- ---- ranges
 
-pub within_parts : (lo hi key : List ℕ) → IsWithin lo hi key → (key_le lo key ≡ true) × IsBelow key hi
+pub within_parts : (lo hi key : List ℕ) → InHalfOpenRange lo hi key → (key_le lo key ≡ true) × IsBelow key hi
 within_parts lo hi key w = and_parts (key_le lo key) (key_lt key hi) w
 
-pub within_from : (lo hi key : List ℕ) → key_le lo key ≡ true → IsBelow key hi → IsWithin lo hi key
+pub within_from : (lo hi key : List ℕ) → key_le lo key ≡ true → IsBelow key hi → InHalfOpenRange lo hi key
 within_from lo hi key a b = λ i. a i && b i
 
-pub none_within : (lo hi key : List ℕ) → key_le hi lo ≡ true → IsWithin lo hi key → ⊥
+pub none_within : (lo hi key : List ℕ) → key_le hi lo ≡ true → InHalfOpenRange lo hi key → ⊥
 none_within lo hi key back w = let p = within_parts lo hi key w in not_below_upto lo key p.0 (below_upto key hi lo p.1 back)

@@ -13,8 +13,8 @@ use Rattle.lsm_edit.specs.Served.{ServedValue}
 use Rattle.lsm_coord.specs.declared.error.CoordError.TheVariants.{FrozenWaiting, NothingToFreeze, NothingToFlush, NumbersExhausted}
 use Rattle.lsm_coord.specs.declared.frozen.Frozen.{Frozen}
 use Rattle.lsm_coord.specs.declared.snapshot.Snapshot.{Snapshot}
-use Rattle.lsm_coord.specs.Memory.{IsCoord, AreLegal}
-use Rattle.lsm_coord.specs.Calls.{taken_of, active_after}
+use Rattle.lsm_coord.specs.Contract.Memory.{IsCoord, AreLegal}
+use Rattle.lsm_coord.specs.Contract.Calls.{flush_source_of, active_after}
 
 -- the next sequence is above those of the active memtable
 pub last_below : (active : List Entry) (frozen : Option Frozen) (last : ℕ) (served : ServedValue) (book : BookValue) (snapshots : List Snapshot) → IsCoord active frozen last served book snapshots → last_sequence active < last + 1
@@ -60,13 +60,13 @@ after_freeze active last served book snapshots is some = record {
 
 -- the memtable that a flush takes has an entry, and its end is above the flushed sequence
 pub taken_newer : (active : List Entry) (frozen : Option Frozen) (last : ℕ) (served : ServedValue) (book : BookValue) (snapshots : List Snapshot) → IsCoord active frozen last served book snapshots → (is_none frozen && eqb (length active) 0) ≡ false
-    → (served.version.flushed < (taken_of active last frozen).end) × (0 < length (taken_of active last frozen).memtable)
+    → (served.version.flushed < (flush_source_of active last frozen).end) × (0 < length (flush_source_of active last frozen).memtable)
 taken_newer [] None last served book snapshots is some = absurd cc
 taken_newer (e ∷ active) None last served book snapshots is some = (some_newer (e ∷ active) last served book snapshots is (omega arith), omega arith)
 taken_newer active (Some f) last served book snapshots is some = is.waiting f refl
 
 -- after a flush
-pub after_flush : (active : List Entry) (frozen : Option Frozen) (last : ℕ) (served next : ServedValue) (book : BookValue) (snapshots : List Snapshot) → IsCoord active frozen last served book snapshots → next.version.flushed ≡ (taken_of active last frozen).end → next.version.epoch ≡ served.version.epoch
+pub after_flush : (active : List Entry) (frozen : Option Frozen) (last : ℕ) (served next : ServedValue) (book : BookValue) (snapshots : List Snapshot) → IsCoord active frozen last served book snapshots → next.version.flushed ≡ (flush_source_of active last frozen).end → next.version.epoch ≡ served.version.epoch
     → AreLegal next.version.files book.live → IsCoord (active_after active frozen) None last next book snapshots
 after_flush active None last served next book snapshots is flushed epoch legal =
     let opened = is.opened in

@@ -5,15 +5,15 @@ use Rattle.lsm_key.specs.declared.limits.Limits.{Limits}
 use Rattle.lsm_claim.specs.Book.{BookValue}
 use Rattle.lsm_edit.specs.Edit.{IsSpelled}
 use Rattle.lsm_edit.specs.Next.{epoch_edit}
-use Rattle.lsm_edit.specs.Version.{first_version, apply_fault, applied}
+use Rattle.lsm_edit.specs.Version.{first_version, apply_fault, after_apply}
 use Rattle.lsm_edit.specs.Served.{ServedValue}
-use Rattle.lsm_coord.specs.State.{first_state}
-use Rattle.lsm_coord.specs.Shows.{Shows}
+use Rattle.lsm_coord.specs.Model.State.{first_state}
+use Rattle.lsm_coord.specs.Contract.Shows.{Shows}
 use Rattle.lsm_coord.proofs.Manifests.{Folds-none, Folds-push, listed-push}
 
 -- the version after the first edit, which has no tables
 abbrev pub opened : ServedValue
-opened = record { version = applied first_version (epoch_edit first_version); places = [] }
+opened = record { version = after_apply first_version (epoch_edit first_version); places = [] }
 
 pub Shows-new : (limits : Limits) (book : BookValue) (text : List ℕ) → IsSpelled text (epoch_edit first_version) → apply_fault first_version (epoch_edit first_version) ≡ None
     → Shows (record { limits = limits; active = []; frozen = None; served = opened; edits = text ∷ []; last = 0; snapshots = []; made = 0; floor = 1; book = book }) first_state

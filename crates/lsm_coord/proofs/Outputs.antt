@@ -9,12 +9,12 @@ use Rattle.lsm_key.proofs.Sets.{IsIn-append_cases, IsIn-append_right}
 use Rattle.lsm_claim.specs.declared.hull.Hull.{Hull}
 use Rattle.lsm_table.specs.Tables.{IsTable, Opened, largest_key, smallest_key}
 use Rattle.lsm_table.proofs.Contents.{table_ends, table_one}
-use Rattle.lsm_coord.specs.Installing.{AreAscending, AreOutputs, AreTables, StandsBefore, comes_next, is_inside}
+use Rattle.lsm_coord.specs.Contract.Installing.{AreAscending, AreOutputTables, DecodeTo, IsTableBefore, comes_next, is_table_inside}
 use Rattle.lsm_coord.proofs.Keys.{below_trans, below_upto}
 
 -- ---- the tables of texts
 
-pub tables_one : (texts : List (List ℕ)) (ts us : List Opened) → AreTables texts ts → AreTables texts us → ts ≡ us
+pub tables_one : (texts : List (List ℕ)) (ts us : List Opened) → DecodeTo texts ts → DecodeTo texts us → ts ≡ us
 tables_one [] [] [] h k = refl
 tables_one [] [] (u ∷ us) h k = absurd k
 tables_one [] (t ∷ ts) us h k = absurd h
@@ -27,14 +27,14 @@ tables_one (x ∷ texts) (t ∷ ts) (u ∷ us) h k =
     let rest : ts ≡ us = tables_one texts ts us h.2 k.2 in
     λ i. first i ∷ rest i
 
-pub tables_push : (texts : List (List ℕ)) (ts : List Opened) (text : List ℕ) (t : Opened) → AreTables texts ts → t.bytes ≡ text → IsTable text t.entries → AreTables (texts ++ text ∷ []) (ts ++ t ∷ [])
+pub tables_push : (texts : List (List ℕ)) (ts : List Opened) (text : List ℕ) (t : Opened) → DecodeTo texts ts → t.bytes ≡ text → IsTable text t.entries → DecodeTo (texts ++ text ∷ []) (ts ++ t ∷ [])
 tables_push [] [] text t h e is = (e, is, tt)
 tables_push [] (u ∷ ts) text t h e is = absurd h
 tables_push (x ∷ texts) [] text t h e is = absurd h
 tables_push (x ∷ texts) (u ∷ ts) text t h e is = (h.0, h.1, tables_push texts ts text t h.2 e is)
 
 -- each is a table
-pub tables_each : (texts : List (List ℕ)) (ts : List Opened) → AreTables texts ts → (t : Opened) → IsIn t ts → IsTable t.bytes t.entries
+pub tables_each : (texts : List (List ℕ)) (ts : List Opened) → DecodeTo texts ts → (t : Opened) → IsIn t ts → IsTable t.bytes t.entries
 tables_each [] [] h t m = absurd m
 tables_each [] (u ∷ ts) h t m = absurd h
 tables_each (x ∷ texts) [] h t m = absurd h
@@ -43,7 +43,7 @@ tables_each (x ∷ texts) (u ∷ ts) h t m = elim m [
   | inr n ↦ tables_each texts ts h.2 t n
 ]
 
-pub tables_length : (texts : List (List ℕ)) (ts : List Opened) → AreTables texts ts → length ts ≡ length texts
+pub tables_length : (texts : List (List ℕ)) (ts : List Opened) → DecodeTo texts ts → length ts ≡ length texts
 tables_length [] [] h = refl
 tables_length [] (u ∷ ts) h = absurd h
 tables_length (x ∷ texts) [] h = absurd h
@@ -55,11 +55,11 @@ pub record Split (front : List (List ℕ)) (text : List ℕ) (ts : List Opened) 
   pub here : Opened
   pub after : List Opened
   pub parts : ts ≡ before ++ here ∷ after
-  pub front_are : AreTables front before
+  pub front_are : DecodeTo front before
   pub bytes : here.bytes ≡ text
   pub is : IsTable text here.entries
 
-pub split_at : (front back : List (List ℕ)) (text : List ℕ) (ts : List Opened) → AreTables (front ++ text ∷ back) ts → Split front text ts
+pub split_at : (front back : List (List ℕ)) (text : List ℕ) (ts : List Opened) → DecodeTo (front ++ text ∷ back) ts → Split front text ts
 split_at [] back text [] h = absurd h
 split_at [] back text (t ∷ ts) h = record { before = []; here = t; after = ts; parts = refl; front_are = tt; bytes = h.0; is = h.1 }
 split_at (x ∷ front) back text [] h = absurd h
@@ -69,19 +69,19 @@ split_at (x ∷ front) back text (t ∷ ts) h =
 
 -- ---- one after another
 
-pub ascending_cross : (xs ys : List Opened) → AreAscending (xs ++ ys) → (x y : Opened) → IsIn x xs → IsIn y ys → StandsBefore x y
+pub ascending_cross : (xs ys : List Opened) → AreAscending (xs ++ ys) → (x y : Opened) → IsIn x xs → IsIn y ys → IsTableBefore x y
 ascending_cross [] ys h x y m n = absurd m
 ascending_cross (z ∷ xs) ys h x y m n = elim m [
-  | inl e ↦ subst (λ (w : Opened). StandsBefore w y) (sym e) (h.0 y (IsIn-append_right y xs ys n))
+  | inl e ↦ subst (λ (w : Opened). IsTableBefore w y) (sym e) (h.0 y (IsIn-append_right y xs ys n))
   | inr k ↦ ascending_cross xs ys h.1 x y k n
 ]
 
-pub ascending_push : (xs : List Opened) (y : Opened) → AreAscending xs → ((x : Opened) → IsIn x xs → StandsBefore x y) → AreAscending (xs ++ y ∷ [])
+pub ascending_push : (xs : List Opened) (y : Opened) → AreAscending xs → ((x : Opened) → IsIn x xs → IsTableBefore x y) → AreAscending (xs ++ y ∷ [])
 ascending_push [] y h k = ((λ z m. absurd m), tt)
 ascending_push (x ∷ xs) y h k = (
   (λ z m. elim (IsIn-append_cases z xs (y ∷ []) m) [
     | inl a ↦ h.0 z a
-    | inr b ↦ elim b [ inl e ↦ subst (StandsBefore x) (sym e) (k x (inl refl)) | inr none ↦ absurd none ]
+    | inr b ↦ elim b [ inl e ↦ subst (IsTableBefore x) (sym e) (k x (inl refl)) | inr none ↦ absurd none ]
   ]),
   ascending_push xs y h.1 (λ z m. k z (inr m)),
 )
@@ -95,25 +95,25 @@ last_in (x ∷ xs) zero l h = inl (some_same x l h)
 last_in (x ∷ xs) (suc n) l h = inr (last_in xs n l h)
 
 -- a member is the last one, or stands before it
-last_or : (xs : List Opened) (l : Opened) → AreAscending xs → slice_get xs (length xs - 1) ≡ Some l → (x : Opened) → IsIn x xs → (x ≡ l) ⊎ StandsBefore x l
+last_or : (xs : List Opened) (l : Opened) → AreAscending xs → slice_get xs (length xs - 1) ≡ Some l → (x : Opened) → IsIn x xs → (x ≡ l) ⊎ IsTableBefore x l
 last_or [] l h e x m = absurd m
 last_or (y ∷ []) l h e x m = elim m [ inl q ↦ inl (q ∙ ap (λ (o : Option Opened). unwrap_or o y) e) | inr none ↦ absurd none ]
 last_or (y ∷ z ∷ xs) l h e x m =
     let place : length (y ∷ z ∷ xs) - 1 ≡ suc (length (z ∷ xs) - 1) = omega arith in
     let there : slice_get (z ∷ xs) (length (z ∷ xs) - 1) ≡ Some l = ap (slice_get (y ∷ z ∷ xs)) (sym place) ∙ e in
     elim m [
-      | inl q ↦ inr (subst (λ (w : Opened). StandsBefore w l) (sym q) (h.0 l (last_in (z ∷ xs) (length (z ∷ xs) - 1) l there)))
+      | inl q ↦ inr (subst (λ (w : Opened). IsTableBefore w l) (sym q) (h.0 l (last_in (z ∷ xs) (length (z ∷ xs) - 1) l there)))
       | inr n ↦ last_or (z ∷ xs) l h.1 there x n
     ]
 
 -- ---- the next output
 
-inside_of : (hull : Hull) (last : Option Opened) (t : Opened) → comes_next hull last t ≡ true → is_inside hull t ≡ true
+inside_of : (hull : Hull) (last : Option Opened) (t : Opened) → comes_next hull last t ≡ true → is_table_inside hull t ≡ true
 inside_of hull None t h = h
-inside_of hull (Some l) t h = (and_parts (is_inside hull t) (key_lt (largest_key l.entries) (smallest_key t.entries)) h).0
+inside_of hull (Some l) t h = (and_parts (is_table_inside hull t) (key_lt (largest_key l.entries) (smallest_key t.entries)) h).0
 
 pub after_all : (hull : Hull) (ts : List Opened) (t : Opened) (last : Option Opened) → slice_get ts (length ts - 1) ≡ last → ((u : Opened) → IsIn u ts → IsTable u.bytes u.entries) → AreAscending ts → comes_next hull last t ≡ true
-    → (is_inside hull t ≡ true) × ((u : Opened) → IsIn u ts → StandsBefore u t)
+    → (is_table_inside hull t ≡ true) × ((u : Opened) → IsIn u ts → IsTableBefore u t)
 after_all hull [] t last e each pairs next = (inside_of hull last t next, λ u m. absurd m)
 after_all hull (v ∷ vs) t None e each pairs next = absurd (some_there (v ∷ vs) (length (v ∷ vs) - 1) (omega arith) e)
   where
@@ -122,10 +122,10 @@ after_all hull (v ∷ vs) t None e each pairs next = absurd (some_there (v ∷ v
     some_there (x ∷ xs) zero lt h = absurd cc
     some_there (x ∷ xs) (suc n) lt h = some_there xs n (omega (arith, lt)) h
 after_all hull (v ∷ vs) t (Some l) e each pairs next =
-    let parts = and_parts (is_inside hull t) (key_lt (largest_key l.entries) (smallest_key t.entries)) next in (
+    let parts = and_parts (is_table_inside hull t) (key_lt (largest_key l.entries) (smallest_key t.entries)) next in (
       parts.0,
       λ u m. elim (last_or (v ∷ vs) l pairs e u m) [
-        | inl same ↦ subst (λ (w : Opened). StandsBefore w t) (sym same) parts.1
+        | inl same ↦ subst (λ (w : Opened). IsTableBefore w t) (sym same) parts.1
         | inr before ↦
             let own = each l (last_in (v ∷ vs) (length (v ∷ vs) - 1) l e) in
             below_trans (largest_key u.entries) (largest_key l.entries) (smallest_key t.entries) (below_upto (largest_key u.entries) (smallest_key l.entries) (largest_key l.entries) before (ap not (table_ends l.bytes l.entries own))) parts.1
@@ -133,18 +133,18 @@ after_all hull (v ∷ vs) t (Some l) e each pairs next =
     )
 
 -- of outputs each comes next
-pub next_of : (hull : Hull) (texts : List (List ℕ)) (ts us vs : List Opened) (t : Opened) → AreOutputs hull texts ts → ts ≡ us ++ t ∷ vs → (last : Option Opened) → slice_get us (length us - 1) ≡ last → comes_next hull last t ≡ true
+pub next_of : (hull : Hull) (texts : List (List ℕ)) (ts us vs : List Opened) (t : Opened) → AreOutputTables hull texts ts → ts ≡ us ++ t ∷ vs → (last : Option Opened) → slice_get us (length us - 1) ≡ last → comes_next hull last t ≡ true
 next_of hull texts ts us vs t is parts None e = is.inside t (subst (IsIn t) (sym parts) (IsIn-append_right t us (t ∷ vs) (inl refl)))
 next_of hull texts ts us vs t is parts (Some l) e =
-    and_from (is_inside hull t) (key_lt (largest_key l.entries) (smallest_key t.entries))
+    and_from (is_table_inside hull t) (key_lt (largest_key l.entries) (smallest_key t.entries))
     (is.inside t (subst (IsIn t) (sym parts) (IsIn-append_right t us (t ∷ vs) (inl refl))))
     (ascending_cross us (t ∷ vs) (subst AreAscending parts is.ascending) l t (last_in us (length us - 1) l e) (inl refl))
 
 -- ---- what has been opened
 
 pub record AreOpened (hull : Hull) (texts : List (List ℕ)) (ts : List Opened) : Type 0 where
-  pub tables : AreTables texts ts
-  pub inside : (t : Opened) → IsIn t ts → is_inside hull t ≡ true
+  pub tables : DecodeTo texts ts
+  pub inside : (t : Opened) → IsIn t ts → is_table_inside hull t ≡ true
   pub ascending : AreAscending ts
 
 pub opened_none : (hull : Hull) (texts : List (List ℕ)) → AreOpened hull (take 0 texts) []
@@ -161,23 +161,23 @@ module _ (hull : Hull) (texts : List (List ℕ)) (ts : List Opened) (i : ℕ) (t
   opened_more t bytes is next =
       let after = after_all hull ts t (slice_get ts (length ts - 1)) refl (tables_each (take i texts) ts so_far.tables) so_far.ascending next in
       record {
-        tables = subst (λ (xs : List (List ℕ)). AreTables xs (ts ++ t ∷ [])) (sym front_is) (tables_push (take i texts) ts text t so_far.tables bytes is);
+        tables = subst (λ (xs : List (List ℕ)). DecodeTo xs (ts ++ t ∷ [])) (sym front_is) (tables_push (take i texts) ts text t so_far.tables bytes is);
         inside = λ u m. elim (IsIn-append_cases u ts (t ∷ []) m) [
           | inl a ↦ so_far.inside u a
-          | inr b ↦ elim b [ inl e ↦ subst (λ (w : Opened). is_inside hull w ≡ true) (sym e) after.0 | inr none ↦ absurd none ]
+          | inr b ↦ elim b [ inl e ↦ subst (λ (w : Opened). is_table_inside hull w ≡ true) (sym e) after.0 | inr none ↦ absurd none ]
         ];
         ascending = ascending_push ts t so_far.ascending after.1;
       }
 
-  parted : (us : List Opened) → AreOutputs hull texts us → Split (take i texts) text us
-  parted us is = split_at (take i texts) (drop (i + 1) texts) text us (subst (λ (xs : List (List ℕ)). AreTables xs us) whole_is is.tables)
+  parted : (us : List Opened) → AreOutputTables hull texts us → Split (take i texts) text us
+  parted us is = split_at (take i texts) (drop (i + 1) texts) text us (subst (λ (xs : List (List ℕ)). DecodeTo xs us) whole_is is.tables)
 
   -- where a text is no table, there are no outputs
-  pub none_opens : ((t : Opened) → IsTable text t.entries → ⊥) → (us : List Opened) → AreOutputs hull texts us → ⊥
+  pub none_opens : ((t : Opened) → IsTable text t.entries → ⊥) → (us : List Opened) → AreOutputTables hull texts us → ⊥
   none_opens never us is = let s = parted us is in never s.here s.is
 
   -- nor where a table does not come next
-  pub none_next : (t : Opened) → t.bytes ≡ text → IsTable text t.entries → comes_next hull (slice_get ts (length ts - 1)) t ≡ false → (us : List Opened) → AreOutputs hull texts us → ⊥
+  pub none_next : (t : Opened) → t.bytes ≡ text → IsTable text t.entries → comes_next hull (slice_get ts (length ts - 1)) t ≡ false → (us : List Opened) → AreOutputTables hull texts us → ⊥
   none_next t bytes opens next us is =
       let s = parted us is in
       let same_bytes : (s.here).bytes ≡ t.bytes = s.bytes ∙ sym bytes in

@@ -16,8 +16,8 @@ use Rattle.lsm_key.proofs.Order.{keys_equal, of_one_key}
 use Rattle.lsm_key.proofs.Points.{and-false}
 use Rattle.lsm_key.proofs.Falls.{first_in_order, rest_in_order}
 use Rattle.lsm_key.proofs.Visible.{at_visible, has_key-is, has_key-at, is_seen-key}
-use Rattle.lsm_coord.specs.Range.{IsBelow}
-use Rattle.lsm_coord.specs.Scan.{is_again, pair_of, shown_pairs}
+use Rattle.lsm_coord.specs.Model.Range.{IsBelow}
+use Rattle.lsm_coord.specs.Inner.Scan.{is_again, pair_of, shown_pairs}
 use Rattle.lsm_coord.proofs.Keys.{below_irreflexive, below_trans, key_cases}
 use Rattle.lsm_coord.proofs.Ranges.{Pair, Ascends}
 
@@ -67,7 +67,7 @@ module _ (e : Entry) (es : List Entry) (p : ℕ) where
   stays_first all None found = refl
   stays_first all (Some x) found =
       let l = at_visible es e.ikey.key p x found in
-      let k : x.ikey.key ≡ e.ikey.key = is_seen-key e.ikey.key p x l.passes in
+      let k : x.ikey.key ≡ e.ikey.key = is_seen-key e.ikey.key p x l.satisfies in
       by (all x l.member) k
     where
       by : Later e x → x.ikey.key ≡ e.ikey.key → newer (Some e) (Some x) ≡ Some e
@@ -85,7 +85,7 @@ none_below : (es : List Entry) (key : List ℕ) (p : ℕ) → ((f : Entry) → I
 none_below es key p all None found = refl
 none_below es key p all (Some x) found =
     let l = at_visible es key p x found in
-    absurd (below_irreflexive key x.ikey.key (sym (is_seen-key key p x l.passes)) (all x l.member))
+    absurd (below_irreflexive key x.ikey.key (sym (is_seen-key key p x l.satisfies)) (all x l.member))
 
 -- ---- the pass
 

@@ -5,8 +5,8 @@ use Rattle.std.specs.Option.{unwrap_or}
 use Rattle.lsm_key.specs.declared.op.Op.{Op}
 use Rattle.lsm_key.specs.Sets.{IsIn}
 use Rattle.lsm_key.specs.Writes.{answer}
-use Rattle.lsm_coord.specs.Range.{IsBelow, IsWithin, IsRange}
-use Rattle.lsm_coord.specs.Laws.{ScansAreDetermined}
+use Rattle.lsm_coord.specs.Model.Range.{IsBelow, InHalfOpenRange, IsRange}
+use Rattle.lsm_coord.specs.Model.Laws.{ScansAreDetermined}
 use Rattle.lsm_coord.proofs.Keys.{below_asym, below_irreflexive, key_cases}
 
 -- ---- lists of pairs that ascend
@@ -98,12 +98,12 @@ one_first S limit (x ∷ xs) (y ∷ ys) one f g =
       ]
     ]
 
-first_of : (writes : List Op) (at : ℕ) (lo hi : List ℕ) (limit : ℕ) (pairs : List Pair) → IsRange (answer writes at) lo hi limit pairs → IsFirst (λ p. IsWithin lo hi p.0 × (answer writes at p.0 ≡ Some p.1)) limit pairs
+first_of : (writes : List Op) (at : ℕ) (lo hi : List ℕ) (limit : ℕ) (pairs : List Pair) → IsRange (answer writes at) lo hi limit pairs → IsFirst (λ p. InHalfOpenRange lo hi p.0 × (answer writes at p.0 ≡ Some p.1)) limit pairs
 first_of writes at lo hi limit pairs h = record { few = h.few; up = ascends pairs h.ascending; right = h.right; whole = λ p s. h.whole p.0 p.1 s.0 s.1 }
 
 pub scans_are_determined : ScansAreDetermined
 scans_are_determined writes at lo hi limit xs ys f g =
-    one_first (λ p. IsWithin lo hi p.0 × (answer writes at p.0 ≡ Some p.1)) limit xs ys
+    one_first (λ p. InHalfOpenRange lo hi p.0 × (answer writes at p.0 ≡ Some p.1)) limit xs ys
     (λ p q s t k.
     let e : p.1 ≡ q.1 = ap (λ (o : Option (List ℕ)). unwrap_or o p.1) (sym s.1 ∙ ap (λ (key : List ℕ). answer writes at key) k ∙ t.1) in
     ap (λ (key : List ℕ). (key, p.1)) k ∙ ap (λ (value : List ℕ). (q.0, value)) e)

@@ -10,10 +10,10 @@ use Rattle.lsm_key.specs.Places.{first_visible}
 use Rattle.lsm_key.proofs.Places.{first_visible-is}
 use Rattle.lsm_edit.specs.Served.{tables_of}
 use Rattle.lsm_coord.specs.declared.snapshot.Snapshot.{Snapshot}
-use Rattle.lsm_coord.specs.State.{State}
-use Rattle.lsm_coord.specs.Value.{CoordValue, frozen_entries, stored}
-use Rattle.lsm_coord.specs.Calls as calls
-use Rattle.lsm_coord.specs.Shows.{Shows}
+use Rattle.lsm_coord.specs.Model.State.{State}
+use Rattle.lsm_coord.specs.Contract.Value.{CoordValue, frozen_entries, stored_entries}
+use Rattle.lsm_coord.specs.Contract.Calls as calls
+use Rattle.lsm_coord.specs.Contract.Shows.{Shows}
 use Rattle.lsm_coord.proofs.Answering.{AreStored, IsPoint, reads, active_first, frozen_above}
 
 -- a point of the coordinator is one of each state that it shows
@@ -24,13 +24,13 @@ point_is c s p h (inr live) = inr (live.0, subst (λ (xs : List Snapshot). IsIn 
 pub found_right : (c : CoordValue) (p : ℕ) (key : List ℕ) → calls.IsPoint c p → (s : State) → Shows c s
     → option_and_then entry_value (first_visible (c.active ∷ frozen_entries c.frozen ∷ tables_of c.served.places) key p) ≡ answer s.writes p key
 found_right c p key point s h =
-    let stored_in : AreStored (stored c.served) s = record { old = h.tables.old; answers = h.tables.answers } in
+    let stored_in : AreStored (stored_entries c.served) s = record { old = h.tables.old; answers = h.tables.answers } in
     let frozen = frozen_entries c.frozen in
     ap (option_and_then entry_value) (first_visible-is (c.active ∷ frozen ∷ tables_of c.served.places) key p (
-      active_first c.active frozen (stored c.served) s h.memtables stored_in,
-      (frozen_above c.active frozen (stored c.served) s h.memtables stored_in, h.tables.ordered),
+      active_first c.active frozen (stored_entries c.served) s h.memtables stored_in,
+      (frozen_above c.active frozen (stored_entries c.served) s h.memtables stored_in, h.tables.ordered),
     ))
-    ∙ reads c.active frozen (stored c.served) s h.memtables stored_in p key (point_is c s p h point)
+    ∙ reads c.active frozen (stored_entries c.served) s h.memtables stored_in p key (point_is c s p h point)
 
 -- ---- where the search ends
 

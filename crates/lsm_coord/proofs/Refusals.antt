@@ -9,10 +9,10 @@ use Rattle.lsm_key.specs.declared.batch.KeyError.{KeyError}
 use Rattle.lsm_key.specs.declared.limits.TheConstants.{MAX_NUMBER, MAX_MEMTABLE_WEIGHT}
 use Rattle.lsm_key.specs.declared.seq.TheConstants.Seq as seq
 use Rattle.lsm_key.specs.Limits.{batch_fault, total_weight}
-use Rattle.lsm_coord.specs.State.{State, last_seq, current, last_flushed, active, snapshot_at}
+use Rattle.lsm_coord.specs.Model.State.{State, last_seq, current, last_flushed, active, snapshot_at}
 use Rattle.lsm_coord.specs.declared.snapshot.SnapId.{SnapId}
-use Rattle.lsm_coord.specs.Event as say
-use Rattle.lsm_coord.specs.Rules.{refusal, key_refusal}
+use Rattle.lsm_coord.specs.Model.Event as say
+use Rattle.lsm_coord.specs.Model.Rules.{refusal, key_refusal}
 use Rattle.lsm_coord.specs.declared.snapshot.TheConstants.{MAX_SNAPSHOTS}
 
 -- ---- a write

@@ -7,12 +7,12 @@ use Rattle.lsm_key.specs.declared.op.Op.{Op}
 use Rattle.lsm_key.specs.Sets.{IsIn}
 use Rattle.lsm_key.specs.Writes.{last_write, value_of, answer}
 use Rattle.lsm_key.proofs.Writes.{last_write-append}
-use Rattle.lsm_coord.specs.State.{State, Version, Place, first_state}
-use Rattle.lsm_coord.specs.Event.{Event, Reply}
-use Rattle.lsm_coord.specs.Event as say
-use Rattle.lsm_coord.specs.Step.{Step, Lists, Gives}
-use Rattle.lsm_coord.specs.Run.{Run}
-use Rattle.lsm_coord.specs.Laws.{VersionsStay, ListingsAgree, FollowersAgree, GetGivesTheWrite, FlushedRises, SparesKey}
+use Rattle.lsm_coord.specs.Model.State.{State, Version, Place, first_state}
+use Rattle.lsm_coord.specs.Model.Event.{Event, Reply}
+use Rattle.lsm_coord.specs.Model.Event as say
+use Rattle.lsm_coord.specs.Model.Step.{Step, Lists, FollowerReads}
+use Rattle.lsm_coord.specs.Model.Run.{Run}
+use Rattle.lsm_coord.specs.Model.Laws.{VersionsStay, ListingsAgree, FollowersAgree, GetGivesTheWrite, FlushedRises, SparesKey}
 use Rattle.lsm_coord.proofs.Effects.{Effect, stays, wrote, froze, flushed, installed, fell, rose, effect}
 use Rattle.lsm_coord.proofs.Versions.{IsSound, step_sound, step_versions, step_writes, run_versions, first_sound, below_tip, some}
 
@@ -62,11 +62,11 @@ listings_agree s t events replies h n a b files others x y =
 
 -- ---- reads at followers
 
-step_gives : (s : State) (e : Event) (t : State) → Effect s e t → IsSound s → (n : ℕ) (key : List ℕ) (value : Option (List ℕ)) → Gives s n key value → Gives t n key value
+step_gives : (s : State) (e : Event) (t : State) → Effect s e t → IsSound s → (n : ℕ) (key : List ℕ) (value : Option (List ℕ)) → FollowerReads s n key value → FollowerReads t n key value
 step_gives s e t x sound n key value g =
     (g.0, step_versions s e t x n g.0 g.1, g.2 ∙ sym (ap (λ (ws : List Op). option_and_then value_of (last_write ws key)) (step_writes s e t x sound n g.0 g.1)))
 
-run_gives : (s : State) (es : List Event) (rs : List Reply) (t : State) → Run s es rs t → IsSound s → (n : ℕ) (key : List ℕ) (value : Option (List ℕ)) → Gives s n key value → Gives t n key value
+run_gives : (s : State) (es : List Event) (rs : List Reply) (t : State) → Run s es rs t → IsSound s → (n : ℕ) (key : List ℕ) (value : Option (List ℕ)) → FollowerReads s n key value → FollowerReads t n key value
 run_gives s [] [] t h sound n key value g = rw h g
 run_gives s [] (r ∷ rs) t h sound n key value g = absurd h
 run_gives s (e ∷ es) [] t h sound n key value g = absurd h
@@ -74,13 +74,13 @@ run_gives s (e ∷ es) (r ∷ rs) t h sound n key value g =
     let x = effect s e r h.0 h.1 in
     run_gives h.0 es rs t h.2 (step_sound s e h.0 x sound) n key value (step_gives s e h.0 x sound n key value g)
 
-read_here : (s : State) (e : Event) (r : Reply) (t : State) (follower n : ℕ) (key : List ℕ) (value : Option (List ℕ)) → Step s e r t → e ≡ say.Read follower key → r ≡ say.ReadAt n value → Gives s n key value
+read_here : (s : State) (e : Event) (r : Reply) (t : State) (follower n : ℕ) (key : List ℕ) (value : Option (List ℕ)) → Step s e r t → e ≡ say.Read follower key → r ≡ say.ReadAt n value → FollowerReads s n key value
 read_here s e r t follower n key value h a b =
     let one : Step s (say.Read follower key) r t = subst (λ (x : Event). Step s x r t) a h in
     let both : Step s (say.Read follower key) (say.ReadAt n value) t = subst (λ (x : Reply). Step s (say.Read follower key) x t) b one in
     both.1.1
 
-read_at_end : (s : State) (es : List Event) (rs : List Reply) (t : State) (i follower n : ℕ) (key : List ℕ) (value : Option (List ℕ)) → Run s es rs t → IsSound s → slice_get es i ≡ Some (say.Read follower key) → slice_get rs i ≡ Some (say.ReadAt n value) → Gives t n key value
+read_at_end : (s : State) (es : List Event) (rs : List Reply) (t : State) (i follower n : ℕ) (key : List ℕ) (value : Option (List ℕ)) → Run s es rs t → IsSound s → slice_get es i ≡ Some (say.Read follower key) → slice_get rs i ≡ Some (say.ReadAt n value) → FollowerReads t n key value
 read_at_end s [] rs t i follower n key value h sound a b = absurd cc
 read_at_end s (e ∷ es) [] t i follower n key value h sound a b = absurd h
 read_at_end s (e ∷ es) (r ∷ rs) t zero follower n key value h sound a b =
@@ -90,7 +90,7 @@ read_at_end s (e ∷ es) (r ∷ rs) t zero follower n key value h sound a b =
 read_at_end s (e ∷ es) (r ∷ rs) t (suc i) follower n key value h sound a b =
     read_at_end h.0 es rs t i follower n key value h.2 (step_sound s e h.0 (effect s e r h.0 h.1) sound) a b
 
-gives_one : (s : State) (n : ℕ) (key : List ℕ) (x y : Option (List ℕ)) → Gives s n key x → Gives s n key y → x ≡ y
+gives_one : (s : State) (n : ℕ) (key : List ℕ) (x y : Option (List ℕ)) → FollowerReads s n key x → FollowerReads s n key y → x ≡ y
 gives_one s n key x y g h =
     let v = some g.0 h.0 (sym g.1 ∙ h.1) in
     g.2 ∙ ap (λ (w : Version). answer s.writes w.flushed key) v ∙ sym h.2

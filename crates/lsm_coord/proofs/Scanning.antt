@@ -11,8 +11,8 @@ use Rattle.lsm_key.specs.Visible.{visible, newer, is_seen, entry_value, value_at
 use Rattle.lsm_key.proofs.Sets.{IsIn-append_cases, IsIn-append_left, IsIn-append_right, IsIn-at, SameMembers-permutation}
 use Rattle.lsm_key.proofs.Falls.{IsIn-filter}
 use Rattle.lsm_key.proofs.Visible.{visible_same, at_visible, is_seen-key}
-use Rattle.lsm_coord.specs.Range.{IsBelow, IsWithin, IsRange}
-use Rattle.lsm_coord.specs.Scan.{shown_pairs, is_hidden, pair_of}
+use Rattle.lsm_coord.specs.Model.Range.{IsBelow, InHalfOpenRange, IsRange}
+use Rattle.lsm_coord.specs.Inner.Scan.{shown_pairs, is_hidden, pair_of}
 use Rattle.lsm_coord.proofs.Keys.{below_upto, upto_trans, key_or, within_parts, within_from, none_within}
 use Rattle.lsm_coord.proofs.Ranges.{Pair, Ascends, ascends}
 use Rattle.lsm_coord.proofs.Passing.{pass_is}
@@ -78,14 +78,14 @@ module _ (value_of : List ℕ → Option (List ℕ)) where
   -- the whole of the next window
   pub record IsWindow (from to : List ℕ) (pairs : List Pair) : Type 0 where
     pub up : Ascends pairs
-    pub right : (p : Pair) → IsIn p pairs → IsWithin from to p.0 × (value_of p.0 ≡ Some p.1)
-    pub whole : (key value : List ℕ) → IsWithin from to key → value_of key ≡ Some value → IsIn (key, value) pairs
+    pub right : (p : Pair) → IsIn p pairs → InHalfOpenRange from to p.0 × (value_of p.0 ≡ Some p.1)
+    pub whole : (key value : List ℕ) → InHalfOpenRange from to key → value_of key ≡ Some value → IsIn (key, value) pairs
 
   module _ (lo from to : List ℕ) (limit : ℕ) (old more : List Pair) (start : key_le lo from ≡ true) (on : key_le from to ≡ true) (r : IsRange value_of lo from limit old) (w : IsWindow from to more) where
     joined : Ascends (old ++ more)
     joined = ascends-append old more (ascends old r.ascending) w.up (λ x y i j. below_upto x.0 from y.0 (within_parts lo from x.0 (r.right x i).0).1 (within_parts from to y.0 (w.right y j).0).0)
 
-    right_of : (p : Pair) → IsIn p (old ++ more) → IsWithin lo to p.0 × (value_of p.0 ≡ Some p.1)
+    right_of : (p : Pair) → IsIn p (old ++ more) → InHalfOpenRange lo to p.0 × (value_of p.0 ≡ Some p.1)
     right_of p m = elim (IsIn-append_cases p old more m) [
       | inl i ↦ let q = r.right p i in let v = within_parts lo from p.0 q.0 in (within_from lo to p.0 v.0 (below_upto p.0 from to v.1 on), q.1)
       | inr j ↦ let q = w.right p j in let v = within_parts from to p.0 q.0 in (within_from lo to p.0 (upto_trans lo from p.0 start v.0) v.1, q.1)
@@ -129,7 +129,7 @@ unique-filter : (test : Entry → Bool) (es : List Entry) → IsUnique es → Is
 unique-filter test es u e f me mf keys seqs = u e f (IsIn-filter test e es me).0 (IsIn-filter test f es mf).0 keys seqs
 
 -- what is between shows all of a key that is between
-visible-between : (from to key : List ℕ) (p : ℕ) → IsWithin from to key → (es : List Entry) → visible (filter (is_between from to) es) key p ≡ visible es key p
+visible-between : (from to key : List ℕ) (p : ℕ) → InHalfOpenRange from to key → (es : List Entry) → visible (filter (is_between from to) es) key p ≡ visible es key p
 visible-between from to key p w [] = refl
 visible-between from to key p w (e ∷ es) = by (is_between from to e) refl (visible-between from to key p w es)
   where
@@ -141,24 +141,24 @@ visible-between from to key p w (e ∷ es) = by (is_between from to e) refl (vis
         out false s = refl
         out true s =
             let k : e.ikey.key ≡ key = is_seen-key key p e s in
-            let yes : is_between from to e ≡ true = subst (λ (l : List ℕ). IsWithin from to l) (sym k) w in
+            let yes : is_between from to e ≡ true = subst (λ (l : List ℕ). InHalfOpenRange from to l) (sym k) w in
             let bad : false ≡ true = sym h ∙ yes in
             absurd cc
 
 module _ (all es : List Entry) (from to : List ℕ) (p : ℕ) (unique : IsUnique all) (perm : IsPermutation (filter (is_between from to) all) es) (order : IsInOrder es) where
-  value_within : (key : List ℕ) → IsWithin from to key → value_at es key p ≡ value_at all key p
+  value_within : (key : List ℕ) → InHalfOpenRange from to key → value_at es key p ≡ value_at all key p
   value_within key w =
       ap (option_and_then entry_value) (
       sym (visible_same (filter (is_between from to) all) es key p (unique-filter (is_between from to) all unique) (SameMembers-permutation (filter (is_between from to) all) es perm))
       ∙ visible-between from to key p w all)
 
   -- a key that has a value is one of the window's
-  inside : (key value : List ℕ) (o : Option Entry) → visible es key p ≡ o → option_and_then entry_value o ≡ Some value → IsWithin from to key
+  inside : (key value : List ℕ) (o : Option Entry) → visible es key p ≡ o → option_and_then entry_value o ≡ Some value → InHalfOpenRange from to key
   inside key value None found v = absurd cc
   inside key value (Some x) found v =
       let l = at_visible es key p x found in
       let m = (SameMembers-permutation (filter (is_between from to) all) es perm x).1 l.member in
-      subst (λ (k : List ℕ). IsWithin from to k) (is_seen-key key p x l.passes) (IsIn-filter (is_between from to) x all m).1
+      subst (λ (k : List ℕ). InHalfOpenRange from to k) (is_seen-key key p x l.satisfies) (IsIn-filter (is_between from to) x all m).1
 
   pub window_is : IsWindow (λ key. value_at all key p) from to (shown_pairs p None es)
   window_is =

@@ -9,13 +9,13 @@ use Rattle.lsm_key.specs.Writes.{answer}
 use Rattle.lsm_key.proofs.Sets.{IsIn-append_cases}
 use Rattle.lsm_coord.specs.declared.snapshot.SnapId.{SnapId}
 use Rattle.lsm_coord.specs.declared.snapshot.Snapshot.{Snapshot}
-use Rattle.lsm_coord.specs.State.{State, last_seq, last_flushed, same_id, snapshot_at}
-use Rattle.lsm_coord.specs.Changes.{with_snapshot, without_snapshot, next_snapshot}
-use Rattle.lsm_coord.specs.Value.{CoordValue, stored}
-use Rattle.lsm_coord.specs.Calls.{snapped, released, point_of, IsPoint}
-use Rattle.lsm_coord.specs.Shows.{Shows}
+use Rattle.lsm_coord.specs.Model.State.{State, last_seq, last_flushed, same_snapshot_id, snapshot_at}
+use Rattle.lsm_coord.specs.Model.Changes.{with_snapshot, without_snapshot, next_snapshot}
+use Rattle.lsm_coord.specs.Contract.Value.{CoordValue, stored_entries}
+use Rattle.lsm_coord.specs.Contract.Calls.{after_snapshot, after_release, point_of, IsPoint}
+use Rattle.lsm_coord.specs.Contract.Shows.{Shows}
 
-pub Shows-snapped : (c : CoordValue) (s : State) → Shows c s → Shows (snapped c) (with_snapshot s)
+pub Shows-snapped : (c : CoordValue) (s : State) → Shows c s → Shows (after_snapshot c) (with_snapshot s)
 Shows-snapped c s h =
     let m = h.memtables in
     let flushed = m.flushed in
@@ -48,7 +48,7 @@ Shows-snapped c s h =
             | inl e ↦
                 let at : x.at ≡ last_seq s = ap (λ (y : Snapshot). y.at) e in
                 let now : last_flushed s ≡ x.at = omega (arith, at, low) in
-                subst (λ (p : ℕ). value_at (stored c.served) key p ≡ answer s.writes p key) now (h.tables.answers key)
+                subst (λ (p : ℕ). value_at (stored_entries c.served) key p ≡ answer s.writes p key) now (h.tables.answers key)
             | inr none ↦ absurd none
           ]
         ];
@@ -61,10 +61,10 @@ Shows-snapped c s h =
 
 -- ---- a release
 
-pub Shows-released : (c : CoordValue) (s : State) (id : SnapId) → Shows c s → Shows (released c id) (without_snapshot s id)
+pub Shows-released : (c : CoordValue) (s : State) (id : SnapId) → Shows c s → Shows (after_release c id) (without_snapshot s id)
 Shows-released c s id h =
     let m = h.memtables in
-    let others : Snapshot → Bool = λ live. not (same_id live.id id) in
+    let others : Snapshot → Bool = λ live. not (same_snapshot_id live.id id) in
     record {
       up = h.up;
       last = h.last;
@@ -101,7 +101,7 @@ found_either false x xs rest at h e = let r = h e in (r.0, inr r.1, r.2)
 -- it is that of a live snapshot
 pub found_live : (xs : List Snapshot) (id : SnapId) (at : ℕ) → snapshot_at xs id ≡ Some at → (x : Snapshot) × IsIn x xs × (x.at ≡ at)
 found_live [] id at e = absurd cc
-found_live (x ∷ xs) id at e = found_either (same_id x.id id) x xs (snapshot_at xs id) at (found_live xs id at) e
+found_live (x ∷ xs) id at e = found_either (same_snapshot_id x.id id) x xs (snapshot_at xs id) at (found_live xs id at) e
 
 -- a read's sequence is a point
 pub is_point : (c : CoordValue) (at : Option SnapId) (p : ℕ) → point_of c at ≡ Some p → IsPoint c p

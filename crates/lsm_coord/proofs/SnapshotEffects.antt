@@ -2,13 +2,13 @@
 use Rattle.std.proofs.Common.{◌≡◌, ◌+◌, List, [], ◌∷◌, ◌++◌, Option, None, Some, refl, sym, subst, ◌∙◌, inl, inr, Bool, true, false, not, filter, append-nil}
 use Rattle.std.specs.Bool.{if◌then◌else◌}
 use Rattle.lsm_key.specs.declared.op.Op.{Op}
-use Rattle.lsm_coord.specs.State.{State, last_seq, same_id}
+use Rattle.lsm_coord.specs.Model.State.{State, last_seq, same_snapshot_id}
 use Rattle.lsm_coord.specs.declared.snapshot.SnapId.{SnapId}
-use Rattle.lsm_coord.specs.Event.{Event, Refusal, Reply}
-use Rattle.lsm_coord.specs.Event as say
-use Rattle.lsm_coord.specs.Changes.{next_snapshot}
-use Rattle.lsm_coord.specs.Rules.{snapshot_refusal}
-use Rattle.lsm_coord.specs.Step.{Step, Leaves}
+use Rattle.lsm_coord.specs.Model.Event.{Event, Refusal, Reply}
+use Rattle.lsm_coord.specs.Model.Event as say
+use Rattle.lsm_coord.specs.Model.Changes.{next_snapshot}
+use Rattle.lsm_coord.specs.Model.Rules.{snapshot_refusal}
+use Rattle.lsm_coord.specs.Model.Step.{Step, Leaves}
 
 -- the epoch continues
 pub record Goes (s t : State) (more : List Op) : Type 0 where
@@ -19,7 +19,7 @@ pub record Goes (s t : State) (more : List Op) : Type 0 where
 pub data Effect (s t : State) : Type 0 where
   stays : (more : List Op) → Goes s t more → t.snapshots ≡ s.snapshots → t.made ≡ s.made → Effect s t
   snapped : s.up ≡ true → Goes s t [] → t.snapshots ≡ s.snapshots ++ record { id = next_snapshot s; at = last_seq s } ∷ [] → t.made ≡ s.made + 1 → Effect s t
-  released : (id : SnapId) → Goes s t [] → t.snapshots ≡ filter (λ live. not (same_id live.id id)) s.snapshots → t.made ≡ s.made → Effect s t
+  released : (id : SnapId) → Goes s t [] → t.snapshots ≡ filter (λ live. not (same_snapshot_id live.id id)) s.snapshots → t.made ≡ s.made → Effect s t
   fell : t.snapshots ≡ [] → t.up ≡ false → t.epoch ≡ s.epoch → Effect s t
   rose : t.snapshots ≡ [] → t.epoch ≡ s.epoch + 1 → Effect s t
 

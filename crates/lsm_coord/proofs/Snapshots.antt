@@ -7,15 +7,15 @@ use Rattle.std.proofs.lemmas.Bool.{eqb-true}
 use Rattle.std.proofs.lemmas.List.{take-append-le}
 use Rattle.lsm_key.specs.declared.op.Op.{Op}
 use Rattle.lsm_key.specs.Writes.{answer, last_write, value_of}
-use Rattle.lsm_coord.specs.State.{State, last_seq, same_id, snapshot_at, first_state}
+use Rattle.lsm_coord.specs.Model.State.{State, last_seq, same_snapshot_id, snapshot_at, first_state}
 use Rattle.lsm_coord.specs.declared.snapshot.SnapId.{SnapId}
 use Rattle.lsm_coord.specs.declared.snapshot.Snapshot.{Snapshot}
-use Rattle.lsm_coord.specs.Event.{Event, Reply}
-use Rattle.lsm_coord.specs.Event as say
-use Rattle.lsm_coord.specs.Changes.{next_snapshot}
-use Rattle.lsm_coord.specs.Step.{Step}
-use Rattle.lsm_coord.specs.Run.{Run}
-use Rattle.lsm_coord.specs.Laws.{SnapshotsAgree}
+use Rattle.lsm_coord.specs.Model.Event.{Event, Reply}
+use Rattle.lsm_coord.specs.Model.Event as say
+use Rattle.lsm_coord.specs.Model.Changes.{next_snapshot}
+use Rattle.lsm_coord.specs.Model.Step.{Step}
+use Rattle.lsm_coord.specs.Model.Run.{Run}
+use Rattle.lsm_coord.specs.Model.Laws.{SnapshotsAgree}
 use Rattle.lsm_coord.proofs.Versions.{some}
 use Rattle.lsm_coord.proofs.SnapshotEffects.{Effect, Goes, stays, snapped, released, fell, rose, effect}
 
@@ -34,7 +34,7 @@ both : (a b : Bool) → (a && b) ≡ true → (a ≡ true) × (b ≡ true)
 both true b h = (refl, h)
 both false b h = absurd cc
 
-id_of : (a b : SnapId) → same_id a b ≡ true → (a.epoch ≡ b.epoch) × (a.number ≡ b.number)
+id_of : (a b : SnapId) → same_snapshot_id a b ≡ true → (a.epoch ≡ b.epoch) × (a.number ≡ b.number)
 id_of a b h =
     let x = both (nat_eq a.epoch b.epoch) (nat_eq a.number b.number) h in
     (eqb-true a.epoch b.epoch x.0, eqb-true a.number b.number x.1)
@@ -44,41 +44,41 @@ pick true x y p h = inl (refl, some x p h)
 pick false x y p h = inr (refl, h)
 
 -- a live one was live before, or is the one that was added
-at_added : (ss : List Snapshot) (x : Snapshot) (id : SnapId) (p : ℕ) → snapshot_at (ss ++ x ∷ []) id ≡ Some p → snapshot_at ss id ≡ Some p ⊎ ((same_id x.id id ≡ true) × (x.at ≡ p))
-at_added [] x id p h = elim (pick (same_id x.id id) x.at None p h) [ inl a ↦ inr a | inr b ↦ absurd (none_is_some p b.1) ]
+at_added : (ss : List Snapshot) (x : Snapshot) (id : SnapId) (p : ℕ) → snapshot_at (ss ++ x ∷ []) id ≡ Some p → snapshot_at ss id ≡ Some p ⊎ ((same_snapshot_id x.id id ≡ true) × (x.at ≡ p))
+at_added [] x id p h = elim (pick (same_snapshot_id x.id id) x.at None p h) [ inl a ↦ inr a | inr b ↦ absurd (none_is_some p b.1) ]
 at_added (s ∷ ss) x id p h =
-    elim (pick (same_id s.id id) s.at (snapshot_at (ss ++ x ∷ []) id) p h) [
+    elim (pick (same_snapshot_id s.id id) s.at (snapshot_at (ss ++ x ∷ []) id) p h) [
       | inl a ↦ inl (rw a.0 (ap Some a.1))
       | inr b ↦ elim (at_added ss x id p b.1) [ inl c ↦ inl (rw b.0 c) | inr d ↦ inr d ]
     ]
 
 -- what was taken out is there no more
-gone_step : (s : Snapshot) (kept : List Snapshot) (id : SnapId) (b : Bool) → same_id s.id id ≡ b → snapshot_at kept id ≡ None → snapshot_at (if not b then s ∷ kept else kept) id ≡ None
+gone_step : (s : Snapshot) (kept : List Snapshot) (id : SnapId) (b : Bool) → same_snapshot_id s.id id ≡ b → snapshot_at kept id ≡ None → snapshot_at (if not b then s ∷ kept else kept) id ≡ None
 gone_step s kept id true e h = h
 gone_step s kept id false e h = rw e h
 
-gone : (ss : List Snapshot) (id : SnapId) → snapshot_at (filter (λ live. not (same_id live.id id)) ss) id ≡ None
+gone : (ss : List Snapshot) (id : SnapId) → snapshot_at (filter (λ live. not (same_snapshot_id live.id id)) ss) id ≡ None
 gone [] id = refl
-gone (s ∷ ss) id = gone_step s (filter (λ live. not (same_id live.id id)) ss) id (same_id s.id id) refl (gone ss id)
+gone (s ∷ ss) id = gone_step s (filter (λ live. not (same_snapshot_id live.id id)) ss) id (same_snapshot_id s.id id) refl (gone ss id)
 
 kept_or : (c : Bool) (x : ℕ) (y z : Option ℕ) (p : ℕ) → (c ≡ true → z ≡ None) → (z ≡ Some p → y ≡ Some p) → z ≡ Some p → (if c then Some x else y) ≡ Some p
 kept_or true x y z p absent old h = absurd (none_is_some p (sym (absent refl) ∙ h))
 kept_or false x y z p absent old h = old h
 
-removed_step : (s : Snapshot) (kept ss : List Snapshot) (id : SnapId) (p : ℕ) (b : Bool) → (b ≡ true → same_id s.id id ≡ true → snapshot_at kept id ≡ None) → (snapshot_at kept id ≡ Some p → snapshot_at ss id ≡ Some p) → snapshot_at (if not b then s ∷ kept else kept) id ≡ Some p → snapshot_at (s ∷ ss) id ≡ Some p
-removed_step s kept ss id p true absent old h = kept_or (same_id s.id id) s.at (snapshot_at ss id) (snapshot_at kept id) p (absent refl) old h
+removed_step : (s : Snapshot) (kept ss : List Snapshot) (id : SnapId) (p : ℕ) (b : Bool) → (b ≡ true → same_snapshot_id s.id id ≡ true → snapshot_at kept id ≡ None) → (snapshot_at kept id ≡ Some p → snapshot_at ss id ≡ Some p) → snapshot_at (if not b then s ∷ kept else kept) id ≡ Some p → snapshot_at (s ∷ ss) id ≡ Some p
+removed_step s kept ss id p true absent old h = kept_or (same_snapshot_id s.id id) s.at (snapshot_at ss id) (snapshot_at kept id) p (absent refl) old h
 removed_step s kept ss id p false absent old h =
-    elim (pick (same_id s.id id) s.at (snapshot_at kept id) p h) [
+    elim (pick (same_snapshot_id s.id id) s.at (snapshot_at kept id) p h) [
       | inl a ↦ rw a.0 (ap Some a.1)
       | inr b ↦ rw b.0 (old b.1)
     ]
 
 -- what is left was there
-at_removed : (ss : List Snapshot) (out id : SnapId) (p : ℕ) → snapshot_at (filter (λ live. not (same_id live.id out)) ss) id ≡ Some p → snapshot_at ss id ≡ Some p
+at_removed : (ss : List Snapshot) (out id : SnapId) (p : ℕ) → snapshot_at (filter (λ live. not (same_snapshot_id live.id out)) ss) id ≡ Some p → snapshot_at ss id ≡ Some p
 at_removed [] out id p h = absurd (none_is_some p h)
 at_removed (s ∷ ss) out id p h =
-    let kept = filter (λ live. not (same_id live.id out)) ss in
-    removed_step s kept ss id p (same_id s.id out)
+    let kept = filter (λ live. not (same_snapshot_id live.id out)) ss in
+    removed_step s kept ss id p (same_snapshot_id s.id out)
     (λ a b. let e = id_of s.id out a in let f = id_of s.id id b in subst (λ (i : SnapId). snapshot_at kept i ≡ None) (one_id out id (sym e.0 ∙ f.0) (sym e.1 ∙ f.1)) (gone ss out))
     (at_removed ss out id p) h
 
@@ -122,7 +122,7 @@ no_live : (ss : List Snapshot) (id : SnapId) (p : ℕ) → ss ≡ [] → snapsho
 no_live ss id p e h = none_is_some p (subst (λ (x : List Snapshot). snapshot_at x id ≡ Some p) e h)
 
 -- a live one was live before, or was made now
-was_live : (s t : State) → Effect s t → (id : SnapId) (p : ℕ) → snapshot_at t.snapshots id ≡ Some p → ((more : List Op) × Goes s t more × (snapshot_at s.snapshots id ≡ Some p)) ⊎ ((s.up ≡ true) × (same_id (next_snapshot s) id ≡ true) × (p ≡ last_seq s) × Goes s t [] × (t.made ≡ s.made + 1))
+was_live : (s t : State) → Effect s t → (id : SnapId) (p : ℕ) → snapshot_at t.snapshots id ≡ Some p → ((more : List Op) × Goes s t more × (snapshot_at s.snapshots id ≡ Some p)) ⊎ ((s.up ≡ true) × (same_snapshot_id (next_snapshot s) id ≡ true) × (p ≡ last_seq s) × Goes s t [] × (t.made ≡ s.made + 1))
 was_live s t (stays more g a b) id p h = inl (more, g, rw a at h)
 was_live s t (snapped up g a b) id p h =
     elim (at_added s.snapshots (record { id = next_snapshot s; at = last_seq s }) id p (rw a at h)) [
@@ -149,7 +149,7 @@ record Holds (s : State) (id : SnapId) (key : List ℕ) (value : Option (List �
   used : IsUsed s id
   gives : (p : ℕ) → snapshot_at s.snapshots id ≡ Some p → answer s.writes p key ≡ value
 
-not_used : (s : State) (id : SnapId) → s.up ≡ true → same_id (next_snapshot s) id ≡ true → IsUsed s id → ⊥
+not_used : (s : State) (id : SnapId) → s.up ≡ true → same_snapshot_id (next_snapshot s) id ≡ true → IsUsed s id → ⊥
 not_used s id up same (inl h) = let e = (id_of (next_snapshot s) id same).0 in omega arith
 not_used s id up same (inr (e, inl down)) = absurd (true_is_false (sym up ∙ down))
 not_used s id up same (inr (e, inr n)) = let k = (id_of (next_snapshot s) id same).1 in omega arith

@@ -14,12 +14,12 @@ use Rattle.lsm_edit.specs.Served.{tables_of}
 use Rattle.lsm_msg.proofs.Flushed.{job_flushed, knows_flushed}
 use Rattle.lsm_coord.specs.declared.snapshot.SnapId.{SnapId}
 use Rattle.lsm_coord.specs.declared.snapshot.Snapshot.{Snapshot}
-use Rattle.lsm_coord.specs.State.{State, same_id}
-use Rattle.lsm_coord.specs.Memory.{AreLegal}
-use Rattle.lsm_coord.specs.Value.{CoordValue}
-use Rattle.lsm_coord.specs.Shows.{Shows}
-use Rattle.lsm_coord.specs.Calls.{AddsTable, snapped, released, taken}
-use Rattle.lsm_coord.specs.Sound.{IsSound, KeepsSound}
+use Rattle.lsm_coord.specs.Model.State.{State, same_snapshot_id}
+use Rattle.lsm_coord.specs.Contract.Memory.{AreLegal}
+use Rattle.lsm_coord.specs.Contract.Value.{CoordValue}
+use Rattle.lsm_coord.specs.Contract.Shows.{Shows}
+use Rattle.lsm_coord.specs.Contract.Calls.{AddsTable, after_snapshot, after_release, flush_source}
+use Rattle.lsm_coord.specs.Contract.Sound.{IsSound, KeepsSound}
 
 -- a call that leaves the tables, the book and the snapshots
 pub same_keeps : (old new : CoordValue) → new.served ≡ old.served → new.book ≡ old.book → new.snapshots ≡ old.snapshots → KeepsSound old new
@@ -38,7 +38,7 @@ pub flush_keeps : (old new : CoordValue) (file : FileMeta) (table : Opened) → 
 flush_keeps old new file table is number level all adds job sound held =
     let claimed = sound.claimed in
     let want : Want = (claimed.live).want in
-    let end : ℕ = (taken old).end in
+    let end : ℕ = (flush_source old).end in
     let fresh : old.served.version.next_file ≤ file.number = omega arith in
     let legal = all claimed.live claimed.member in
     let place : Placed = record { meta = file; table = table } in
@@ -61,7 +61,7 @@ flush_keeps old new file table is number level all adds job sound held =
 -- ---- snapshots
 
 -- a snapshot of the present sees every table
-pub snapshot_keeps : (c : CoordValue) (s : State) → Shows c s → KeepsSound c (snapped c)
+pub snapshot_keeps : (c : CoordValue) (s : State) → Shows c s → KeepsSound c (after_snapshot c)
 snapshot_keeps c s h job sound held = record {
   claimed = sound.claimed;
   points = λ x live. elim (IsIn-append_cases x c.snapshots _ live) [
@@ -84,9 +84,9 @@ snapshot_keeps c s h job sound held = record {
       | inr rest ↦ IsIn-append_right e q.table.entries (all_entries (tables_of places)) (in_stored places p rest e me)
     ]
 
-pub release_keeps : (c : CoordValue) (id : SnapId) → KeepsSound c (released c id)
+pub release_keeps : (c : CoordValue) (id : SnapId) → KeepsSound c (after_release c id)
 release_keeps c id job sound held = record {
   claimed = sound.claimed;
-  points = λ x live. sound.points x (IsIn-filter (λ other. not (same_id other.id id)) x c.snapshots live).0;
+  points = λ x live. sound.points x (IsIn-filter (λ other. not (same_snapshot_id other.id id)) x c.snapshots live).0;
   deeper = sound.deeper;
 }

@@ -2,9 +2,9 @@
 use Rattle.std.proofs.Common.{◌≡◌, ℕ, ◌+◌, ◌≤◌, [], ◌∷◌, ◌++◌, ap, ◌∙◌, arith, length, get_or, length-append}
 use Rattle.std.proofs.Math.Seq.{get_or-append_seam}
 use Rattle.std.proofs.lemmas.Option.{slice_get-get_or}
-use Rattle.lsm_coord.specs.State.{State, Version, empty_version, current, current_version, current_files, last_flushed}
-use Rattle.lsm_coord.specs.Changes.{with_version, flush_end, flushed_version, after_flush, risen}
-use Rattle.lsm_coord.specs.Step.{Lists}
+use Rattle.lsm_coord.specs.Model.State.{State, Version, empty_version, current, current_version, current_files, last_flushed}
+use Rattle.lsm_coord.specs.Model.Changes.{with_version, flush_end, flushed_version, after_flush, after_restart}
+use Rattle.lsm_coord.specs.Model.Step.{Lists}
 
 -- the version that was added is the current one
 pub current-with_version : (s : State) (v : Version) (next_file : ℕ) → current (with_version s v next_file) ≡ length s.versions
@@ -17,7 +17,7 @@ current_version-with_version s v next_file =
 pub last_flushed-after_flush : (s : State) → last_flushed (after_flush s) ≡ flush_end s
 last_flushed-after_flush s = ap (λ (v : Version). v.flushed) (current_version-with_version s (flushed_version s) (s.next_file + 1))
 
-pub current_version-risen : (s : State) → current_version (risen s) ≡ current_version s
+pub current_version-risen : (s : State) → current_version (after_restart s) ≡ current_version s
 current_version-risen s = current_version-with_version s (current_version s) s.next_file
 
 -- what the coordinator lists

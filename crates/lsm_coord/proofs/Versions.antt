@@ -5,9 +5,9 @@ use Rattle.std.specs.Option.{unwrap_or}
 use Rattle.std.proofs.Math.Seq.{get_or-append_seam}
 use Rattle.std.proofs.lemmas.List.{take-append-le, take-take, length-take-le}
 use Rattle.std.proofs.lemmas.Option.{slice_get_within, slice_get-get_or}
-use Rattle.lsm_coord.specs.State.{State, Version, empty_version, first_state}
-use Rattle.lsm_coord.specs.Event.{Event, Reply}
-use Rattle.lsm_coord.specs.Run.{Run}
+use Rattle.lsm_coord.specs.Model.State.{State, Version, empty_version, first_state}
+use Rattle.lsm_coord.specs.Model.Event.{Event, Reply}
+use Rattle.lsm_coord.specs.Model.Run.{Run}
 use Rattle.lsm_coord.proofs.Effects.{Effect, stays, wrote, froze, flushed, installed, fell, rose, effect}
 
 -- ---- lists of versions

@@ -14,19 +14,19 @@ use Rattle.lsm_key.proofs.Places.{IsUnique-above}
 use Rattle.lsm_key.proofs.Writes.{entries_after-unique}
 use Rattle.lsm_edit.specs.Served.{IsServed}
 use Rattle.std.specs.Option.{unwrap_or}
-use Rattle.lsm_coord.specs.State.{State, snapshot_at}
+use Rattle.lsm_coord.specs.Model.State.{State, snapshot_at}
 use Rattle.lsm_coord.specs.declared.snapshot.SnapId.{SnapId}
 use Rattle.lsm_coord.specs.declared.snapshot.Snapshot.{Snapshot}
-use Rattle.lsm_coord.specs.Event as say
-use Rattle.lsm_coord.specs.Rules.{unless_down, read_refusal, release_refusal}
-use Rattle.lsm_coord.specs.Changes.{read_at}
-use Rattle.lsm_coord.specs.Range.{IsRange}
-use Rattle.lsm_coord.specs.Scan.{shown_pairs}
-use Rattle.lsm_coord.specs.Value.{CoordValue, frozen_entries, stored, everything}
+use Rattle.lsm_coord.specs.Model.Event as say
+use Rattle.lsm_coord.specs.Model.Rules.{unless_down, read_refusal, release_refusal}
+use Rattle.lsm_coord.specs.Model.Changes.{read_at}
+use Rattle.lsm_coord.specs.Model.Range.{IsRange}
+use Rattle.lsm_coord.specs.Inner.Scan.{shown_pairs}
+use Rattle.lsm_coord.specs.Contract.Value.{CoordValue, frozen_entries, stored_entries, everything}
 use Rattle.lsm_edit.proofs.Places.{stored_unique}
-use Rattle.lsm_coord.specs.Calls as calls
-use Rattle.lsm_coord.specs.Calls.{Scans, point_of}
-use Rattle.lsm_coord.specs.Shows.{Shows, Follows}
+use Rattle.lsm_coord.specs.Contract.Calls as calls
+use Rattle.lsm_coord.specs.Contract.Calls.{Scans, point_of}
+use Rattle.lsm_coord.specs.Contract.Shows.{Shows, Follows}
 use Rattle.lsm_coord.proofs.Ranges.{Pair}
 use Rattle.lsm_coord.proofs.Answering.{AreStored, reads, active_first, frozen_above}
 use Rattle.lsm_coord.proofs.Reading.{point_is}
@@ -38,13 +38,13 @@ unique_same : (xs ys : List Entry) → IsPermutation xs ys → IsUnique ys → I
 unique_same xs ys perm u e f me mf keys seqs = let m = SameMembers-permutation xs ys perm in u e f ((m e).0 me) ((m f).0 mf) keys seqs
 
 module _ (c : CoordValue) (s : State) (h : Shows c s) (served : IsServed c.served) where
-  stored_in : AreStored (stored c.served) s
+  stored_in : AreStored (stored_entries c.served) s
   stored_in = record { old = h.tables.old; answers = h.tables.answers }
 
   everything_unique : IsUnique (everything c)
   everything_unique =
       let m = h.memtables in
-      let tables = stored c.served in
+      let tables = stored_entries c.served in
       let frozen = frozen_entries c.frozen in
       IsUnique-above c.active (frozen ++ tables) (unique_same c.active _ m.active_is (entries_after-unique _ _))
       (IsUnique-above frozen tables (unique_same frozen _ m.frozen_is (entries_after-unique _ _)) (stored_unique c.served.places served.recorded h.tables.ordered) (frozen_above c.active frozen tables s m stored_in))
@@ -52,7 +52,7 @@ module _ (c : CoordValue) (s : State) (h : Shows c s) (served : IsServed c.serve
 
   module _ (p : ℕ) (point : calls.IsPoint c p) where
     right_value : (key : List ℕ) → value_at (everything c) key p ≡ answer s.writes p key
-    right_value key = reads c.active (frozen_entries c.frozen) (stored c.served) s h.memtables stored_in p key (point_is c s p h point)
+    right_value key = reads c.active (frozen_entries c.frozen) (stored_entries c.served) s h.memtables stored_in p key (point_is c s p h point)
 
     onward : (lo from to : List ℕ) (limit : ℕ) (old : List Pair) (es : List Entry) → IsPermutation (filter (is_between from to) (everything c)) es → IsInOrder es
         → key_le lo from ≡ true → key_le from to ≡ true → IsRange (answer s.writes p) lo from limit old → IsRange (answer s.writes p) lo to limit (take limit (old ++ shown_pairs p None es))

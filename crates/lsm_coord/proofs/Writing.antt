@@ -12,9 +12,9 @@ use Rattle.lsm_key.specs.Writes.{answer, last_write, value_of}
 use Rattle.lsm_key.specs.Places.{entries_after}
 use Rattle.lsm_key.proofs.Points.{drop-append_le}
 use Rattle.lsm_key.proofs.Writes.{entries_after-append, length-entries_after, weight-entries_after}
-use Rattle.lsm_coord.specs.State.{State, active, last_seq, last_flushed, active_start}
-use Rattle.lsm_coord.specs.Value.{CoordValue, frozen_entries}
-use Rattle.lsm_coord.specs.Shows.{Shows}
+use Rattle.lsm_coord.specs.Model.State.{State, active, last_seq, last_flushed, active_start}
+use Rattle.lsm_coord.specs.Contract.Value.{CoordValue, frozen_entries}
+use Rattle.lsm_coord.specs.Contract.Shows.{Shows}
 
 -- a later write changes no earlier answer
 answer-append : (writes ops : List Op) (p : ℕ) (key : List ℕ) → p ≤ length writes → answer (writes ++ ops) p key ≡ answer writes p key

@@ -1,21 +1,4 @@
-pub mod State
-pub mod Event
-pub mod Rules
-pub mod Range
-pub mod Changes
-pub mod Step
-pub mod Run
-pub mod Laws
-pub mod Examples
-pub mod Manifest
-pub mod Value
-pub mod Shows
-pub mod Replies
-pub mod Memory
-pub mod Calls
-pub mod Sound
-pub mod Desks
-pub mod Installing
-pub mod Picking
-pub mod Serving
-pub mod Scan
+-- The definitions of the coordinator: the model of a store, then the words of contracts.
+pub mod Model
+pub mod Contract
+pub mod Inner

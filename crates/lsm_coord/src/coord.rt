@@ -40,8 +40,8 @@ pub struct Coord {
 }
 
 impl Model for Coord {
-    ghost use Rattle.lsm_coord.specs.Value.{CoordValue};
-    ghost use Rattle.lsm_coord.specs.Memory.{IsCoord};
+    ghost use Rattle.lsm_coord.specs.Contract.Value.{CoordValue};
+    ghost use Rattle.lsm_coord.specs.Contract.Memory.{IsCoord};
 
     ghost Value = { CoordValue };
 
@@ -53,8 +53,8 @@ impl Model for Coord {
 impl Coord {
     ghost use Rattle.std.specs.Prelude.{◌≡◌, IfOk};
     ghost use Rattle.lsm_claim.specs.Book.{new_book};
-    ghost use Rattle.lsm_coord.specs.State.{first_state};
-    ghost use Rattle.lsm_coord.specs.Shows.{Shows};
+    ghost use Rattle.lsm_coord.specs.Model.State.{first_state};
+    ghost use Rattle.lsm_coord.specs.Contract.Shows.{Shows};
 
     /// A new store, at version 1 of its first epoch.
     pub fn new(alloc: Global, limits: Limits) -> Result<Coord, AllocError>

@@ -25,10 +25,10 @@ impl Model for Desk {
 impl Desk {
     ghost use Rattle.std.specs.Prelude.{◌≡◌};
     ghost use Rattle.lsm_coord.specs.declared.dispatcher.Dispatcher.TheVariants.{Idle, Busy};
-    ghost use Rattle.lsm_coord.specs.State.{State};
-    ghost use Rattle.lsm_coord.specs.Shows.{Shows};
-    ghost use Rattle.lsm_coord.specs.Sound.{KeepsSound};
-    ghost use Rattle.lsm_coord.specs.Desks.{dispatcher_of, gave_back_all, held, job_of, new_desk, with_dispatcher};
+    ghost use Rattle.lsm_coord.specs.Model.State.{State};
+    ghost use Rattle.lsm_coord.specs.Contract.Shows.{Shows};
+    ghost use Rattle.lsm_coord.specs.Contract.Sound.{KeepsSound};
+    ghost use Rattle.lsm_coord.specs.Contract.Desks.{dispatcher_of, after_giving_back_all, claims_of, job_of, new_desk, with_dispatcher};
 
     /// A desk of dispatchers that hold no claim.
     pub fn new() -> Desk
@@ -82,7 +82,7 @@ impl Desk {
 
     /// Gives each claim that is held back to the coordinator, from the first dispatcher on. Allocates nothing.
     pub fn close(self, coord: &mut Coord)
-        ensures returned { coord.new ≡ gave_back_all coord.old (held self) }
+        ensures returned { coord.new ≡ after_giving_back_all coord.old (claims_of self) }
         ensures shown { (s : State) → Shows coord.old s → Shows coord.new s }
         ensures sound { KeepsSound coord.old coord.new }
     {

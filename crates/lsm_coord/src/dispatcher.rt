@@ -19,7 +19,7 @@ pub enum Dispatcher {
 
 impl Dispatcher {
     ghost use Rattle.lsm_coord.specs.declared.dispatcher.Dispatcher.TheVariants.{Idle, Busy};
-    ghost use Rattle.lsm_coord.specs.Desks.{gave_back_all, held_by, job_of};
+    ghost use Rattle.lsm_coord.specs.Contract.Desks.{after_giving_back_all, claim_of, job_of};
 
     /// The name of the job whose claim it holds.
     pub fn id(&self) -> Option<JobId>
@@ -55,7 +55,7 @@ impl Dispatcher {
 
     // Gives back the claim that it holds.
     pub(crate) fn close(self, coord: &mut Coord)
-        ensures { coord.new ≡ gave_back_all coord.old (held_by self) }
+        ensures { coord.new ≡ after_giving_back_all coord.old (claim_of self) }
     {
         match self {
             Dispatcher::Idle => {}

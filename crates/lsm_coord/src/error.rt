@@ -87,7 +87,7 @@ impl<T: Drop> From<AllocFailed<T>> for CoordError {
 
 impl From<InstallError> for CoordError {
     ghost use Rattle.std.specs.Prelude.{◌≡◌};
-    ghost use Rattle.lsm_coord.specs.Replies.{error_of};
+    ghost use Rattle.lsm_coord.specs.Contract.Replies.{error_of};
 
     ghost from_gives = { λ why e. e ≡ error_of why };
 

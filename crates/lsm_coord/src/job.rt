@@ -4,7 +4,7 @@ ghost use Rattle.std.specs.Prelude.{◌≡◌, ◌<◌, ◌≤◌, ◌↔◌, �
 ghost use Rattle.lsm_edit.specs.declared.file.FileMeta.{FileMeta};
 ghost use Rattle.lsm_pick.specs.Rule.{inputs_of};
 ghost use Rattle.lsm_coord.specs.declared.snapshot.Snapshot.{Snapshot};
-ghost use Rattle.lsm_coord.specs.Picking.{ArePointsOf, deeper_files, range_of, touches_at};
+ghost use Rattle.lsm_coord.specs.Contract.Picking.{ArePointsOf, deeper_files, range_of, touches_at};
 
 use crate::snapshot::Snapshot;
 use lsm_claim::{Hull, Want};

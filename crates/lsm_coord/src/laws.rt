@@ -3,10 +3,10 @@
 
 ghost use Rattle.std.specs.Prelude.{◌≡◌};
 ghost use Rattle.lsm_coord.specs.declared.snapshot.TheConstants.{MAX_SNAPSHOTS};
-ghost use Rattle.lsm_coord.specs.Laws.{VersionsStay, ListingsAgree, FollowersAgree, GetGivesTheWrite, FlushedRises, ScansAreDetermined, SnapshotsAgree};
-ghost use Rattle.lsm_coord.specs.Examples.{FlushedWriteIsFound, RestartLosesWrites, LastOfABatchCounts, FrozenIsFlushedFirst, AbsentIsRefused, DownUntilRestarted, MergeKeepsAnswers, FollowerLiesBehind};
-ghost use Rattle.lsm_coord.specs.Examples.{LostWriteIsNoRun, ShortFlushIsNoRun, EmptyListingIsNoRun, KeptWriteIsNoRun, UnforcedRefusalIsNoRun, FileGivenTwiceIsNoRun, NewerValueIsNoRun};
-ghost use Rattle.lsm_coord.specs.Examples.{SecondWriteLostIsNoRun, FileForgottenIsNoRun, FlushLosesWriteIsNoRun};
+ghost use Rattle.lsm_coord.specs.Model.Laws.{VersionsStay, ListingsAgree, FollowersAgree, GetGivesTheWrite, FlushedRises, ScansAreDetermined, SnapshotsAgree};
+ghost use Rattle.lsm_coord.specs.Model.Examples.{FlushedWriteIsFound, RestartLosesWrites, LastOfABatchCounts, FrozenIsFlushedFirst, AbsentIsRefused, DownUntilRestarted, MergeKeepsAnswers, FollowerLiesBehind};
+ghost use Rattle.lsm_coord.specs.Model.Examples.{LostWriteIsNoRun, ShortFlushIsNoRun, EmptyListingIsNoRun, KeptWriteIsNoRun, UnforcedRefusalIsNoRun, FileGivenTwiceIsNoRun, NewerValueIsNoRun};
+ghost use Rattle.lsm_coord.specs.Model.Examples.{SecondWriteLostIsNoRun, FileForgottenIsNoRun, FlushLosesWriteIsNoRun};
 
 /// Along a run a version, once it is there, never changes its flushed sequence or its files.
 pub fn versions_stay()

@@ -5,7 +5,7 @@ ghost use Rattle.lsm_edit.specs.File.{IsFile};
 ghost use Rattle.lsm_edit.specs.Edit.{IsEdit};
 ghost use Rattle.lsm_edit.specs.Served.{AreAsRecorded, IsAsRecorded};
 ghost use Rattle.lsm_edit.specs.Version.{apply_fault};
-ghost use Rattle.lsm_coord.specs.Manifest.{AddsFile, CanNumber, Folds, after_logging, first_version_set};
+ghost use Rattle.lsm_coord.specs.Contract.Manifest.{AddsFile, CanNumber, Folds, after_logging, first_version_set};
 
 use bytes::Bytes;
 use lsm_edit::{Edit, FileMeta, Served, Version, encode_edit};
@@ -24,7 +24,7 @@ pub(crate) struct VersionSet {
 }
 
 impl Model for VersionSet {
-    ghost use Rattle.lsm_coord.specs.Manifest.{Folds, VersionSetValue};
+    ghost use Rattle.lsm_coord.specs.Contract.Manifest.{Folds, VersionSetValue};
 
     ghost Value = { VersionSetValue };
 

@@ -14,7 +14,7 @@ use Rattle.lsm_edit.specs.declared.served.Placed.{Placed}
 use Rattle.lsm_edit.specs.Version.{IsVersion, apply_fault}
 use Rattle.lsm_edit.proofs.VersionLaws.{fresh_added}
 use Rattle.lsm_edit.specs.Edit.{IsEdit, AreRemoved, AreAdded}
-use Rattle.lsm_edit.specs.Served.{AreAsRecorded, ServedValue, is_before, placed_of, put_in_order, put_all, places_without, advanced, IsServed}
+use Rattle.lsm_edit.specs.Served.{AreAsRecorded, ServedValue, is_before, placed_of, put_in_order, put_all, places_without, after_advance, IsServed}
 
 pub places_without-none : (ps : List Placed) → places_without [] ps ≡ ps
 places_without-none [] = refl
@@ -88,7 +88,7 @@ put_is s files tables added (newest p one level) ver is fresh =
     newest_first p.meta q.meta level (omega arith))
 
 pub places_are : (s : ServedValue) (edit : Edit) (tables : List Opened) → IsVersion s.version → IsServed s → IsEdit edit → (edit.kind ≡ Install → ⊥) → AreAsRecorded edit.added tables → apply_fault s.version edit ≡ None
-    → (advanced s edit tables).places ≡ placed_of edit.added tables ++ s.places
+    → (after_advance s edit tables).places ≡ placed_of edit.added tables ++ s.places
 places_are s edit tables ver is ok plain rec none =
     ap (λ (numbers : List ℕ). put_all (placed_of edit.added tables) (places_without numbers s.places)) (none_removed edit.kind edit.removed plain ok.removed)
     ∙ ap (λ (ps : List Placed). put_all (placed_of edit.added tables) ps) (places_without-none s.places)

@@ -11,8 +11,8 @@ use Rattle.lsm_edit.specs.declared.file.FileMeta.{FileMeta}
 use Rattle.lsm_edit.specs.declared.edit.Edit.{Edit}
 use Rattle.lsm_edit.specs.declared.served.Placed.{Placed}
 use Rattle.lsm_edit.specs.Edit.{IsEdit}
-use Rattle.lsm_edit.specs.Version.{IsVersion, NumbersRise, without, files_after, has_overlap, clashes, apply_fault, applied}
-use Rattle.lsm_edit.specs.Served.{AreAsRecorded, AreInSearchOrder, ServedValue, is_before, placed_of, put_all, places_without, advanced, IsServed}
+use Rattle.lsm_edit.specs.Version.{IsVersion, FileNumbersRise, files_without, files_after, has_overlap, clashes, apply_fault, after_apply}
+use Rattle.lsm_edit.specs.Served.{AreAsRecorded, AreInSearchOrder, ServedValue, is_before, placed_of, put_all, places_without, after_advance, IsServed}
 use Rattle.lsm_edit.proofs.VersionLaws.{stays, fresh_added, applied_is, added_rises}
 use Rattle.lsm_edit.proofs.SearchOrder.{Apart, apart}
 use Rattle.lsm_edit.proofs.Advance.{listed_below}
@@ -62,7 +62,7 @@ ordered-without numbers (p ∷ ps) up = ordered-if (stays numbers p.meta) p (pla
 
 -- ---- files of one version
 
-apart_in : (fs : List FileMeta) → NumbersRise fs → has_overlap fs ≡ false → (f g : FileMeta) → IsIn f fs → IsIn g fs → f.number < g.number → Apart f g
+apart_in : (fs : List FileMeta) → FileNumbersRise fs → has_overlap fs ≡ false → (f g : FileMeta) → IsIn f fs → IsIn g fs → f.number < g.number → Apart f g
 apart_in [] up none f g m n lt = absurd m
 apart_in (x ∷ fs) up none f g m n lt =
     let parts = or_parts (list_any (clashes x) fs) (has_overlap fs) none in
@@ -91,7 +91,7 @@ module _ (s : ServedValue) (edit : Edit) (tables : List Opened) (ver : IsVersion
   abbrev files : List FileMeta
   files = files_after s.version.files edit
 
-  after : IsVersion (applied s.version edit)
+  after : IsVersion (after_apply s.version edit)
   after = applied_is s.version edit ver ok none
 
   abbrev added : List Placed
@@ -101,12 +101,12 @@ module _ (s : ServedValue) (edit : Edit) (tables : List Opened) (ver : IsVersion
   kept = places_without edit.removed s.places
 
   added_file : (p : Placed) → IsIn p added → IsIn p.meta files
-  added_file p m = IsIn-append_right p.meta (without edit.removed s.version.files) edit.added (placed_meta edit.added tables p m)
+  added_file p m = IsIn-append_right p.meta (files_without edit.removed s.version.files) edit.added (placed_meta edit.added tables p m)
 
   kept_file : (p : Placed) → IsIn p kept → IsIn p.meta files
   kept_file p m =
       let k = IsIn-filter (λ (x : Placed). stays edit.removed x.meta) p s.places m in
-      IsIn-append_left p.meta (without edit.removed s.version.files) edit.added (keeps (stays edit.removed) p.meta s.version.files ((is.listed p.meta).0 (IsIn-map (λ (x : Placed). x.meta) p s.places k.0)) k.1)
+      IsIn-append_left p.meta (files_without edit.removed s.version.files) edit.added (keeps (stays edit.removed) p.meta s.version.files ((is.listed p.meta).0 (IsIn-map (λ (x : Placed). x.meta) p s.places k.0)) k.1)
 
   whole_file : (f : FileMeta) → IsIn f files → key_le f.smallest f.largest ≡ true
   whole_file f m = (after.files f m).ordered
@@ -123,7 +123,7 @@ module _ (s : ServedValue) (edit : Edit) (tables : List Opened) (ver : IsVersion
       subst (λ (g : FileMeta). IsIn g files) (sym p.2) (elim ((put_all-members added kept p.0).0 p.1) [ inl a ↦ added_file p.0 a | inr b ↦ kept_file p.0 b ])
 
   listed_back : (f : FileMeta) → IsIn f files → IsIn f (map (λ (p : Placed). p.meta) (put_all added kept))
-  listed_back f m = elim (IsIn-append_cases f (without edit.removed s.version.files) edit.added m) [
+  listed_back f m = elim (IsIn-append_cases f (files_without edit.removed s.version.files) edit.added m) [
     | inl a ↦
         let k = IsIn-filter (stays edit.removed) f s.version.files a in
         let p = IsIn-mapped (λ (q : Placed). q.meta) f s.places ((is.listed f).1 k.0) in
@@ -134,10 +134,10 @@ module _ (s : ServedValue) (edit : Edit) (tables : List Opened) (ver : IsVersion
         subst (λ (g : FileMeta). IsIn g (map (λ (q : Placed). q.meta) (put_all added kept))) (sym p.2) (IsIn-map (λ (q : Placed). q.meta) p.0 (put_all added kept) ((put_all-members added kept p.0).1 (inl p.1)))
   ]
 
-  pub served_after : IsServed (advanced s edit tables)
+  pub served_after : IsServed (after_advance s edit tables)
   served_after = record {
     ordered = put_all-ordered added kept (λ p m. whole_file p.meta (added_file p m)) (λ p m. whole_file p.meta (kept_file p m))
-        (placed_apart edit.added tables (added_rises edit ok) (overlap-right (without edit.removed s.version.files) edit.added after.disjoint))
+        (placed_apart edit.added tables (added_rises edit ok) (overlap-right (files_without edit.removed s.version.files) edit.added after.disjoint))
         apart_places (ordered-without edit.removed s.places is.ordered);
     listed = λ f. (listed_there f, listed_back f);
     recorded = λ p m. elim ((put_all-members added kept p).0 m) [

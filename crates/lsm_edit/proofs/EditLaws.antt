@@ -10,7 +10,7 @@ use Rattle.std.specs.Prelude.{IfOk}
 use Rattle.lsm_key.specs.declared.refused.Refused.{Refused}
 use Rattle.lsm_key.specs.Order.{key_le}
 use Rattle.lsm_key.specs.Spelling.{key, IsKey}
-use Rattle.lsm_key.specs.Reading.{◌>>=◌, number_at, within_at, key_at, Gives}
+use Rattle.lsm_key.specs.Reading.{◌>>=◌, number_at, ranged_number_at, key_at, Gives}
 use Rattle.lsm_key.proofs.FieldLaws.{IsBytes, Takes, bind_ok, guard_ok, guard_held, within_range, ok_is, wide8, wide32, wide64, number_takes, number_again}
 use Rattle.lsm_key.proofs.Readers.{Reads, Goes, field, field_as, unless, done, whole, within_reads, key_reads}
 use Rattle.lsm_edit.specs.declared.file.FileMeta.{FileMeta}
@@ -20,7 +20,7 @@ use Rattle.lsm_edit.specs.declared.edit.EditKind.TheVariants.{Flush, Install, Ep
 use Rattle.lsm_edit.specs.declared.format.FormatFault.{FormatFault}
 use Rattle.lsm_edit.specs.declared.format.FormatFault.TheVariants.{Truncated, BadField, TrailingBytes}
 use Rattle.lsm_edit.specs.File.{IsFile, file, file_at}
-use Rattle.lsm_edit.specs.Edit.{IsEdit, IsSpelled, AreInTurn, IsNumberFrom, IsFileFrom, AreRemoved, AreAdded, after_number, after_file, added, removed, edit, kind_code, shape, kind_from, kind_at, removed_at, added_at, fields_at, edit_of}
+use Rattle.lsm_edit.specs.Edit.{IsEdit, IsSpelled, AreInTurn, IsNumberFrom, IsFileFrom, AreRemoved, AreAdded, after_number, after_file, added_bytes, removed_bytes, edit, kind_code, shape, kind_from, kind_at, removed_at, added_at, fields_at, read_edit}
 use Rattle.lsm_edit.proofs.InTurn.{counted_reads}
 
 -- ---- file records
@@ -72,13 +72,13 @@ file_reads from some six = whole file (IsFileFrom from) (λ f is. simp append_as
 pub read_number : (least lowest deepest : ℕ) (bytes : List ℕ) (z : FileMeta × List ℕ) → file_at least lowest deepest bytes ≡ Ok z → z.0.number ≤ MAX_NUMBER
 unfolding file_at
 read_number least lowest deepest bytes z e =
-    let a = bind_ok (within_at Truncated BadField w64 least MAX_NUMBER bytes) _ z e in
-    let b = bind_ok (within_at Truncated BadField w8 lowest deepest a.0.1) _ z a.2 in
+    let a = bind_ok (ranged_number_at Truncated BadField w64 least MAX_NUMBER bytes) _ z e in
+    let b = bind_ok (ranged_number_at Truncated BadField w8 lowest deepest a.0.1) _ z a.2 in
     let k = bind_ok (key_at MAX_KEY_BYTES Truncated BadField b.0.1) _ z b.2 in
     let l = bind_ok (key_at MAX_KEY_BYTES Truncated BadField k.0.1) _ z k.2 in
     let o = guard_ok (not (key_le k.0.0 l.0.0)) BadField _ z l.2 in
-    let s = bind_ok (within_at Truncated BadField w32 1 MAX_TABLE_BYTES l.0.1) _ z o.1 in
-    let n = bind_ok (within_at Truncated BadField w32 1 4294967295 s.0.1) _ z s.2 in
+    let s = bind_ok (ranged_number_at Truncated BadField w32 1 MAX_TABLE_BYTES l.0.1) _ z o.1 in
+    let n = bind_ok (ranged_number_at Truncated BadField w32 1 4294967295 s.0.1) _ z s.2 in
     let same = ok_is {F = FormatFault} _ z n.2 in
     subst (λ (p : FileMeta × List ℕ). p.0.number ≤ MAX_NUMBER) same (within_range Truncated BadField w64 least MAX_NUMBER bytes a.0 a.1).1
 
@@ -139,13 +139,13 @@ removed_small kind numbers is = let small = (counts_small kind).0 in let most = 
 pub added_small : (kind : EditKind) (files : List FileMeta) → AreAdded kind files → length files < 2 ^ 32
 added_small kind files is = let small = (counts_small kind).1 in let most = is.1 in omega (arith, small, most)
 
-removed_reads : (kind : EditKind) → Reads (removed_at kind) removed (AreRemoved kind)
+removed_reads : (kind : EditKind) → Reads (removed_at kind) removed_bytes (AreRemoved kind)
 unfolding removed_at
 removed_reads kind =
-    counted_reads (λ (from : ℕ). Unit {0}) IsNumberFrom (λ from. within_at Truncated BadField w64 from MAX_NUMBER) after_number (to_be_bytes w64) (λ from good. within_reads Truncated BadField w64 (2 ^ 64) wide64 from MAX_NUMBER (omega arith)) (λ from n good is. tt)
+    counted_reads (λ (from : ℕ). Unit {0}) IsNumberFrom (λ from. ranged_number_at Truncated BadField w64 from MAX_NUMBER) after_number (to_be_bytes w64) (λ from good. within_reads Truncated BadField w64 (2 ^ 64) wide64 from MAX_NUMBER (omega arith)) (λ from n good is. tt)
     Truncated BadField (shape kind).least_removed (shape kind).most_removed 1 (counts_small kind).0 tt
 
-added_reads : (kind : EditKind) → Reads (added_at kind) added (AreAdded kind)
+added_reads : (kind : EditKind) → Reads (added_at kind) added_bytes (AreAdded kind)
 unfolding added_at
 added_reads kind =
     counted_reads (λ (from : ℕ × ℕ × ℕ). (1 ≤ from.0) × (from.2 ≤ 6)) IsFileFrom (λ from. file_at from.0 from.1 from.2) after_file file (λ from good. file_reads from good.0 good.1) (λ from f good is. (omega arith, is.0.level))
@@ -163,7 +163,7 @@ added_files kind files is = All-from_recursion IsFile files (files_each (1, (sha
 abbrev fields_spelled : Edit → List ℕ
 fields_spelled e =
     to_be_bytes w64 e.number ++ (to_be_bytes w8 (kind_code e.kind) ++ (to_be_bytes w64 e.flushed ++ (to_be_bytes w64 e.epoch ++ (to_be_bytes w64 e.next_file
-    ++ (removed e.removed ++ (added e.added ++ []))))))
+    ++ (removed_bytes e.removed ++ (added_bytes e.added ++ []))))))
 
 abbrev FieldRules : Edit → Type 0
 FieldRules e =
@@ -190,8 +190,8 @@ edit_reads = whole edit IsEdit (λ e is. simp (append_assoc, append-nil) refl)
     (λ e is. ((is.first, is.last), (tt, ((omega arith, (let h = is.flushed in omega arith)), ((is.some_epoch, is.epoch), ((is.some_file, is.next_file), (is.removed, (is.added, tt))))))))
     edit_goes
 
-pub edit_takes : (bytes : List ℕ) (e : Edit) → IsBytes bytes → edit_of bytes ≡ Ok e → IsSpelled bytes e
-unfolding edit_of
+pub edit_takes : (bytes : List ℕ) (e : Edit) → IsBytes bytes → read_edit bytes ≡ Ok e → IsSpelled bytes e
+unfolding read_edit
 edit_takes bytes e fits h =
     let a = bind_ok (fields_at bytes) (λ x. cond (eqb (length x.1) 0) (Ok x.0) (Err TrailingBytes)) e h in
     let g = guard_held (eqb (length a.0.1) 0) TrailingBytes (Ok a.0.0) e a.2 in
@@ -200,12 +200,12 @@ edit_takes bytes e fits h =
     let same = ok_is {F = FormatFault} a.0.0 e g.1 in
     subst (λ (x : Edit). IsSpelled bytes x) same (record { sound = t.1; spelled = t.0.parts ∙ ap (λ (rest : List ℕ). edit a.0.0 ++ rest) none ∙ append-nil (edit a.0.0) })
 
-pub edit_again : (bytes : List ℕ) (e : Edit) → IsSpelled bytes e → edit_of bytes ≡ Ok e
-unfolding edit_of
+pub edit_again : (bytes : List ℕ) (e : Edit) → IsSpelled bytes e → read_edit bytes ≡ Ok e
+unfolding read_edit
 edit_again bytes e is =
     let a : fields_at bytes ≡ Ok (e, []) = ap fields_at (is.spelled ∙ sym (append-nil (edit e))) ∙ edit_reads.again e [] is.sound in
     rw a refl
 
-pub is_found : (bytes : List ℕ) (r : Result Edit (Refused FormatFault)) → IsBytes bytes → Gives (λ b. b) r (edit_of bytes) → IfOk r (λ e. IsSpelled bytes e)
+pub is_found : (bytes : List ℕ) (r : Result Edit (Refused FormatFault)) → IsBytes bytes → Gives (λ b. b) r (read_edit bytes) → IfOk r (λ e. IsSpelled bytes e)
 is_found bytes (Ok e) fits given = edit_takes bytes e fits given
 is_found bytes (Err f) fits given = tt

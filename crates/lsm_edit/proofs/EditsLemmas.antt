@@ -7,7 +7,7 @@ use Rattle.lsm_key.proofs.Sets.{IsIn-append_cases}
 use Rattle.lsm_key.proofs.Falls.{IsIn-filter}
 use Rattle.lsm_edit.specs.declared.file.FileMeta.{FileMeta}
 use Rattle.lsm_edit.specs.declared.edit.Edit.{Edit}
-use Rattle.lsm_edit.specs.Version.{VersionValue, IsVersion, apply_fault, applied, files_after, has_number, without}
+use Rattle.lsm_edit.specs.Version.{VersionValue, IsVersion, apply_fault, after_apply, files_after, has_number, files_without}
 use Rattle.lsm_edit.specs.Edits.{Apply, IsHistory, RemovedOnce, versions_from}
 use Rattle.lsm_edit.specs.Laws.{NoFileIsRemovedTwice, ANumberNamesOneFile}
 use Rattle.lsm_edit.proofs.Lists.{any_is, none_is}
@@ -31,20 +31,20 @@ module _ (v : VersionValue) (e : Edit) (ok : apply_fault v e ≡ None) where
       (found.0, found.1, eqb-true found.0.number n found.2)
 
   came : (f : FileMeta) → IsIn f (files_after v.files e) → IsIn f v.files ⊎ (v.next_file ≤ f.number)
-  came f m = elim (IsIn-append_cases f (without e.removed v.files) e.added m) [
+  came f m = elim (IsIn-append_cases f (files_without e.removed v.files) e.added m) [
     | inl a ↦ inl (IsIn-filter (stays e.removed) f v.files a).0
     | inr b ↦ inr (fresh_added v e ok f b)
   ]
 
-  below_after : AreBelow v → AreBelow (applied v e)
-  below_after below f m = elim (IsIn-append_cases f (without e.removed v.files) e.added m) [
+  below_after : AreBelow v → AreBelow (after_apply v e)
+  below_after below f m = elim (IsIn-append_cases f (files_without e.removed v.files) e.added m) [
     | inl a ↦ let lt = below f (IsIn-filter (stays e.removed) f v.files a).0 in let up = rises in omega (arith, lt, up)
     | inr b ↦ leb-false e.next_file f.number (none_is (λ (g : FileMeta). leb e.next_file g.number) e.added (or_parts _ _ (passes v e ok).counted).1 f b)
   ]
 
   -- a file that goes is not there afterwards
   gone : AreBelow v → (f : FileMeta) → IsIn f.number e.removed → IsIn f (files_after v.files e) → ⊥
-  gone below f r m = elim (IsIn-append_cases f (without e.removed v.files) e.added m) [
+  gone below f r m = elim (IsIn-append_cases f (files_without e.removed v.files) e.added m) [
     | inl a ↦
         let kept : not (list_any (λ n. has_number n f) e.removed) ≡ true = (IsIn-filter (stays e.removed) f v.files a).1 in
         let other : has_number f.number f ≡ false = none_is (λ n. has_number n f) e.removed (not-true (list_any (λ n. has_number n f) e.removed) kept) f.number r in
@@ -64,7 +64,7 @@ since : (v : VersionValue) (es : List Edit) → Apply v es → (w : VersionValue
 since v [] ok w m f i = elim m [ inl same ↦ inl (subst (λ (x : VersionValue). IsIn f x.files) same i) | inr none ↦ absurd none ]
 since v (e ∷ es) ok w m f i = elim m [
   | inl same ↦ inl (subst (λ (x : VersionValue). IsIn f x.files) same i)
-  | inr later ↦ elim (since (applied v e) es ok.1 w later f i) [
+  | inr later ↦ elim (since (after_apply v e) es ok.1 w later f i) [
     | inl there ↦ came v e ok.0 f there
     | inr new ↦ inr (let up = rises v e ok.0 in omega (arith, up, new))
   ]
@@ -75,26 +75,26 @@ its_version : (v : VersionValue) (es : List Edit) → Apply v es → (e : Edit) 
 its_version v [] ok e m = absurd m
 its_version v (x ∷ es) ok e m = elim m [
   | inl same ↦ (v, inl refl, subst (λ (y : Edit). apply_fault v y ≡ None) (sym same) ok.0)
-  | inr later ↦ let found = its_version (applied v x) es ok.1 e later in (found.0, inr found.1, found.2)
+  | inr later ↦ let found = its_version (after_apply v x) es ok.1 e later in (found.0, inr found.1, found.2)
 ]
 
 -- ---- no file is removed twice
 
-module _ (v : VersionValue) (e : Edit) (es : List Edit) (below : AreBelow v) (ok : apply_fault v e ≡ None) (rest : Apply (applied v e) es) where
+module _ (v : VersionValue) (e : Edit) (es : List Edit) (below : AreBelow v) (ok : apply_fault v e ≡ None) (rest : Apply (after_apply v e) es) where
   once : (n : ℕ) → IsIn n e.removed → (later : Edit) → IsIn later es → IsIn n later.removed → ⊥
   once n m later i k =
       let was = listed v e ok n m in
-      let at = its_version (applied v e) es rest later i in
+      let at = its_version (after_apply v e) es rest later i in
       let file = listed at.0 later at.2 n k in
       let number : file.0.number ≡ n = file.2 in
-      elim (since (applied v e) es rest at.0 at.1 file.0 file.1) [
+      elim (since (after_apply v e) es rest at.0 at.1 file.0 file.1) [
         | inl there ↦ gone v e ok below file.0 (subst (λ (k : ℕ). IsIn k e.removed) (sym number) m) there
         | inr new ↦ let lt = below was.0 was.1 in let same = was.2 in let up = rises v e ok in absurd (omega (arith, lt, same, number, new, up))
       ]
 
 once_from : (v : VersionValue) (es : List Edit) → AreBelow v → Apply v es → RemovedOnce es
 once_from v [] below ok = tt
-once_from v (e ∷ es) below ok = (once v e es below ok.0 ok.1, once_from (applied v e) es (below_after v e ok.0 below) ok.1)
+once_from v (e ∷ es) below ok = (once v e es below ok.0 ok.1, once_from (after_apply v e) es (below_after v e ok.0 below) ok.1)
 
 pub removed_once : NoFileIsRemovedTwice
 removed_once v es is ok = once_from v es is.below ok
@@ -108,7 +108,7 @@ from_the_first v es is ok w m f g i k same = elim (since v es ok w m g k) [
   | inr new ↦ let lt = is.below f i in absurd (omega (arith, lt, new, same))
 ]
 
-rest_of : (v : VersionValue) (e : Edit) (es : List Edit) → IsHistory v (e ∷ es) → IsHistory (applied v e) es
+rest_of : (v : VersionValue) (e : Edit) (es : List Edit) → IsHistory v (e ∷ es) → IsHistory (after_apply v e) es
 rest_of v e es h = record {
   start = applied_is v e h.start (h.each e (inl refl)) h.apply.0;
   each = λ x m. h.each x (inr m);
@@ -124,6 +124,6 @@ one_file v (e ∷ es) h one other m n f g i k same = elim m [
   | inl a ↦ from_the_first v (e ∷ es) h.start h.apply other n f g (subst (λ (x : VersionValue). IsIn f x.files) a i) k same
   | inr a ↦ elim n [
     | inl b ↦ sym (from_the_first v (e ∷ es) h.start h.apply one (inr a) g f (subst (λ (x : VersionValue). IsIn g x.files) b k) i (sym same))
-    | inr b ↦ one_file (applied v e) es (rest_of v e es h) one other a b f g i k same
+    | inr b ↦ one_file (after_apply v e) es (rest_of v e es h) one other a b f g i k same
   ]
 ]

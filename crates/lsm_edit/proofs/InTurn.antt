@@ -5,7 +5,7 @@ use Rattle.std.specs.List.{flat_map}
 use Rattle.std.proofs.lemmas.List.{append-nil}
 use Rattle.lsm_key.specs.declared.refused.Refused.{Refused}
 use Rattle.lsm_key.specs.declared.refused.Refused.TheVariants.{OutOfMemory, Fault}
-use Rattle.lsm_key.specs.Reading.{◌>>=◌, within_at, Fails}
+use Rattle.lsm_key.specs.Reading.{◌>>=◌, ranged_number_at, Fails}
 use Rattle.lsm_key.proofs.FieldLaws.{IsBytes, Takes, Takes-then, bind_ok, ok_is, wide32}
 use Rattle.lsm_key.proofs.Readers.{Reads, within_reads}
 use Rattle.lsm_edit.specs.Edit.{AreInTurn, items_at}
@@ -37,10 +37,10 @@ module _ {S X F : Type 0} (Good : S → Type 0) (Is : S → X → Type 0) (read 
 
   -- a count within a range, and that many items
   pub counted_reads : (short bad : F) (low high : ℕ) (s : S) → high < 2 ^ 32 → Good s
-      → Reads (λ bytes. within_at short bad w32 low high bytes >>= λ count. items_at read next count.0 s count.1) (λ xs. to_be_bytes w32 (length xs) ++ flat_map spell xs) (λ xs. (low ≤ length xs) × (length xs ≤ high) × AreInTurn Is next s xs)
+      → Reads (λ bytes. ranged_number_at short bad w32 low high bytes >>= λ count. items_at read next count.0 s count.1) (λ xs. to_be_bytes w32 (length xs) ++ flat_map spell xs) (λ xs. (low ≤ length xs) × (length xs ≤ high) × AreInTurn Is next s xs)
   counted_reads short bad low high s lt good = record {
     takes = λ bytes z fits e.
-        let a = bind_ok (within_at short bad w32 low high bytes) (λ count. items_at read next count.0 s count.1) z e in
+        let a = bind_ok (ranged_number_at short bad w32 low high bytes) (λ count. items_at read next count.0 s count.1) z e in
         let t = (within_reads short bad w32 (2 ^ 32) wide32 low high lt).takes bytes a.0 fits a.1 in
         let u = items_takes a.0.0 s a.0.1 z good t.0.rest_fits a.2 in
         let low_is : low ≤ length z.0 = (let l = t.1.0 in omega (arith, l, u.2)) in
@@ -49,8 +49,8 @@ module _ {S X F : Type 0} (Good : S → Type 0) (Is : S → X → Type 0) (read 
           (low_is, high_is, u.1),
         );
     again = λ xs rest is.
-        let a : within_at short bad w32 low high (to_be_bytes w32 (length xs) ++ (flat_map spell xs ++ rest)) ≡ Ok (length xs, flat_map spell xs ++ rest) = (within_reads short bad w32 (2 ^ 32) wide32 low high lt).again (length xs) (flat_map spell xs ++ rest) (is.0, is.1) in
-        ap (λ (z : List ℕ). within_at short bad w32 low high z >>= λ count. items_at read next count.0 s count.1) (append_assoc (to_be_bytes w32 (length xs)) (flat_map spell xs) rest)
+        let a : ranged_number_at short bad w32 low high (to_be_bytes w32 (length xs) ++ (flat_map spell xs ++ rest)) ≡ Ok (length xs, flat_map spell xs ++ rest) = (within_reads short bad w32 (2 ^ 32) wide32 low high lt).again (length xs) (flat_map spell xs ++ rest) (is.0, is.1) in
+        ap (λ (z : List ℕ). ranged_number_at short bad w32 low high z >>= λ count. items_at read next count.0 s count.1) (append_assoc (to_be_bytes w32 (length xs)) (flat_map spell xs) rest)
         ∙ ap (λ (r : Result (ℕ × List ℕ) F). r >>= λ count. items_at read next count.0 s count.1) a
         ∙ items_again xs s rest good is.2;
   }

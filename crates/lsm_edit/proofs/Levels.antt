@@ -8,7 +8,7 @@ use Rattle.lsm_key.specs.declared.entry.Entry.{Entry}
 use Rattle.lsm_key.specs.declared.entry.EntryRef.{EntryRef}
 use Rattle.lsm_key.specs.Sets.{IsIn}
 use Rattle.lsm_key.specs.Order.{key_le}
-use Rattle.lsm_key.specs.Visible.{visible, lent}
+use Rattle.lsm_key.specs.Visible.{visible, lent_entry}
 use Rattle.lsm_key.specs.Places.{first_visible}
 use Rattle.lsm_key.proofs.Sets.{IsIn-at, IsIn-place}
 use Rattle.lsm_table.specs.Tables.{Opened}
@@ -192,10 +192,10 @@ one_more ps key at i p within is own none k d low lt = elim (cases_lt k i) [
 
 -- ---- what a table showed
 
-pub found_by : (r : Option EntryRef) (v first : Option Entry) → option_map lent r ≡ v → ((e : Entry) → v ≡ Some e → first ≡ Some e) → IfSome r (λ entry. first ≡ Some (lent entry))
+pub found_by : (r : Option EntryRef) (v first : Option Entry) → option_map lent_entry r ≡ v → ((e : Entry) → v ≡ Some e → first ≡ Some e) → IfSome r (λ entry. first ≡ Some (lent_entry entry))
 found_by None v first h k = tt
-found_by (Some entry) v first h k = k (lent entry) (sym h)
+found_by (Some entry) v first h k = k (lent_entry entry) (sym h)
 
-pub none_by : (r : Option EntryRef) (v : Option Entry) (P : Type 0) → option_map lent r ≡ v → (v ≡ None → P) → IfNone r P
+pub none_by : (r : Option EntryRef) (v : Option Entry) (P : Type 0) → option_map lent_entry r ≡ v → (v ≡ None → P) → IfNone r P
 none_by None v P h k = k (sym h)
 none_by (Some entry) v P h k = tt

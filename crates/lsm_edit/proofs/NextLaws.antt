@@ -9,7 +9,7 @@ use Rattle.lsm_key.specs.declared.limits.TheConstants.{MAX_NUMBER}
 use Rattle.lsm_edit.specs.declared.file.FileMeta.{FileMeta}
 use Rattle.lsm_edit.specs.File.{IsFile}
 use Rattle.lsm_edit.specs.Edit.{IsEdit, AreRemoved, AreAdded}
-use Rattle.lsm_edit.specs.Version.{VersionValue, IsVersion, NumbersRise, apply_fault, files_after, has_number, has_overlap, without}
+use Rattle.lsm_edit.specs.Version.{VersionValue, IsVersion, FileNumbersRise, apply_fault, files_after, has_number, has_overlap, files_without}
 use Rattle.lsm_edit.specs.Next.{flush_edit, epoch_edit, install_edit, number_after}
 use Rattle.std.proofs.lemmas.List.{append-nil}
 use Rattle.lsm_edit.proofs.VersionLaws.{files_after-is, overlap-push, added_rise}
@@ -53,14 +53,14 @@ epoch_applies v is =
 -- ---- an install
 
 -- the next file number stands above files whose numbers rise
-after_least : (n : ℕ) (files : List FileMeta) → NumbersRise files → ((f : FileMeta) → IsIn f files → n ≤ f.number) → n ≤ number_after n files
+after_least : (n : ℕ) (files : List FileMeta) → FileNumbersRise files → ((f : FileMeta) → IsIn f files → n ≤ f.number) → n ≤ number_after n files
 after_least n [] up fresh = omega arith
 after_least n (f ∷ files) up fresh =
     let first = fresh f (inl refl) in
     let rest = after_least (f.number + 1) files up.1 (λ g m. let more = up.0 g m in omega arith) in
     omega arith
 
-after_each : (n : ℕ) (files : List FileMeta) → NumbersRise files → (f : FileMeta) → IsIn f files → f.number < number_after n files
+after_each : (n : ℕ) (files : List FileMeta) → FileNumbersRise files → (f : FileMeta) → IsIn f files → f.number < number_after n files
 after_each n [] up f m = absurd m
 after_each n (x ∷ files) up f m = elim m [
   | inl e ↦ let rest = after_least (x.number + 1) files up.1 (λ g k. let more = up.0 g k in omega arith) in let same = ap (λ (g : FileMeta). g.number) e in omega arith
@@ -95,7 +95,7 @@ after_none n (x ∷ files) h =
     some_last y (z ∷ fs) e = some_last z fs e
 
 module _ (v : VersionValue) (removed : List ℕ) (added : List FileMeta) (is : IsVersion v) (old : AreRemoved Install removed) (new : AreAdded Install added) (fresh : (f : FileMeta) → IsIn f added → v.next_file ≤ f.number) where
-  rise : NumbersRise added
+  rise : FileNumbersRise added
   rise = added_rise (1, 1, 6) added new.2
 
   pub install_sound : v.number + 1 ≤ MAX_NUMBER → 1 ≤ v.epoch → number_after v.next_file added ≤ MAX_NUMBER → IsEdit (install_edit v removed added)
@@ -111,7 +111,7 @@ module _ (v : VersionValue) (removed : List ℕ) (added : List FileMeta) (is : I
     added = new;
   }
 
-  pub install_applies : ((n : ℕ) → IsIn n removed → list_any (has_number n) v.files ≡ true) → has_overlap (without removed v.files ++ added) ≡ false → apply_fault v (install_edit v removed added) ≡ None
+  pub install_applies : ((n : ℕ) → IsIn n removed → list_any (has_number n) v.files ≡ true) → has_overlap (files_without removed v.files ++ added) ≡ false → apply_fault v (install_edit v removed added) ≡ None
   install_applies present disjoint =
       let all_there : list_any (λ n. not (list_any (has_number n) v.files)) removed ≡ false = any-none (λ n. not (list_any (has_number n) v.files)) removed (λ n m. ap not (present n m)) in
       let all_new : list_any (λ f. ltb f.number v.next_file) added ≡ false = any-none (λ f. ltb f.number v.next_file) added (λ f m. le-ltb f.number v.next_file (fresh f m)) in

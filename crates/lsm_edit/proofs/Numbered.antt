@@ -10,7 +10,7 @@ use Rattle.std.proofs.lemmas.List.Folds.{list_any_at, list_any_none}
 use Rattle.lsm_key.proofs.Sets.{IsIn-at}
 use Rattle.lsm_edit.specs.declared.file.FileMeta.{FileMeta}
 use Rattle.lsm_edit.specs.Edit.{AreInTurn, IsNumberFrom, after_number}
-use Rattle.lsm_edit.specs.Version.{NumbersRise}
+use Rattle.lsm_edit.specs.Version.{FileNumbersRise}
 
 module _ {X : Type 0} (number : X → ℕ) (n : ℕ) (test : X → Bool) (yes : (x : X) → number x ≡ n → test x ≡ true) (no : (x : X) → (number x ≡ n → ⊥) → test x ≡ false) where
   comparisons_rise : (xs : List X) → IsNonDecreasingBy number xs → IsNonDecreasingBy (λ x. ordering_index (nat_cmp (number x) n)) xs
@@ -31,7 +31,7 @@ module _ {X : Type 0} (number : X → ℕ) (n : ℕ) (test : X → Bool) (yes : 
       ])))
 
 -- files whose numbers rise
-pub files_rise : (fs : List FileMeta) → NumbersRise fs → IsNonDecreasingBy (λ f. f.number) fs
+pub files_rise : (fs : List FileMeta) → FileNumbersRise fs → IsNonDecreasingBy (λ f. f.number) fs
 files_rise [] up i j d le lt = absurd (omega (arith, lt))
 files_rise (f ∷ fs) up zero zero d le lt = omega arith
 files_rise (f ∷ fs) up zero (suc j) d le lt = (let more = up.0 (get_or fs j d) (IsIn-at fs j d (omega (arith, lt))) in omega (arith, more))

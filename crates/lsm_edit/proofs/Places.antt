@@ -12,7 +12,7 @@ use Rattle.lsm_key.proofs.Places.{IsUnique-above}
 use Rattle.lsm_table.proofs.Contents.{table_unique}
 use Rattle.lsm_edit.specs.declared.file.FileMeta.{FileMeta}
 use Rattle.lsm_edit.specs.declared.served.Placed.{Placed}
-use Rattle.lsm_edit.specs.Version.{IsVersion, NumbersRise}
+use Rattle.lsm_edit.specs.Version.{IsVersion, FileNumbersRise}
 use Rattle.lsm_edit.specs.Served.{AllRecorded, AreInSearchOrder, ServedValue, IsServed, is_covered, tables_of}
 use Rattle.lsm_edit.proofs.LevelRanges.{in_tables}
 use Rattle.lsm_edit.proofs.Search.{key_covered}
@@ -92,7 +92,7 @@ ordered_from (p ∷ ps) up new = (
 -- ---- files of a version
 
 -- a number is of one file
-pub one_number : (fs : List FileMeta) → NumbersRise fs → (f g : FileMeta) → IsIn f fs → IsIn g fs → f.number ≡ g.number → f ≡ g
+pub one_number : (fs : List FileMeta) → FileNumbersRise fs → (f g : FileMeta) → IsIn f fs → IsIn g fs → f.number ≡ g.number → f ≡ g
 one_number [] up f g mf mg e = absurd mf
 one_number (x ∷ fs) up f g mf mg e = elim mf [
   | inl first ↦ elim mg [

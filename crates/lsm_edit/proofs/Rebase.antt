@@ -9,7 +9,7 @@ use Rattle.lsm_key.specs.Order.{key_le}
 use Rattle.lsm_table.specs.Tables.{Opened}
 use Rattle.lsm_edit.specs.declared.file.FileMeta.{FileMeta}
 use Rattle.lsm_edit.specs.declared.served.Placed.{Placed}
-use Rattle.lsm_edit.specs.Version.{VersionValue, IsVersion, NumbersRise, has_overlap, clashes}
+use Rattle.lsm_edit.specs.Version.{VersionValue, IsVersion, FileNumbersRise, has_overlap, clashes}
 use Rattle.lsm_edit.specs.Served.{IsAsRecorded, AreAsRecorded, AllRecorded, is_before, AreInSearchOrder, placed_of, put_in_order, put_all, in_order, IsServed}
 use Rattle.lsm_edit.proofs.SearchOrder.{Apart, apart, before_of, before_is, before_trans}
 
@@ -116,7 +116,7 @@ clear_of f (x ∷ fs) h g m =
     let parts = or_parts (clashes f x) (list_any (clashes f) fs) h in
     elim m [ inl e ↦ subst (λ (y : FileMeta). clashes f y ≡ false) (sym e) parts.0 | inr n ↦ clear_of f fs parts.1 g n ]
 
-pub placed_apart : (fs : List FileMeta) (ts : List Opened) → NumbersRise fs → has_overlap fs ≡ false → AreApart (placed_of fs ts)
+pub placed_apart : (fs : List FileMeta) (ts : List Opened) → FileNumbersRise fs → has_overlap fs ≡ false → AreApart (placed_of fs ts)
 placed_apart [] ts up none = tt
 placed_apart (f ∷ fs) [] up none = tt
 placed_apart (f ∷ fs) (t ∷ ts) up none =

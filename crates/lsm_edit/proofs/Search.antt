@@ -25,4 +25,4 @@ missed f t key at is out = by (visible t.entries key at) refl
     by None e = refl
     by (Some x) e =
         let l = at_visible t.entries key at x e in
-        absurd (true≢false (sym (key_covered f t is x l.member) ∙ ap (is_covered f) (is_seen-key key at x l.passes) ∙ out))
+        absurd (true≢false (sym (key_covered f t is x l.member) ∙ ap (is_covered f) (is_seen-key key at x l.satisfies) ∙ out))

@@ -9,7 +9,7 @@ use Rattle.std.proofs.lemmas.Cmp.{nat_list_cmp_total}
 use Rattle.lsm_key.specs.Order.{key_le}
 use Rattle.lsm_key.proofs.Order.{keys_equal}
 use Rattle.lsm_edit.specs.declared.file.FileMeta.{FileMeta}
-use Rattle.lsm_edit.specs.Version.{clashes, meets}
+use Rattle.lsm_edit.specs.Version.{clashes, files_meet}
 use Rattle.lsm_edit.specs.Served.{is_before}
 use Rattle.lsm_edit.proofs.Advance.{or-left, or-right, and-both}
 
@@ -101,7 +101,7 @@ apart f g lt h = elim (cases_order f.level g.level) [
   | inr o ↦ elim o [ inl less ↦ inl (before_is f g (upper less)) | inr more ↦ inr (before_is g f (upper more)) ]
 ]
   where
-    deeper : f.level ≡ g.level → (f.level ≡ 0 → ⊥) → meets f g ≡ false → Apart f g
+    deeper : f.level ≡ g.level → (f.level ≡ 0 → ⊥) → files_meet f g ≡ false → Apart f g
     deeper e n m = elim (and_cases (key_le f.smallest g.largest) (key_le g.smallest f.largest) m) [
       | inl a ↦ inr (before_is g f (lesser (sym e) (λ z. n (e ∙ z)) a))
       | inr b ↦ inl (before_is f g (lesser e n b))
@@ -110,9 +110,9 @@ apart f g lt h = elim (cases_order f.level g.level) [
     level : f.level ≡ g.level → Apart f g
     level e = elim (cases_eq f.level 0) [
       | inl z ↦ inr (before_is g f (newer (sym e) (sym e ∙ z) lt))
-      | inr n ↦ elim (and_cases (eqb f.level g.level) (ltb 0 f.level && meets f g) h) [
+      | inr n ↦ elim (and_cases (eqb f.level g.level) (ltb 0 f.level && files_meet f g) h) [
         | inl differ ↦ absurd (eqb-false f.level g.level differ e)
-        | inr rest ↦ elim (and_cases (ltb 0 f.level) (meets f g) rest) [
+        | inr rest ↦ elim (and_cases (ltb 0 f.level) (files_meet f g) rest) [
           | inl low ↦ let le = ltb-false 0 f.level low in absurd (n (omega (arith, le)))
           | inr m ↦ deeper e n m
         ]

@@ -11,16 +11,16 @@ use Rattle.lsm_edit.specs.declared.edit.Edit.{Edit}
 use Rattle.lsm_edit.specs.declared.version.ApplyError.{ApplyError}
 use Rattle.lsm_edit.specs.File.{IsFile}
 use Rattle.lsm_edit.specs.Edit.{IsEdit, AreInTurn, IsFileFrom, after_file, shape}
-use Rattle.lsm_edit.specs.Version.{VersionValue, IsVersion, NumbersRise, without, has_number, files_after, clashes, meets, has_overlap, apply_fault, applied, goes_back, miscounts, is_low}
+use Rattle.lsm_edit.specs.Version.{VersionValue, IsVersion, FileNumbersRise, files_without, has_number, files_after, clashes, files_meet, has_overlap, apply_fault, after_apply, goes_back, miscounts, is_low}
 
 -- ---- the files after an edit that removes none
 
-pub without-none : (files : List FileMeta) → without [] files ≡ files
+pub without-none : (files : List FileMeta) → files_without [] files ≡ files
 without-none [] = refl
 without-none (f ∷ files) = ap (λ (fs : List FileMeta). f ∷ fs) (without-none files)
 
 pub files_after-is : (files : List FileMeta) (edit : Edit) → edit.removed ≡ [] → files_after files edit ≡ files ++ edit.added
-files_after-is files edit none = ap (λ (numbers : List ℕ). without numbers files ++ edit.added) none ∙ ap (λ (fs : List FileMeta). fs ++ edit.added) (without-none files)
+files_after-is files edit none = ap (λ (numbers : List ℕ). files_without numbers files ++ edit.added) none ∙ ap (λ (fs : List FileMeta). fs ++ edit.added) (without-none files)
 
 -- ---- overlaps
 
@@ -32,8 +32,8 @@ pub young : (f g : FileMeta) → g.level ≡ 0 → clashes f g ≡ false
 young f g zero_level = elim (cases_Bool (eqb f.level g.level)) [
   | inl same ↦
       let level : f.level ≡ 0 = eqb-true f.level g.level same ∙ zero_level in
-      and-false (eqb f.level g.level) (ltb 0 f.level && meets f g) (ap (λ (n : ℕ). ltb 0 n && meets f g) level)
-  | inr other ↦ ap (λ (b : Bool). b && (ltb 0 f.level && meets f g)) other
+      and-false (eqb f.level g.level) (ltb 0 f.level && files_meet f g) (ap (λ (n : ℕ). ltb 0 n && files_meet f g) level)
+  | inr other ↦ ap (λ (b : Bool). b && (ltb 0 f.level && files_meet f g)) other
 ]
 
 any-push : (test : FileMeta → Bool) (files : List FileMeta) (g : FileMeta) → list_any test files ≡ false → test g ≡ false → list_any test (files ++ g ∷ []) ≡ false
@@ -56,11 +56,11 @@ any-if : (b : Bool) (test : FileMeta → Bool) (f : FileMeta) (kept : List FileM
 any-if true test f kept own rest = or_from (test f) (list_any test kept) own rest
 any-if false test f kept own rest = rest
 
-any-without : (test : FileMeta → Bool) (numbers : List ℕ) (files : List FileMeta) → list_any test files ≡ false → list_any test (without numbers files) ≡ false
+any-without : (test : FileMeta → Bool) (numbers : List ℕ) (files : List FileMeta) → list_any test files ≡ false → list_any test (files_without numbers files) ≡ false
 any-without test numbers [] h = refl
 any-without test numbers (f ∷ files) h =
     let parts = or_parts (test f) (list_any test files) h in
-    any-if (stays numbers f) test f (without numbers files) parts.0 (any-without test numbers files parts.1)
+    any-if (stays numbers f) test f (files_without numbers files) parts.0 (any-without test numbers files parts.1)
 
 or-assoc : (a b c : Bool) → (a || (b || c)) ≡ ((a || b) || c)
 or-assoc true b c = refl
@@ -76,11 +76,11 @@ overlap-if false f kept added meet own rest = rest
 
 -- among files that are disjoint, an overlap is one of a file that comes
 pub overlap-after : (numbers : List ℕ) (files added : List FileMeta) → has_overlap files ≡ false
-    → has_overlap (without numbers files ++ added) ≡ (list_any (λ f. stays numbers f && list_any (clashes f) added) files || has_overlap added)
+    → has_overlap (files_without numbers files ++ added) ≡ (list_any (λ f. stays numbers f && list_any (clashes f) added) files || has_overlap added)
 overlap-after numbers [] added h = refl
 overlap-after numbers (f ∷ files) added h =
     let parts = or_parts (list_any (clashes f) files) (has_overlap files) h in
-    overlap-if (stays numbers f) f (without numbers files) added (list_any (λ f. stays numbers f && list_any (clashes f) added) files) (any-without (clashes f) numbers files parts.0) (overlap-after numbers files added parts.1)
+    overlap-if (stays numbers f) f (files_without numbers files) added (list_any (λ f. stays numbers f && list_any (clashes f) added) files) (any-without (clashes f) numbers files parts.0) (overlap-after numbers files added parts.1)
 
 -- ---- the files that are added
 
@@ -91,25 +91,25 @@ added_each from (x ∷ files) is f m = elim m [
   | inr n ↦ let later = added_each (after_file x) files is.1 f n in (later.0, (let a = later.1 in let b = is.0.1 in omega arith), (let a = later.2 in let b = is.0.2 in omega arith), (let a = later.3 in let b = is.0.3 in omega arith))
 ]
 
-pub added_rise : (from : ℕ × ℕ × ℕ) (files : List FileMeta) → AreInTurn IsFileFrom after_file from files → NumbersRise files
+pub added_rise : (from : ℕ × ℕ × ℕ) (files : List FileMeta) → AreInTurn IsFileFrom after_file from files → FileNumbersRise files
 added_rise from [] is = tt
 added_rise from (f ∷ files) is = (λ g m. let later = added_each (after_file f) files is.1 g m in (let a = later.1 in omega arith), added_rise (after_file f) files is.1)
 
 pub added_is : (edit : Edit) → IsEdit edit → (f : FileMeta) → IsIn f edit.added → IsFile f
 added_is edit ok f m = (added_each (1, (shape edit.kind).lowest, (shape edit.kind).deepest) edit.added ok.added.2 f m).0
 
-pub added_rises : (edit : Edit) → IsEdit edit → NumbersRise edit.added
+pub added_rises : (edit : Edit) → IsEdit edit → FileNumbersRise edit.added
 added_rises edit ok = added_rise (1, (shape edit.kind).lowest, (shape edit.kind).deepest) edit.added ok.added.2
 
-rise-if : (b : Bool) (f : FileMeta) (kept : List FileMeta) → ((g : FileMeta) → IsIn g kept → f.number < g.number) → NumbersRise kept → NumbersRise (cond b (f ∷ kept) kept)
+rise-if : (b : Bool) (f : FileMeta) (kept : List FileMeta) → ((g : FileMeta) → IsIn g kept → f.number < g.number) → FileNumbersRise kept → FileNumbersRise (cond b (f ∷ kept) kept)
 rise-if true f kept first up = (first, up)
 rise-if false f kept first up = up
 
-rise-without : (numbers : List ℕ) (files : List FileMeta) → NumbersRise files → NumbersRise (without numbers files)
+rise-without : (numbers : List ℕ) (files : List FileMeta) → FileNumbersRise files → FileNumbersRise (files_without numbers files)
 rise-without numbers [] up = tt
-rise-without numbers (f ∷ files) up = rise-if (stays numbers f) f (without numbers files) (λ g m. up.0 g (IsIn-filter (stays numbers) g files m).0) (rise-without numbers files up.1)
+rise-without numbers (f ∷ files) up = rise-if (stays numbers f) f (files_without numbers files) (λ g m. up.0 g (IsIn-filter (stays numbers) g files m).0) (rise-without numbers files up.1)
 
-rise-append : (files added : List FileMeta) (limit : ℕ) → NumbersRise files → NumbersRise added → ((f : FileMeta) → IsIn f files → f.number < limit) → ((f : FileMeta) → IsIn f added → limit ≤ f.number) → NumbersRise (files ++ added)
+rise-append : (files added : List FileMeta) (limit : ℕ) → FileNumbersRise files → FileNumbersRise added → ((f : FileMeta) → IsIn f files → f.number < limit) → ((f : FileMeta) → IsIn f added → limit ≤ f.number) → FileNumbersRise (files ++ added)
 rise-append [] added limit up more below above = more
 rise-append (f ∷ files) added limit up more below above = (
   λ g m. elim (IsIn-append_cases g files added m) [ inl a ↦ up.0 g a | inr b ↦ let low = below f (inl refl) in let high = above g b in omega arith ],
@@ -160,12 +160,12 @@ pub fresh_added : (v : VersionValue) (edit : Edit) → apply_fault v edit ≡ No
 fresh_added v edit none = none_below v.next_file edit.added (passes v edit none).fresh
 
 -- the version after an edit that applies
-pub applied_is : (v : VersionValue) (edit : Edit) → IsVersion v → IsEdit edit → apply_fault v edit ≡ None → IsVersion (applied v edit)
+pub applied_is : (v : VersionValue) (edit : Edit) → IsVersion v → IsEdit edit → apply_fault v edit ≡ None → IsVersion (after_apply v edit)
 applied_is v edit is ok h =
     let p = passes v edit h in
     let counts = or_parts (ltb edit.next_file v.next_file) (list_any (λ f. leb edit.next_file f.number) edit.added) p.counted in
     let rises : v.next_file ≤ edit.next_file = ltb-false edit.next_file v.next_file counts.0 in
-    let kept = without edit.removed v.files in
+    let kept = files_without edit.removed v.files in
     record {
       number = ok.last;
       flushed = ok.flushed;

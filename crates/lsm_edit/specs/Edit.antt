@@ -3,7 +3,7 @@ use Rattle.std.specs.Prelude.{◌≡◌, ℕ, zero, suc, ◌+◌, ◌<◌, ◌�
 use Rattle.std.specs.Int.{w8, w32, w64, to_be_bytes}
 use Rattle.std.specs.List.{flat_map}
 use Rattle.lsm_key.specs.declared.limits.TheConstants.{MAX_NUMBER}
-use Rattle.lsm_key.specs.Reading.{◌>>=◌, number_at, within_at}
+use Rattle.lsm_key.specs.Reading.{◌>>=◌, number_at, ranged_number_at}
 use Rattle.lsm_edit.specs.declared.file.FileMeta.{FileMeta}
 use Rattle.lsm_edit.specs.declared.edit.Edit.{Edit}
 use Rattle.lsm_edit.specs.declared.edit.EditKind.{EditKind}
@@ -64,19 +64,19 @@ pub record IsEdit (e : Edit) : Type 0 where
   pub added : AreAdded e.kind e.added
 
 -- a count, and each number
-abbrev pub removed : List ℕ → List ℕ
-removed numbers = to_be_bytes w32 (length numbers) ++ flat_map (to_be_bytes w64) numbers
+abbrev pub removed_bytes : List ℕ → List ℕ
+removed_bytes numbers = to_be_bytes w32 (length numbers) ++ flat_map (to_be_bytes w64) numbers
 
 -- a count, and each file
-abbrev pub added : List FileMeta → List ℕ
-added files = to_be_bytes w32 (length files) ++ flat_map file files
+abbrev pub added_bytes : List FileMeta → List ℕ
+added_bytes files = to_be_bytes w32 (length files) ++ flat_map file files
 
 -- all but the files that are added
 abbrev pub head : Edit → List ℕ
-head e = to_be_bytes w64 e.number ++ to_be_bytes w8 (kind_code e.kind) ++ to_be_bytes w64 e.flushed ++ to_be_bytes w64 e.epoch ++ to_be_bytes w64 e.next_file ++ removed e.removed
+head e = to_be_bytes w64 e.number ++ to_be_bytes w8 (kind_code e.kind) ++ to_be_bytes w64 e.flushed ++ to_be_bytes w64 e.epoch ++ to_be_bytes w64 e.next_file ++ removed_bytes e.removed
 
 abbrev pub edit : Edit → List ℕ
-edit e = head e ++ added e.added
+edit e = head e ++ added_bytes e.added
 
 -- the bytes are those of this edit
 pub record IsSpelled (bytes : List ℕ) (e : Edit) : Type 0 where
@@ -102,7 +102,7 @@ items_at read next (suc n) s bytes = do
 
 -- count numbers of files, ascending
 abbrev pub numbers_at : ℕ → ℕ → List ℕ → Result (List ℕ × List ℕ) FormatFault
-numbers_at count least bytes = items_at (λ from. within_at Truncated BadField w64 from MAX_NUMBER) after_number count least bytes
+numbers_at count least bytes = items_at (λ from. ranged_number_at Truncated BadField w64 from MAX_NUMBER) after_number count least bytes
 
 -- count files of one level, with ascending numbers
 abbrev pub files_at : ℕ → ℕ × ℕ × ℕ → List ℕ → Result (List FileMeta × List ℕ) FormatFault
@@ -110,28 +110,28 @@ files_at count from bytes = items_at (λ from. file_at from.0 from.1 from.2) aft
 
 unfoldable pub removed_at : EditKind → List ℕ → Result (List ℕ × List ℕ) FormatFault
 removed_at kind bytes = do
-  count ← within_at Truncated BadField w32 (shape kind).least_removed (shape kind).most_removed bytes
+  count ← ranged_number_at Truncated BadField w32 (shape kind).least_removed (shape kind).most_removed bytes
   numbers_at count.0 1 count.1
 
 unfoldable pub added_at : EditKind → List ℕ → Result (List FileMeta × List ℕ) FormatFault
 added_at kind bytes = do
-  count ← within_at Truncated BadField w32 (shape kind).least_added (shape kind).most_added bytes
+  count ← ranged_number_at Truncated BadField w32 (shape kind).least_added (shape kind).most_added bytes
   files_at count.0 (1, (shape kind).lowest, (shape kind).deepest) count.1
 
 -- an edit from the front
 unfoldable pub fields_at : List ℕ → Result (Edit × List ℕ) FormatFault
 fields_at bytes = do
-  number ← within_at Truncated BadField w64 1 MAX_NUMBER bytes
+  number ← ranged_number_at Truncated BadField w64 1 MAX_NUMBER bytes
   kind ← kind_at number.1
-  flushed ← within_at Truncated BadField w64 0 (2 ^ 56 - 1) kind.1
-  epoch ← within_at Truncated BadField w64 1 MAX_NUMBER flushed.1
-  next_file ← within_at Truncated BadField w64 1 MAX_NUMBER epoch.1
+  flushed ← ranged_number_at Truncated BadField w64 0 (2 ^ 56 - 1) kind.1
+  epoch ← ranged_number_at Truncated BadField w64 1 MAX_NUMBER flushed.1
+  next_file ← ranged_number_at Truncated BadField w64 1 MAX_NUMBER epoch.1
   removed ← removed_at kind.0 next_file.1
   added ← added_at kind.0 removed.1
   Ok (record { number = number.0; kind = kind.0; flushed = flushed.0; epoch = epoch.0; next_file = next_file.0; removed = removed.0; added = added.0 }, added.1)
 
 -- an edit, all of the bytes
-unfoldable pub edit_of : List ℕ → Result Edit FormatFault
-edit_of bytes = do
+unfoldable pub read_edit : List ℕ → Result Edit FormatFault
+read_edit bytes = do
   e ← fields_at bytes
   if length e.1 == 0 then Ok e.0 else Err TrailingBytes

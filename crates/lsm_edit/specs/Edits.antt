@@ -3,22 +3,22 @@ use Rattle.std.specs.Prelude.{◌≡◌, ℕ, List, [], ◌∷◌, None}
 use Rattle.lsm_key.specs.Sets.{IsIn}
 use Rattle.lsm_edit.specs.declared.edit.Edit.{Edit}
 use Rattle.lsm_edit.specs.Edit.{IsEdit}
-use Rattle.lsm_edit.specs.Version.{VersionValue, IsVersion, apply_fault, applied}
+use Rattle.lsm_edit.specs.Version.{VersionValue, IsVersion, apply_fault, after_apply}
 
 -- each edit applies to the version that those before it make
 abbrev pub Apply : VersionValue → List Edit → Type 0
 Apply v [] = Unit {0}
-Apply v (edit ∷ edits) = (apply_fault v edit ≡ None) × Apply (applied v edit) edits
+Apply v (edit ∷ edits) = (apply_fault v edit ≡ None) × Apply (after_apply v edit) edits
 
 -- the version after all edits
-abbrev pub folded : VersionValue → List Edit → VersionValue
-folded v [] = v
-folded v (edit ∷ edits) = folded (applied v edit) edits
+abbrev pub after_edits : VersionValue → List Edit → VersionValue
+after_edits v [] = v
+after_edits v (edit ∷ edits) = after_edits (after_apply v edit) edits
 
 -- the version before all edits, and the one after each
 abbrev pub versions_from : VersionValue → List Edit → List VersionValue
 versions_from v [] = v ∷ []
-versions_from v (edit ∷ edits) = v ∷ versions_from (applied v edit) edits
+versions_from v (edit ∷ edits) = v ∷ versions_from (after_apply v edit) edits
 
 -- no number is among those that an edit removes and among those that a later one does
 abbrev pub RemovedOnce : List Edit → Type 0

@@ -4,7 +4,7 @@ use Rattle.std.specs.Int.{w8, w32, w64, to_be_bytes}
 use Rattle.lsm_key.specs.declared.limits.TheConstants.{MAX_KEY_BYTES, MAX_NUMBER, MAX_TABLE_BYTES}
 use Rattle.lsm_key.specs.Order.{key_le}
 use Rattle.lsm_key.specs.Spelling.{key, IsKey}
-use Rattle.lsm_key.specs.Reading.{◌>>=◌, within_at, key_at}
+use Rattle.lsm_key.specs.Reading.{◌>>=◌, ranged_number_at, key_at}
 use Rattle.lsm_edit.specs.declared.file.FileMeta.{FileMeta}
 use Rattle.lsm_edit.specs.declared.file.TheConstants.{MAX_LEVEL}
 use Rattle.lsm_edit.specs.declared.format.FormatFault.{FormatFault}
@@ -28,12 +28,12 @@ file f = to_be_bytes w64 f.number ++ to_be_bytes w8 f.level ++ key f.smallest ++
 -- a record of a file of at least a number, and of these levels
 unfoldable pub file_at : ℕ → ℕ → ℕ → List ℕ → Result (FileMeta × List ℕ) FormatFault
 file_at least lowest deepest bytes = do
-  number ← within_at Truncated BadField w64 least MAX_NUMBER bytes
-  level ← within_at Truncated BadField w8 lowest deepest number.1
+  number ← ranged_number_at Truncated BadField w64 least MAX_NUMBER bytes
+  level ← ranged_number_at Truncated BadField w8 lowest deepest number.1
   smallest ← key_at MAX_KEY_BYTES Truncated BadField level.1
   largest ← key_at MAX_KEY_BYTES Truncated BadField smallest.1
   if not (key_le smallest.0 largest.0) then Err BadField else
       (do
-        size ← within_at Truncated BadField w32 1 MAX_TABLE_BYTES largest.1
-        entries ← within_at Truncated BadField w32 1 4294967295 size.1
+        size ← ranged_number_at Truncated BadField w32 1 MAX_TABLE_BYTES largest.1
+        entries ← ranged_number_at Truncated BadField w32 1 4294967295 size.1
         Ok (record { number = number.0; level = level.0; smallest = smallest.0; largest = largest.0; bytes = size.0; entries = entries.0 }, entries.1))

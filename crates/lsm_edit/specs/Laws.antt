@@ -6,7 +6,7 @@ use Rattle.lsm_edit.specs.declared.edit.Edit.{Edit}
 use Rattle.lsm_edit.specs.declared.edit.EditKind.TheVariants.{Flush, Install, Epoch}
 use Rattle.lsm_edit.specs.declared.version.ApplyError.TheVariants.{NoSuchFile, FileExists}
 use Rattle.lsm_edit.specs.Version.{VersionValue, IsVersion, first_version, apply_fault}
-use Rattle.lsm_edit.specs.Edits.{Apply, IsHistory, RemovedOnce, folded, versions_from}
+use Rattle.lsm_edit.specs.Edits.{Apply, IsHistory, RemovedOnce, after_edits, versions_from}
 
 -- from any version on, as from the first
 abbrev pub NoFileIsRemovedTwice : Type 0
@@ -46,7 +46,7 @@ abbrev pub AMergeApplies : Type 0
 AMergeApplies = Apply first_version (opening ∷ flush ∷ merge ∷ [])
 
 abbrev merged : VersionValue
-merged = folded first_version (opening ∷ flush ∷ merge ∷ [])
+merged = after_edits first_version (opening ∷ flush ∷ merge ∷ [])
 
 abbrev pub ASecondRemovalDoesNot : Type 0
 ASecondRemovalDoesNot = apply_fault merged second_merge ≡ Some NoSuchFile

@@ -9,7 +9,7 @@ use Rattle.lsm_table.specs.Tables.{Opened, IsTable, smallest_key, largest_key}
 use Rattle.lsm_edit.specs.declared.file.FileMeta.{FileMeta}
 use Rattle.lsm_edit.specs.declared.edit.Edit.{Edit}
 use Rattle.lsm_edit.specs.declared.served.Placed.{Placed}
-use Rattle.lsm_edit.specs.Version.{VersionValue, first_version, applied, has_number}
+use Rattle.lsm_edit.specs.Version.{VersionValue, first_version, after_apply, has_number}
 
 -- a table is as its record says
 pub record IsAsRecorded (f : FileMeta) (t : Opened) : Type 0 where
@@ -67,8 +67,8 @@ abbrev pub places_without : List ℕ → List Placed → List Placed
 places_without numbers ps = filter (λ p. not (list_any (λ n. has_number n p.meta) numbers)) ps
 
 -- the next version, with the tables that the edit's files came with
-abbrev pub advanced : ServedValue → Edit → List Opened → ServedValue
-advanced s edit tables = record { version = applied s.version edit; places = put_all (placed_of edit.added tables) (places_without edit.removed s.places) }
+abbrev pub after_advance : ServedValue → Edit → List Opened → ServedValue
+after_advance s edit tables = record { version = after_apply s.version edit; places = put_all (placed_of edit.added tables) (places_without edit.removed s.places) }
 
 -- the entries of each table, in the order of a search
 abbrev pub tables_of : List Placed → List (List Entry)

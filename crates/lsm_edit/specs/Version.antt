@@ -27,20 +27,20 @@ abbrev pub has_number : ℕ → FileMeta → Bool
 has_number n f = nat_eq f.number n
 
 -- the files without those of these numbers
-abbrev pub without : List ℕ → List FileMeta → List FileMeta
-without numbers files = filter (λ f. not (list_any (λ n. has_number n f) numbers)) files
+abbrev pub files_without : List ℕ → List FileMeta → List FileMeta
+files_without numbers files = filter (λ f. not (list_any (λ n. has_number n f) numbers)) files
 
 -- one step of the fold: less the removed files, with the added ones
 abbrev pub files_after : List FileMeta → Edit → List FileMeta
-files_after files edit = without edit.removed files ++ edit.added
+files_after files edit = files_without edit.removed files ++ edit.added
 
 -- two files have a key in common, by their ranges
-abbrev pub meets : FileMeta → FileMeta → Bool
-meets f g = key_le f.smallest g.largest && key_le g.smallest f.largest
+abbrev pub files_meet : FileMeta → FileMeta → Bool
+files_meet f g = key_le f.smallest g.largest && key_le g.smallest f.largest
 
 -- two files of a level from 1 up whose ranges meet
 abbrev pub clashes : FileMeta → FileMeta → Bool
-clashes f g = nat_eq f.level g.level && (nat_lt 0 f.level && meets f g)
+clashes f g = nat_eq f.level g.level && (nat_lt 0 f.level && files_meet f g)
 
 abbrev pub has_overlap : List FileMeta → Bool
 has_overlap [] = false
@@ -73,13 +73,13 @@ apply_fault v edit =
     else if is_low v edit || miscounts edit.kind v.epoch edit.epoch then Some BadCounter
     else None
 
-abbrev pub applied : VersionValue → Edit → VersionValue
-applied v edit = record { number = edit.number; flushed = edit.flushed; epoch = edit.epoch; next_file = edit.next_file; files = files_after v.files edit }
+abbrev pub after_apply : VersionValue → Edit → VersionValue
+after_apply v edit = record { number = edit.number; flushed = edit.flushed; epoch = edit.epoch; next_file = edit.next_file; files = files_after v.files edit }
 
 -- numbers rise from file to file
-abbrev pub NumbersRise : List FileMeta → Type 0
-NumbersRise [] = Unit {0}
-NumbersRise (f ∷ fs) = ((g : FileMeta) → IsIn g fs → f.number < g.number) × NumbersRise fs
+abbrev pub FileNumbersRise : List FileMeta → Type 0
+FileNumbersRise [] = Unit {0}
+FileNumbersRise (f ∷ fs) = ((g : FileMeta) → IsIn g fs → f.number < g.number) × FileNumbersRise fs
 
 -- what every version keeps
 pub record IsVersion (v : VersionValue) : Type 0 where
@@ -90,5 +90,5 @@ pub record IsVersion (v : VersionValue) : Type 0 where
   pub next_file : v.next_file ≤ MAX_NUMBER
   pub files : (f : FileMeta) → IsIn f v.files → IsFile f
   pub below : (f : FileMeta) → IsIn f v.files → f.number < v.next_file
-  pub rising : NumbersRise v.files
+  pub rising : FileNumbersRise v.files
   pub disjoint : has_overlap v.files ≡ false

@@ -8,14 +8,14 @@ ghost use Rattle.std.specs.List.{flat_map};
 ghost use Rattle.lsm_edit.specs.File.{IsFile, file};
 ghost use Rattle.lsm_key.specs.Reading.{Gives};
 ghost use Rattle.lsm_edit.specs.declared.edit.Edit.{Edit};
-ghost use Rattle.lsm_edit.specs.Edit.{IsEdit, IsSpelled, edit, head, edit_of, fields_at, kind_at, kind_code, shape, removed, removed_at, added_at, numbers_at, files_at};
+ghost use Rattle.lsm_edit.specs.Edit.{IsEdit, IsSpelled, edit, head, read_edit, fields_at, kind_at, kind_code, shape, removed_bytes, removed_at, added_at, numbers_at, files_at};
 
-use crate::file::{MAX_LEVEL, file_of, put_file, same_files};
+use crate::file::{MAX_LEVEL, read_file, same_files, write_file};
 use crate::{FileMeta, FormatError, FormatFault};
 use bytes::{BufMut, Bytes, BytesMut};
 use lsm_key::{
-    Items, MAX_KEY_BYTES, MAX_NUMBER, Refused, Seq, know_bytes, u8_of, u32_of, u32_within,
-    u64_within,
+    Items, MAX_KEY_BYTES, MAX_NUMBER, Refused, Seq, know_bytes, read_ranged_u32, read_ranged_u64,
+    read_u8, read_u32,
 };
 use std::alloc::{AllocError, Global};
 
@@ -146,10 +146,10 @@ pub fn same_numbers(numbers: &[u64], others: &[u64]) -> bool
     numbers == others
 }
 
-fn kind_of(rest: &mut Bytes) -> Result<EditKind, FormatError>
+fn read_kind(rest: &mut Bytes) -> Result<EditKind, FormatError>
     ensures { Gives (λ k. (k, rest.new)) result (kind_at rest.old) }
 {
-    match u8_of(rest, SHORT)? {
+    match read_u8(rest, SHORT)? {
         1 => Ok(EditKind::Flush),
         2 => Ok(EditKind::Install),
         3 => Ok(EditKind::Epoch),
@@ -158,13 +158,13 @@ fn kind_of(rest: &mut Bytes) -> Result<EditKind, FormatError>
 }
 
 // `count` numbers of files, ascending.
-fn numbers_of(alloc: Global, count: u32, rest: &mut Bytes) -> Result<Items<u64>, FormatError>
+fn read_numbers(alloc: Global, count: u32, rest: &mut Bytes) -> Result<Items<u64>, FormatError>
     ensures { Gives (λ numbers. (numbers, rest.new)) result (numbers_at count 1 rest.old) }
 {
     let mut numbers = Items::new(alloc);
     let mut least = 1;
     for _place in 0..count {
-        let number = u64_within(rest, least, MAX_NUMBER, SHORT, BAD)?;
+        let number = read_ranged_u64(rest, least, MAX_NUMBER, SHORT, BAD)?;
         numbers.push(number)?;
         least = number + 1;
     }
@@ -173,16 +173,16 @@ fn numbers_of(alloc: Global, count: u32, rest: &mut Bytes) -> Result<Items<u64>,
 
 // The files that an edit of the kind removes.
 #[tactic(auto, unfolding(crate::specs::Edit::removed_at))]
-fn removed_of(alloc: Global, kind: EditKind, rest: &mut Bytes) -> Result<Items<u64>, FormatError>
+fn read_removed(alloc: Global, kind: EditKind, rest: &mut Bytes) -> Result<Items<u64>, FormatError>
     ensures { Gives (λ numbers. (numbers, rest.new)) result (removed_at kind rest.old) }
 {
     let shape = kind.shape();
-    let count = u32_within(rest, shape.least_removed, shape.most_removed, SHORT, BAD)?;
-    numbers_of(alloc, count, rest)
+    let count = read_ranged_u32(rest, shape.least_removed, shape.most_removed, SHORT, BAD)?;
+    read_numbers(alloc, count, rest)
 }
 
 // `count` files of one level, from `lowest` to `deepest`, with ascending numbers.
-fn files_of(
+fn read_files(
     alloc: Global,
     count: u32,
     lowest: u8,
@@ -195,7 +195,7 @@ fn files_of(
     let mut files = Items::new(alloc);
     let (mut least, mut lowest, mut deepest) = (1, lowest, deepest);
     for _place in 0..count {
-        let file = file_of(rest, least, lowest, deepest)?;
+        let file = read_file(rest, least, lowest, deepest)?;
         (least, lowest, deepest) = (file.number + 1, file.level, file.level);
         files.push(file)?;
     }
@@ -204,25 +204,29 @@ fn files_of(
 
 // The files that an edit of the kind adds.
 #[tactic(auto, unfolding(crate::specs::Edit::added_at))]
-fn added_of(alloc: Global, kind: EditKind, rest: &mut Bytes) -> Result<Items<FileMeta>, FormatError>
+fn read_added(
+    alloc: Global,
+    kind: EditKind,
+    rest: &mut Bytes,
+) -> Result<Items<FileMeta>, FormatError>
     ensures { Gives (λ files. (files, rest.new)) result (added_at kind rest.old) }
 {
     let shape = kind.shape();
-    let count = u32_within(rest, shape.least_added, shape.most_added, SHORT, BAD)?;
-    files_of(alloc, count, shape.lowest, shape.deepest, rest)
+    let count = read_ranged_u32(rest, shape.least_added, shape.most_added, SHORT, BAD)?;
+    read_files(alloc, count, shape.lowest, shape.deepest, rest)
 }
 
 #[tactic(auto, unfolding(crate::specs::Edit::fields_at))]
-fn fields_of(alloc: Global, rest: &mut Bytes) -> Result<Edit, FormatError>
+fn read_fields(alloc: Global, rest: &mut Bytes) -> Result<Edit, FormatError>
     ensures { Gives (λ e. (e, rest.new)) result (fields_at rest.old) }
 {
-    let number = u64_within(rest, 1, MAX_NUMBER, SHORT, BAD)?;
-    let kind = kind_of(rest)?;
-    let flushed = u64_within(rest, 0, Seq::MAX, SHORT, BAD)?;
-    let epoch = u64_within(rest, 1, MAX_NUMBER, SHORT, BAD)?;
-    let next_file = u64_within(rest, 1, MAX_NUMBER, SHORT, BAD)?;
-    let removed = removed_of(alloc, kind, rest)?;
-    let added = added_of(alloc, kind, rest)?;
+    let number = read_ranged_u64(rest, 1, MAX_NUMBER, SHORT, BAD)?;
+    let kind = read_kind(rest)?;
+    let flushed = read_ranged_u64(rest, 0, Seq::MAX, SHORT, BAD)?;
+    let epoch = read_ranged_u64(rest, 1, MAX_NUMBER, SHORT, BAD)?;
+    let next_file = read_ranged_u64(rest, 1, MAX_NUMBER, SHORT, BAD)?;
+    let removed = read_removed(alloc, kind, rest)?;
+    let added = read_added(alloc, kind, rest)?;
     Ok(Edit {
         number,
         kind,
@@ -241,19 +245,19 @@ pub fn decode_edit(alloc: Global, bytes: Bytes) -> Result<Edit, FormatError>
     // What encodes to these bytes is decoded, unless memory runs out.
     ensures only { (e : Edit) → IsSpelled bytes e → Gives (λ x. x) result (Ok e) }
     // The fault is the first one.
-    ensures exact { Gives (λ x. x) result (edit_of bytes) }
+    ensures exact { Gives (λ x. x) result (read_edit bytes) }
 {
     know_bytes(&bytes);
-    whole_of(alloc, bytes)
+    read_whole(alloc, bytes)
 }
 
 // The edit that the bytes encode, with no byte left.
-#[tactic(auto, unfolding(crate::specs::Edit::edit_of))]
-fn whole_of(alloc: Global, bytes: Bytes) -> Result<Edit, FormatError>
-    ensures { Gives (λ x. x) result (edit_of bytes) }
+#[tactic(auto, unfolding(crate::specs::Edit::read_edit))]
+fn read_whole(alloc: Global, bytes: Bytes) -> Result<Edit, FormatError>
+    ensures { Gives (λ x. x) result (read_edit bytes) }
 {
     let mut rest = bytes;
-    let edit = fields_of(alloc, &mut rest)?;
+    let edit = read_fields(alloc, &mut rest)?;
     if !rest.is_empty() {
         return Err(Refused::Fault(FormatFault::TrailingBytes));
     }
@@ -267,7 +271,7 @@ const HEAD_BYTES: usize = 41;
 const MOST_FILE_BYTES: usize = 17 + 2 * (2 + MAX_KEY_BYTES);
 
 // Appends what comes before the added files.
-fn put_head(out: &mut BytesMut, e: &Edit) -> Result<(), AllocError>
+fn write_head(out: &mut BytesMut, e: &Edit) -> Result<(), AllocError>
     requires { IsEdit e.now }
     ensures { OnOk result (out.new.items ≡ out.old.items ++ head e.now) }
 {
@@ -276,14 +280,14 @@ fn put_head(out: &mut BytesMut, e: &Edit) -> Result<(), AllocError>
     out.put_u64(e.flushed.number())?;
     out.put_u64(e.epoch)?;
     out.put_u64(e.next_file)?;
-    put_numbers(out, e.removed.as_slice())?;
+    write_numbers(out, e.removed.as_slice())?;
     Ok(())
 }
 
 // Appends a count of numbers, and each number.
-fn put_numbers(out: &mut BytesMut, numbers: &[u64]) -> Result<(), AllocError>
+fn write_numbers(out: &mut BytesMut, numbers: &[u64]) -> Result<(), AllocError>
     requires { length numbers.now < 2 ^ 32 }
-    ensures { OnOk result (out.new.items ≡ out.old.items ++ removed numbers.now) }
+    ensures { OnOk result (out.new.items ≡ out.old.items ++ removed_bytes numbers.now) }
 {
     out.put_u32(numbers.len() as u32)?;
     for number in numbers {
@@ -293,12 +297,12 @@ fn put_numbers(out: &mut BytesMut, numbers: &[u64]) -> Result<(), AllocError>
 }
 
 // Appends the files, without their count.
-fn put_files(out: &mut BytesMut, files: &[FileMeta]) -> Result<(), AllocError>
+fn write_files(out: &mut BytesMut, files: &[FileMeta]) -> Result<(), AllocError>
     requires { All IsFile files.now }
     ensures { OnOk result (out.new.items ≡ out.old.items ++ flat_map file files.now) }
 {
     for file in files {
-        put_file(out, file)?;
+        write_file(out, file)?;
     }
     Ok(())
 }
@@ -310,8 +314,8 @@ pub fn encode_edit(alloc: Global, e: &Edit) -> Result<Bytes, AllocError>
 {
     let files = e.added.as_slice();
     let mut out = BytesMut::with_capacity(alloc, HEAD_BYTES + MOST_FILE_BYTES)?;
-    put_head(&mut out, e)?;
+    write_head(&mut out, e)?;
     out.put_u32(files.len() as u32)?;
-    put_files(&mut out, files)?;
+    write_files(&mut out, files)?;
     Ok(out.freeze()?)
 }

@@ -11,8 +11,8 @@ ghost use Rattle.lsm_edit.specs.declared.format.FormatFault.TheVariants.{Truncat
 use crate::format::{FormatError, FormatFault};
 use bytes::{BufMut, Bytes, BytesMut};
 use lsm_key::{
-    MAX_KEY_BYTES, MAX_NUMBER, MAX_TABLE_BYTES, Refused, key_of, put_key, u8_within, u32_within,
-    u64_within,
+    MAX_KEY_BYTES, MAX_NUMBER, MAX_TABLE_BYTES, Refused, read_key, read_ranged_u8, read_ranged_u32,
+    read_ranged_u64, write_key,
 };
 use std::alloc::AllocError;
 
@@ -42,7 +42,7 @@ const BAD: FormatFault = FormatFault::BadField;
 
 /// A record from the front, of a file of number `least` or more, and of level `lowest` to `deepest`.
 #[tactic(auto, unfolding(crate::specs::File::file_at))]
-pub(crate) fn file_of(
+pub(crate) fn read_file(
     rest: &mut Bytes,
     least: u64,
     lowest: u8,
@@ -50,15 +50,15 @@ pub(crate) fn file_of(
 ) -> Result<FileMeta, FormatError>
     ensures { Gives (λ f. (f, rest.new)) result (file_at least lowest deepest rest.old) }
 {
-    let number = u64_within(rest, least, MAX_NUMBER, SHORT, BAD)?;
-    let level = u8_within(rest, lowest, deepest, SHORT, BAD)?;
-    let smallest = key_of(rest, MAX_KEY_BYTES, SHORT, BAD)?;
-    let largest = key_of(rest, MAX_KEY_BYTES, SHORT, BAD)?;
+    let number = read_ranged_u64(rest, least, MAX_NUMBER, SHORT, BAD)?;
+    let level = read_ranged_u8(rest, lowest, deepest, SHORT, BAD)?;
+    let smallest = read_key(rest, MAX_KEY_BYTES, SHORT, BAD)?;
+    let largest = read_key(rest, MAX_KEY_BYTES, SHORT, BAD)?;
     if smallest.cmp(&largest).is_gt() {
         return Err(Refused::Fault(BAD));
     }
-    let bytes = u32_within(rest, 1, MAX_TABLE_BYTES as u32, SHORT, BAD)?;
-    let entries = u32_within(rest, 1, u32::MAX, SHORT, BAD)?;
+    let bytes = read_ranged_u32(rest, 1, MAX_TABLE_BYTES as u32, SHORT, BAD)?;
+    let entries = read_ranged_u32(rest, 1, u32::MAX, SHORT, BAD)?;
     Ok(FileMeta {
         number,
         level,
@@ -70,14 +70,14 @@ pub(crate) fn file_of(
 }
 
 /// Appends a record.
-pub(crate) fn put_file(out: &mut BytesMut, meta: &FileMeta) -> Result<(), AllocError>
+pub(crate) fn write_file(out: &mut BytesMut, meta: &FileMeta) -> Result<(), AllocError>
     requires { IsFile meta.now }
     ensures { OnOk result (out.new.items ≡ out.old.items ++ file meta.now) }
 {
     out.put_u64(meta.number)?;
     out.put_u8(meta.level)?;
-    put_key(out, meta.smallest.as_slice())?;
-    put_key(out, meta.largest.as_slice())?;
+    write_key(out, meta.smallest.as_slice())?;
+    write_key(out, meta.largest.as_slice())?;
     out.put_u32(meta.bytes)?;
     out.put_u32(meta.entries)?;
     Ok(())

@@ -7,7 +7,7 @@ ghost use Rattle.lsm_edit.specs.declared.file.FileMeta.{FileMeta};
 ghost use Rattle.lsm_edit.specs.declared.edit.EditKind.TheVariants.{Install};
 ghost use Rattle.lsm_edit.specs.File.{IsFile};
 ghost use Rattle.lsm_edit.specs.Edit.{IsEdit, AreRemoved, AreAdded};
-ghost use Rattle.lsm_edit.specs.Version.{apply_fault, has_number, has_overlap, without};
+ghost use Rattle.lsm_edit.specs.Version.{apply_fault, has_number, has_overlap, files_without};
 ghost use Rattle.lsm_edit.specs.Next.{flush_edit, epoch_edit, install_edit, number_after};
 ghost use Rattle.lsm_edit.specs.Served.{IsAsRecorded};
 ghost use Rattle.lsm_table.specs.Tables.{IsTable};
@@ -89,7 +89,7 @@ impl Edit {
         requires added { AreAdded Install added }
         requires fresh { (f : FileMeta) → IsIn f added → version.now.next_file ≤ f.number }
         requires room { number_after version.now.next_file added ≤ MAX_NUMBER }
-        requires disjoint { has_overlap (without removed version.now.files ++ added) ≡ false }
+        requires disjoint { has_overlap (files_without removed version.now.files ++ added) ≡ false }
         ensures edit { result ≡ install_edit version.now removed added }
         ensures sound { IsEdit result }
         ensures applies { apply_fault version.now result ≡ None }

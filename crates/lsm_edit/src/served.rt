@@ -7,7 +7,7 @@ ghost use Rattle.std.specs.List.Sorted.{IsPartitionPoint};
 ghost use Rattle.std.specs.Option.{option_map, option_copied, option_to_list};
 ghost use Rattle.lsm_key.specs.Faults.{Refuses};
 ghost use Rattle.lsm_key.specs.Sets.{IsIn, SameMembers};
-ghost use Rattle.lsm_key.specs.Visible.{visible, lent};
+ghost use Rattle.lsm_key.specs.Visible.{visible, lent_entry};
 ghost use Rattle.lsm_edit.specs.declared.served.Placed.{Placed};
 ghost use Rattle.lsm_key.specs.Places.{AreOrdered, all_entries, first_visible};
 ghost use Rattle.lsm_edit.specs.Edit.{IsEdit};
@@ -57,7 +57,7 @@ impl Model for Served {
 
 impl Served {
     ghost use Rattle.lsm_edit.specs.Version.{IsVersion};
-    ghost use Rattle.lsm_edit.specs.Served.{IsServed, first_served, advanced, AreAsRecorded, tables_of, table_at};
+    ghost use Rattle.lsm_edit.specs.Served.{IsServed, first_served, after_advance, AreAsRecorded, tables_of, table_at};
 
     /// Version 0, without tables.
     pub fn new(alloc: Global) -> Served
@@ -102,7 +102,7 @@ impl Served {
     pub fn advance(&mut self, edit: &Edit, tables: Vec<Table>) -> Result<(), ApplyError>
         requires sound { IsEdit edit.now }
         requires recorded { AreAsRecorded edit.now.added tables.items }
-        ensures ok { OnOk result ((apply_fault self.old.version edit.now ≡ None) × (self.new ≡ advanced self.old edit.now tables.items)) }
+        ensures ok { OnOk result ((apply_fault self.old.version edit.now ≡ None) × (self.new ≡ after_advance self.old edit.now tables.items)) }
         ensures err { OnErr result (self.new ≡ self.old) }
         ensures refused { IfErr result (Refuses ApplyError.OutOfMemory (apply_fault self.old.version edit.now)) }
     {
@@ -119,7 +119,7 @@ impl Served {
         requires sound { IsEdit edit.now }
         requires recorded { AreAsRecorded edit.now.added tables.items }
         requires applies { apply_fault self.old.version edit.now ≡ None }
-        ensures ok { OnOk result (self.new ≡ advanced self.old edit.now tables.items) }
+        ensures ok { OnOk result (self.new ≡ after_advance self.old edit.now tables.items) }
         ensures err { OnErr result (self.new ≡ self.old) }
     {
         let added = placed_for(self.current.alloc(), edit.added.as_slice(), tables)?;
@@ -147,8 +147,8 @@ impl Served {
 
     /// The entry of the key with the greatest sequence at most `at`. Allocates nothing.
     pub fn get_at(&self, key: &[u8], at: Seq) -> Option<EntryRef<'_>>
-        ensures first { option_map lent result ≡ first_visible (tables_of self.now.places) key.now at }
-        ensures found { AreOrdered (tables_of self.now.places) → option_map lent result ≡ visible (all_entries (tables_of self.now.places)) key.now at }
+        ensures first { option_map lent_entry result ≡ first_visible (tables_of self.now.places) key.now at }
+        ensures found { AreOrdered (tables_of self.now.places) → option_map lent_entry result ≡ visible (all_entries (tables_of self.now.places)) key.now at }
     {
         // Proof hint: their levels are in range.
         let _files = self.current.files();
@@ -157,8 +157,8 @@ impl Served {
 
     /// The same at the version's flushed sequence, above which it has no entry.
     pub fn get(&self, key: &[u8]) -> Option<EntryRef<'_>>
-        ensures first { option_map lent result ≡ first_visible (tables_of self.now.places) key.now self.now.version.flushed }
-        ensures found { AreOrdered (tables_of self.now.places) → option_map lent result ≡ visible (all_entries (tables_of self.now.places)) key.now self.now.version.flushed }
+        ensures first { option_map lent_entry result ≡ first_visible (tables_of self.now.places) key.now self.now.version.flushed }
+        ensures found { AreOrdered (tables_of self.now.places) → option_map lent_entry result ≡ visible (all_entries (tables_of self.now.places)) key.now self.now.version.flushed }
     {
         self.get_at(key, self.current.flushed())
     }
@@ -270,7 +270,7 @@ fn first_in<'a>(places: &'a [Placed], key: &[u8], at: Seq) -> Option<EntryRef<'a
     requires recorded { AllRecorded places.now }
     requires ordered { AreInSearchOrder places.now }
     requires levels { (p : Placed) → IsIn p places.now → p.meta.level ≤ MAX_LEVEL }
-    ensures { option_map lent result ≡ first_visible (tables_of places.now) key.now at }
+    ensures { option_map lent_entry result ≡ first_visible (tables_of places.now) key.now at }
 {
     match in_level_zero(places, key, at) {
         Some(entry) => return Some(entry),
@@ -289,7 +289,7 @@ fn first_in<'a>(places: &'a [Placed], key: &[u8], at: Seq) -> Option<EntryRef<'a
 fn in_level_zero<'a>(places: &'a [Placed], key: &[u8], at: Seq) -> Option<EntryRef<'a>>
     requires recorded { AllRecorded places.now }
     requires ordered { AreInSearchOrder places.now }
-    ensures found { IfSome result (λ entry. first_visible (tables_of places.now) key.now at ≡ Some (lent entry)) }
+    ensures found { IfSome result (λ entry. first_visible (tables_of places.now) key.now at ≡ Some (lent_entry entry)) }
     ensures none { IfNone result (UpperShowNone places.now 1 key.now at) }
 {
     for placed in places {
@@ -310,7 +310,7 @@ fn in_level<'a>(places: &'a [Placed], level: u8, key: &[u8], at: Seq) -> Option<
     requires ordered { AreInSearchOrder places.now }
     requires deeper { 1 ≤ level }
     requires done { UpperShowNone places.now level key.now at }
-    ensures found { IfSome result (λ entry. first_visible (tables_of places.now) key.now at ≡ Some (lent entry)) }
+    ensures found { IfSome result (λ entry. first_visible (tables_of places.now) key.now at ≡ Some (lent_entry entry)) }
     ensures none { IfNone result (UpperShowNone places.now (level + 1) key.now at) }
 {
     let place = place_in(places, level, key);
@@ -347,7 +347,7 @@ fn stands_left(placed: &Placed, level: u8, key: &[u8]) -> bool
 // The match in a table, which is not searched if the key is outside its range.
 fn shown_by<'a>(placed: &'a Placed, key: &[u8], at: Seq) -> Option<EntryRef<'a>>
     requires { IsAsRecorded placed.now.meta placed.now.table }
-    ensures { option_map lent result ≡ visible placed.now.table.entries key.now at }
+    ensures { option_map lent_entry result ≡ visible placed.now.table.entries key.now at }
 {
     if !covers(&placed.meta, key) {
         return None;

@@ -5,7 +5,7 @@ ghost use Rattle.std.specs.List.{list_any};
 ghost use Rattle.std.specs.List.Sorted.{IsNonDecreasing};
 ghost use Rattle.lsm_key.specs.Faults.{Refuses};
 ghost use Rattle.lsm_edit.specs.Edit.{IsEdit};
-ghost use Rattle.lsm_edit.specs.Version.{clashes, goes_back, has_number, has_overlap, is_low, miscounts, without, NumbersRise};
+ghost use Rattle.lsm_edit.specs.Version.{clashes, goes_back, has_number, has_overlap, is_low, miscounts, files_without, FileNumbersRise};
 
 use crate::file::same_files;
 use crate::{Edit, EditKind, FileMeta};
@@ -78,7 +78,7 @@ impl Model for Version {
 }
 
 impl Version {
-    ghost use Rattle.lsm_edit.specs.Version.{IsVersion, first_version, applied, apply_fault};
+    ghost use Rattle.lsm_edit.specs.Version.{IsVersion, first_version, after_apply, apply_fault};
 
     /// Version 0: before the first edit.
     pub fn new(alloc: Global) -> Version
@@ -136,7 +136,7 @@ impl Version {
     /// Becomes the next version by an edit. A refusal changes nothing.
     pub fn apply(&mut self, edit: &Edit) -> Result<(), ApplyError>
         requires { IsEdit edit.now }
-        ensures ok { OnOk result ((apply_fault self.old edit.now ≡ None) × (self.new ≡ applied self.old edit.now)) }
+        ensures ok { OnOk result ((apply_fault self.old edit.now ≡ None) × (self.new ≡ after_apply self.old edit.now)) }
         ensures err { OnErr result (self.new ≡ self.old) }
         ensures refused { IfErr result (Refuses ApplyError.OutOfMemory (apply_fault self.old edit.now)) }
     {
@@ -152,7 +152,7 @@ impl Version {
     pub fn apply_valid(&mut self, edit: &Edit) -> Result<(), AllocError>
         requires sound { IsEdit edit.now }
         requires applies { apply_fault self.old edit.now ≡ None }
-        ensures ok { OnOk result (self.new ≡ applied self.old edit.now) }
+        ensures ok { OnOk result (self.new ≡ after_apply self.old edit.now) }
         ensures err { OnErr result (self.new ≡ self.old) }
     {
         let removed = removed_by(edit);
@@ -257,7 +257,7 @@ pub(crate) fn is_among(numbers: &[u64], number: u64) -> bool
 
 // Whether one of the numbers is no file's.
 fn lacks(files: &[FileMeta], numbers: &[u64]) -> bool
-    requires { NumbersRise files.now }
+    requires { FileNumbersRise files.now }
     ensures { result ≡ list_any (λ n. not (list_any (has_number n) files.now)) numbers.now }
 {
     numbers.iter().any(|number| !has_file(files, *number))
@@ -265,7 +265,7 @@ fn lacks(files: &[FileMeta], numbers: &[u64]) -> bool
 
 // Whether the number is a file's.
 fn has_file(files: &[FileMeta], number: u64) -> bool
-    requires { NumbersRise files.now }
+    requires { FileNumbersRise files.now }
     ensures { result ≡ list_any (has_number number) files.now }
 {
     files
@@ -277,7 +277,7 @@ fn has_file(files: &[FileMeta], number: u64) -> bool
 fn overlaps_after(files: &[FileMeta], removed: &[u64], added: &[FileMeta]) -> bool
     requires disjoint { has_overlap files.now ≡ false }
     requires ascending { IsNonDecreasing removed.now }
-    ensures { result ≡ has_overlap (without removed.now files.now ++ added.now) }
+    ensures { result ≡ has_overlap (files_without removed.now files.now ++ added.now) }
 {
     meets_kept(files, removed, added) || overlaps(added)
 }

@@ -29,8 +29,8 @@ number_at short w bytes =
     else Ok (from_be_bytes w (take (byte_len w) bytes), drop (byte_len w) bytes)
 
 -- a number of a range
-abbrev pub within_at : {F : Type 0} → F → F → Width → ℕ → ℕ → List ℕ → Result (ℕ × List ℕ) F
-within_at short bad w low high bytes = number_at short w bytes >>= λ n. if nat_lt n.0 low || nat_lt high n.0 then Err bad else Ok n
+abbrev pub ranged_number_at : {F : Type 0} → F → F → Width → ℕ → ℕ → List ℕ → Result (ℕ × List ℕ) F
+ranged_number_at short bad w low high bytes = number_at short w bytes >>= λ n. if nat_lt n.0 low || nat_lt high n.0 then Err bad else Ok n
 
 -- n bytes and the bytes after them
 abbrev pub piece_at : {F : Type 0} → F → ℕ → List ℕ → Result (List ℕ × List ℕ) F

@@ -22,8 +22,8 @@ mod tests;
 pub use batch::{Batch, KeyError};
 pub use entry::{Entry, EntryRef, InternalKey, Kind};
 pub use fields::{
-    key_of, know_bytes, piece_of, put_key, put_trailer, trailer_of, u8_of, u8_within, u16_of,
-    u32_of, u32_within, u64_of, u64_within,
+    know_bytes, read_key, read_piece, read_ranged_u8, read_ranged_u32, read_ranged_u64,
+    read_trailer, read_u8, read_u16, read_u32, read_u64, write_key, write_trailer,
 };
 pub use items::Items;
 pub use laws::{

@@ -121,7 +121,7 @@ module _ (cs : List Chain) (up : AreChains cs) (key : List ℕ) (at : ℕ) where
   latest_in_chain c m own None h = λ f i seen. h f (own_chain cs up c f m i (is_seen-key key at f seen ∙ sym own)) seen
   latest_in_chain c m own (Some e) h = record {
     member = entry_in e c cs m h.member;
-    passes = h.passes;
+    satisfies = h.satisfies;
     greatest = λ f i seen. h.greatest f (own_chain cs up c f m i (is_seen-key key at f seen ∙ sym own)) seen;
   }
 

@@ -16,7 +16,7 @@ use Rattle.lsm_key.specs.Places.{entry_of, entries_after}
 use Rattle.lsm_key.proofs.Sets.{IsIn-append_cases, IsIn-append_right, IsIn-one, SameMembers-permutation}
 use Rattle.lsm_key.proofs.Writes.{entries_after-append, entry_key}
 use Rattle.lsm_key.proofs.Order.{keys_equal}
-use Rattle.lsm_mem.specs.Chains.{Chain, IsChain, AreChains, StandsBefore, SequencesRise, entries_in, with_entry, with_entries, without_newest, chain_if, older}
+use Rattle.lsm_mem.specs.Chains.{Chain, IsChain, AreChains, IsBeforeChains, SequencesRise, entries_in, with_entry, with_entries, without_newest, chain_if, older}
 use Rattle.lsm_mem.proofs.Pairs.{key_cmp, same_key, chain_if-some, older-push}
 use Rattle.lsm_mem.proofs.Chained.{entry_in}
 
@@ -57,12 +57,12 @@ with_entries-permuted (e ∷ es) cs =
 
 -- ---- chains stay in order
 
-before_at : (o : Ordering) (key : List ℕ) (e : Entry) (c : Chain) (cs : List Chain) → StandsBefore key (c ∷ cs) → key_cmp key e.ikey.key ≡ Less → StandsBefore key (with_entry e cs) → StandsBefore key (placed o e c cs)
+before_at : (o : Ordering) (key : List ℕ) (e : Entry) (c : Chain) (cs : List Chain) → IsBeforeChains key (c ∷ cs) → key_cmp key e.ikey.key ≡ Less → IsBeforeChains key (with_entry e cs) → IsBeforeChains key (placed o e c cs)
 before_at Less key e c cs before less rest d m = elim m [ inl same ↦ subst (λ (x : Chain). key_cmp key x.key ≡ Less) (sym same) less | inr n ↦ before d n ]
 before_at Equal key e c cs before less rest d m = elim m [ inl same ↦ subst (λ (x : Chain). key_cmp key x.key ≡ Less) (sym same) (before c (inl refl)) | inr n ↦ before d (inr n) ]
 before_at Greater key e c cs before less rest d m = elim m [ inl same ↦ before d (inl same) | inr n ↦ rest d n ]
 
-before_with : (key : List ℕ) (e : Entry) (cs : List Chain) → StandsBefore key cs → key_cmp key e.ikey.key ≡ Less → StandsBefore key (with_entry e cs)
+before_with : (key : List ℕ) (e : Entry) (cs : List Chain) → IsBeforeChains key cs → key_cmp key e.ikey.key ≡ Less → IsBeforeChains key (with_entry e cs)
 before_with key e [] before less d m = elim m [ inl same ↦ subst (λ (x : Chain). key_cmp key x.key ≡ Less) (sym same) less | inr n ↦ absurd n ]
 before_with key e (c ∷ cs) before less d m = before_at (key_cmp e.ikey.key c.key) key e c cs before less (λ x n. before_with key e cs (λ y o. before y (inr o)) less x n) d m
 

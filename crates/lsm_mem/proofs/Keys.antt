@@ -17,7 +17,7 @@ use Rattle.lsm_key.specs.Sets.{IsIn}
 use Rattle.lsm_key.specs.Order.{key_le}
 use Rattle.lsm_key.proofs.Visible.{has_key-at}
 use Rattle.lsm_mem.specs.Memtable.{keys_of}
-use Rattle.lsm_mem.specs.Chains.{Chain, IsChain, AreChains, StandsBefore, chain_of, chains_of, entries_in, keys_in}
+use Rattle.lsm_mem.specs.Chains.{Chain, IsChain, AreChains, IsBeforeChains, chain_of, chains_of, entries_in, keys_in}
 use Rattle.lsm_mem.proofs.Pairs.{key_cmp, vec_cmp}
 use Rattle.lsm_mem.proofs.Between.{filter-map}
 use Rattle.lsm_mem.proofs.Chained.{from_reverse, not_both}
@@ -89,7 +89,7 @@ module _ (c : Chain) (is : IsChain c) where
   chain_added_next : (last : List ℕ) (cs : List Chain) → key_cmp last c.key ≡ Less → dedup_from bytes_eq last (map key_of (entries_in (c ∷ cs))) ≡ last ∷ keys_of (entries_in (c ∷ cs))
   chain_added_next last cs less = added_next last c.key (reverse c.versions) (entries_in cs) less some own
 
-keys_after : (last : List ℕ) (cs : List Chain) → StandsBefore last cs → AreChains cs → dedup_from bytes_eq last (map key_of (entries_in cs)) ≡ last ∷ keys_in cs
+keys_after : (last : List ℕ) (cs : List Chain) → IsBeforeChains last cs → AreChains cs → dedup_from bytes_eq last (map key_of (entries_in cs)) ≡ last ∷ keys_in cs
 keys_after last [] before up = refl
 keys_after last (c ∷ cs) before up =
     chain_added_next c up.0 last cs (before c (inl refl)) ∙ ap (λ (keys : List (List ℕ)). last ∷ keys) (chain_added c up.0 cs ∙ keys_after c.key cs up.1 up.2)

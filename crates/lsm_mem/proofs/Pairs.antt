@@ -15,7 +15,7 @@ use Rattle.std.proofs.lemmas.Cmp.{nat_list_cmp_total, tied_itself}
 use Rattle.lsm_key.specs.declared.entry.Entry.{Entry}
 use Rattle.lsm_key.specs.Sets.{IsIn}
 use Rattle.lsm_key.proofs.Order.{keys_equal}
-use Rattle.lsm_mem.specs.Chains.{Chain, chain_of, chains_of, StandsBefore, with_entry, without_newest, older, chain_if}
+use Rattle.lsm_mem.specs.Chains.{Chain, chain_of, chains_of, IsBeforeChains, with_entry, without_newest, older, chain_if}
 
 -- ---- the order of keys
 
@@ -52,7 +52,7 @@ older_popped es (x ∷ rest) None is some = elim some [ inl none ↦ absurd (ome
 -- the keys of chains ascend
 abbrev pub KeysAscend : List Chain → Type 0
 KeysAscend [] = Unit {0}
-KeysAscend (c ∷ cs) = StandsBefore c.key cs × KeysAscend cs
+KeysAscend (c ∷ cs) = IsBeforeChains c.key cs × KeysAscend cs
 
 -- the order of the map's keys
 abbrev pub vec_cmp : {Y : Type 0} → Vec ℕ Y → Vec ℕ Y → Ordering
@@ -63,7 +63,7 @@ abbrev pub is_key : {Y : Type 0} → List ℕ → Vec ℕ Y → Bool
 is_key key k = is_eq (slice_cmp nat_cmp key k.items)
 
 module _ {Y Z : Type 0} where
-  before_all : (key : List ℕ) (ps : List (Vec ℕ Y × Vec Entry Z)) → AllByRecursion (λ (k : Vec ℕ Y). slice_cmp nat_cmp key k.items ≡ Less) (keys_of ps) → StandsBefore key (chains_of ps)
+  before_all : (key : List ℕ) (ps : List (Vec ℕ Y × Vec Entry Z)) → AllByRecursion (λ (k : Vec ℕ Y). slice_cmp nat_cmp key k.items ≡ Less) (keys_of ps) → IsBeforeChains key (chains_of ps)
   before_all key [] h c m = absurd m
   before_all key (p ∷ ps) h c m = elim m [ inl e ↦ subst (λ (d : Chain). key_cmp key d.key ≡ Less) (sym e) h.0 | inr n ↦ before_all key ps h.1 c n ]
 
@@ -99,7 +99,7 @@ module _ {Y Z : Type 0} where
 
   -- ---- one more entry
 
-  written_at : (e : Entry) (p : Vec ℕ Y × Vec Entry Z) (ps set : List (Vec ℕ Y × Vec Entry Z)) (v w : Vec Entry Z) (o : Ordering) → key_cmp e.ikey.key p.0.items ≡ o → StandsBefore p.0.items (chains_of ps) → cond (is_eq o) (Some p.1) (lookup (is_key e.ikey.key) ps) ≡ Some v → w.items ≡ v.items ++ e ∷ []
+  written_at : (e : Entry) (p : Vec ℕ Y × Vec Entry Z) (ps set : List (Vec ℕ Y × Vec Entry Z)) (v w : Vec Entry Z) (o : Ordering) → key_cmp e.ikey.key p.0.items ≡ o → IsBeforeChains p.0.items (chains_of ps) → cond (is_eq o) (Some p.1) (lookup (is_key e.ikey.key) ps) ≡ Some v → w.items ≡ v.items ++ e ∷ []
       → (lookup (is_key e.ikey.key) ps ≡ Some v → chains_of set ≡ with_entry e (chains_of ps))
       → chains_of (cond (is_eq o) ((p.0, w) ∷ ps) (p ∷ set))
       ≡ match_ordering o (record { key = e.ikey.key; versions = e ∷ [] } ∷ chain_of p ∷ chains_of ps) (record { key = p.0.items; versions = p.1.items ++ e ∷ [] } ∷ chains_of ps) (chain_of p ∷ with_entry e (chains_of ps))

@@ -62,7 +62,7 @@ module _ (vs : List Entry) (at i : ℕ) (up : SequencesRise vs) (part : IsPartit
   pub latest_at : (e : Entry) → 0 < i → i ≤ length vs → e ≡ get_or vs (i - 1) e → latest (is_written at) vs ≡ Some e
   latest_at e some le is = latest_one (is_written at) vs (rising_apart (is_written at) vs up) (latest (is_written at) vs) (Some e) (latest-is (is_written at) vs) (record {
     member = subst (λ (x : Entry). IsIn x vs) (sym is) (IsIn-at vs (i - 1) e (omega (arith, some, le)));
-    passes = subst (λ (x : Entry). is_written at x ≡ true) (sym is) (part.0 (i - 1) e (omega (arith, some, le)) (omega (arith, some)));
+    satisfies = subst (λ (x : Entry). is_written at x ≡ true) (sym is) (part.0 (i - 1) e (omega (arith, some, le)) (omega (arith, some)));
     greatest = λ f m t.
         let c = IsIn-place f vs m in
         let lt : c.0 < i = early f c.0 c.1 c.2 t in

@@ -47,13 +47,13 @@ pub record IsChain (chain : Chain) : Type 0 where
   pub rising : SequencesRise chain.versions
 
 -- the key is before that of each chain
-abbrev pub StandsBefore : List ℕ → List Chain → Type 0
-StandsBefore key chains = (c : Chain) → IsIn c chains → slice_cmp nat_cmp key c.key ≡ Less
+abbrev pub IsBeforeChains : List ℕ → List Chain → Type 0
+IsBeforeChains key chains = (c : Chain) → IsIn c chains → slice_cmp nat_cmp key c.key ≡ Less
 
 -- chains whose keys ascend
 abbrev pub AreChains : List Chain → Type 0
 AreChains [] = Unit {0}
-AreChains (chain ∷ chains) = IsChain chain × StandsBefore chain.key chains × AreChains chains
+AreChains (chain ∷ chains) = IsChain chain × IsBeforeChains chain.key chains × AreChains chains
 
 -- the chains with one more entry, the newest of its key
 abbrev pub with_entry : Entry → List Chain → List Chain

@@ -38,7 +38,7 @@ impl Memtable {
     ghost use Rattle.std.specs.List.Sorted.{IsPermutation};
     ghost use Rattle.lsm_key.specs.Limits.{entry_weight, total_weight};
     ghost use Rattle.lsm_key.specs.Places.{entries_after};
-    ghost use Rattle.lsm_key.specs.Visible.{visible, lent};
+    ghost use Rattle.lsm_key.specs.Visible.{visible, lent_entry};
     ghost use Rattle.lsm_mem.specs.Memtable.{IsMemtable, keys_of, last_sequence};
     ghost use Rattle.lsm_key.specs.Order.{is_between, key_le};
 
@@ -77,7 +77,7 @@ impl Memtable {
     /// The entry of the key with the greatest sequence at most `at`. O(log n) comparisons for the key and for its
     /// versions, no allocation.
     pub fn get(&self, key: &[u8], at: Seq) -> Option<EntryRef<'_>>
-        ensures { option_map lent result ≡ visible self.now key.now at }
+        ensures { option_map lent_entry result ≡ visible self.now key.now at }
     {
         let versions = self.chains.versions(key)?;
         let entry = newest_at(versions, at)?;

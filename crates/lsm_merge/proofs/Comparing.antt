@@ -93,11 +93,11 @@ pub place_visible : (ikey : InternalKey) (es : List Entry) (x : Entry) → visib
 place_visible ikey es x e =
     let top = subst (Latest (is_seen ikey.key ikey.seq) es) e (latest-is (is_seen ikey.key ikey.seq) es) in
     both_ways (eqb x.ikey.seq ikey.seq) (has_place ikey es)
-    (λ h. any_from (is_at ikey.key ikey.seq) es x top.member (at_from ikey.key ikey.seq x (is_seen-key ikey.key ikey.seq x top.passes) (eqb-true x.ikey.seq ikey.seq h)))
+    (λ h. any_from (is_at ikey.key ikey.seq) es x top.member (at_from ikey.key ikey.seq x (is_seen-key ikey.key ikey.seq x top.satisfies) (eqb-true x.ikey.seq ikey.seq h)))
     (λ h.
     let f = any_is (is_at ikey.key ikey.seq) es h in
     let at = at_is ikey.key ikey.seq f.0 f.2 in
-    let low : x.ikey.seq ≤ ikey.seq = is_seen-low ikey.key ikey.seq x top.passes in
+    let low : x.ikey.seq ≤ ikey.seq = is_seen-low ikey.key ikey.seq x top.satisfies in
     let high : (f.0).ikey.seq ≤ x.ikey.seq = top.greatest f.0 f.1 (is_seen-from ikey.key ikey.seq f.0 at.0 (omega (arith, at.1))) in
     eq-eqb x.ikey.seq ikey.seq (omega (arith, at.1)))
 

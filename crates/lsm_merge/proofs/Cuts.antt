@@ -10,8 +10,8 @@ use Rattle.lsm_key.specs.Sets.{IsIn}
 use Rattle.lsm_key.proofs.Sets.{IsIn-append_left, IsIn-append_right}
 use Rattle.lsm_table.specs.Tables.{IsTable}
 use Rattle.lsm_merge.specs.declared.cut.TheConstants.{OUTPUT_TARGET}
-use Rattle.lsm_merge.specs.Outputs.{weight_of, before_last_key, HasLowerKeys, AreCut, AreTables}
-use Rattle.lsm_merge.specs.Cutting.{IsFirstOutput, AreOutputs}
+use Rattle.lsm_merge.specs.Outputs.{weight_of, before_last_key, HasLowerKeys, AreCut, EncodeEntries}
+use Rattle.lsm_merge.specs.Cutting.{IsFirstOutput, IsSplitInto}
 
 -- each is a first output of what it was cut from: the later ones, and the entries that are left
 abbrev pub CutSoFar : List (List Entry) → List Entry → Type 0
@@ -28,7 +28,7 @@ cut_push (xs ∷ lists) es rest h one =
     let same : all_entries lists ++ (es ++ rest) ≡ all_entries (lists ++ es ∷ []) ++ rest = sym (append_assoc (all_entries lists) es rest) ∙ ap (λ (ys : List Entry). ys ++ rest) (sym (all_push lists es)) in
     (subst (IsFirstOutput xs) same h.0, cut_push lists es rest h.1 one)
 
-tables_push : (outputs : List (List ℕ)) (lists : List (List Entry)) (bytes : List ℕ) (es : List Entry) → AreTables outputs lists → IsTable bytes es → AreTables (outputs ++ bytes ∷ []) (lists ++ es ∷ [])
+tables_push : (outputs : List (List ℕ)) (lists : List (List Entry)) (bytes : List ℕ) (es : List Entry) → EncodeEntries outputs lists → IsTable bytes es → EncodeEntries (outputs ++ bytes ∷ []) (lists ++ es ∷ [])
 tables_push [] [] bytes es h one = (one, tt)
 tables_push [] (xs ∷ lists) bytes es h one = absurd h
 tables_push (b ∷ outputs) [] bytes es h one = absurd h
@@ -38,7 +38,7 @@ tables_push (b ∷ outputs) (xs ∷ lists) bytes es h one = (h.0, tables_push ou
 
 pub record IsMade (entries : List Entry) (start : ℕ) (outputs : List (List ℕ)) : Type 0 where
   pub lists : List (List Entry)
-  pub spelled : AreTables outputs lists
+  pub spelled : EncodeEntries outputs lists
   pub all : all_entries lists ≡ take start entries
   pub cut : CutSoFar lists (drop start entries)
 
@@ -81,7 +81,7 @@ all_cut (es ∷ lists) h =
       apart = AllPairs-cons HasLowerKeys es lists (λ k d lt e f m n. h.0.apart e f m (IsIn-append_left f (all_entries lists) [] (in_all lists k d f lt n))) rest.apart;
     }
 
-pub made_all : (entries : List Entry) (start : ℕ) (outputs : List (List ℕ)) → length entries ≤ start → IsMade entries start outputs → AreOutputs entries outputs
+pub made_all : (entries : List Entry) (start : ℕ) (outputs : List (List ℕ)) → length entries ≤ start → IsMade entries start outputs → IsSplitInto entries outputs
 made_all entries start outputs past made = record {
   lists = made.lists;
   spelled = made.spelled;

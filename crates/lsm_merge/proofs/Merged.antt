@@ -20,7 +20,7 @@ use Rattle.lsm_merge.specs.Inputs.{CanMerge, HaveSameEntry, lists_of}
 use Rattle.lsm_merge.specs.Comparing.{AllTables}
 use Rattle.lsm_merge.specs.Outputs.{IsMerge}
 use Rattle.lsm_merge.specs.Keeping.{kept_list}
-use Rattle.lsm_merge.specs.Cutting.{AreFew, AreOutputs}
+use Rattle.lsm_merge.specs.Cutting.{AreFew, IsSplitInto}
 use Rattle.lsm_merge.proofs.Pass.{kept_list_holds, kept_list-in, kept_list_falls, kept_stays}
 use Rattle.lsm_merge.proofs.Few.{of_key-filter, few_kept}
 use Rattle.lsm_merge.proofs.Same.{apart, shared_in}
@@ -62,7 +62,7 @@ module _ (tables : List Opened) (job : JobParts) (merged : List Entry) (recorded
         let points = is.points.few in
         omega (arith, count, few, points)
 
-    pub is_merge : (outputs : List (List ℕ)) → AreOutputs (kept_list job.points job.deeper None merged) outputs → IsMerge tables job outputs
+    pub is_merge : (outputs : List (List ℕ)) → IsSplitInto (kept_list job.points job.deeper None merged) outputs → IsMerge tables job outputs
     is_merge outputs made =
         let kept : List Entry = kept_list job.points job.deeper None merged in
         let falls : Falls merged = ascending_falls merged up in

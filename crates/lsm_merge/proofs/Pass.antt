@@ -103,7 +103,7 @@ module _ (points : List ℕ) (deeper : List KeyRange) (whole : List Entry) (uniq
       let apart : AreApart test whole = λ y z my mz ty tz q. unique y z my mz (of_key y ty ∙ sym (of_key z tz)) q in
       latest_one test whole apart (latest test whole) (Some x) (latest-is test whole) (record {
         member = s.has;
-        passes = passes;
+        satisfies = passes;
         greatest = λ z m t. elim (s.cut z m) [
           | inl n ↦ absurd (none z n t)
           | inr w ↦ elim w [
@@ -158,7 +158,7 @@ module _ (points : List ℕ) (deeper : List KeyRange) (whole : List Entry) (uniq
             | inl v ↦ let le : y.ikey.seq ≤ x.ikey.seq = (at_newest whole x.ikey.key x v).greatest y (s.early y l.0) (has_key-at x.ikey.key y (sym k)) in absurd (omega arith)
             | inr w ↦
                 let top = at_visible whole x.ikey.key w.0 x w.2 in
-                let at : x.ikey.seq ≤ w.0 = is_seen-low x.ikey.key w.0 x top.passes in
+                let at : x.ikey.seq ≤ w.0 = is_seen-low x.ikey.key w.0 x top.satisfies in
                 elim (cases_lt w.0 y.ikey.seq) [
                   | inl below ↦ alone_from points y.ikey.seq x.ikey.seq w.0 w.1 at below
                   | inr over ↦ let le : y.ikey.seq ≤ x.ikey.seq = top.greatest y (s.early y l.0) (is_seen-from x.ikey.key w.0 y (sym k) over) in absurd (omega arith)
@@ -244,7 +244,7 @@ kept_list_falls points deeper last (x ∷ es) falls =
 module _ (one other : List Entry) (unique : IsUnique other) (same : SameMembers one other) where
   latest_moved : (test : Entry → Bool) (r : Option Entry) → Latest test one r → Latest test other r
   latest_moved test None h = λ y m t. h y ((same y).1 m) t
-  latest_moved test (Some x) h = record { member = (same x).0 h.member; passes = h.passes; greatest = λ y m t. h.greatest y ((same y).1 m) t }
+  latest_moved test (Some x) h = record { member = (same x).0 h.member; satisfies = h.satisfies; greatest = λ y m t. h.greatest y ((same y).1 m) t }
 
   latest_stays : (k : List ℕ) (test : Entry → Bool) → ((z : Entry) → test z ≡ true → z.ikey.key ≡ k) → latest test one ≡ latest test other
   latest_stays k test of_key =

@@ -11,14 +11,14 @@ use Rattle.std.proofs.lemmas.Cmp.{nat_list_cmp_total}
 use Rattle.std.proofs.lemmas.List.{get_or_default}
 use Rattle.std.proofs.lemmas.List.MinMax.{IsStrictWeakOrder-from_at_least}
 use Rattle.std.proofs.lemmas.List.Sorted.{sorted_far}
-use Rattle.lsm_claim.specs.Conflicts.{is_within}
+use Rattle.lsm_claim.specs.Conflicts.{in_closed_range}
 use Rattle.lsm_claim.proofs.KeyRanges.{key_le_refl, key_le_trans, key_le_total}
 use Rattle.lsm_key.specs.Order.{key_le}
 use Rattle.lsm_key.specs.Sets.{IsIn}
 use Rattle.lsm_key.proofs.Sets.{IsIn-at, IsIn-place, SameMembers-permutation}
 use Rattle.lsm_msg.specs.declared.job.KeyRange.{KeyRange}
 use Rattle.lsm_msg.specs.Merge.{is_in_ranges}
-use Rattle.lsm_merge.specs.Reaching.{IsByLeast, AreReaching, greater, widened}
+use Rattle.lsm_merge.specs.Reaching.{IsByLeast, AreReaching, greater, with_raised_ends}
 use Rattle.lsm_merge.proofs.Comparing.{any_from, any_is, both_ways}
 
 -- ---- a key in one of the ranges
@@ -28,12 +28,12 @@ Has ranges key = (r : KeyRange) × IsIn r ranges × (key_le r.lo key ≡ true) �
 
 pub has_is : (ranges : List KeyRange) (key : List ℕ) → is_in_ranges ranges key ≡ true → Has ranges key
 has_is ranges key h =
-    let r = any_is (λ (r : KeyRange). is_within r.lo r.hi key) ranges h in
+    let r = any_is (λ (r : KeyRange). in_closed_range r.lo r.hi key) ranges h in
     let p = and_parts (key_le (r.0).lo key) (key_le key (r.0).hi) r.2 in
     (r.0, r.1, p.0, p.1)
 
 pub has_from : (ranges : List KeyRange) (key : List ℕ) → Has ranges key → is_in_ranges ranges key ≡ true
-has_from ranges key h = any_from (λ (r : KeyRange). is_within r.lo r.hi key) ranges h.0 h.1 (and_from (key_le (h.0).lo key) (key_le key (h.0).hi) h.2 h.3)
+has_from ranges key h = any_from (λ (r : KeyRange). in_closed_range r.lo r.hi key) ranges h.0 h.1 (and_from (key_le (h.0).lo key) (key_le key (h.0).hi) h.2 h.3)
 
 pub same_keys : (one other : List KeyRange) → ((key : List ℕ) → Has one key → Has other key) → ((key : List ℕ) → Has other key → Has one key) → (key : List ℕ) → is_in_ranges one key ≡ is_in_ranges other key
 same_keys one other to from key = both_ways (is_in_ranges one key) (is_in_ranges other key) (λ h. has_from other key (to key (has_is one key h))) (λ h. has_from one key (from key (has_is other key h)))
@@ -100,7 +100,7 @@ first_least : (r : KeyRange) (rs : List KeyRange) → IsByLeast (r ∷ rs) → (
 first_least r rs h s m = let p = IsIn-place s rs m in subst (λ (x : KeyRange). key_le r.lo x.lo ≡ true) p.2 (h 0 (suc p.0) s (omega arith) (omega (arith, p.1)))
 
 -- what a widened range has, a range has, or the key before reaches so far
-widened_has : (reach : List ℕ) (rs : List KeyRange) (key : List ℕ) → IsByLeast rs → Has (widened reach rs) key → Has rs key ⊎ ((key_le key reach ≡ true) × ((r : KeyRange) × IsIn r rs × (key_le r.lo key ≡ true)))
+widened_has : (reach : List ℕ) (rs : List KeyRange) (key : List ℕ) → IsByLeast rs → Has (with_raised_ends reach rs) key → Has rs key ⊎ ((key_le key reach ≡ true) × ((r : KeyRange) × IsIn r rs × (key_le r.lo key ≡ true)))
 widened_has reach [] key up h = absurd h.1
 widened_has reach (r ∷ rs) key up h = elim h.1 [
   | inl e ↦
@@ -116,7 +116,7 @@ widened_has reach (r ∷ rs) key up h = elim h.1 [
   ]
 ]
 
-has_widened : (reach : List ℕ) (rs : List KeyRange) (key : List ℕ) → Has rs key → Has (widened reach rs) key
+has_widened : (reach : List ℕ) (rs : List KeyRange) (key : List ℕ) → Has rs key → Has (with_raised_ends reach rs) key
 has_widened reach [] key h = absurd h.1
 has_widened reach (r ∷ rs) key h = elim h.1 [
   | inl e ↦
@@ -132,37 +132,37 @@ nothing_less [] h [] = refl
 nothing_less [] h (x ∷ a) = refl
 nothing_less (x ∷ key) h a = absurd (false≢true h)
 
-pub widened_keys : (rs : List KeyRange) → IsByLeast rs → (key : List ℕ) → is_in_ranges (widened [] rs) key ≡ is_in_ranges rs key
+pub widened_keys : (rs : List KeyRange) → IsByLeast rs → (key : List ℕ) → is_in_ranges (with_raised_ends [] rs) key ≡ is_in_ranges rs key
 widened_keys rs up =
-    same_keys (widened [] rs) rs
+    same_keys (with_raised_ends [] rs) rs
     (λ key h. elim (widened_has [] rs key up h) [
       | inl own ↦ own
       | inr far ↦ let s = far.1 in (s.0, s.1, s.2, nothing_less key far.0 (s.0).hi)
     ])
     (λ key h. has_widened [] rs key h)
 
-widened_long : (reach : List ℕ) (rs : List KeyRange) → length (widened reach rs) ≡ length rs
+widened_long : (reach : List ℕ) (rs : List KeyRange) → length (with_raised_ends reach rs) ≡ length rs
 widened_long reach [] = refl
 widened_long reach (r ∷ rs) = ap suc (widened_long (greater reach r.hi) rs)
 
-widened_lo : (reach : List ℕ) (rs : List KeyRange) (i : ℕ) (d : KeyRange) → i < length rs → (get_or (widened reach rs) i d).lo ≡ (get_or rs i d).lo
+widened_lo : (reach : List ℕ) (rs : List KeyRange) (i : ℕ) (d : KeyRange) → i < length rs → (get_or (with_raised_ends reach rs) i d).lo ≡ (get_or rs i d).lo
 widened_lo reach [] i d lt = absurd (omega arith)
 widened_lo reach (r ∷ rs) zero d lt = refl
 widened_lo reach (r ∷ rs) (suc i) d lt = widened_lo (greater reach r.hi) rs i d (omega arith)
 
-widened_from : (reach : List ℕ) (rs : List KeyRange) (i : ℕ) (d : KeyRange) → i < length rs → key_le reach (get_or (widened reach rs) i d).hi ≡ true
+widened_from : (reach : List ℕ) (rs : List KeyRange) (i : ℕ) (d : KeyRange) → i < length rs → key_le reach (get_or (with_raised_ends reach rs) i d).hi ≡ true
 widened_from reach [] i d lt = absurd (omega arith)
 widened_from reach (r ∷ rs) zero d lt = greater_left reach r.hi
-widened_from reach (r ∷ rs) (suc i) d lt = key_le_trans reach (greater reach r.hi) (get_or (widened (greater reach r.hi) rs) i d).hi (greater_left reach r.hi) (widened_from (greater reach r.hi) rs i d (omega arith))
+widened_from reach (r ∷ rs) (suc i) d lt = key_le_trans reach (greater reach r.hi) (get_or (with_raised_ends (greater reach r.hi) rs) i d).hi (greater_left reach r.hi) (widened_from (greater reach r.hi) rs i d (omega arith))
 
-widened_hi : (reach : List ℕ) (rs : List KeyRange) (i j : ℕ) (d : KeyRange) → i ≤ j → j < length rs → key_le (get_or (widened reach rs) i d).hi (get_or (widened reach rs) j d).hi ≡ true
+widened_hi : (reach : List ℕ) (rs : List KeyRange) (i j : ℕ) (d : KeyRange) → i ≤ j → j < length rs → key_le (get_or (with_raised_ends reach rs) i d).hi (get_or (with_raised_ends reach rs) j d).hi ≡ true
 widened_hi reach [] i j d le lt = absurd (omega arith)
 widened_hi reach (r ∷ rs) zero zero d le lt = key_le_refl (greater reach r.hi)
 widened_hi reach (r ∷ rs) zero (suc j) d le lt = widened_from (greater reach r.hi) rs j d (omega arith)
 widened_hi reach (r ∷ rs) (suc i) zero d le lt = absurd (omega arith)
 widened_hi reach (r ∷ rs) (suc i) (suc j) d le lt = widened_hi (greater reach r.hi) rs i j d (omega arith) (omega arith)
 
-pub reaching : (rs : List KeyRange) → IsByLeast rs → AreReaching (widened [] rs)
+pub reaching : (rs : List KeyRange) → IsByLeast rs → AreReaching (with_raised_ends [] rs)
 reaching rs up =
     let long = widened_long [] rs in
     record {

@@ -19,7 +19,7 @@ use Rattle.lsm_table.specs.Tables.{largest_key, key_of_entry}
 use Rattle.lsm_table.proofs.Contents.{largest_in}
 use Rattle.lsm_table.proofs.Growing.{last_at}
 use Rattle.lsm_merge.specs.declared.cut.TheConstants.{OUTPUT_TARGET}
-use Rattle.lsm_merge.specs.Outputs.{weight_of, before_last_key, AreCut, AreTables}
+use Rattle.lsm_merge.specs.Outputs.{weight_of, before_last_key, AreCut, EncodeEntries}
 use Rattle.lsm_merge.specs.Cutting.{IsFirstOutput}
 use Rattle.lsm_merge.specs.Laws.{AMergeHasOneOutcome}
 use Rattle.lsm_merge.proofs.Pass.{less-irrefl, precedes-trans, newer_first}
@@ -158,7 +158,7 @@ one_cut (xs ∷ one) (ys ∷ other) a b e = by (one_cut one other (rest_of xs on
 
 -- ---- and encoded
 
-one_spelling : (one other : List (List ℕ)) (lists : List (List Entry)) → AreTables one lists → AreTables other lists → one ≡ other
+one_spelling : (one other : List (List ℕ)) (lists : List (List Entry)) → EncodeEntries one lists → EncodeEntries other lists → one ≡ other
 one_spelling [] [] [] a b = refl
 one_spelling [] (y ∷ other) [] a b = absurd b
 one_spelling (x ∷ one) other [] a b = absurd a
@@ -173,4 +173,4 @@ one_outcome tables job one other a b =
     let members : SameMembers (all_entries a.entries) (all_entries b.entries) = λ e. (λ m. (b.kept e).1 ((a.kept e).0 m), λ m. (a.kept e).1 ((b.kept e).0 m)) in
     let entries : all_entries a.entries ≡ all_entries b.entries = one_list (all_entries a.entries) (all_entries b.entries) (ascending_falls (all_entries a.entries) a.ascending) (ascending_falls (all_entries b.entries) b.ascending) members in
     let lists : a.entries ≡ b.entries = one_cut a.entries b.entries a.cut b.cut entries in
-    one_spelling one other b.entries (subst (AreTables one) lists a.spelled) b.spelled
+    one_spelling one other b.entries (subst (EncodeEntries one) lists a.spelled) b.spelled

@@ -5,7 +5,7 @@ use Rattle.lsm_key.specs.Places.{all_entries}
 use Rattle.lsm_key.specs.Visible.{has_key}
 use Rattle.lsm_msg.specs.declared.rules.TheConstants.{MAX_POINTS}
 use Rattle.lsm_merge.specs.declared.cut.TheConstants.{OUTPUT_TARGET}
-use Rattle.lsm_merge.specs.Outputs.{weight_of, before_last_key, HasLowerKeys, AreCut, AreTables}
+use Rattle.lsm_merge.specs.Outputs.{weight_of, before_last_key, HasLowerKeys, AreCut, EncodeEntries}
 
 -- of each key at most one entry for each point, and the newest
 abbrev pub AreFew : List Entry → Type 0
@@ -26,8 +26,8 @@ pub record IsFirstOutput (output later : List Entry) : Type 0 where
   pub apart : HasLowerKeys output later
 
 -- the outputs are tables that have these entries between them, cut as a merge does
-pub record AreOutputs (entries : List Entry) (outputs : List (List ℕ)) : Type 0 where
+pub record IsSplitInto (entries : List Entry) (outputs : List (List ℕ)) : Type 0 where
   pub lists : List (List Entry)
-  pub spelled : AreTables outputs lists
+  pub spelled : EncodeEntries outputs lists
   pub all : all_entries lists ≡ entries
   pub cut : AreCut lists

@@ -31,16 +31,16 @@ pub record AreCut (outputs : List (List Entry)) : Type 0 where
   pub apart : AllPairs HasLowerKeys outputs  -- no key is in two
 
 -- the outputs are the tables of these entries, one by one
-abbrev pub AreTables : List (List ℕ) → List (List Entry) → Type 0
-AreTables [] [] = Unit {0}
-AreTables (bytes ∷ more) (entries ∷ later) = IsTable bytes entries × AreTables more later
-AreTables [] (entries ∷ later) = ⊥
-AreTables (bytes ∷ more) [] = ⊥
+abbrev pub EncodeEntries : List (List ℕ) → List (List Entry) → Type 0
+EncodeEntries [] [] = Unit {0}
+EncodeEntries (bytes ∷ more) (entries ∷ later) = IsTable bytes entries × EncodeEntries more later
+EncodeEntries [] (entries ∷ later) = ⊥
+EncodeEntries (bytes ∷ more) [] = ⊥
 
 -- the outputs of a merge: what is kept of the inputs, in order, cut into tables
 pub record IsMerge (tables : List Opened) (job : JobParts) (outputs : List (List ℕ)) : Type 0 where
   pub entries : List (List Entry)
-  pub spelled : AreTables outputs entries
+  pub spelled : EncodeEntries outputs entries
   pub kept : HoldsKept (all_entries (lists_of tables)) job.points job.deeper (all_entries entries)
   pub ascending : IsAscending (all_entries entries)
   pub cut : AreCut entries

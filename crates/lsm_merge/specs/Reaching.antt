@@ -16,9 +16,9 @@ abbrev pub greater : List ℕ → List ℕ → List ℕ
 greater a b = if key_le b a then a else b
 
 -- each end raised to the maximum of the ends so far and a key
-abbrev pub widened : List ℕ → List KeyRange → List KeyRange
-widened reach [] = []
-widened reach (r ∷ rs) = record { lo = r.lo; hi = greater reach r.hi } ∷ widened (greater reach r.hi) rs
+abbrev pub with_raised_ends : List ℕ → List KeyRange → List KeyRange
+with_raised_ends reach [] = []
+with_raised_ends reach (r ∷ rs) = record { lo = r.lo; hi = greater reach r.hi } ∷ with_raised_ends (greater reach r.hi) rs
 
 -- ranges in which a binary search tells whether a key is in one
 pub record AreReaching (ranges : List KeyRange) : Type 0 where

@@ -4,7 +4,7 @@ ghost use Rattle.std.specs.Prelude.{◌≡◌, ◌<◌, ◌≤◌, ℕ, length, 
 ghost use Rattle.lsm_key.specs.Entries.{IsEntry};
 ghost use Rattle.lsm_key.specs.Limits.{entry_weight};
 ghost use Rattle.lsm_table.specs.Blocks.{AreEntries};
-ghost use Rattle.lsm_merge.specs.Cutting.{AreFew, AreOutputs, IsFirstOutput, IsKeyEnd};
+ghost use Rattle.lsm_merge.specs.Cutting.{AreFew, IsSplitInto, IsFirstOutput, IsKeyEnd};
 ghost use Rattle.lsm_merge.specs.Outputs.{weight_of};
 
 use bytes::Bytes;
@@ -20,7 +20,7 @@ pub const OUTPUT_TARGET: usize = 2_000_000;
 pub(crate) fn outputs_of(alloc: Global, entries: &[Entry]) -> Result<Vec<Bytes>, AllocError>
     requires sound { AreEntries entries.now }
     requires few { AreFew entries.now }
-    ensures { IfOk result (λ outputs. AreOutputs entries.now outputs.items) }
+    ensures { IfOk result (λ outputs. IsSplitInto entries.now outputs.items) }
 {
     let mut outputs = Vec::new(alloc);
     let mut start = 0;

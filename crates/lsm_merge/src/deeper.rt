@@ -5,7 +5,7 @@ ghost use Rattle.std.specs.List.Sorted.{IsPartitionPoint};
 ghost use Rattle.lsm_key.specs.Order.{key_le};
 ghost use Rattle.lsm_msg.specs.declared.job.KeyRange.{KeyRange};
 ghost use Rattle.lsm_msg.specs.Merge.{is_in_ranges};
-ghost use Rattle.lsm_merge.specs.Reaching.{IsByLeast, AreReaching, widened};
+ghost use Rattle.lsm_merge.specs.Reaching.{IsByLeast, AreReaching, with_raised_ends};
 
 use bytes::Bytes;
 use lsm_msg::KeyRange;
@@ -58,7 +58,7 @@ fn by_least(alloc: Global, ranges: &[KeyRange]) -> Result<Vec<KeyRange>, AllocEr
 
 // The ranges, each end raised to the maximum so far.
 fn widened(alloc: Global, ranges: &[KeyRange]) -> Result<Vec<KeyRange>, AllocError>
-    ensures { IfOk result (λ wide. wide.items ≡ widened [] ranges.now) }
+    ensures { IfOk result (λ wide. wide.items ≡ with_raised_ends [] ranges.now) }
 {
     let mut wide = Vec::with_capacity(alloc, ranges.len())?;
     let mut reach = Bytes::new();

@@ -7,7 +7,7 @@ use Rattle.lsm_claim.specs.declared.job.Want.{Want}
 use Rattle.lsm_edit.specs.declared.file.FileMeta.{FileMeta}
 use Rattle.lsm_edit.specs.declared.served.Placed.{Placed}
 use Rattle.lsm_edit.specs.Next.{flush_edit}
-use Rattle.lsm_edit.specs.Version.{IsVersion, files_after, without}
+use Rattle.lsm_edit.specs.Version.{IsVersion, files_after, files_without}
 use Rattle.lsm_edit.specs.Served.{ServedValue}
 use Rattle.lsm_edit.proofs.VersionLaws.{without-none}
 use Rattle.lsm_msg.specs.declared.job.JobParts.{JobParts}
@@ -23,13 +23,13 @@ module _ (s : ServedValue) (flushed : ℕ) (file : FileMeta) (ver : IsVersion s.
   files = files_after s.version.files (flush_edit s.version flushed file)
 
   file_cases : (f : FileMeta) → IsIn f files → IsIn f s.version.files ⊎ (f ≡ file)
-  file_cases f m = elim (IsIn-append_cases f (without [] s.version.files) (file ∷ []) m) [
+  file_cases f m = elim (IsIn-append_cases f (files_without [] s.version.files) (file ∷ []) m) [
     | inl a ↦ inl (subst (λ (fs : List FileMeta). IsIn f fs) (without-none s.version.files) a)
     | inr b ↦ inr (IsIn-one f file b)
   ]
 
   file_stays : (f : FileMeta) → IsIn f s.version.files → IsIn f files
-  file_stays f m = IsIn-append_left f (without [] s.version.files) (file ∷ []) (subst (λ (fs : List FileMeta). IsIn f fs) (sym (without-none s.version.files)) m)
+  file_stays f m = IsIn-append_left f (files_without [] s.version.files) (file ∷ []) (subst (λ (fs : List FileMeta). IsIn f fs) (sym (without-none s.version.files)) m)
 
   -- no file before has the new one's number
   new_number : (f g : FileMeta) → f ≡ file → IsIn g s.version.files → g.number ≡ f.number → ⊥

@@ -14,7 +14,7 @@ use Rattle.lsm_claim.specs.declared.job.Want.{Want}
 use Rattle.lsm_edit.specs.declared.file.FileMeta.{FileMeta}
 use Rattle.lsm_edit.specs.declared.edit.Edit.{Edit}
 use Rattle.lsm_edit.specs.declared.served.Placed.{Placed}
-use Rattle.lsm_edit.specs.Version.{IsVersion, has_number, files_after, without}
+use Rattle.lsm_edit.specs.Version.{IsVersion, has_number, files_after, files_without}
 use Rattle.lsm_edit.specs.Served.{ServedValue, IsServed, AreAsRecorded, is_covered, placed_of, places_without, put_all, tables_of}
 use Rattle.lsm_edit.proofs.AfterEdit.{keeps, put_all-members, served_after}
 use Rattle.lsm_edit.proofs.LevelRanges.{in_tables, level_le}
@@ -81,13 +81,13 @@ module _ (s : ServedValue) (want : Want) (edit : Edit) (tables : List Opened) (v
 
   -- a file likewise
   pub file_cases : (f : FileMeta) → IsIn f (files_after s.version.files edit) → (IsIn f s.version.files × (IsIn f.number want.files → ⊥)) ⊎ IsIn f edit.added
-  file_cases f m = elim (IsIn-append_cases f (without edit.removed s.version.files) edit.added m) [
+  file_cases f m = elim (IsIn-append_cases f (files_without edit.removed s.version.files) edit.added m) [
     | inl a ↦ let k = IsIn-filter (stays edit.removed) f s.version.files a in inl (k.0, not_taken f k.1)
     | inr b ↦ inr b
   ]
 
   pub file_stays : (f : FileMeta) → IsIn f s.version.files → (IsIn f.number want.files → ⊥) → IsIn f (files_after s.version.files edit)
-  file_stays f m out = IsIn-append_left f (without edit.removed s.version.files) edit.added (keeps (stays edit.removed) f s.version.files m (stays_there f out))
+  file_stays f m out = IsIn-append_left f (files_without edit.removed s.version.files) edit.added (keeps (stays edit.removed) f s.version.files m (stays_there f out))
 
   -- ---- the outputs
 

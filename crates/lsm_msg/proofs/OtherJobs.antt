@@ -6,7 +6,7 @@ use Rattle.lsm_key.specs.Sets.{IsIn}
 use Rattle.lsm_table.specs.Tables.{Opened}
 use Rattle.lsm_claim.specs.declared.job.Want.{Want}
 use Rattle.lsm_claim.specs.Levels.{uses_level, shares_level}
-use Rattle.lsm_claim.specs.Conflicts.{conflicts, covers, meets}
+use Rattle.lsm_claim.specs.Conflicts.{conflicts, covers, hulls_meet}
 use Rattle.lsm_claim.proofs.Books.{both_use}
 use Rattle.lsm_claim.proofs.KeyRanges.{common_key, ranges_meet_from}
 use Rattle.lsm_edit.specs.declared.file.FileMeta.{FileMeta}
@@ -33,8 +33,8 @@ module _ (s : ServedValue) (want : Want) (edit : Edit) (tables : List Opened) (v
     no_common : (level : ℕ) → uses_level want.level level ≡ true → uses_level other.level level ≡ true → (key : List ℕ) → covers want.hull key ≡ true → covers other.hull key ≡ true → ⊥
     no_common level u v key a b =
         let share : shares_level want.level other.level ≡ true = both_use want.level other.level level u v in
-        let met : meets want.hull other.hull ≡ true = ranges_meet_from want.hull.lo want.hull.hi other.hull.lo other.hull.hi key a b in
-        true≢false (sym (and_from (shares_level want.level other.level) (meets want.hull other.hull) share met) ∙ apart)
+        let met : hulls_meet want.hull other.hull ≡ true = ranges_meet_from want.hull.lo want.hull.hi other.hull.lo other.hull.hi key a b in
+        true≢false (sym (and_from (shares_level want.level other.level) (hulls_meet want.hull other.hull) share met) ∙ apart)
 
     -- no file is an input of both
     not_both : (f : FileMeta) → Takes s.version.files want f → Takes s.version.files other f → ⊥

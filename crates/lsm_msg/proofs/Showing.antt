@@ -44,7 +44,7 @@ all_seen inputs key p unique low x e =
     let apart : AreApart (has_key key) inputs = λ y z my mz ty tz s. unique y z my mz (has_key-is key y ty ∙ sym (has_key-is key z tz)) s in
     latest_one (has_key key) inputs apart (latest (has_key key) inputs) (Some x) (latest-is (has_key key) inputs) (record {
       member = top.member;
-      passes = has_key-at key x (is_seen-key key p x top.passes);
+      satisfies = has_key-at key x (is_seen-key key p x top.satisfies);
       greatest = λ y m ty. top.greatest y m (is_seen-from key p y (has_key-is key y ty) (low y m));
     })
 
@@ -64,11 +64,11 @@ module _ (inputs outputs : List Entry) (points : List ℕ) (deeper : List KeyRan
         latest_one test outputs apart (latest test outputs) r (latest-is test outputs) h
 
     stays : (x : Entry) → IsLatest test inputs x → IsKept inputs points deeper x → latest test outputs ≡ Some x
-    stays x top k = shows (Some x) (record { member = (kept x).1 k; passes = top.passes; greatest = λ y m ty. top.greatest y (was_input y m) ty })
+    stays x top k = shows (Some x) (record { member = (kept x).1 k; satisfies = top.satisfies; greatest = λ y m ty. top.greatest y (was_input y m) ty })
 
     goes : (x : Entry) → IsLatest test inputs x → is_at_most_all points x.ikey.seq ≡ true → may_go points deeper x ≡ true → latest test outputs ≡ None
     goes x top low gone = shows None (λ y m ty.
-        let same : x.ikey.key ≡ y.ikey.key = of_key x top.passes ∙ sym (of_key y ty) in
+        let same : x.ikey.key ≡ y.ikey.key = of_key x top.satisfies ∙ sym (of_key y ty) in
         let k = (kept y).0 m in
         let a : x.ikey.seq ≤ y.ikey.seq = needed_newer inputs points x y top.member same low k.needed in
         let b : y.ikey.seq ≤ x.ikey.seq = top.greatest y (was_input y m) ty in
@@ -88,7 +88,7 @@ module _ (inputs outputs : List Entry) (points : List ℕ) (deeper : List KeyRan
         let top : IsLatest test inputs x = subst (Latest test inputs) e (latest-is test inputs) in
         elim (cases_Bool (may_go points deeper x)) [
           | inl gone ↦ inr (x, refl, top.member, gone, goes x top (gone_parts points deeper x gone).1 gone)
-          | inr stay ↦ inl (stays x top (record { needed = needs x (of_key x top.passes) e; stays = stay }))
+          | inr stay ↦ inl (stays x top (record { needed = needs x (of_key x top.satisfies) e; stays = stay }))
         ]
 
   -- ---- beside other entries, none of which is older than a deletion that goes
@@ -102,7 +102,7 @@ module _ (inputs outputs : List Entry) (points : List ℕ) (deeper : List KeyRan
       hides_none : (x : Entry) → IsLatest test inputs x → may_go points deeper x ≡ true → (r : Option Entry) → Latest test rest r → option_and_then entry_value r ≡ option_and_then entry_value (newer (Some x) r)
       hides_none x top gone None h = sym (no_value x.ikey.kind x.value (gone_parts points deeper x gone).0)
       hides_none x top gone (Some y) h =
-          let lt : x.ikey.seq < y.ikey.seq = none_older x y top.member h.member (of_key x top.passes ∙ sym (of_key y h.passes)) gone in
+          let lt : x.ikey.seq < y.ikey.seq = none_older x y top.member h.member (of_key x top.satisfies ∙ sym (of_key y h.satisfies)) gone in
           sym (ap (λ (b : Bool). option_and_then entry_value (cond b (Some y) (Some x))) (lt-ltb x.ikey.seq y.ikey.seq lt))
 
       same_beside : ((x : Entry) → x.ikey.key ≡ key → latest test inputs ≡ Some x → IsNeeded inputs points x) → SameBeside test

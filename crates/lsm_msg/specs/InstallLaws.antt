@@ -10,7 +10,7 @@ use Rattle.lsm_claim.specs.Conflicts.{conflicts}
 use Rattle.lsm_edit.specs.declared.file.FileMeta.{FileMeta}
 use Rattle.lsm_edit.specs.declared.edit.Edit.{Edit}
 use Rattle.lsm_edit.specs.Version.{IsVersion}
-use Rattle.lsm_edit.specs.Served.{ServedValue, IsServed, tables_of, advanced}
+use Rattle.lsm_edit.specs.Served.{ServedValue, IsServed, tables_of, after_advance}
 use Rattle.lsm_msg.specs.declared.job.JobParts.{JobParts}
 use Rattle.lsm_msg.specs.Merge.{HoldsKept}
 use Rattle.lsm_msg.specs.Laws.{ReadAlike}
@@ -25,14 +25,14 @@ InstallsKeepReads =
     → IsLegal s.version.files want → IsJobOf s.version.files want job → KnowsDeeper s.places job → Installs s want edit tables
     → AreInputsOf s.places want inputs → HoldsKept inputs job.points job.deeper (entries_of tables)
     → IsUnique above → IsAbove above (all_entries (tables_of s.places))
-    → ReadAlike job.points inputs (above ++ all_entries (tables_of (advanced s edit tables).places)) (above ++ all_entries (tables_of s.places))
+    → ReadAlike job.points inputs (above ++ all_entries (tables_of (after_advance s edit tables).places)) (above ++ all_entries (tables_of s.places))
 
 -- an install of entries of the inputs adds no entry to those of the version
 abbrev pub InstallsAddNoEntry : Type 0
 InstallsAddNoEntry =
     (s : ServedValue) (want : Want) (edit : Edit) (tables : List Opened)
     → IsVersion s.version → IsServed s → IsLegal s.version.files want → Installs s want edit tables → AddNoEntry s.places want tables
-    → (e : Entry) → IsIn e (all_entries (tables_of (advanced s edit tables).places)) → IsIn e (all_entries (tables_of s.places))
+    → (e : Entry) → IsIn e (all_entries (tables_of (after_advance s edit tables).places)) → IsIn e (all_entries (tables_of s.places))
 
 -- after an install of entries of the inputs the newer entries of a key are still in the place that is searched first
 abbrev pub InstallsKeepOrder : Type 0
@@ -40,7 +40,7 @@ InstallsKeepOrder =
     (s : ServedValue) (want : Want) (edit : Edit) (tables : List Opened)
     → IsVersion s.version → IsServed s → AreOrdered (tables_of s.places)
     → IsLegal s.version.files want → Installs s want edit tables → AddNoEntry s.places want tables
-    → AreOrdered (tables_of (advanced s edit tables).places)
+    → AreOrdered (tables_of (after_advance s edit tables).places)
 
 -- another want that does not conflict is still legal, and a job of it still has its inputs and knows its deeper keys
 abbrev pub InstallsKeepJobs : Type 0
@@ -48,10 +48,10 @@ InstallsKeepJobs =
     (s : ServedValue) (want other : Want) (edit : Edit) (tables : List Opened)
     → IsVersion s.version → IsServed s → IsLegal s.version.files want → Installs s want edit tables
     → conflicts want other ≡ false → IsLegal s.version.files other
-    → IsLegal (advanced s edit tables).version.files other
+    → IsLegal (after_advance s edit tables).version.files other
     × ((job : JobParts) → IsJobOf s.version.files other job
-    → IsJobOf (advanced s edit tables).version.files other job
-    × (AddNoEntry s.places want tables → KnowsDeeper s.places job → KnowsDeeper (advanced s edit tables).places job))
+    → IsJobOf (after_advance s edit tables).version.files other job
+    × (AddNoEntry s.places want tables → KnowsDeeper s.places job → KnowsDeeper (after_advance s edit tables).places job))
 
 -- after a flush of newer entries the newer entries of a key are still in the place that is searched first
 abbrev pub FlushesKeepOrder : Type 0

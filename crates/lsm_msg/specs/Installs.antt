@@ -10,7 +10,7 @@ use Rattle.lsm_edit.specs.declared.edit.Edit.{Edit}
 use Rattle.lsm_edit.specs.declared.served.Placed.{Placed}
 use Rattle.lsm_edit.specs.Edit.{IsEdit}
 use Rattle.lsm_edit.specs.Next.{flush_edit}
-use Rattle.lsm_edit.specs.Version.{apply_fault, applied}
+use Rattle.lsm_edit.specs.Version.{apply_fault, after_apply}
 use Rattle.lsm_edit.specs.Served.{ServedValue, AreAsRecorded}
 use Rattle.lsm_msg.specs.declared.job.JobParts.{JobParts}
 use Rattle.lsm_msg.specs.Legal.{Takes, encloses}
@@ -46,4 +46,4 @@ pub record Installs (s : ServedValue) (want : Want) (edit : Edit) (tables : List
 
 -- one file more, which is searched first
 abbrev pub with_flushed : ServedValue → ℕ → FileMeta → Opened → ServedValue
-with_flushed s flushed file table = record { version = applied s.version (flush_edit s.version flushed file); places = record { meta = file; table = table } ∷ s.places }
+with_flushed s flushed file table = record { version = after_apply s.version (flush_edit s.version flushed file); places = record { meta = file; table = table } ∷ s.places }

@@ -44,17 +44,17 @@ over_a = record { lo = a; hi = a }
 abbrev pub put : Entry
 put = record { ikey = record { key = a; seq = 1; kind = Put }; value = 49 ∷ [] }
 
-abbrev pub deleted : Entry
-deleted = record { ikey = record { key = a; seq = 2; kind = Delete }; value = [] }
+abbrev pub deletion : Entry
+deletion = record { ikey = record { key = a; seq = 2; kind = Delete }; value = [] }
 
 -- a snapshot at sequence 1 keeps both
 abbrev pub ASnapshotKeepsBoth : Type 0
-ASnapshotKeepsBoth = HoldsKept (deleted ∷ put ∷ []) (1 ∷ []) [] (deleted ∷ put ∷ [])
+ASnapshotKeepsBoth = HoldsKept (deletion ∷ put ∷ []) (1 ∷ []) [] (deletion ∷ put ∷ [])
 
 -- with no snapshot and no deeper file both go
 abbrev pub BothGo : Type 0
-BothGo = HoldsKept (deleted ∷ put ∷ []) [] [] []
+BothGo = HoldsKept (deletion ∷ put ∷ []) [] [] []
 
 -- a deeper file that may have the key keeps the deletion
 abbrev pub ADeeperFileKeepsTheDeletion : Type 0
-ADeeperFileKeepsTheDeletion = HoldsKept (deleted ∷ put ∷ []) [] (over_a ∷ []) (deleted ∷ [])
+ADeeperFileKeepsTheDeletion = HoldsKept (deletion ∷ put ∷ []) [] (over_a ∷ []) (deletion ∷ [])

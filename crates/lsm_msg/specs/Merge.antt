@@ -6,7 +6,7 @@ use Rattle.lsm_key.specs.declared.entry.Kind.{Kind}
 use Rattle.lsm_key.specs.declared.entry.Kind.TheVariants.{Delete, Put}
 use Rattle.lsm_key.specs.Sets.{IsIn}
 use Rattle.lsm_key.specs.Visible.{visible, newest}
-use Rattle.lsm_claim.specs.Conflicts.{is_within}
+use Rattle.lsm_claim.specs.Conflicts.{in_closed_range}
 use Rattle.lsm_msg.specs.declared.job.KeyRange.{KeyRange}
 
 -- some read needs the entry: the latest one, or one at a point
@@ -22,7 +22,7 @@ abbrev pub is_at_most_all : List ℕ → ℕ → Bool
 is_at_most_all points seq = list_all (λ p. nat_le seq p) points
 
 abbrev pub is_in_ranges : List KeyRange → List ℕ → Bool
-is_in_ranges ranges key = list_any (λ r. is_within r.lo r.hi key) ranges
+is_in_ranges ranges key = list_any (λ r. in_closed_range r.lo r.hi key) ranges
 
 -- a deletion that hides nothing any more: no snapshot is older than it, and no file below the output level may have its key
 abbrev pub may_go : List ℕ → List KeyRange → Entry → Bool

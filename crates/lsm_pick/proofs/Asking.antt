@@ -15,13 +15,13 @@ use Rattle.lsm_edit.specs.declared.file.FileMeta.{FileMeta}
 use Rattle.lsm_edit.specs.File.{IsFile}
 use Rattle.lsm_edit.proofs.Places.{one_number}
 use Rattle.lsm_edit.proofs.AfterEdit.{keeps}
-use Rattle.lsm_edit.specs.Version.{NumbersRise}
+use Rattle.lsm_edit.specs.Version.{FileNumbersRise}
 use Rattle.lsm_msg.specs.declared.rules.TheConstants.{MAX_DEEPER, MAX_INPUTS}
 use Rattle.lsm_pick.specs.declared.limit.TheConstants.{MAX_INPUT_BYTES}
-use Rattle.lsm_pick.specs.Closure.{Trial, HasNewer, IsClosure}
+use Rattle.lsm_pick.specs.Closure.{Candidate, HasNewer, IsClosure}
 use Rattle.lsm_pick.specs.Reach.{IsFull, is_inside, is_met, is_taken, may_join}
 use Rattle.lsm_pick.specs.Counted.{deeper_than, fits_job}
-use Rattle.lsm_pick.specs.Rule.{Asks, inputs_of, is_deeper, is_free, is_within}
+use Rattle.lsm_pick.specs.Rule.{Proposes, inputs_of, is_deeper, is_free, fits_limits}
 use Rattle.lsm_pick.proofs.Growing.{inside_from, inside_parts, join_cases, joins_set, met_from}
 
 -- ---- lists
@@ -54,7 +54,7 @@ same_test false false f g = refl
 -- ---- files by their numbers
 
 -- the files of the numbers of those that pass a test are these
-pub numbered : (files : List FileMeta) → NumbersRise files → (test : FileMeta → Bool) → filter (λ f. list_any (eqb f.number) (map (λ (g : FileMeta). g.number) (filter test files))) files ≡ filter test files
+pub numbered : (files : List FileMeta) → FileNumbersRise files → (test : FileMeta → Bool) → filter (λ f. list_any (eqb f.number) (map (λ (g : FileMeta). g.number) (filter test files))) files ≡ filter test files
 numbered files rise test =
     let numbers = map (λ (g : FileMeta). g.number) (filter test files) in
     filter_same (λ f. list_any (eqb f.number) numbers) test files (λ f m. same_test (list_any (eqb f.number) numbers) (test f)
@@ -67,7 +67,7 @@ numbered files rise test =
 
 -- ---- the closure
 
-module _ (files : List FileMeta) (rise : NumbersRise files) (each : (f : FileMeta) → IsIn f files → IsFile f) (t : Trial) (listed : IsIn t.first files) (lo hi : List ℕ) (full : IsFull files t lo hi) where
+module _ (files : List FileMeta) (rise : FileNumbersRise files) (each : (f : FileMeta) → IsIn f files → IsFile f) (t : Candidate) (listed : IsIn t.first files) (lo hi : List ℕ) (full : IsFull files t lo hi) where
   abbrev set : List FileMeta
   set = filter (is_taken t lo hi) files
 
@@ -96,33 +96,33 @@ module _ (files : List FileMeta) (rise : NumbersRise files) (each : (f : FileMet
       ]
 
   -- a file of level 0 in a closure of older files only is no newer than the first
-  no_newer : t.first.level ≡ 0 → t.narrow ≡ true → (h : FileMeta) → IsIn h set → h.level ≡ 0 → h.number ≤ t.first.number
-  no_newer zero narrow h m level = elim (set_cases h m).1 [
+  no_newer : t.first.level ≡ 0 → t.older_only ≡ true → (h : FileMeta) → IsIn h set → h.level ≡ 0 → h.number ≤ t.first.number
+  no_newer zero older_only h m level = elim (set_cases h m).1 [
     | inl same ↦ let e : h.number ≡ t.first.number = ap (λ (f : FileMeta). f.number) same in omega (arith, e)
     | inr joined ↦ elim (join_cases t h joined.0) [
       | inl next ↦ absurd (omega (arith, next, level))
-      | inr here ↦ elim here.2 [ inl wide ↦ absurd (true≢false (sym narrow ∙ wide)) | inr older ↦ omega (arith, older) ]
+      | inr here ↦ elim here.2 [ inl wide ↦ absurd (true≢false (sym older_only ∙ wide)) | inr older ↦ omega (arith, older) ]
     ]
   ]
 
-  join_zero : (g : FileMeta) → t.first.level ≡ 0 → g.level ≡ 0 → (not t.narrow || ltb g.number t.first.number) ≡ true → may_join t g ≡ true
+  join_zero : (g : FileMeta) → t.first.level ≡ 0 → g.level ≡ 0 → (not t.older_only || ltb g.number t.first.number) ≡ true → may_join t g ≡ true
   join_zero g zero level h =
       or_right (eqb g.level (t.first.level + 1)) _ (and_from (eqb t.first.level 0) _ (eq-eqb t.first.level 0 zero) (and_from (eqb g.level 0) _ (eq-eqb g.level 0 level) h))
 
-  may_from : (g : FileMeta) → ((g.level ≡ t.first.level + 1) ⊎ ((t.first.level ≡ 0) × (g.level ≡ 0) × ((t.narrow ≡ false) ⊎ HasNewer set g))) → may_join t g ≡ true
+  may_from : (g : FileMeta) → ((g.level ≡ t.first.level + 1) ⊎ ((t.first.level ≡ 0) × (g.level ≡ 0) × ((t.older_only ≡ false) ⊎ HasNewer set g))) → may_join t g ≡ true
   may_from g h = elim h [
     | inl next ↦ or_left (eqb g.level (t.first.level + 1)) _ (eq-eqb g.level (t.first.level + 1) next)
     | inr zero ↦ join_zero g zero.0 zero.1 (elim zero.2 [
-      | inl wide ↦ or_left (not t.narrow) _ (ap not wide)
-      | inr newer ↦ by_narrow t.narrow refl zero.0 newer
+      | inl wide ↦ or_left (not t.older_only) _ (ap not wide)
+      | inr newer ↦ by_older_only t.older_only refl zero.0 newer
     ])
   ]
     where
-      by_narrow : (b : Bool) → t.narrow ≡ b → t.first.level ≡ 0 → HasNewer set g → (not t.narrow || ltb g.number t.first.number) ≡ true
-      by_narrow false e zero newer = or_left (not t.narrow) _ (ap not e)
-      by_narrow true e zero newer =
+      by_older_only : (b : Bool) → t.older_only ≡ b → t.first.level ≡ 0 → HasNewer set g → (not t.older_only || ltb g.number t.first.number) ≡ true
+      by_older_only false e zero newer = or_left (not t.older_only) _ (ap not e)
+      by_older_only true e zero newer =
           let le = no_newer zero e newer.0 newer.1 newer.2 in
-          or_right (not t.narrow) _ (lt-ltb g.number t.first.number (omega (arith, le, newer.3)))
+          or_right (not t.older_only) _ (lt-ltb g.number t.first.number (omega (arith, le, newer.3)))
 
   pub closure_is : IsClosure files t set
   closure_is = record {
@@ -177,7 +177,7 @@ module _ (files : List FileMeta) (rise : NumbersRise files) (each : (f : FileMet
     pub inputs_are : inputs_of files want ≡ set
     inputs_are = ap (λ (ns : List ℕ). filter (λ f. list_any (eqb f.number) ns) files) numbers ∙ numbered files rise (is_taken t lo hi)
 
-    pub asks : Asks files t want
+    pub asks : Proposes files t want
     asks = record {
       level = level;
       files_are = numbers ∙ ap (map (λ (f : FileMeta). f.number)) (sym inputs_are);
@@ -199,7 +199,7 @@ module _ (files : List FileMeta) (rise : NumbersRise files) (each : (f : FileMet
         ∙ ap (λ (k : List ℕ). filter (λ (f : FileMeta). ltb (t.first.level + 1) f.level && ranges_meet k want.hull.hi f.smallest f.largest) files) at_lo
         ∙ ap (λ (k : List ℕ). filter (λ (f : FileMeta). ltb (t.first.level + 1) f.level && ranges_meet lo k f.smallest f.largest) files) at_hi
 
-    pub within_is : is_within files want ≡ fits_job t lo hi files
+    pub within_is : fits_limits files want ≡ fits_job t lo hi files
     within_is =
         ap (λ (fs : List FileMeta). leb (length fs) MAX_INPUTS && (leb (sum_by (λ (f : FileMeta). f.bytes) fs) MAX_INPUT_BYTES && leb (length (filter (is_deeper want) files)) MAX_DEEPER)) inputs_are
         ∙ ap (λ (fs : List FileMeta). leb (length set) MAX_INPUTS && (leb (sum_by (λ (f : FileMeta). f.bytes) set) MAX_INPUT_BYTES && leb (length fs) MAX_DEEPER)) deeper_are

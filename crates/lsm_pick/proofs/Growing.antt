@@ -6,8 +6,8 @@ use Rattle.lsm_key.specs.Order.{key_le}
 use Rattle.lsm_claim.proofs.KeyRanges.{key_le_refl, key_le_trans, key_le_total}
 use Rattle.lsm_edit.specs.declared.file.FileMeta.{FileMeta}
 use Rattle.lsm_edit.specs.declared.served.Placed.{Placed}
-use Rattle.lsm_pick.specs.Closure.{Trial, IsClosed}
-use Rattle.lsm_pick.specs.Reach.{IsReach, IsEligible, Grows, is_inside, is_met, joins_at, lower, higher, may_join}
+use Rattle.lsm_pick.specs.Closure.{Candidate, IsClosed}
+use Rattle.lsm_pick.specs.Reach.{IsReach, MayBeInput, Grows, is_inside, is_met, joins_at, lower, higher, may_join}
 
 -- ---- keys
 
@@ -67,7 +67,7 @@ inside_more lo hi new_lo new_hi f a b h =
     inside_from new_lo new_hi f (key_le_trans new_lo lo f.smallest a m.0) (key_le_trans f.largest hi new_hi m.1 b)
 
 -- why a file may join
-pub join_cases : (t : Trial) (g : FileMeta) → may_join t g ≡ true → (g.level ≡ t.first.level + 1) ⊎ ((t.first.level ≡ 0) × (g.level ≡ 0) × ((t.narrow ≡ false) ⊎ (g.number < t.first.number)))
+pub join_cases : (t : Candidate) (g : FileMeta) → may_join t g ≡ true → (g.level ≡ t.first.level + 1) ⊎ ((t.first.level ≡ 0) × (g.level ≡ 0) × ((t.older_only ≡ false) ⊎ (g.number < t.first.number)))
 join_cases t g h = elim (or_cases (eqb g.level (t.first.level + 1)) _ h) [
   | inl a ↦ inl (eqb-true g.level (t.first.level + 1) a)
   | inr b ↦
@@ -76,15 +76,15 @@ join_cases t g h = elim (or_cases (eqb g.level (t.first.level + 1)) _ h) [
       inr (
         eqb-true t.first.level 0 p.0,
         eqb-true g.level 0 q.0,
-        elim (or_cases (not t.narrow) (ltb g.number t.first.number) q.1) [
-          | inl n ↦ inl (not-true t.narrow n)
+        elim (or_cases (not t.older_only) (ltb g.number t.first.number) q.1) [
+          | inl n ↦ inl (not-true t.older_only n)
           | inr l ↦ inr (ltb-true g.number t.first.number l)
         ],
       )
 ]
 
 -- a file that may join, and meets a hull whose ends a closed set has, is in the set
-pub joins_set : (files : List FileMeta) (t : Trial) (set : List FileMeta) (lo hi : List ℕ) (g : FileMeta) → IsIn t.first set → IsClosed files t set
+pub joins_set : (files : List FileMeta) (t : Candidate) (set : List FileMeta) (lo hi : List ℕ) (g : FileMeta) → IsIn t.first set → IsClosed files t set
     → ((a : FileMeta) × IsIn a set × (a.smallest ≡ lo)) → ((b : FileMeta) × IsIn b set × (b.largest ≡ hi))
     → IsIn g files → may_join t g ≡ true → is_met lo hi g ≡ true → IsIn g set
 joins_set files t set lo hi g has closed a b m j met =
@@ -99,12 +99,12 @@ joins_set files t set lo hi g has closed a b m j met =
 
 -- ---- one file more
 
-module _ (files : List FileMeta) (t : Trial) (lo hi : List ℕ) (g : FileMeta) (r : IsReach files t lo hi) (m : IsIn g files) (j : may_join t g ≡ true) (met : is_met lo hi g ≡ true) where
-  least_by : (b : Bool) → key_le lo g.smallest ≡ b → (a : FileMeta) × IsIn a files × IsEligible t a × (a.smallest ≡ cond b lo g.smallest) × (key_le a.largest (higher hi g.largest) ≡ true)
+module _ (files : List FileMeta) (t : Candidate) (lo hi : List ℕ) (g : FileMeta) (r : IsReach files t lo hi) (m : IsIn g files) (j : may_join t g ≡ true) (met : is_met lo hi g ≡ true) where
+  least_by : (b : Bool) → key_le lo g.smallest ≡ b → (a : FileMeta) × IsIn a files × MayBeInput t a × (a.smallest ≡ cond b lo g.smallest) × (key_le a.largest (higher hi g.largest) ≡ true)
   least_by true e = let a = r.least in (a.0, a.1, a.2, a.3, key_le_trans a.0.largest hi (higher hi g.largest) a.4 (higher_high hi g.largest))
   least_by false e = (g, m, inr j, refl, higher_key hi g.largest)
 
-  greatest_by : (b : Bool) → key_le g.largest hi ≡ b → (a : FileMeta) × IsIn a files × IsEligible t a × (a.largest ≡ cond b hi g.largest) × (key_le (lower lo g.smallest) a.smallest ≡ true)
+  greatest_by : (b : Bool) → key_le g.largest hi ≡ b → (a : FileMeta) × IsIn a files × MayBeInput t a × (a.largest ≡ cond b hi g.largest) × (key_le (lower lo g.smallest) a.smallest ≡ true)
   greatest_by true e = let a = r.greatest in (a.0, a.1, a.2, a.3, key_le_trans (lower lo g.smallest) lo a.0.smallest (lower_low lo g.smallest) a.4)
   greatest_by false e = (g, m, inr j, refl, lower_key lo g.smallest)
 
@@ -130,7 +130,7 @@ module _ (files : List FileMeta) (t : Trial) (lo hi : List ℕ) (g : FileMeta) (
 
 -- ---- the start
 
-pub reach_first : (files : List FileMeta) (t : Trial) → IsIn t.first files → IsReach files t t.first.smallest t.first.largest
+pub reach_first : (files : List FileMeta) (t : Candidate) → IsIn t.first files → IsReach files t t.first.smallest t.first.largest
 reach_first files t m = record {
   first_low = key_le_refl t.first.smallest;
   first_high = key_le_refl t.first.largest;
@@ -141,14 +141,14 @@ reach_first files t m = record {
 
 -- ---- one growth after another
 
-either_level : (t : Trial) (g : FileMeta) → may_join t g ≡ true → (joins_at t (t.first.level + 1) g ≡ true) ⊎ ((t.first.level ≡ 0) × (joins_at t 0 g ≡ true))
+either_level : (t : Candidate) (g : FileMeta) → may_join t g ≡ true → (joins_at t (t.first.level + 1) g ≡ true) ⊎ ((t.first.level ≡ 0) × (joins_at t 0 g ≡ true))
 either_level t g h = elim (or_cases (eqb g.level (t.first.level + 1)) _ h) [
   | inl a ↦ inl (and_from (eqb g.level (t.first.level + 1)) (may_join t g) a h)
   | inr b ↦ let p = and_parts (eqb t.first.level 0) _ b in inr (eqb-true t.first.level 0 p.0, and_from (eqb g.level 0) (may_join t g) (and_parts (eqb g.level 0) _ p.1).0 h)
 ]
 
 -- above level 0 only files of the next level join
-pub grows_deep : (t : Trial) (places : List Placed) (lo hi new_lo new_hi : List ℕ) → (t.first.level ≡ 0 → ⊥) → Grows t places (joins_at t (t.first.level + 1)) lo hi new_lo new_hi → Grows t places (may_join t) lo hi new_lo new_hi
+pub grows_deep : (t : Candidate) (places : List Placed) (lo hi new_lo new_hi : List ℕ) → (t.first.level ≡ 0 → ⊥) → Grows t places (joins_at t (t.first.level + 1)) lo hi new_lo new_hi → Grows t places (may_join t) lo hi new_lo new_hi
 grows_deep t places lo hi new_lo new_hi deep g = record {
   low = g.low;
   high = g.high;
@@ -156,7 +156,7 @@ grows_deep t places lo hi new_lo new_hi deep g = record {
   sound = g.sound;
 }
 
-pub grows_both : (t : Trial) (places : List Placed) (lo hi mid_lo mid_hi new_lo new_hi : List ℕ) → Grows t places (joins_at t (t.first.level + 1)) lo hi mid_lo mid_hi → Grows t places (joins_at t 0) mid_lo mid_hi new_lo new_hi → Grows t places (may_join t) lo hi new_lo new_hi
+pub grows_both : (t : Candidate) (places : List Placed) (lo hi mid_lo mid_hi new_lo new_hi : List ℕ) → Grows t places (joins_at t (t.first.level + 1)) lo hi mid_lo mid_hi → Grows t places (joins_at t 0) mid_lo mid_hi new_lo new_hi → Grows t places (may_join t) lo hi new_lo new_hi
 grows_both t places lo hi mid_lo mid_hi new_lo new_hi one two = record {
   low = key_le_trans new_lo mid_lo lo two.low one.low;
   high = key_le_trans hi mid_hi new_hi one.high two.high;

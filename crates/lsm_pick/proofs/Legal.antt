@@ -11,11 +11,11 @@ use Rattle.lsm_claim.specs.Levels.{uses_level}
 use Rattle.lsm_edit.specs.declared.file.FileMeta.{FileMeta}
 use Rattle.lsm_edit.proofs.AfterEdit.{keeps}
 use Rattle.lsm_msg.specs.Legal.{IsLegal, Takes, touches}
-use Rattle.lsm_pick.specs.Closure.{Trial, HasNewer, IsClosed, Joins, MeetsHull}
-use Rattle.lsm_pick.specs.Rule.{Asks, inputs_of}
+use Rattle.lsm_pick.specs.Closure.{Candidate, HasNewer, IsClosed, Joins, MeetsHull}
+use Rattle.lsm_pick.specs.Rule.{Proposes, inputs_of}
 use Rattle.lsm_pick.proofs.Asking.{passes_some}
 
-module _ (files : List FileMeta) (t : Trial) (want : Want) (a : Asks files t want) where
+module _ (files : List FileMeta) (t : Candidate) (want : Want) (a : Proposes files t want) where
   -- an input by its number
   input_in : (f : FileMeta) → Takes files want f → IsIn f (inputs_of files want)
   input_in f m = keeps (λ g. list_any (eqb g.number) want.files) f files m.0 (passes_some (eqb f.number) want.files f.number m.1 (eq-eqb f.number f.number refl))
@@ -76,7 +76,7 @@ module _ (files : List FileMeta) (t : Trial) (want : Want) (a : Asks files t wan
       let y = a.greatest in
       ((x.0, x.1, subst (λ (k : List ℕ). key_le k g.largest ≡ true) (sym x.2) parts.0), (y.0, y.1, subst (λ (k : List ℕ). key_le g.smallest k ≡ true) (sym y.2) parts.1))
 
-  older_by : (b : Bool) → t.narrow ≡ b → (f g : FileMeta) → IsIn g (inputs_of files want) → g.level ≡ 0 → f.number < g.number → (t.narrow ≡ false) ⊎ HasNewer (inputs_of files want) f
+  older_by : (b : Bool) → t.older_only ≡ b → (f g : FileMeta) → IsIn g (inputs_of files want) → g.level ≡ 0 → f.number < g.number → (t.older_only ≡ false) ⊎ HasNewer (inputs_of files want) f
   older_by false e f g m level lt = inl e
   older_by true e f g m level lt = inr (g, m, level, lt)
 
@@ -92,5 +92,5 @@ module _ (files : List FileMeta) (t : Trial) (want : Want) (a : Asks files t wan
     greatest = let f = a.greatest in (f.0, takes f.0 f.1, f.2);
     next = λ f m level met. number_in f ((a.closure).closed f m (touched f met, inl (level ∙ ap (λ (n : ℕ). n + 1) a.level)));
     older = λ f g m n zero level other met lt.
-        number_in f ((a.closure).closed f m (touched f met, inr (sym a.level ∙ zero, level, older_by t.narrow refl f g (input_in g n) other lt)));
+        number_in f ((a.closure).closed f m (touched f met, inr (sym a.level ∙ zero, level, older_by t.older_only refl f g (input_in g n) other lt)));
   }

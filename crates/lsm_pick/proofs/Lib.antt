@@ -7,5 +7,5 @@ pub mod Asking
 pub mod Files
 pub mod Legal
 pub mod Removable
-pub mod TrialLevels
+pub mod CandidateLevels
 pub mod OneWant

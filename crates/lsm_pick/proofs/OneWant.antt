@@ -16,9 +16,9 @@ use Rattle.lsm_claim.specs.declared.hull.Hull.{Hull}
 use Rattle.lsm_claim.specs.declared.job.Want.{Want}
 use Rattle.lsm_edit.specs.declared.file.FileMeta.{FileMeta}
 use Rattle.lsm_edit.proofs.AfterEdit.{keeps}
-use Rattle.lsm_pick.specs.Closure.{Trial}
-use Rattle.lsm_pick.specs.Rule.{Asks, inputs_of}
-use Rattle.lsm_pick.specs.Laws.{ATrialAsksForOneWant}
+use Rattle.lsm_pick.specs.Closure.{Candidate}
+use Rattle.lsm_pick.specs.Rule.{Proposes, inputs_of}
+use Rattle.lsm_pick.specs.Laws.{ACandidateProposesOneWant}
 use Rattle.lsm_pick.proofs.Asking.{filter_same, same_test}
 use Rattle.lsm_pick.proofs.Growing.{inside_parts}
 
@@ -41,7 +41,7 @@ same_hull one other low high =
 
 -- ---- the want
 
-module _ (files : List FileMeta) (t : Trial) (one other : Want) (asks : Asks files t one) (also : Asks files t other) where
+module _ (files : List FileMeta) (t : Candidate) (one other : Want) (asks : Proposes files t one) (also : Proposes files t other) where
   -- a least set is within each other one
   inputs_within : (f : FileMeta) → IsIn f (inputs_of files one) → IsIn f (inputs_of files other)
   inputs_within = (asks.closure).least (inputs_of files other) (also.closure).has (also.closure).closed
@@ -63,7 +63,7 @@ module _ (files : List FileMeta) (t : Trial) (one other : Want) (asks : Asks fil
       let f = asks.greatest in
       subst (λ (k : List ℕ). key_le k other.hull.hi ≡ true) f.2 (inside_parts other.hull.lo other.hull.hi f.0 (also.inside f.0 (inputs_within f.0 f.1))).1
 
-pub one_want : ATrialAsksForOneWant
+pub one_want : ACandidateProposesOneWant
 one_want files t one other asks also =
     let inputs : inputs_of files one ≡ inputs_of files other = filter_same _ _ files (λ f m. same_test (list_any (eqb f.number) one.files) (list_any (eqb f.number) other.files) (taken_too files t one other asks also f m) (taken_too files t other one also asks f m)) in
     let level = asks.level ∙ sym also.level in

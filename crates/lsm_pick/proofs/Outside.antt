@@ -12,7 +12,7 @@ use Rattle.lsm_key.specs.Order.{key_le}
 use Rattle.lsm_key.proofs.Order.{keys_equal}
 use Rattle.lsm_claim.proofs.KeyRanges.{key_le_refl}
 use Rattle.lsm_edit.specs.declared.file.FileMeta.{FileMeta}
-use Rattle.lsm_pick.specs.Closure.{Trial}
+use Rattle.lsm_pick.specs.Closure.{Candidate}
 use Rattle.lsm_pick.specs.Reach.{IsReach, is_inside}
 use Rattle.lsm_pick.proofs.Growing.{inside_from, inside_more}
 
@@ -86,7 +86,7 @@ out_high lo hi f e = by (key_le lo f.smallest)
     by true = e
     by false = refl
 
-module _ (files : List FileMeta) (t : Trial) (lo hi new_lo new_hi : List ℕ) (r : IsReach files t new_lo new_hi) (low : key_le new_lo lo ≡ true) (high : key_le hi new_hi ≡ true) where
+module _ (files : List FileMeta) (t : Candidate) (lo hi new_lo new_hi : List ℕ) (r : IsReach files t new_lo new_hi) (low : key_le new_lo lo ≡ true) (high : key_le hi new_hi ≡ true) where
   stays : (f : FileMeta) → IsIn f files → not (is_inside new_lo new_hi f) ≡ true → not (is_inside lo hi f) ≡ true
   stays f m h = by (is_inside lo hi f) refl
     where

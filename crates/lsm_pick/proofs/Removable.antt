@@ -11,20 +11,20 @@ use Rattle.lsm_edit.specs.declared.edit.EditKind.TheVariants.{Install}
 use Rattle.lsm_edit.specs.declared.file.FileMeta.{FileMeta}
 use Rattle.lsm_edit.specs.Edit.{AreInTurn, AreRemoved, IsNumberFrom, after_number}
 use Rattle.lsm_edit.specs.File.{IsFile}
-use Rattle.lsm_edit.specs.Version.{NumbersRise}
+use Rattle.lsm_edit.specs.Version.{FileNumbersRise}
 use Rattle.lsm_msg.specs.declared.rules.TheConstants.{MAX_INPUTS}
-use Rattle.lsm_pick.specs.Closure.{Trial}
-use Rattle.lsm_pick.specs.Rule.{IsTaken, inputs_of}
+use Rattle.lsm_pick.specs.Closure.{Candidate}
+use Rattle.lsm_pick.specs.Rule.{IsEligible, inputs_of}
 
-rise_by : (b : Bool) (f : FileMeta) (kept : List FileMeta) → ((g : FileMeta) → IsIn g kept → f.number < g.number) → NumbersRise kept → NumbersRise (cond b (f ∷ kept) kept)
+rise_by : (b : Bool) (f : FileMeta) (kept : List FileMeta) → ((g : FileMeta) → IsIn g kept → f.number < g.number) → FileNumbersRise kept → FileNumbersRise (cond b (f ∷ kept) kept)
 rise_by true f kept low rise = (low, rise)
 rise_by false f kept low rise = rise
 
-pub rise-filter : (p : FileMeta → Bool) (files : List FileMeta) → NumbersRise files → NumbersRise (filter p files)
+pub rise-filter : (p : FileMeta → Bool) (files : List FileMeta) → FileNumbersRise files → FileNumbersRise (filter p files)
 rise-filter p [] rise = tt
 rise-filter p (f ∷ files) rise = rise_by (p f) f (filter p files) (λ g m. rise.0 g (IsIn-filter p g files m).0) (rise-filter p files rise.1)
 
-in_turn : (least : ℕ) (files : List FileMeta) → NumbersRise files → ((f : FileMeta) → IsIn f files → IsFile f) → ((f : FileMeta) → IsIn f files → least ≤ f.number) → AreInTurn IsNumberFrom after_number least (map (λ (f : FileMeta). f.number) files)
+in_turn : (least : ℕ) (files : List FileMeta) → FileNumbersRise files → ((f : FileMeta) → IsIn f files → IsFile f) → ((f : FileMeta) → IsIn f files → least ≤ f.number) → AreInTurn IsNumberFrom after_number least (map (λ (f : FileMeta). f.number) files)
 in_turn least [] rise each low = tt
 in_turn least (f ∷ files) rise each low =
     ((low f (inl refl), (each f (inl refl)).last), in_turn (f.number + 1) files rise.1 (λ g m. each g (inr m)) (λ g m. let lt = rise.0 g m in omega (arith, lt)))
@@ -33,7 +33,7 @@ some_of : {X : Type 0} (x : X) (xs : List X) → IsIn x xs → 1 ≤ length xs
 some_of x [] m = absurd m
 some_of x (y ∷ xs) m = omega arith
 
-pub removable : (files : List FileMeta) → NumbersRise files → ((f : FileMeta) → IsIn f files → IsFile f) → (live : List LiveJob) (t : Trial) (want : Want) → IsTaken files live t want → AreRemoved Install want.files
+pub removable : (files : List FileMeta) → FileNumbersRise files → ((f : FileMeta) → IsIn f files → IsFile f) → (live : List LiveJob) (t : Candidate) (want : Want) → IsEligible files live t want → AreRemoved Install want.files
 removable files rise each live t want taken =
     let inputs = inputs_of files want in
     let is = (taken.asks).files_are in

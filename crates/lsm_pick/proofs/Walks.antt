@@ -12,7 +12,7 @@ use Rattle.lsm_edit.specs.Served.{AllRecorded, AreInSearchOrder, IsAsRecorded, c
 use Rattle.lsm_edit.proofs.SearchOrder.{Before, upper, newer, lesser, before_of}
 use Rattle.lsm_edit.proofs.Levels.{Left, above, beside, left_of, level_up, not_left, whole_of}
 use Rattle.lsm_edit.proofs.LevelRanges.{order_left}
-use Rattle.lsm_pick.specs.Closure.{Trial}
+use Rattle.lsm_pick.specs.Closure.{Candidate}
 use Rattle.lsm_pick.specs.Reach.{IsReach, Grows, is_inside, is_met, joins_at, lower, higher, may_join}
 use Rattle.lsm_pick.proofs.Growing.{lower_low, lower_key, higher_high, higher_key, met_parts, met_from, met_more, inside_from, inside_more, reach_more}
 
@@ -40,13 +40,13 @@ module _ {X : Type 0} (xs : List X) (i : ℕ) where
 -- ---- the walk
 
 -- the first places have been walked over
-pub record Walk (t : Trial) (places rest : List Placed) (level : ℕ) (lo hi new_lo new_hi : List ℕ) (i : ℕ) : Type 0 where
+pub record Walk (t : Candidate) (places rest : List Placed) (level : ℕ) (lo hi new_lo new_hi : List ℕ) (i : ℕ) : Type 0 where
   pub low : key_le new_lo lo ≡ true
   pub high : key_le hi new_hi ≡ true
   pub taken : (p : Placed) → IsIn p (take i rest) → joins_at t level p.meta ≡ true → is_met lo hi p.meta ≡ true → is_inside new_lo new_hi p.meta ≡ true
   pub sound : (files : List FileMeta) → ((p : Placed) → IsIn p places → IsIn p.meta files) → IsReach files t lo hi → IsReach files t new_lo new_hi
 
-module _ (t : Trial) (places rest : List Placed) (level : ℕ) (lo hi : List ℕ) where
+module _ (t : Candidate) (places rest : List Placed) (level : ℕ) (lo hi : List ℕ) where
   pub walk_none : Walk t places rest level lo hi lo hi 0
   walk_none = record { low = key_le_refl lo; high = key_le_refl hi; taken = λ p m. absurd m; sound = λ files up r. r }
 
@@ -93,7 +93,7 @@ module _ (t : Trial) (places rest : List Placed) (level : ℕ) (lo hi : List ℕ
 
 -- ---- the next level
 
-joins_level : (t : Trial) (level : ℕ) (f : FileMeta) → joins_at t level f ≡ true → f.level ≡ level
+joins_level : (t : Candidate) (level : ℕ) (f : FileMeta) → joins_at t level f ≡ true → f.level ≡ level
 joins_level t level f j = eqb-true f.level level (and_parts (eqb f.level level) (may_join t f) j).0
 
 -- a file whose keys all stand below the least one is not met
@@ -124,7 +124,7 @@ later_missed level lo hi q p rec some ge late (lesser e n k) at met =
 
 -- the walk over the places of the next level from the first whose keys don't all stand below the least one
 module _ (places rest : List Placed) (level start : ℕ) (lo hi : List ℕ) (some : 1 ≤ level) (rec : AllRecorded places) (up : AreInSearchOrder places) (rest_at : rest ≡ drop start places)
-    (left : (p : Placed) → IsIn p (take start places) → comes_left level lo p ≡ true) (right : (p : Placed) → IsIn p (drop start places) → comes_left level lo p ≡ false) (t : Trial) where
+    (left : (p : Placed) → IsIn p (take start places) → comes_left level lo p ≡ true) (right : (p : Placed) → IsIn p (drop start places) → comes_left level lo p ≡ false) (t : Candidate) where
   pub rest_in : (p : Placed) → IsIn p rest → IsIn p places
   rest_in p m = in_back places start p (subst (IsIn p) rest_at m)
 
@@ -174,7 +174,7 @@ module _ (places rest : List Placed) (level start : ℕ) (lo hi : List ℕ) (som
 -- ---- level 0
 
 -- every file of level 0 stands before the first of a deeper level
-pub zero_walked : (places : List Placed) (t : Trial) (lo hi : List ℕ) (i : ℕ) (q : Placed) → AreInSearchOrder places → i < length places → q ≡ get_or places i q → 0 < q.meta.level
+pub zero_walked : (places : List Placed) (t : Candidate) (lo hi : List ℕ) (i : ℕ) (q : Placed) → AreInSearchOrder places → i < length places → q ≡ get_or places i q → 0 < q.meta.level
     → (p : Placed) → IsIn p places → joins_at t 0 p.meta ≡ true → is_met lo hi p.meta ≡ true → IsIn p (take i places)
 zero_walked places t lo hi i q up lt is deep p m j met = elim (in_parts places i p m) [
   | inl a ↦ a
@@ -189,7 +189,7 @@ zero_walked places t lo hi i q up lt is deep p m j met = elim (in_parts places i
       ]
 ]
 
-pub zero_all : (places : List Placed) (t : Trial) (lo hi : List ℕ) (i : ℕ) → length places ≤ i → (p : Placed) → IsIn p places → joins_at t 0 p.meta ≡ true → is_met lo hi p.meta ≡ true → IsIn p (take i places)
+pub zero_all : (places : List Placed) (t : Candidate) (lo hi : List ℕ) (i : ℕ) → length places ≤ i → (p : Placed) → IsIn p places → joins_at t 0 p.meta ≡ true → is_met lo hi p.meta ≡ true → IsIn p (take i places)
 zero_all places t lo hi i le p m j met = elim (in_parts places i p m) [ inl a ↦ a | inr b ↦ absurd (subst (IsIn p) (drop_all i places le) b) ]
 
 -- what is taken at each place below a partition point, and at none above it

@@ -12,15 +12,15 @@ abbrev pub is_full : Limits → List FileMeta → Bool
 is_full limits files = nat_le limits.l0 (length (of_level 0 files))
 
 -- the bytes that a deeper level may have: the base, and ten times as many in each deeper one
-abbrev pub allowed : Limits → ℕ → ℕ
-allowed limits level = limits.base * 10 ^ (level - 1)
+abbrev pub most_level_bytes : Limits → ℕ → ℕ
+most_level_bytes limits level = limits.base * 10 ^ (level - 1)
 
 -- a level has more bytes than these
 abbrev pub is_heavy : List FileMeta → ℕ → ℕ → Bool
 is_heavy files level most = nat_lt most (sum_by (λ f. f.bytes) (of_level level files))
 
 abbrev pub is_due : Limits → List FileMeta → ℕ → Bool
-is_due limits files level = if nat_eq level 0 then is_full limits files else is_heavy files level (allowed limits level)
+is_due limits files level = if nat_eq level 0 then is_full limits files else is_heavy files level (most_level_bytes limits level)
 
 -- the levels that may be due: the deepest one never is
 abbrev pub levels : List ℕ

@@ -2,9 +2,9 @@
 use Rattle.std.specs.Prelude.{◌≡◌, List}
 use Rattle.lsm_claim.specs.declared.job.Want.{Want}
 use Rattle.lsm_edit.specs.declared.file.FileMeta.{FileMeta}
-use Rattle.lsm_pick.specs.Closure.{Trial}
-use Rattle.lsm_pick.specs.Rule.{Asks}
+use Rattle.lsm_pick.specs.Closure.{Candidate}
+use Rattle.lsm_pick.specs.Rule.{Proposes}
 
 -- a candidate proposes at most one compaction of the files: its level, files and hull are determined
-abbrev pub ATrialAsksForOneWant : Type 0
-ATrialAsksForOneWant = (files : List FileMeta) (t : Trial) (one other : Want) → Asks files t one → Asks files t other → one ≡ other
+abbrev pub ACandidateProposesOneWant : Type 0
+ACandidateProposesOneWant = (files : List FileMeta) (t : Candidate) (one other : Want) → Proposes files t one → Proposes files t other → one ≡ other

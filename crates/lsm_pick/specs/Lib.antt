@@ -2,6 +2,6 @@ pub mod Due
 pub mod Closure
 pub mod Reach
 pub mod Rule
-pub mod Tried
+pub mod Outcome
 pub mod Counted
 pub mod Laws

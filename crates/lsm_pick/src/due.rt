@@ -2,7 +2,7 @@
 
 ghost use Rattle.std.specs.Prelude.{◌≡◌, ◌≤◌, ◌*◌, ◌^◌, ◌-◌, ◌+◌, count_by, sum_by, length, nat_eq, nat_le, nat_lt};
 ghost use Rattle.lsm_key.specs.declared.limits.TheConstants.{MAX_BASE};
-ghost use Rattle.lsm_pick.specs.Due.{is_due, is_full, is_heavy, of_level, allowed};
+ghost use Rattle.lsm_pick.specs.Due.{is_due, is_full, is_heavy, of_level, most_level_bytes};
 
 use lsm_edit::FileMeta;
 use lsm_key::Limits;
@@ -37,7 +37,7 @@ fn level_zero_count(files: &[FileMeta]) -> usize
 fn allowed(limits: &Limits, level: u8) -> u64
     requires some { 1 ≤ level }
     requires most { level ≤ 5 }
-    ensures { result ≡ allowed limits.now level }
+    ensures { result ≡ most_level_bytes limits.now level }
 {
     const FACTORS: [u64; 5] = [1, 10, 100, 1000, 10_000];
     limits.base * FACTORS[level as usize - 1]

@@ -3,12 +3,12 @@
 
 ghost use Rattle.std.specs.Prelude.{◌≡◌};
 ghost use Rattle.lsm_pick.specs.declared.limit.TheConstants.{MAX_INPUT_BYTES};
-ghost use Rattle.lsm_pick.specs.Laws.{ATrialAsksForOneWant};
+ghost use Rattle.lsm_pick.specs.Laws.{ACandidateProposesOneWant};
 
 /// Each candidate determines at most one compaction of a version's files, so the three outcomes of a pick are mutually
 /// exclusive.
-pub fn a_trial_asks_for_one_want()
-    ensures { ATrialAsksForOneWant }
+pub fn a_candidate_proposes_one_want()
+    ensures { ACandidateProposesOneWant }
 {}
 
 /// The limit of the picker is this number.

@@ -10,14 +10,14 @@ mod due;
 mod error;
 mod laws;
 mod limit;
+mod outcome;
 mod reach;
 mod rule;
 #[cfg(test)]
 mod tests;
-mod tried;
 mod want;
 
 pub use error::PickError;
-pub use laws::{a_trial_asks_for_one_want, pick_limits_are_these};
+pub use laws::{a_candidate_proposes_one_want, pick_limits_are_these};
 pub use limit::MAX_INPUT_BYTES;
 pub use rule::pick;

@@ -1,8 +1,8 @@
 //! The limits of a job.
 
 ghost use Rattle.std.specs.Prelude.{◌≡◌, ◌≤◌, filter, length};
-ghost use Rattle.lsm_pick.specs.Counted.{counted, deeper_than, fits_job};
-ghost use Rattle.lsm_pick.specs.Reach.{is_taken, trial_of};
+ghost use Rattle.lsm_pick.specs.Counted.{input_bytes, deeper_than, fits_job};
+ghost use Rattle.lsm_pick.specs.Reach.{is_taken, candidate_of};
 
 use crate::reach::Reach;
 use crate::want::takes;
@@ -13,16 +13,16 @@ use lsm_msg::{MAX_DEEPER, MAX_INPUTS};
 pub const MAX_INPUT_BYTES: u64 = 268_435_456;
 
 /// Whether the closure is within the job limits.
-pub(crate) fn is_within(
+pub(crate) fn fits_limits(
     files: &[FileMeta],
     first: &FileMeta,
-    narrow: bool,
+    older_only: bool,
     reach: Reach<'_>,
 ) -> bool
     requires { first.now.level ≤ 5 }
-    ensures { result ≡ fits_job (trial_of first.now narrow) reach.entry.lo.now reach.entry.hi.now files.now }
+    ensures { result ≡ fits_job (candidate_of first.now older_only) reach.entry.lo.now reach.entry.hi.now files.now }
 {
-    let bytes = match input_bytes(files, first, narrow, reach) {
+    let bytes = match input_bytes(files, first, older_only, reach) {
         None => return false,
         Some(bytes) => bytes,
     };
@@ -30,13 +30,18 @@ pub(crate) fn is_within(
 }
 
 // The bytes of the closure's files, or `None` if there are more of these than a job may have.
-fn input_bytes(files: &[FileMeta], first: &FileMeta, narrow: bool, reach: Reach<'_>) -> Option<u64>
+fn input_bytes(
+    files: &[FileMeta],
+    first: &FileMeta,
+    older_only: bool,
+    reach: Reach<'_>,
+) -> Option<u64>
     requires { first.now.level ≤ 5 }
-    ensures { result ≡ counted (filter (is_taken (trial_of first.now narrow) reach.entry.lo.now reach.entry.hi.now) files.now) }
+    ensures { result ≡ input_bytes (filter (is_taken (candidate_of first.now older_only) reach.entry.lo.now reach.entry.hi.now) files.now) }
 {
     let (mut inputs, mut bytes) = (0, 0);
     for file in files {
-        if takes(first, narrow, reach, file) {
+        if takes(first, older_only, reach, file) {
             if inputs == MAX_INPUTS {
                 return None;
             }

@@ -8,7 +8,7 @@ ghost use Rattle.lsm_key.specs.Sets.{IsIn};
 ghost use Rattle.lsm_key.specs.Order.{key_le};
 ghost use Rattle.lsm_edit.specs.declared.served.Placed.{Placed};
 ghost use Rattle.lsm_edit.specs.Served.{AllRecorded, AreInSearchOrder, comes_left};
-ghost use Rattle.lsm_pick.specs.Reach.{Grows, IsFull, higher, is_met, joins_at, lower, may_join, trial_of};
+ghost use Rattle.lsm_pick.specs.Reach.{Grows, IsFull, higher, is_met, joins_at, lower, may_join, candidate_of};
 
 use lsm_edit::{FileMeta, Placed, Served};
 
@@ -51,12 +51,12 @@ impl<'a> Reach<'a> {
     }
 
     // Extended by the keys of a file, if it may join and overlaps.
-    fn taking(self, first: &FileMeta, narrow: bool, file: &'a FileMeta) -> Reach<'a>
+    fn taking(self, first: &FileMeta, older_only: bool, file: &'a FileMeta) -> Reach<'a>
         requires { first.now.level ≤ 5 }
-        ensures lo { result.lo.now ≡ if may_join (trial_of first.now narrow) file.now && is_met self.entry.lo.now self.entry.hi.now file.now then lower self.entry.lo.now file.now.smallest else self.entry.lo.now }
-        ensures hi { result.hi.now ≡ if may_join (trial_of first.now narrow) file.now && is_met self.entry.lo.now self.entry.hi.now file.now then higher self.entry.hi.now file.now.largest else self.entry.hi.now }
+        ensures lo { result.lo.now ≡ if may_join (candidate_of first.now older_only) file.now && is_met self.entry.lo.now self.entry.hi.now file.now then lower self.entry.lo.now file.now.smallest else self.entry.lo.now }
+        ensures hi { result.hi.now ≡ if may_join (candidate_of first.now older_only) file.now && is_met self.entry.lo.now self.entry.hi.now file.now then higher self.entry.hi.now file.now.largest else self.entry.hi.now }
     {
-        if may_join(first, narrow, file) && self.meets(file) {
+        if may_join(first, older_only, file) && self.meets(file) {
             self.with(file)
         } else {
             self
@@ -80,48 +80,53 @@ impl<'a> Reach<'a> {
 
 /// The key range of the closure of a file. In each round the files of the next level are found by a binary search;
 /// those of level 0, which are not sorted by key, are scanned once.
-pub(crate) fn closure<'a>(served: &'a Served, first: &'a FileMeta, narrow: bool) -> Reach<'a>
+pub(crate) fn closure<'a>(served: &'a Served, first: &'a FileMeta, older_only: bool) -> Reach<'a>
     requires level { first.now.level ≤ 5 }
     requires listed { IsIn first.now served.now.version.files }
-    ensures { IsFull served.now.version.files (trial_of first.now narrow) result.lo.now result.hi.now }
+    ensures { IsFull served.now.version.files (candidate_of first.now older_only) result.lo.now result.hi.now }
 {
     // Proof hint: the version's invariant, and that its places have the listed files.
     let _listing = served.listing();
     let places = served.places();
     let mut reach = Reach::of(first);
-    let mut wider = widened(places, first, narrow, reach);
+    let mut wider = widened(places, first, older_only, reach);
     while !wider.same(reach) {
         reach = wider;
-        wider = widened(places, first, narrow, reach);
+        wider = widened(places, first, older_only, reach);
     }
     reach
 }
 
 // Widened by all files that may join and overlap it.
-fn widened<'a>(places: &'a [Placed], first: &FileMeta, narrow: bool, reach: Reach<'a>) -> Reach<'a>
+fn widened<'a>(
+    places: &'a [Placed],
+    first: &FileMeta,
+    older_only: bool,
+    reach: Reach<'a>,
+) -> Reach<'a>
     requires level { first.now.level ≤ 5 }
     requires recorded { AllRecorded places.now }
     requires ordered { AreInSearchOrder places.now }
-    ensures { Grows (trial_of first.now narrow) places.now (may_join (trial_of first.now narrow)) reach.entry.lo.now reach.entry.hi.now result.lo.now result.hi.now }
+    ensures { Grows (candidate_of first.now older_only) places.now (may_join (candidate_of first.now older_only)) reach.entry.lo.now reach.entry.hi.now result.lo.now result.hi.now }
 {
-    let below = with_next(places, first, narrow, reach);
+    let below = with_next(places, first, older_only, reach);
     if first.level > 0 {
         return below;
     }
-    with_level_zero(places, first, narrow, below)
+    with_level_zero(places, first, older_only, below)
 }
 
 // Widened by the files of the next level that overlap it.
 fn with_next<'a>(
     places: &'a [Placed],
     first: &FileMeta,
-    narrow: bool,
+    older_only: bool,
     reach: Reach<'a>,
 ) -> Reach<'a>
     requires level { first.now.level ≤ 5 }
     requires recorded { AllRecorded places.now }
     requires ordered { AreInSearchOrder places.now }
-    ensures { Grows (trial_of first.now narrow) places.now (joins_at (trial_of first.now narrow) (first.now.level + 1)) reach.entry.lo.now reach.entry.hi.now result.lo.now result.hi.now }
+    ensures { Grows (candidate_of first.now older_only) places.now (joins_at (candidate_of first.now older_only) (first.now.level + 1)) reach.entry.lo.now reach.entry.hi.now result.lo.now result.hi.now }
 {
     let level = first.level + 1;
     let start = place_in(places, level, reach.lo);
@@ -139,30 +144,30 @@ fn with_next<'a>(
 fn with_level_zero<'a>(
     places: &'a [Placed],
     first: &FileMeta,
-    narrow: bool,
+    older_only: bool,
     reach: Reach<'a>,
 ) -> Reach<'a>
     requires level { first.now.level ≡ 0 }
     requires ordered { AreInSearchOrder places.now }
-    ensures { Grows (trial_of first.now narrow) places.now (joins_at (trial_of first.now narrow) 0) reach.entry.lo.now reach.entry.hi.now result.lo.now result.hi.now }
+    ensures { Grows (candidate_of first.now older_only) places.now (joins_at (candidate_of first.now older_only) 0) reach.entry.lo.now reach.entry.hi.now result.lo.now result.hi.now }
 {
     let mut wider = reach;
     for placed in places {
         if placed.meta.level > 0 {
             return wider;
         }
-        wider = wider.taking(first, narrow, &placed.meta);
+        wider = wider.taking(first, older_only, &placed.meta);
     }
     wider
 }
 
 /// Whether the file joins the closure if it overlaps its range.
-pub(crate) fn may_join(first: &FileMeta, narrow: bool, file: &FileMeta) -> bool
+pub(crate) fn may_join(first: &FileMeta, older_only: bool, file: &FileMeta) -> bool
     requires { first.now.level ≤ 5 }
-    ensures { result ≡ may_join (trial_of first.now narrow) file.now }
+    ensures { result ≡ may_join (candidate_of first.now older_only) file.now }
 {
     file.level == first.level + 1
-        || (first.level == 0 && file.level == 0 && (!narrow || file.number < first.number))
+        || (first.level == 0 && file.level == 0 && (!older_only || file.number < first.number))
 }
 
 // The index of the first file at or after the key in a level, or after the level.

@@ -9,17 +9,17 @@ ghost use Rattle.lsm_edit.specs.declared.edit.EditKind.TheVariants.{Install};
 ghost use Rattle.lsm_edit.specs.Edit.{AreRemoved};
 ghost use Rattle.lsm_msg.specs.Legal.{IsLegal};
 ghost use Rattle.lsm_pick.specs.declared.error.PickError.TheVariants.{OutOfMemory, TooWide};
-ghost use Rattle.lsm_pick.specs.Closure.{Trial};
+ghost use Rattle.lsm_pick.specs.Closure.{Candidate};
 ghost use Rattle.lsm_pick.specs.Due.{due_levels};
-ghost use Rattle.lsm_pick.specs.Reach.{IsFull, is_taken, trial_of};
-ghost use Rattle.lsm_pick.specs.Rule.{AreClaimed, AreTooWide, IsFirst, level_trials, trials, trials_of};
-ghost use Rattle.lsm_pick.specs.Tried.{Comes, Wants};
+ghost use Rattle.lsm_pick.specs.Reach.{IsFull, is_taken, candidate_of};
+ghost use Rattle.lsm_pick.specs.Rule.{AreBlocked, AreTooLarge, IsFirst, level_candidates, candidates, candidates_of};
+ghost use Rattle.lsm_pick.specs.Outcome.{HasOutcome, CanPick};
 
 use crate::PickError;
 use crate::due::is_due;
-use crate::limit::is_within;
+use crate::limit::fits_limits;
+use crate::outcome::Outcome;
 use crate::reach::{Reach, closure};
-use crate::tried::Tried;
 use crate::want::want_of;
 use lsm_claim::{ClaimBook, LiveJob, Want, shares_level};
 use lsm_edit::{FileMeta, Served};
@@ -40,20 +40,20 @@ pub fn pick(
     book: &ClaimBook,
     limits: &Limits,
 ) -> Result<Option<Want>, PickError>
-    ensures some { IfOk result (λ picked. IfSome picked (IsFirst served.now.version.files book.now.live (trials limits.now served.now.version.files))) }
-    ensures none { IfOk result (λ picked. picked ≡ None → AreClaimed served.now.version.files book.now.live (trials limits.now served.now.version.files)) }
+    ensures some { IfOk result (λ picked. IfSome picked (IsFirst served.now.version.files book.now.live (candidates limits.now served.now.version.files))) }
+    ensures none { IfOk result (λ picked. picked ≡ None → AreBlocked served.now.version.files book.now.live (candidates limits.now served.now.version.files)) }
     ensures level { IfOk result (λ picked. IfSome picked (λ want. want.level ≤ MAX_JOB_LEVEL)) }
     ensures legal { IfOk result (λ picked. IfSome picked (IsLegal served.now.version.files)) }
     ensures removable { IfOk result (λ picked. IfSome picked (λ want. AreRemoved Install want.files)) }
-    ensures too_wide { IfErr result (λ e. e ≡ TooWide → AreTooWide served.now.version.files book.now.live (trials limits.now served.now.version.files)) }
-    ensures memory { IfErr result (λ e. e ≡ OutOfMemory → Wants served.now.version.files book.now.live (trials limits.now served.now.version.files)) }
+    ensures too_wide { IfErr result (λ e. e ≡ TooWide → AreTooLarge served.now.version.files book.now.live (candidates limits.now served.now.version.files)) }
+    ensures memory { IfErr result (λ e. e ≡ OutOfMemory → CanPick served.now.version.files book.now.live (candidates limits.now served.now.version.files)) }
 {
     // Proof hint: the version's invariant.
     let _listing = served.listing();
     match try_all(alloc, served, book.live(), limits)? {
-        Tried::Taken(want) => Ok(Some(want)),
-        Tried::TooWide => Err(PickError::TooWide),
-        Tried::Claimed => Ok(None),
+        Outcome::Picked(want) => Ok(Some(want)),
+        Outcome::TooLarge => Err(PickError::TooWide),
+        Outcome::Blocked => Ok(None),
     }
 }
 
@@ -63,21 +63,21 @@ fn try_all(
     served: &Served,
     live: &[LiveJob],
     limits: &Limits,
-) -> Result<Tried, AllocError>
-    ensures ok { IfOk result (Comes served.now.version.files live.now (trials limits.now served.now.version.files)) }
-    ensures err { OnErr result (Wants served.now.version.files live.now (trials limits.now served.now.version.files)) }
+) -> Result<Outcome, AllocError>
+    ensures ok { IfOk result (HasOutcome served.now.version.files live.now (candidates limits.now served.now.version.files)) }
+    ensures err { OnErr result (CanPick served.now.version.files live.now (candidates limits.now served.now.version.files)) }
 {
-    let mut tried = Tried::Claimed;
+    let mut outcome = Outcome::Blocked;
     for level in 0..MAX_JOB_LEVEL + 1 {
         if is_due(limits, served.listing().files, level) {
             let here = try_level(alloc, served, live, level)?;
-            tried = tried.or(here);
-            if tried.is_taken() {
-                return Ok(tried);
+            outcome = outcome.or(here);
+            if outcome.is_picked() {
+                return Ok(outcome);
             }
         }
     }
-    Ok(tried)
+    Ok(outcome)
 }
 
 // The outcome of a level's candidates.
@@ -86,22 +86,22 @@ fn try_level(
     served: &Served,
     live: &[LiveJob],
     level: u8,
-) -> Result<Tried, AllocError>
+) -> Result<Outcome, AllocError>
     requires { level ≤ 5 }
-    ensures ok { IfOk result (Comes served.now.version.files live.now (level_trials served.now.version.files level)) }
-    ensures err { OnErr result (Wants served.now.version.files live.now (level_trials served.now.version.files level)) }
+    ensures ok { IfOk result (HasOutcome served.now.version.files live.now (level_candidates served.now.version.files level)) }
+    ensures err { OnErr result (CanPick served.now.version.files live.now (level_candidates served.now.version.files level)) }
 {
-    let mut tried = Tried::Claimed;
+    let mut outcome = Outcome::Blocked;
     for file in served.listing().files {
         if file.level == level {
             let here = try_file(alloc, served, live, file)?;
-            tried = tried.or(here);
-            if tried.is_taken() {
-                return Ok(tried);
+            outcome = outcome.or(here);
+            if outcome.is_picked() {
+                return Ok(outcome);
             }
         }
     }
-    Ok(tried)
+    Ok(outcome)
 }
 
 // The outcome of a file's candidates: at level 0 the one with older files only comes second.
@@ -110,18 +110,18 @@ fn try_file(
     served: &Served,
     live: &[LiveJob],
     first: &FileMeta,
-) -> Result<Tried, AllocError>
+) -> Result<Outcome, AllocError>
     requires level { first.now.level ≤ 5 }
     requires listed { IsIn first.now served.now.version.files }
-    ensures ok { IfOk result (Comes served.now.version.files live.now (trials_of first.now)) }
-    ensures err { OnErr result (Wants served.now.version.files live.now (trials_of first.now)) }
+    ensures ok { IfOk result (HasOutcome served.now.version.files live.now (candidates_of first.now)) }
+    ensures err { OnErr result (CanPick served.now.version.files live.now (candidates_of first.now)) }
 {
     let wide = try_closure(alloc, served, live, first, false)?;
-    if first.level > 0 || wide.is_taken() {
+    if first.level > 0 || wide.is_picked() {
         return Ok(wide);
     }
-    let narrow = try_closure(alloc, served, live, first, true)?;
-    Ok(wide.or(narrow))
+    let older_only = try_closure(alloc, served, live, first, true)?;
+    Ok(wide.or(older_only))
 }
 
 // The outcome of one candidate.
@@ -130,27 +130,27 @@ fn try_closure(
     served: &Served,
     live: &[LiveJob],
     first: &FileMeta,
-    narrow: bool,
-) -> Result<Tried, AllocError>
+    older_only: bool,
+) -> Result<Outcome, AllocError>
     requires level { first.now.level ≤ 5 }
     requires listed { IsIn first.now served.now.version.files }
-    ensures ok { IfOk result (Comes served.now.version.files live.now (trial_of first.now narrow ∷ [])) }
-    ensures err { OnErr result (Wants served.now.version.files live.now (trial_of first.now narrow ∷ [])) }
+    ensures ok { IfOk result (HasOutcome served.now.version.files live.now (candidate_of first.now older_only ∷ [])) }
+    ensures err { OnErr result (CanPick served.now.version.files live.now (candidate_of first.now older_only ∷ [])) }
 {
     let files = served.listing().files;
-    let reach = closure(served, first, narrow);
-    if is_claimed(live, first.level, reach) {
-        return Ok(Tried::Claimed);
+    let reach = closure(served, first, older_only);
+    if is_blocked(live, first.level, reach) {
+        return Ok(Outcome::Blocked);
     }
-    if !is_within(files, first, narrow, reach) {
-        return Ok(Tried::TooWide);
+    if !fits_limits(files, first, older_only, reach) {
+        return Ok(Outcome::TooLarge);
     }
-    let want = want_of(alloc, files, first, narrow, reach)?;
-    Ok(Tried::Taken(want))
+    let want = want_of(alloc, files, first, older_only, reach)?;
+    Ok(Outcome::Picked(want))
 }
 
 // Whether a live job shares a level and has a key in common.
-fn is_claimed(live: &[LiveJob], level: u8, reach: Reach<'_>) -> bool
+fn is_blocked(live: &[LiveJob], level: u8, reach: Reach<'_>) -> bool
     ensures { result ≡ list_any (λ j. shares_level j.want.level level && ranges_meet j.want.hull.lo j.want.hull.hi reach.entry.lo.now reach.entry.hi.now) live.now }
 {
     live.iter().any(|job| {

@@ -2,7 +2,7 @@
 
 ghost use Rattle.std.specs.Prelude.{◌≡◌, ◌≤◌, IfOk, filter, map, true};
 ghost use Rattle.lsm_key.specs.Order.{key_le};
-ghost use Rattle.lsm_pick.specs.Reach.{is_taken, trial_of};
+ghost use Rattle.lsm_pick.specs.Reach.{is_taken, candidate_of};
 
 use crate::reach::{Reach, may_join};
 use bytes::Bytes;
@@ -12,11 +12,11 @@ use lsm_key::Items;
 use std::alloc::{AllocError, Global};
 
 /// Whether the file is in the closure.
-pub(crate) fn takes(first: &FileMeta, narrow: bool, reach: Reach<'_>, file: &FileMeta) -> bool
+pub(crate) fn takes(first: &FileMeta, older_only: bool, reach: Reach<'_>, file: &FileMeta) -> bool
     requires { first.now.level ≤ 5 }
-    ensures { result ≡ is_taken (trial_of first.now narrow) reach.entry.lo.now reach.entry.hi.now file.now }
+    ensures { result ≡ is_taken (candidate_of first.now older_only) reach.entry.lo.now reach.entry.hi.now file.now }
 {
-    file.number == first.number || (may_join(first, narrow, file) && reach.meets(file))
+    file.number == first.number || (may_join(first, older_only, file) && reach.meets(file))
 }
 
 /// The compaction of a closure.
@@ -24,16 +24,16 @@ pub(crate) fn want_of(
     alloc: Global,
     files: &[FileMeta],
     first: &FileMeta,
-    narrow: bool,
+    older_only: bool,
     reach: Reach<'_>,
 ) -> Result<Want, AllocError>
     requires level { first.now.level ≤ 5 }
     requires proper { key_le reach.lo.now reach.hi.now ≡ true }
     ensures level { IfOk result (λ want. want.level ≡ first.now.level) }
-    ensures files { IfOk result (λ want. want.files ≡ map (λ f. f.number) (filter (is_taken (trial_of first.now narrow) reach.entry.lo.now reach.entry.hi.now) files.now)) }
+    ensures files { IfOk result (λ want. want.files ≡ map (λ f. f.number) (filter (is_taken (candidate_of first.now older_only) reach.entry.lo.now reach.entry.hi.now) files.now)) }
     ensures hull { IfOk result (λ want. (want.hull.lo ≡ reach.entry.lo.now) × (want.hull.hi ≡ reach.entry.hi.now)) }
 {
-    let numbers = numbers_of(alloc, files, first, narrow, reach)?;
+    let numbers = numbers_of(alloc, files, first, older_only, reach)?;
     let lo = Bytes::copy_from_slice(alloc, reach.lo)?;
     let hi = Bytes::copy_from_slice(alloc, reach.hi)?;
     Ok(Want {
@@ -48,15 +48,15 @@ fn numbers_of(
     alloc: Global,
     files: &[FileMeta],
     first: &FileMeta,
-    narrow: bool,
+    older_only: bool,
     reach: Reach<'_>,
 ) -> Result<Vec<u64>, AllocError>
     requires { first.now.level ≤ 5 }
-    ensures { IfOk result (λ numbers. numbers.items ≡ map (λ f. f.number) (filter (is_taken (trial_of first.now narrow) reach.entry.lo.now reach.entry.hi.now) files.now)) }
+    ensures { IfOk result (λ numbers. numbers.items ≡ map (λ f. f.number) (filter (is_taken (candidate_of first.now older_only) reach.entry.lo.now reach.entry.hi.now) files.now)) }
 {
     let mut numbers = Vec::new(alloc);
     for file in files {
-        if takes(first, narrow, reach, file) {
+        if takes(first, older_only, reach, file) {
             numbers.push(file.number)?;
         }
     }

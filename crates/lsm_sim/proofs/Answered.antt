@@ -15,17 +15,17 @@ use Rattle.lsm_coord.specs.declared.coord.install.Install.TheVariants as became
 use Rattle.lsm_coord.specs.declared.coord.install.InstallError.{InstallError}
 use Rattle.lsm_coord.specs.declared.coord.install.InstallError.TheVariants.{WrongJob, BadResult, NumbersExhausted, OutOfMemory}
 use Rattle.lsm_coord.specs.declared.error.CoordError.{CoordError}
-use Rattle.lsm_coord.specs.Calls.{gave_back}
-use Rattle.lsm_coord.specs.Changes.{IsIndex}
-use Rattle.lsm_coord.specs.Event as say
-use Rattle.lsm_coord.specs.Installing.{AreOutputs, Became, Explains, HasNumbers, StepsTo}
-use Rattle.lsm_coord.specs.Picking.{IsPicked}
-use Rattle.lsm_coord.specs.Replies.{error_of}
-use Rattle.lsm_coord.specs.Shows.{Shows}
-use Rattle.lsm_coord.specs.Sound.{KeepsSound}
-use Rattle.lsm_coord.specs.State.{State}
-use Rattle.lsm_coord.specs.Step.{Step}
-use Rattle.lsm_coord.specs.Value.{CoordValue}
+use Rattle.lsm_coord.specs.Contract.Calls.{after_give_back}
+use Rattle.lsm_coord.specs.Model.Changes.{IsIndex}
+use Rattle.lsm_coord.specs.Model.Event as say
+use Rattle.lsm_coord.specs.Contract.Installing.{AreOutputTables, Became, Explains, HasNumbers, StepsTo}
+use Rattle.lsm_coord.specs.Contract.Picking.{IsPicked}
+use Rattle.lsm_coord.specs.Contract.Replies.{error_of}
+use Rattle.lsm_coord.specs.Contract.Shows.{Shows}
+use Rattle.lsm_coord.specs.Contract.Sound.{KeepsSound}
+use Rattle.lsm_coord.specs.Model.State.{State}
+use Rattle.lsm_coord.specs.Model.Step.{Step}
+use Rattle.lsm_coord.specs.Contract.Value.{CoordValue}
 use Rattle.lsm_coord.proofs.InstallStep.{same_some}
 use Rattle.lsm_coord.proofs.Jobs.{wants_memory}
 use Rattle.lsm_coord.proofs.Refusals.{give_up_may}
@@ -42,7 +42,7 @@ module _ (old mid new : CoordValue) (claim : LiveJob) (job : JobParts) (ver : Is
   never_stale : holds mid.book claim.id ≡ false → ⊥
   never_stale h = true≢false (sym (is_held old mid claim job ver is book picked) ∙ h)
 
-  pub answers_left : {Z : Type 0} (r : Answer Z) → OnErr r (new ≡ gave_back mid claim.id) → OnErr r (IsLeft old new)
+  pub answers_left : {Z : Type 0} (r : Answer Z) → OnErr r (new ≡ after_give_back mid claim.id) → OnErr r (IsLeft old new)
   answers_left (Ok a) e = tt
   answers_left (Err x) e = left_again old mid claim job ver is book picked new e
 
@@ -65,7 +65,7 @@ module _ (old mid new : CoordValue) (claim : LiveJob) (job : JobParts) (ver : Is
     module _ (live : LiveJob) (one : live ≡ claim) where
       refused_by : (why : InstallError) → Explains mid.served.version live made why → CompactionRefuses old (error_of why)
       refused_by WrongJob x = absurd (x (same_job ∙ named old mid claim job ver is book picked ∙ ap (λ (l : LiveJob). l.id) (sym one)))
-      refused_by BadResult x = absurd (x.1 (opened_as made.tables m.entries) (subst (λ (l : LiveJob). AreOutputs l.want.hull made.tables (opened_as made.tables m.entries)) (sym one) (made_outputs old mid claim job ver is book picked made m)))
+      refused_by BadResult x = absurd (x.1 (opened_as made.tables m.entries) (subst (λ (l : LiveJob). AreOutputTables l.want.hull made.tables (opened_as made.tables m.entries)) (sym one) (made_outputs old mid claim job ver is book picked made m)))
       refused_by NumbersExhausted x = inr (record {
         claim = claim;
         job = job;
@@ -74,7 +74,7 @@ module _ (old mid new : CoordValue) (claim : LiveJob) (job : JobParts) (ver : Is
         made = made;
         merged = made_of_inputs old mid claim job ver is book picked made m;
         tables = x.1;
-        outputs = subst (λ (l : LiveJob). AreOutputs l.want.hull made.tables x.1) one x.2;
+        outputs = subst (λ (l : LiveJob). AreOutputTables l.want.hull made.tables x.1) one x.2;
         lacks = λ has. x.3 (subst (λ (s : ServedValue). HasNumbers s.version x.1) (sym (served_is old mid claim job ver is book picked)) has);
       })
       refused_by OutOfMemory x = wants_memory old picked.want picked.may
@@ -88,7 +88,7 @@ module _ (old mid new : CoordValue) (claim : LiveJob) (job : JobParts) (ver : Is
     -- ---- jobs that stay sound
 
     pub answers_sound : {Z : Type 0} (r : Answer Z) → KeepsSound old mid → KeepsSound mid new → IfOk r (λ a. IfSome a (λ v. Became mid claim made (became.Done v.0 v.1.items) new)) → IfOk r (λ a. a ≡ None → holds mid.book claim.id ≡ false)
-        → OnErr r (new ≡ gave_back mid claim.id) → KeepsSound old new
+        → OnErr r (new ≡ after_give_back mid claim.id) → KeepsSound old new
     answers_sound (Ok None) first second done stale back = absurd (never_stale (stale refl))
     answers_sound (Ok (Some v)) first second done stale back =
         keeps_then old mid new first second (λ j n. live_before mid.book (done.0).id ending.Installed j (subst (λ (c : CoordValue). IsIn j c.book.live) (done.6).new_is n))
@@ -97,7 +97,7 @@ module _ (old mid new : CoordValue) (claim : LiveJob) (job : JobParts) (ver : Is
     -- ---- the steps
 
     pub answers_reached : {Z : Type 0} (r : Answer Z) (dispatcher message : ℕ) → IsIndex dispatcher → (s : State) → (t : State) × Step s (say.Pick dispatcher) say.Other t × Shows mid t → IfOk r (λ a. IfSome a (λ v. StepsTo mid (became.Done v.0 v.1.items) new))
-        → IfOk r (λ a. a ≡ None → holds mid.book claim.id ≡ false) → OnErr r (new ≡ gave_back mid claim.id) → IsReached dispatcher message s r new
+        → IfOk r (λ a. a ≡ None → holds mid.book claim.id ≡ false) → OnErr r (new ≡ after_give_back mid claim.id) → IsReached dispatcher message s r new
     answers_reached (Ok None) dispatcher message index s pick steps stale back = absurd (never_stale (stale refl))
     answers_reached (Ok (Some v)) dispatcher message index s pick steps stale back =
         let u = steps message pick.0 pick.2 in

@@ -9,25 +9,25 @@ use Rattle.lsm_claim.specs.declared.ending.Ending.TheVariants.{Returned}
 use Rattle.lsm_claim.specs.declared.job.JobId.{JobId}
 use Rattle.lsm_claim.specs.declared.job.LiveJob.{LiveJob}
 use Rattle.lsm_claim.specs.declared.job.Want.{Want}
-use Rattle.lsm_claim.specs.Book.{BookValue, IsBook, after_settling, claimed, holds, next_job, with_ending}
-use Rattle.lsm_claim.specs.Jobs.{same_id, without_job}
+use Rattle.lsm_claim.specs.Book.{BookValue, IsBook, after_settling, after_claim, holds, next_job, with_ending}
+use Rattle.lsm_claim.specs.Jobs.{same_job_id, without_job}
 use Rattle.lsm_table.specs.Tables.{Opened}
 use Rattle.lsm_edit.specs.declared.file.FileMeta.{FileMeta}
 use Rattle.lsm_edit.specs.Served.{IsServed, ServedValue, tables_of}
-use Rattle.lsm_edit.specs.Version.{IsVersion, NumbersRise}
+use Rattle.lsm_edit.specs.Version.{IsVersion, FileNumbersRise}
 use Rattle.lsm_msg.specs.declared.job.JobParts.{JobParts}
 use Rattle.lsm_msg.specs.declared.job.JobResult.{JobResult}
 use Rattle.lsm_msg.specs.Legal.{IsLegal, Takes}
 use Rattle.lsm_msg.specs.Merge.{HoldsKept}
 use Rattle.lsm_merge.specs.Inputs.{HaveSameEntry, lists_of}
 use Rattle.lsm_merge.specs.Outputs as merge
-use Rattle.lsm_coord.specs.Calls.{gave_back}
-use Rattle.lsm_coord.specs.Installing.{AreOutputs, IsLive, HoldsMergeOf}
-use Rattle.lsm_coord.specs.Picking.{IsPicked, Picks}
-use Rattle.lsm_coord.specs.Shows.{Shows}
-use Rattle.lsm_coord.specs.Sound.{IsSound, KeepsSound}
-use Rattle.lsm_coord.specs.State.{State}
-use Rattle.lsm_coord.specs.Value.{CoordValue}
+use Rattle.lsm_coord.specs.Contract.Calls.{after_give_back}
+use Rattle.lsm_coord.specs.Contract.Installing.{AreOutputTables, IsLive, HoldsMergeOf}
+use Rattle.lsm_coord.specs.Contract.Picking.{IsPicked, Picks}
+use Rattle.lsm_coord.specs.Contract.Shows.{Shows}
+use Rattle.lsm_coord.specs.Contract.Sound.{IsSound, KeepsSound}
+use Rattle.lsm_coord.specs.Model.State.{State}
+use Rattle.lsm_coord.specs.Contract.Value.{CoordValue}
 use Rattle.lsm_coord.proofs.Installing.{held_by}
 use Rattle.lsm_coord.proofs.Jobs.{is_input, is_taken}
 use Rattle.lsm_coord.proofs.Lists.{any_found, any_here}
@@ -38,49 +38,49 @@ use Rattle.lsm_sim.proofs.Made.{opened_as, opened_entries, opened_tables, output
 
 -- ---- the last job of a list, whose name no other has
 
-module _ (id : JobId) (last : LiveJob) (own : same_id last.id id ≡ true) where
+module _ (id : JobId) (last : LiveJob) (own : same_job_id last.id id ≡ true) where
   -- the others are those without it
-  pub others_stay : (jobs : List LiveJob) → ((j : LiveJob) → IsIn j jobs → same_id j.id id ≡ false) → without_job id (jobs ++ last ∷ []) ≡ jobs
+  pub others_stay : (jobs : List LiveJob) → ((j : LiveJob) → IsIn j jobs → same_job_id j.id id ≡ false) → without_job id (jobs ++ last ∷ []) ≡ jobs
   others_stay [] other = ap (λ (b : Bool). cond (not b) (last ∷ []) []) own
   others_stay (j ∷ jobs) other =
       ap (λ (b : Bool). cond (not b) (j ∷ without_job id (jobs ++ last ∷ [])) (without_job id (jobs ++ last ∷ []))) (other j (inl refl))
       ∙ ap (λ (js : List LiveJob). j ∷ js) (others_stay jobs (λ k m. other k (inr m)))
 
   -- and it is found by its name
-  pub is_found : (jobs : List LiveJob) → ((j : LiveJob) → IsIn j jobs → same_id j.id id ≡ false) → find (λ j. same_id j.id id) (jobs ++ last ∷ []) ≡ Some last
+  pub is_found : (jobs : List LiveJob) → ((j : LiveJob) → IsIn j jobs → same_job_id j.id id ≡ false) → find (λ j. same_job_id j.id id) (jobs ++ last ∷ []) ≡ Some last
   is_found [] other = ap (λ (b : Bool). cond b (Some last) None) own
   is_found (j ∷ jobs) other =
-      ap (λ (b : Bool). cond b (Some j) (find (λ k. same_id k.id id) (jobs ++ last ∷ []))) (other j (inl refl))
+      ap (λ (b : Bool). cond b (Some j) (find (λ k. same_job_id k.id id) (jobs ++ last ∷ []))) (other j (inl refl))
       ∙ is_found jobs (λ k m. other k (inr m))
 
 module _ (b : BookValue) (is : IsBook b) (want : Want) where
-  own_name : same_id (next_job b want).id (next_job b want).id ≡ true
+  own_name : same_job_id (next_job b want).id (next_job b want).id ≡ true
   own_name = rw (eq-eqb b.epoch b.epoch refl) (eq-eqb (b.made + 1) (b.made + 1) refl)
 
-  new_name : (j : LiveJob) → IsIn j b.live → same_id j.id (next_job b want).id ≡ false
-  new_name j m = false_from_ne_true (same_id j.id (next_job b want).id) (λ h.
+  new_name : (j : LiveJob) → IsIn j b.live → same_job_id j.id (next_job b want).id ≡ false
+  new_name j m = false_from_ne_true (same_job_id j.id (next_job b want).id) (λ h.
       let number : j.id.number ≡ b.made + 1 = ap (λ (i : JobId). i.number) (same_name j.id (next_job b want).id h) in
       let last = (is.given j m).last in
       omega (arith, number, last))
 
-  claim_found : find (λ j. same_id j.id (next_job b want).id) (claimed b want).live ≡ Some (next_job b want)
+  claim_found : find (λ j. same_job_id j.id (next_job b want).id) (after_claim b want).live ≡ Some (next_job b want)
   claim_found = is_found (next_job b want).id (next_job b want) own_name b.live new_name
 
-  pub claim_held : holds (claimed b want) (next_job b want).id ≡ true
-  claim_held = held_by (claimed b want) (next_job b want) (next_job b want).id claim_found
+  pub claim_held : holds (after_claim b want) (next_job b want).id ≡ true
+  claim_held = held_by (after_claim b want) (next_job b want) (next_job b want).id claim_found
 
   -- a claim that is given back leaves the live jobs as they were
-  pub given_back : after_settling (claimed b want) (next_job b want).id Returned ≡ record b { made = b.made + 1; returned = b.returned + 1 }
+  pub given_back : after_settling (after_claim b want) (next_job b want).id Returned ≡ record b { made = b.made + 1; returned = b.returned + 1 }
   given_back =
-      ap (λ (held : Bool). cond held (with_ending Returned (record (claimed b want) { live = without_job (next_job b want).id (claimed b want).live })) (claimed b want)) claim_held
+      ap (λ (held : Bool). cond held (with_ending Returned (record (after_claim b want) { live = without_job (next_job b want).id (after_claim b want).live })) (after_claim b want)) claim_held
       ∙ ap (λ (live : List LiveJob). record b { made = b.made + 1; returned = b.returned + 1; live = live }) (others_stay (next_job b want).id (next_job b want) own_name b.live new_name)
 
 -- ---- jobs that stay sound
 
 pub fewer_held : (b after : BookValue) (id : JobId) → ((j : LiveJob) → IsIn j after.live → IsIn j b.live) → holds after id ≡ true → holds b id ≡ true
 fewer_held b after id among h =
-    let found = any_found (λ j. same_id j.id id) after.live h in
-    any_here (λ j. same_id j.id id) found.0 b.live (among found.0 found.1) found.2
+    let found = any_found (λ j. same_job_id j.id id) after.live h in
+    any_here (λ j. same_job_id j.id id) found.0 b.live (among found.0 found.1) found.2
 
 pub keeps_then : (old mid new : CoordValue) → KeepsSound old mid → KeepsSound mid new → ((j : LiveJob) → IsIn j new.book.live → IsIn j mid.book.live) → KeepsSound old new
 keeps_then old mid new first second among job sound held = second job (first job sound (fewer_held mid.book new.book job.id among held)) held
@@ -100,7 +100,7 @@ module _ (old mid : CoordValue) (claim : LiveJob) (job : JobParts) (ver : IsVers
   pub served_is : mid.served ≡ old.served
   served_is = ap (λ (c : CoordValue). c.served) picked.new_is
 
-  book_is : mid.book ≡ claimed old.book picked.want
+  book_is : mid.book ≡ after_claim old.book picked.want
   book_is = ap (λ (c : CoordValue). c.book) picked.new_is
 
   want_is : claim.want ≡ picked.want
@@ -118,7 +118,7 @@ module _ (old mid : CoordValue) (claim : LiveJob) (job : JobParts) (ver : IsVers
   pub claim_live : IsLive mid claim.id claim
   claim_live =
       subst (λ (l : LiveJob). IsLive mid l.id l) (sym picked.claim_is)
-      (subst (λ (b : BookValue). find (λ j. same_id j.id (next_job old.book picked.want).id) b.live ≡ Some (next_job old.book picked.want)) (sym book_is) (claim_found old.book book picked.want))
+      (subst (λ (b : BookValue). find (λ j. same_job_id j.id (next_job old.book picked.want).id) b.live ≡ Some (next_job old.book picked.want)) (sym book_is) (claim_found old.book book picked.want))
 
   pub is_held : holds mid.book claim.id ≡ true
   is_held = held_by mid.book claim claim.id claim_live
@@ -139,8 +139,8 @@ module _ (old mid : CoordValue) (claim : LiveJob) (job : JobParts) (ver : IsVers
   pub inputs_of_version : (f : FileMeta) → IsIn f job.inputs → IsIn f mid.served.version.files
   inputs_of_version f m = ((takes f).0 m).0
 
-  inputs_rise : NumbersRise job.inputs
-  inputs_rise = subst NumbersRise (sym picked.job_is.inputs) (rise_filter _ old.served.version.files ver.rising)
+  inputs_rise : FileNumbersRise job.inputs
+  inputs_rise = subst FileNumbersRise (sym picked.job_is.inputs) (rise_filter _ old.served.version.files ver.rising)
 
   inputs_few : sum_by (λ f. f.bytes) job.inputs ≤ 268435456
   inputs_few =
@@ -164,17 +164,17 @@ module _ (old mid : CoordValue) (claim : LiveJob) (job : JobParts) (ver : IsVers
       kept = subst (λ (lists : List (List Entry)). HoldsKept (fetched mid.served.places job.inputs) job.points job.deeper (all_entries lists)) (sym (opened_entries made.tables m.entries m.spelled)) m.kept;
     }
 
-    pub made_outputs : AreOutputs claim.want.hull made.tables (opened_as made.tables m.entries)
+    pub made_outputs : AreOutputTables claim.want.hull made.tables (opened_as made.tables m.entries)
     made_outputs = outputs_are mid.served mid_ver mid_is claim.want legal job takes made.tables m inputs_few
 
   -- ---- what is given back
 
-  pub left_again : (new : CoordValue) → new ≡ gave_back mid claim.id → IsLeft old new
+  pub left_again : (new : CoordValue) → new ≡ after_give_back mid claim.id → IsLeft old new
   left_again new e =
-      let back : new ≡ gave_back (record old { book = claimed old.book picked.want }) (next_job old.book picked.want).id = e ∙ (λ i. gave_back (picked.new_is i) (picked.claim_is i).id) in
-      let counted : gave_back (record old { book = claimed old.book picked.want }) (next_job old.book picked.want).id ≡ record old { book = record old.book { made = old.book.made + 1; returned = old.book.returned + 1 } } =
+      let back : new ≡ after_give_back (record old { book = after_claim old.book picked.want }) (next_job old.book picked.want).id = e ∙ (λ i. after_give_back (picked.new_is i) (picked.claim_is i).id) in
+      let counted : after_give_back (record old { book = after_claim old.book picked.want }) (next_job old.book picked.want).id ≡ record old { book = record old.book { made = old.book.made + 1; returned = old.book.returned + 1 } } =
       ap (λ (b : BookValue). record old { book = b }) (given_back old.book book picked.want) in
       subst (IsLeft old) (sym (back ∙ counted)) (record { rest = refl; book = inr refl })
 
-  pub back_keeps : (new : CoordValue) → KeepsSound old mid → KeepsSound mid new → new ≡ gave_back mid claim.id → KeepsSound old new
+  pub back_keeps : (new : CoordValue) → KeepsSound old mid → KeepsSound mid new → new ≡ after_give_back mid claim.id → KeepsSound old new
   back_keeps new first second e = keeps_then old mid new first second (λ j n. live_before mid.book claim.id Returned j (subst (λ (c : CoordValue). IsIn j c.book.live) e n))

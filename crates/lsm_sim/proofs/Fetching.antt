@@ -9,8 +9,8 @@ use Rattle.lsm_edit.specs.declared.served.Placed.{Placed}
 use Rattle.lsm_edit.specs.Served.{AllRecorded, AreAsRecorded, IsAsRecorded, IsServed, ServedValue, table_at}
 use Rattle.lsm_edit.specs.Version.{IsVersion}
 use Rattle.lsm_edit.proofs.Places.{one_place, place_of}
-use Rattle.lsm_coord.specs.Serving.{sent}
-use Rattle.lsm_sim.specs.Compacting.{Brings, listed, tables_at}
+use Rattle.lsm_coord.specs.Contract.Serving.{table_body}
+use Rattle.lsm_sim.specs.Compacting.{Brings, list_of_option, tables_at}
 
 -- ---- one table
 
@@ -41,21 +41,21 @@ is_there (q ∷ ps) n p m e = there_by q ps n (nat_eq q.meta.number n) refl (λ 
   | inr rest ↦ is_there ps n p rest e
 ])
 
-brings_by : (ps : List Placed) (n : ℕ) (o : Option Opened) → AllRecorded ps → table_at ps n ≡ o → Brings (sent n o) o
+brings_by : (ps : List Placed) (n : ℕ) (o : Option Opened) → AllRecorded ps → table_at ps n ≡ o → Brings (table_body n o) o
 brings_by ps n None all e = refl
 brings_by ps n (Some t) all e =
     let r = found_in ps n t e in
     (t, refl, refl, subst (λ (x : Opened). IsTable x.bytes x.entries) r.table (all r.place r.member).table)
 
 -- what is sent for a file brings its table
-pub brings_sent : (ps : List Placed) (n : ℕ) → AllRecorded ps → Brings (sent n (table_at ps n)) (table_at ps n)
+pub brings_sent : (ps : List Placed) (n : ℕ) → AllRecorded ps → Brings (table_body n (table_at ps n)) (table_at ps n)
 brings_sent ps n all = brings_by ps n (table_at ps n) all refl
 
 -- ---- all tables
 
 pub tables_at-append : (ps : List Placed) (fs gs : List FileMeta) → tables_at ps (fs ++ gs) ≡ tables_at ps fs ++ tables_at ps gs
 tables_at-append ps [] gs = refl
-tables_at-append ps (f ∷ fs) gs = ap (λ (ts : List Opened). listed (table_at ps f.number) ++ ts) (tables_at-append ps fs gs) ∙ sym (append_assoc (listed (table_at ps f.number)) (tables_at ps fs) (tables_at ps gs))
+tables_at-append ps (f ∷ fs) gs = ap (λ (ts : List Opened). list_of_option (table_at ps f.number) ++ ts) (tables_at-append ps fs gs) ∙ sym (append_assoc (list_of_option (table_at ps f.number)) (tables_at ps fs) (tables_at ps gs))
 
 module _ (s : ServedValue) (ver : IsVersion s.version) (is : IsServed s) where
   -- the table of a file of the version is that of its place
@@ -68,7 +68,7 @@ module _ (s : ServedValue) (ver : IsVersion s.version) (is : IsServed s) where
       (own.0, own.1, own.2, t.1 ∙ ap (λ (x : Opened). Some x) (sym found.table ∙ ap (λ (p : Placed). p.table) one))
 
   pub next_table : (f : FileMeta) (fs : List FileMeta) (t : Opened) → table_at s.places f.number ≡ Some t → tables_at s.places (f ∷ fs) ≡ t ∷ tables_at s.places fs
-  next_table f fs t e = ap (λ (o : Option Opened). listed o ++ tables_at s.places fs) e
+  next_table f fs t e = ap (λ (o : Option Opened). list_of_option o ++ tables_at s.places fs) e
 
   pub are_recorded : (fs : List FileMeta) → ((f : FileMeta) → IsIn f fs → IsIn f s.version.files) → AreAsRecorded fs (tables_at s.places fs)
   are_recorded [] all = tt

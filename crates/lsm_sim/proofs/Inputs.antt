@@ -13,7 +13,7 @@ use Rattle.lsm_table.proofs.TableLaws.{as_long}
 use Rattle.lsm_edit.specs.declared.file.FileMeta.{FileMeta}
 use Rattle.lsm_edit.specs.declared.served.Placed.{Placed}
 use Rattle.lsm_edit.specs.Served.{IsServed, ServedValue, tables_of}
-use Rattle.lsm_edit.specs.Version.{IsVersion, NumbersRise}
+use Rattle.lsm_edit.specs.Version.{IsVersion, FileNumbersRise}
 use Rattle.lsm_edit.proofs.Places.{newer_places, one_first, one_place}
 use Rattle.lsm_merge.specs.Inputs.{HaveSameEntry, lists_of}
 use Rattle.lsm_sim.specs.Compacting.{tables_at}
@@ -60,7 +60,7 @@ module _ (s : ServedValue) (ver : IsVersion s.version) (is : IsServed s) where
 
   -- ---- no two tables have one
 
-  pub none_shared : (files : List FileMeta) → AreOf files → NumbersRise files → AreOrdered (tables_of s.places) → HaveSameEntry (lists_of (tables_at s.places files)) → ⊥
+  pub none_shared : (files : List FileMeta) → AreOf files → FileNumbersRise files → AreOrdered (tables_of s.places) → HaveSameEntry (lists_of (tables_at s.places files)) → ⊥
   none_shared [] all up order h = h
   none_shared (f ∷ files) all up order h =
       let p = first f files all in
@@ -95,10 +95,10 @@ module _ (s : ServedValue) (ver : IsVersion s.version) (is : IsServed s) where
       omega (arith, total, size, parts, more, as_long es, fetched_few files (λ g n. all g (inr n)), sum_by-cons (λ (g : FileMeta). g.bytes) f files)
 
 -- some of the files stand by number, as all do
-rise_by : (b : Bool) (f : FileMeta) (kept : List FileMeta) → ((g : FileMeta) → IsIn g kept → f.number < g.number) → NumbersRise kept → NumbersRise (cond b (f ∷ kept) kept)
+rise_by : (b : Bool) (f : FileMeta) (kept : List FileMeta) → ((g : FileMeta) → IsIn g kept → f.number < g.number) → FileNumbersRise kept → FileNumbersRise (cond b (f ∷ kept) kept)
 rise_by true f kept low up = (low, up)
 rise_by false f kept low up = up
 
-pub rise_filter : (test : FileMeta → Bool) (files : List FileMeta) → NumbersRise files → NumbersRise (filter test files)
+pub rise_filter : (test : FileMeta → Bool) (files : List FileMeta) → FileNumbersRise files → FileNumbersRise (filter test files)
 rise_filter test [] up = tt
 rise_filter test (f ∷ files) up = rise_by (test f) f (filter test files) (λ g m. up.0 g (IsIn-filter test g files m).0) (rise_filter test files up.1)

@@ -24,7 +24,7 @@ use Rattle.lsm_merge.specs.Inputs.{lists_of}
 use Rattle.lsm_merge.specs.Outputs as merge
 use Rattle.lsm_merge.specs.Outputs.{HasLowerKeys}
 use Rattle.lsm_merge.proofs.Pass.{newer_first}
-use Rattle.lsm_coord.specs.Installing.{AreAscending, AreOutputs, AreTables, is_inside}
+use Rattle.lsm_coord.specs.Contract.Installing.{AreAscending, AreOutputTables, DecodeTo, is_table_inside}
 use Rattle.lsm_sim.specs.Compacting.{tables_at}
 use Rattle.lsm_sim.proofs.Inputs.{fetched, fetched_few, fetched_in}
 
@@ -48,26 +48,26 @@ opened_as [] lists = []
 opened_as (text ∷ texts) [] = []
 opened_as (text ∷ texts) (es ∷ lists) = record { bytes = text; entries = es } ∷ opened_as texts lists
 
-pub opened_tables : (texts : List (List ℕ)) (lists : List (List Entry)) → merge.AreTables texts lists → AreTables texts (opened_as texts lists)
+pub opened_tables : (texts : List (List ℕ)) (lists : List (List Entry)) → merge.EncodeEntries texts lists → DecodeTo texts (opened_as texts lists)
 opened_tables [] [] h = tt
 opened_tables [] (es ∷ lists) h = absurd h
 opened_tables (text ∷ texts) [] h = absurd h
 opened_tables (text ∷ texts) (es ∷ lists) h = (refl, h.0, opened_tables texts lists h.1)
 
-pub opened_entries : (texts : List (List ℕ)) (lists : List (List Entry)) → merge.AreTables texts lists → lists_of (opened_as texts lists) ≡ lists
+pub opened_entries : (texts : List (List ℕ)) (lists : List (List Entry)) → merge.EncodeEntries texts lists → lists_of (opened_as texts lists) ≡ lists
 opened_entries [] [] h = refl
 opened_entries [] (es ∷ lists) h = absurd h
 opened_entries (text ∷ texts) [] h = absurd h
 opened_entries (text ∷ texts) (es ∷ lists) h = ap (λ (ls : List (List Entry)). es ∷ ls) (opened_entries texts lists h.1)
 
-as_many : (texts : List (List ℕ)) (lists : List (List Entry)) → merge.AreTables texts lists → length texts ≡ length lists
+as_many : (texts : List (List ℕ)) (lists : List (List Entry)) → merge.EncodeEntries texts lists → length texts ≡ length lists
 as_many [] [] h = refl
 as_many [] (es ∷ lists) h = absurd h
 as_many (text ∷ texts) [] h = absurd h
 as_many (text ∷ texts) (es ∷ lists) h = let rest = as_many texts lists h.1 in omega (arith, rest)
 
 -- the entries of one are those of an output
-opened_in : (texts : List (List ℕ)) (lists : List (List Entry)) → merge.AreTables texts lists → (t : Opened) → IsIn t (opened_as texts lists) → IsIn t.entries lists
+opened_in : (texts : List (List ℕ)) (lists : List (List Entry)) → merge.EncodeEntries texts lists → (t : Opened) → IsIn t (opened_as texts lists) → IsIn t.entries lists
 opened_in texts lists h t m = subst (λ (ls : List (List Entry)). IsIn t.entries ls) (opened_entries texts lists h) (IsIn-map (λ (u : Opened). u.entries) t (opened_as texts lists) m)
 
 in_all : (lists : List (List Entry)) (es : List Entry) (e : Entry) → IsIn es lists → IsIn e es → IsIn e (all_entries lists)
@@ -79,7 +79,7 @@ in_all (fs ∷ lists) es e m n = elim m [
 
 -- ---- one after another
 
-pub opened_ascending : (texts : List (List ℕ)) (lists : List (List Entry)) → merge.AreTables texts lists → ((es : List Entry) → IsIn es lists → 0 < length es) → AllPairs HasLowerKeys lists → AreAscending (opened_as texts lists)
+pub opened_ascending : (texts : List (List ℕ)) (lists : List (List Entry)) → merge.EncodeEntries texts lists → ((es : List Entry) → IsIn es lists → 0 < length es) → AllPairs HasLowerKeys lists → AreAscending (opened_as texts lists)
 opened_ascending [] [] h some lower = tt
 opened_ascending [] (es ∷ lists) h some lower = absurd h
 opened_ascending (text ∷ texts) [] h some lower = absurd h
@@ -144,7 +144,7 @@ module _ (s : ServedValue) (ver : IsVersion s.version) (is : IsServed s) (want :
   some : (es : List Entry) → IsIn es m.entries → 0 < length es
   some = each (λ (es : List Entry). 0 < length es) m.entries m.cut.some
 
-  inside : (t : Opened) → IsIn t (opened_as texts m.entries) → is_inside want.hull t ≡ true
+  inside : (t : Opened) → IsIn t (opened_as texts m.entries) → is_table_inside want.hull t ≡ true
   inside t n =
       let there = opened_in texts m.entries m.spelled t n in
       let first = smallest_in t.entries (some t.entries there) in
@@ -154,7 +154,7 @@ module _ (s : ServedValue) (ver : IsVersion s.version) (is : IsServed s) (want :
       and_from (key_le want.hull.lo (smallest_key t.entries)) (key_le (largest_key t.entries) want.hull.hi)
       (subst (λ (k : List ℕ). key_le want.hull.lo k ≡ true) first.2 low.0) (subst (λ (k : List ℕ). key_le k want.hull.hi ≡ true) last.2 high.1)
 
-  pub outputs_are : sum_by (λ f. f.bytes) job.inputs ≤ 268435456 → AreOutputs want.hull texts (opened_as texts m.entries)
+  pub outputs_are : sum_by (λ f. f.bytes) job.inputs ≤ 268435456 → AreOutputTables want.hull texts (opened_as texts m.entries)
   outputs_are most = record {
     few =
         let texts_are = as_many texts m.entries m.spelled in

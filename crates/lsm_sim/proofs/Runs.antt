@@ -4,11 +4,11 @@ use Rattle.std.proofs.Common.{Result, Ok, Err, OnOk}
 use Rattle.std.proofs.lemmas.List.{map-append}
 use Rattle.lsm_sim.proofs.Known.{Appends-then, Appends-keep}
 use Rattle.std.specs.Io.KnownBytes.{Appends, Keeps}
-use Rattle.lsm_coord.specs.State.{State, first_state}
-use Rattle.lsm_coord.specs.Event as say
-use Rattle.lsm_coord.specs.Step.{Step}
-use Rattle.lsm_coord.specs.Shows.{Shows, Follows}
-use Rattle.lsm_coord.specs.Value.{CoordValue}
+use Rattle.lsm_coord.specs.Model.State.{State, first_state}
+use Rattle.lsm_coord.specs.Model.Event as say
+use Rattle.lsm_coord.specs.Model.Step.{Step}
+use Rattle.lsm_coord.specs.Contract.Shows.{Shows, Follows}
+use Rattle.lsm_coord.specs.Contract.Value.{CoordValue}
 use Rattle.lsm_sim.specs.declared.event.Event.{Event}
 use Rattle.lsm_sim.specs.declared.reply.Reply.{Reply}
 use Rattle.lsm_sim.specs.Events.{event_of}

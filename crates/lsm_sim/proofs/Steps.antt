@@ -11,8 +11,8 @@ use Rattle.lsm_sim.specs.declared.event.Event.{Event}
 use Rattle.lsm_sim.specs.declared.fault.Reason.{Reason}
 use Rattle.lsm_sim.specs.Text.{lines, words, is_line_feed}
 use Rattle.lsm_sim.specs.Events.{event_of}
-use Rattle.lsm_coord.specs.Event as say
-use Rattle.lsm_sim.specs.Script.{event, numbered, with_first, operations, batch}
+use Rattle.lsm_coord.specs.Model.Event as say
+use Rattle.lsm_sim.specs.Script.{event, events_from, with_first, operations, batch}
 
 abbrev good : {A F : Type 0} → List A → Result (List A) F
 good items = Ok items
@@ -29,20 +29,20 @@ after_after : {A F : Type 0} (done : List A) (one : List A) (rest : Result (List
 after_after done one (Ok items) = ap good (sym (append_assoc done one items))
 after_after done one (Err fault) = refl
 
-pub skipped : (n : ℕ) (line : List ℕ) (ls : List (List ℕ)) → event (words line) ≡ Ok None → numbered n (line ∷ ls) ≡ numbered (n + 1) ls
-unfolding numbered
-skipped n line ls e = rw e (after_none (numbered (n + 1) ls))
+pub skipped : (n : ℕ) (line : List ℕ) (ls : List (List ℕ)) → event (words line) ≡ Ok None → events_from n (line ∷ ls) ≡ events_from (n + 1) ls
+unfolding events_from
+skipped n line ls e = rw e (after_none (events_from (n + 1) ls))
 
-pub one_more : (n : ℕ) (line : List ℕ) (ls : List (List ℕ)) (done : List say.Event) (e : say.Event) → event (words line) ≡ Ok (Some e) → after done (numbered n (line ∷ ls)) ≡ after (done ++ e ∷ []) (numbered (n + 1) ls)
-unfolding numbered
-one_more n line ls done e is = rw is (after_after done (e ∷ []) (numbered (n + 1) ls))
+pub one_more : (n : ℕ) (line : List ℕ) (ls : List (List ℕ)) (done : List say.Event) (e : say.Event) → event (words line) ≡ Ok (Some e) → after done (events_from n (line ∷ ls)) ≡ after (done ++ e ∷ []) (events_from (n + 1) ls)
+unfolding events_from
+one_more n line ls done e is = rw is (after_after done (e ∷ []) (events_from (n + 1) ls))
 
-pub at_fault : (n : ℕ) (line : List ℕ) (ls : List (List ℕ)) (done : List say.Event) (reason : Reason) → event (words line) ≡ Err reason → after done (numbered n (line ∷ ls)) ≡ Err (record { line = n; reason = reason })
-unfolding numbered
+pub at_fault : (n : ℕ) (line : List ℕ) (ls : List (List ℕ)) (done : List say.Event) (reason : Reason) → event (words line) ≡ Err reason → after done (events_from n (line ∷ ls)) ≡ Err (record { line = n; reason = reason })
+unfolding events_from
 at_fault n line ls done reason is = rw is refl
 
-pub at_end : (n : ℕ) (done : List say.Event) → after done (numbered n []) ≡ Ok done
-unfolding numbered
+pub at_end : (n : ℕ) (done : List say.Event) → after done (events_from n []) ≡ Ok done
+unfolding events_from
 at_end n done = ap good (append-nil done)
 
 pub events-push : (events : List Event) (e : Event) → map event_of (events ++ e ∷ []) ≡ map event_of events ++ event_of e ∷ []

@@ -3,10 +3,10 @@ use Rattle.std.proofs.Common.{◌≡◌, ◌⊎◌, inl, inr, ℕ, ◌+◌, List
 use Rattle.std.proofs.Math.Seq.{take-append-add, take-append_seam}
 use Rattle.std.proofs.lemmas.List.{take-map}
 use Rattle.std.specs.Io.KnownBytes.{Appends, Keeps}
-use Rattle.lsm_coord.specs.State.{first_state}
-use Rattle.lsm_coord.specs.Shows.{Shows}
-use Rattle.lsm_coord.specs.Value.{CoordValue}
-use Rattle.lsm_coord.specs.Event as say
+use Rattle.lsm_coord.specs.Model.State.{first_state}
+use Rattle.lsm_coord.specs.Contract.Shows.{Shows}
+use Rattle.lsm_coord.specs.Contract.Value.{CoordValue}
+use Rattle.lsm_coord.specs.Model.Event as say
 use Rattle.lsm_sim.specs.declared.error.RunError.{RunError}
 use Rattle.lsm_sim.specs.declared.error.RunError.TheVariants.{WriteFault, OutOfMemory}
 use Rattle.lsm_sim.specs.declared.event.Event.{Event}

@@ -6,14 +6,14 @@ use Rattle.lsm_key.specs.declared.op.Op.{Op}
 use Rattle.lsm_key.specs.declared.batch.KeyError.{KeyError}
 use Rattle.lsm_key.specs.Limits.{batch_fault}
 use Rattle.lsm_key.specs.Faults.{Refuses}
-use Rattle.lsm_coord.specs.State.{State, snapshot_at}
-use Rattle.lsm_coord.specs.Event.{Event, Reply, Refusal}
-use Rattle.lsm_coord.specs.Event as say
-use Rattle.lsm_coord.specs.Rules.{refusal, key_refusal, unless_down, read_refusal}
-use Rattle.lsm_coord.specs.Calls.{write_fault, freeze_fault, flush_fault, snapshot_fault, release_fault, point_of, GetRefuses, ScanRefuses}
-use Rattle.lsm_coord.specs.Replies.{refusal_of}
-use Rattle.lsm_coord.specs.Shows.{Shows}
-use Rattle.lsm_coord.specs.Value.{CoordValue}
+use Rattle.lsm_coord.specs.Model.State.{State, snapshot_at}
+use Rattle.lsm_coord.specs.Model.Event.{Event, Reply, Refusal}
+use Rattle.lsm_coord.specs.Model.Event as say
+use Rattle.lsm_coord.specs.Model.Rules.{refusal, key_refusal, unless_down, read_refusal}
+use Rattle.lsm_coord.specs.Contract.Calls.{write_fault, freeze_fault, flush_fault, snapshot_fault, release_fault, point_of, GetRefuses, ScanRefuses}
+use Rattle.lsm_coord.specs.Contract.Replies.{refusal_of}
+use Rattle.lsm_coord.specs.Contract.Shows.{Shows}
+use Rattle.lsm_coord.specs.Contract.Value.{CoordValue}
 use Rattle.lsm_coord.specs.declared.snapshot.SnapId.{SnapId}
 use Rattle.lsm_coord.specs.declared.error.CoordError.{CoordError}
 use Rattle.lsm_coord.specs.declared.error.CoordError.TheVariants as error

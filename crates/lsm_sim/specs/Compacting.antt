@@ -15,27 +15,27 @@ use Rattle.lsm_coord.specs.declared.coord.install.Install.TheVariants as became
 use Rattle.lsm_coord.specs.declared.coord.install.InstallError.{InstallError}
 use Rattle.lsm_coord.specs.declared.error.CoordError.{CoordError}
 use Rattle.lsm_coord.specs.declared.error.CoordError.TheVariants.{NumbersExhausted}
-use Rattle.lsm_coord.specs.Event as say
-use Rattle.lsm_coord.specs.Installing.{AreOutputs, Became, Explains, HasNumbers, IsLive, HoldsMergeOf}
-use Rattle.lsm_coord.specs.Picking.{GivesNone, HasRoom, IsPicked, PickRefuses}
-use Rattle.lsm_coord.specs.Replies.{error_of, refusal_of}
-use Rattle.lsm_coord.specs.Run.{Run}
-use Rattle.lsm_coord.specs.Shows.{Shows}
-use Rattle.lsm_coord.specs.State.{State}
-use Rattle.lsm_coord.specs.Step.{Step}
-use Rattle.lsm_coord.specs.Value.{CoordValue}
+use Rattle.lsm_coord.specs.Model.Event as say
+use Rattle.lsm_coord.specs.Contract.Installing.{AreOutputTables, Became, Explains, HasNumbers, IsLive, HoldsMergeOf}
+use Rattle.lsm_coord.specs.Contract.Picking.{RulePicksNone, HasRoom, IsPicked, PickRefuses}
+use Rattle.lsm_coord.specs.Contract.Replies.{error_of, refusal_of}
+use Rattle.lsm_coord.specs.Model.Run.{Run}
+use Rattle.lsm_coord.specs.Contract.Shows.{Shows}
+use Rattle.lsm_coord.specs.Model.State.{State}
+use Rattle.lsm_coord.specs.Model.Step.{Step}
+use Rattle.lsm_coord.specs.Contract.Value.{CoordValue}
 
 -- ---- the tables of a job
 
 -- a table, or none
-abbrev pub listed : Option Opened → List Opened
-listed None = []
-listed (Some t) = t ∷ []
+abbrev pub list_of_option : Option Opened → List Opened
+list_of_option None = []
+list_of_option (Some t) = t ∷ []
 
 -- the tables of those files that have one, in their order
 abbrev pub tables_at : List Placed → List FileMeta → List Opened
 tables_at places [] = []
-tables_at places (f ∷ fs) = listed (table_at places f.number) ++ tables_at places fs
+tables_at places (f ∷ fs) = list_of_option (table_at places f.number) ++ tables_at places fs
 
 -- the message brings a table, by its bytes, or it brings none
 abbrev pub Brings : Body → Option Opened → Type 0
@@ -76,7 +76,7 @@ pub record IsLeft (old new : CoordValue) : Type 0 where
 
 -- None is returned if the rule of a pick gives nothing: if a state is shown there is no other cause
 abbrev pub Compacts : {Z : Type 0} → CoordValue → CoordValue → Option (ℕ × Vec ℕ Z) → Type 0
-Compacts old new None = IsLeft old new × ((s : State) → Shows old s → HasRoom old × GivesNone old × (new ≡ old))
+Compacts old new None = IsLeft old new × ((s : State) → Shows old s → HasRoom old × RulePicksNone old × (new ≡ old))
 Compacts old new (Some made) = IsCompaction old made.0 made.1.items new
 
 -- the numbers are exhausted by the outputs of the merge
@@ -88,7 +88,7 @@ pub record LacksNumbers (c : CoordValue) : Type 0 where
   pub made : JobResult
   pub merged : HoldsMergeOf claimed.served job made
   pub tables : List Opened
-  pub outputs : AreOutputs claim.want.hull made.tables tables
+  pub outputs : AreOutputTables claim.want.hull made.tables tables
   pub lacks : HasNumbers c.served.version tables → ⊥
 
 -- why there is no compaction: what a pick refuses, or the numbers of its outputs

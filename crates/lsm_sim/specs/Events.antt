@@ -1,5 +1,5 @@
 -- What the commands of a script ask of the store.
-use Rattle.lsm_coord.specs.Event as say
+use Rattle.lsm_coord.specs.Model.Event as say
 use Rattle.lsm_sim.specs.declared.event.Event.{Event}
 use Rattle.lsm_sim.specs.declared.event.Event.TheVariants as event
 

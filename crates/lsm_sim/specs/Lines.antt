@@ -3,8 +3,8 @@ use Rattle.std.specs.Prelude.{ℕ, ◌+◌, ◌/◌, ◌%◌, ◌==◌, ◌&&◌
 use Rattle.std.specs.List.{flat_map, join_with_byte}
 use Rattle.std.specs.Fmt.{decimal}
 use Rattle.lsm_coord.specs.declared.snapshot.SnapId.{SnapId}
-use Rattle.lsm_coord.specs.State.{Place}
-use Rattle.lsm_coord.specs.Event as say
+use Rattle.lsm_coord.specs.Model.State.{Place}
+use Rattle.lsm_coord.specs.Model.Event as say
 use Rattle.lsm_sim.specs.Tokens.{is_between}
 
 -- a hexadecimal digit, in lower case
@@ -15,44 +15,44 @@ hex_digit n = if nat_lt n 10 then 48 + n else 87 + n
 abbrev pub prints_as_itself : ℕ → Bool
 prints_as_itself byte = is_between 33 126 byte && not (byte == 37 || byte == 34 || byte == 61)
 
-abbrev pub printed_byte : ℕ → List ℕ
-printed_byte byte = if prints_as_itself byte then byte ∷ [] else 37 ∷ hex_digit (byte / 16) ∷ hex_digit (byte % 16) ∷ []
+abbrev pub byte_text : ℕ → List ℕ
+byte_text byte = if prints_as_itself byte then byte ∷ [] else 37 ∷ hex_digit (byte / 16) ∷ hex_digit (byte % 16) ∷ []
 
 -- a key or value; the empty text is two quotes
-abbrev pub printed : List ℕ → List ℕ
-printed [] = 34 ∷ 34 ∷ []
-printed (byte ∷ bytes) = flat_map printed_byte (byte ∷ bytes)
+abbrev pub bytes_text : List ℕ → List ℕ
+bytes_text [] = 34 ∷ 34 ∷ []
+bytes_text (byte ∷ bytes) = flat_map byte_text (byte ∷ bytes)
 
-abbrev pub wrote : ℕ → ℕ → List ℕ
-wrote first last = codes "seq " ++ decimal first ++ (if first == last then [] else codes "-" ++ decimal last)
+abbrev pub wrote_text : ℕ → ℕ → List ℕ
+wrote_text first last = codes "seq " ++ decimal first ++ (if first == last then [] else codes "-" ++ decimal last)
 
-abbrev pub flushed : ℕ → ℕ → ℕ → List ℕ
-flushed number seq file = codes "version " ++ decimal number ++ codes " flushed " ++ decimal seq ++ codes " file " ++ decimal file
+abbrev pub flushed_text : ℕ → ℕ → ℕ → List ℕ
+flushed_text number seq file = codes "version " ++ decimal number ++ codes " flushed " ++ decimal seq ++ codes " file " ++ decimal file
 
-abbrev pub froze : ℕ → List ℕ
-froze seq = codes "frozen " ++ decimal seq
+abbrev pub froze_text : ℕ → List ℕ
+froze_text seq = codes "frozen " ++ decimal seq
 
 -- a snapshot's epoch and number, with a point between them
-abbrev pub named : SnapId → List ℕ
-named id = decimal id.epoch ++ codes "." ++ decimal id.number
+abbrev pub snapshot_text : SnapId → List ℕ
+snapshot_text id = decimal id.epoch ++ codes "." ++ decimal id.number
 
-abbrev pub snapped : SnapId → ℕ → List ℕ
-snapped id seq = codes "snapshot " ++ named id ++ codes " at " ++ decimal seq
+abbrev pub snapped_text : SnapId → ℕ → List ℕ
+snapped_text id seq = codes "snapshot " ++ snapshot_text id ++ codes " at " ++ decimal seq
 
-abbrev pub released : SnapId → List ℕ
-released id = codes "released " ++ named id
+abbrev pub released_text : SnapId → List ℕ
+released_text id = codes "released " ++ snapshot_text id
 
-abbrev pub got : Option (List ℕ) → List ℕ
-got None = codes "none"
-got (Some value) = codes "value " ++ printed value
+abbrev pub got_text : Option (List ℕ) → List ℕ
+got_text None = codes "none"
+got_text (Some value) = codes "value " ++ bytes_text value
 
 -- a key and its value
 abbrev pub pair_text : List ℕ × List ℕ → List ℕ
-pair_text pair = codes " " ++ printed pair.0 ++ codes "=" ++ printed pair.1
+pair_text pair = codes " " ++ bytes_text pair.0 ++ codes "=" ++ bytes_text pair.1
 
 -- how many there are, and each of them
-abbrev pub scanned : List (List ℕ × List ℕ) → List ℕ
-scanned pairs = codes "range " ++ decimal (length pairs) ++ flat_map pair_text pairs
+abbrev pub scanned_text : List (List ℕ × List ℕ) → List ℕ
+scanned_text pairs = codes "range " ++ decimal (length pairs) ++ flat_map pair_text pairs
 
 -- the files of a level, in the order of the listing
 abbrev pub files_of : ℕ → List Place → List ℕ
@@ -67,8 +67,8 @@ level_text level (file ∷ files) = codes " L" ++ decimal level ++ codes " " ++ 
 abbrev pub levels_text : List Place → List ℕ → List ℕ
 levels_text places levels = flat_map (λ level. level_text level (files_of level places)) levels
 
-abbrev pub listed : ℕ → ℕ → List Place → List ℕ
-listed number seq places =
+abbrev pub shown_text : ℕ → ℕ → List Place → List ℕ
+shown_text number seq places =
     codes "show " ++ decimal number ++ codes " flushed " ++ decimal seq ++ levels_text places (0 ∷ 1 ∷ 2 ∷ 3 ∷ 4 ∷ 5 ∷ 6 ∷ [])
 
 abbrev pub name_of : say.Refusal → List ℕ
@@ -100,9 +100,9 @@ name_of say.OldEpoch = codes "OldEpoch"
 name_of say.NoMessage = codes "NoMessage"
 name_of say.OutOfMemory = codes "OutOfMemory"
 
-abbrev pub refused : say.Refusal → List ℕ
-refused why = codes "refused " ++ name_of why
+abbrev pub refused_text : say.Refusal → List ℕ
+refused_text why = codes "refused " ++ name_of why
 
 -- a line ends with a line feed
-abbrev pub ended : List ℕ → List ℕ
-ended text = text ++ 10 ∷ []
+abbrev pub as_line : List ℕ → List ℕ
+as_line text = text ++ 10 ∷ []

@@ -1,12 +1,12 @@
 -- What running a script reads and writes.
 use Rattle.std.specs.Prelude.{◌≡◌, ◌⊎◌, ℕ, List, [], ◌∷◌, Option, IfSome, Ok, Err, map, take}
 use Rattle.std.specs.Io.KnownBytes.{Appends}
-use Rattle.lsm_coord.specs.State.{State, first_state}
-use Rattle.lsm_coord.specs.Event as say
-use Rattle.lsm_coord.specs.Rules.{refusal}
-use Rattle.lsm_coord.specs.Step.{Step}
-use Rattle.lsm_coord.specs.Shows.{Shows}
-use Rattle.lsm_coord.specs.Value.{CoordValue}
+use Rattle.lsm_coord.specs.Model.State.{State, first_state}
+use Rattle.lsm_coord.specs.Model.Event as say
+use Rattle.lsm_coord.specs.Model.Rules.{refusal}
+use Rattle.lsm_coord.specs.Model.Step.{Step}
+use Rattle.lsm_coord.specs.Contract.Shows.{Shows}
+use Rattle.lsm_coord.specs.Contract.Value.{CoordValue}
 use Rattle.lsm_key.specs.declared.refused.Refused.{Refused}
 use Rattle.lsm_key.specs.declared.refused.Refused.TheVariants as refused
 use Rattle.lsm_sim.specs.declared.fault.Fault.{Fault}
@@ -19,9 +19,9 @@ use Rattle.lsm_sim.specs.Replies.{reply_of, lines}
 use Rattle.lsm_sim.specs.Script.{script}
 
 -- the error of a script that is refused
-abbrev pub error_of : Refused Fault → RunError
-error_of refused.OutOfMemory = OutOfMemory
-error_of (refused.Fault fault) = Script fault.line fault.reason
+abbrev pub run_error_of : Refused Fault → RunError
+run_error_of refused.OutOfMemory = OutOfMemory
+run_error_of (refused.Fault fault) = Script fault.line fault.reason
 
 -- the exit status of an error (the store's own)
 abbrev pub exit_status : RunError → ℕ

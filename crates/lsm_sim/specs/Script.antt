@@ -14,11 +14,11 @@ use Rattle.lsm_sim.specs.Text.{lines, words}
 use Rattle.lsm_sim.specs.Numbers.{number}
 use Rattle.lsm_sim.specs.Tokens.{token}
 use Rattle.lsm_coord.specs.declared.snapshot.SnapId.{SnapId}
-use Rattle.lsm_coord.specs.Event as say
+use Rattle.lsm_coord.specs.Model.Event as say
 
 -- the command of a name
-unfoldable pub command_of : List ℕ → Option Command
-command_of word =
+unfoldable pub read_command : List ℕ → Option Command
+read_command word =
     if bytes_eq word (codes "put") then Some command.Put
     else if bytes_eq word (codes "del") then Some command.Delete
     else if bytes_eq word (codes "batch") then Some command.Batch
@@ -53,28 +53,28 @@ abbrev pub is_point : ℕ → Bool
 is_point byte = byte == 46
 
 -- an epoch and a number
-abbrev pub paired : Option ℕ → Option ℕ → Option SnapId
-paired (Some epoch) (Some number) = Some (record { epoch = epoch; number = number })
-paired epoch number = None
+abbrev pub snapshot_from : Option ℕ → Option ℕ → Option SnapId
+snapshot_from (Some epoch) (Some number) = Some (record { epoch = epoch; number = number })
+snapshot_from epoch number = None
 
 -- the word before the index of a point, and the word after it
-abbrev pub parted : List ℕ → Option ℕ → Option SnapId
-parted word None = None
-parted word (Some point) = paired (number (take point word)) (number (drop (point + 1) word))
+abbrev pub snapshot_around : List ℕ → Option ℕ → Option SnapId
+snapshot_around word None = None
+snapshot_around word (Some point) = snapshot_from (number (take point word)) (number (drop (point + 1) word))
 
 -- the name of a snapshot: its epoch and its number, with a point between them
-abbrev pub snapshot_of : List ℕ → Option SnapId
-snapshot_of word = parted word (position is_point word)
+abbrev pub read_snapshot : List ℕ → Option SnapId
+read_snapshot word = snapshot_around word (position is_point word)
 
 -- the same after an at sign
 abbrev pub reading_at : List ℕ → Option SnapId
 reading_at [] = None
-reading_at (byte ∷ name) = if byte == 64 then snapshot_of name else None
+reading_at (byte ∷ name) = if byte == 64 then read_snapshot name else None
 
 -- a word that must name something
-abbrev pub named : Option SnapId → Result SnapId Reason
-named None = Err BadName
-named (Some id) = Ok id
+abbrev pub name_or_fault : Option SnapId → Result SnapId Reason
+name_or_fault None = Err BadName
+name_or_fault (Some id) = Ok id
 
 abbrev pub put : List (List ℕ) → Result say.Event Reason
 put (key ∷ value ∷ []) = do
@@ -146,7 +146,7 @@ snap args = Err WrongWordCount
 
 abbrev pub release : List (List ℕ) → Result say.Event Reason
 release (name ∷ []) = do
-  id ← named (snapshot_of name)
+  id ← name_or_fault (read_snapshot name)
   Ok (say.Release id)
 release args = Err WrongWordCount
 
@@ -157,21 +157,21 @@ get (key ∷ []) = do
   Ok (say.Get k None)
 get (key ∷ name ∷ []) = do
   k ← key_or_value key
-  id ← named (reading_at name)
+  id ← name_or_fault (reading_at name)
   Ok (say.Get k (Some id))
 get args = Err WrongWordCount
 
 -- a word that must be a number
-abbrev pub counted : Option ℕ → Result ℕ Reason
-counted None = Err BadNumber
-counted (Some n) = Ok n
+abbrev pub number_or_fault : Option ℕ → Result ℕ Reason
+number_or_fault None = Err BadNumber
+number_or_fault (Some n) = Ok n
 
 -- a scan of a range of keys, latest or at a snapshot
 abbrev pub scan_at : List ℕ → List ℕ → List ℕ → Result (Option SnapId) Reason → Result say.Event Reason
 scan_at lo hi limit at = do
   l ← key_or_value lo
   h ← key_or_value hi
-  n ← counted (number limit)
+  n ← number_or_fault (number limit)
   id ← at
   Ok (say.Scan l h id n)
 
@@ -180,7 +180,7 @@ some_name name = name >>= λ id. Ok (Some id)
 
 abbrev pub scan : List (List ℕ) → Result say.Event Reason
 scan (lo ∷ hi ∷ limit ∷ []) = scan_at lo hi limit (Ok None)
-scan (lo ∷ hi ∷ limit ∷ name ∷ []) = scan_at lo hi limit (some_name (named (reading_at name)))
+scan (lo ∷ hi ∷ limit ∷ name ∷ []) = scan_at lo hi limit (some_name (name_or_fault (reading_at name)))
 scan args = Err WrongWordCount
 
 -- listings of followers are not there yet
@@ -191,18 +191,18 @@ show (node ∷ []) =
     else Err BadName
 show args = Err WrongWordCount
 
-abbrev pub asked : Option Command → List (List ℕ) → Result say.Event Reason
-asked None args = Err UnknownCommand
-asked (Some command.Put) args = put args
-asked (Some command.Delete) args = delete args
-asked (Some command.Batch) args = batch args
-asked (Some command.Freeze) args = freeze args
-asked (Some command.Flush) args = flush args
-asked (Some command.Snap) args = snap args
-asked (Some command.Release) args = release args
-asked (Some command.Get) args = get args
-asked (Some command.Scan) args = scan args
-asked (Some command.Show) args = show args
+abbrev pub event_of_command : Option Command → List (List ℕ) → Result say.Event Reason
+event_of_command None args = Err UnknownCommand
+event_of_command (Some command.Put) args = put args
+event_of_command (Some command.Delete) args = delete args
+event_of_command (Some command.Batch) args = batch args
+event_of_command (Some command.Freeze) args = freeze args
+event_of_command (Some command.Flush) args = flush args
+event_of_command (Some command.Snap) args = snap args
+event_of_command (Some command.Release) args = release args
+event_of_command (Some command.Get) args = get args
+event_of_command (Some command.Scan) args = scan args
+event_of_command (Some command.Show) args = show args
 
 abbrev pub some_event : Result say.Event Reason → Result (Option say.Event) Reason
 some_event asks = asks >>= λ event. Ok (Some event)
@@ -210,19 +210,19 @@ some_event asks = asks >>= λ event. Ok (Some event)
 -- the event of a line's words: a line without words, and a comment, have none
 unfoldable pub event : List (List ℕ) → Result (Option say.Event) Reason
 event [] = Ok None
-event (word ∷ args) = if is_comment word then Ok None else some_event (asked (command_of word) args)
+event (word ∷ args) = if is_comment word then Ok None else some_event (event_of_command (read_command word) args)
 
 abbrev pub at_line : {A : Type 0} → ℕ → Result A Reason → Result A Fault
 at_line n (Ok x) = Ok x
 at_line n (Err reason) = Err (record { line = n; reason = reason })
 
 -- the events of lines that are numbered from n on, or the first fault
-unfoldable pub numbered : ℕ → List (List ℕ) → Result (List say.Event) Fault
-numbered n [] = Ok []
-numbered n (line ∷ lines) = do
+unfoldable pub events_from : ℕ → List (List ℕ) → Result (List say.Event) Fault
+events_from n [] = Ok []
+events_from n (line ∷ lines) = do
   event ← at_line n (event (words line))
-  events ← numbered (n + 1) lines
+  events ← events_from (n + 1) lines
   Ok (option_to_list event ++ events)
 
 abbrev pub script : List ℕ → Result (List say.Event) Fault
-script text = numbered 1 (lines text)
+script text = events_from 1 (lines text)

@@ -26,12 +26,12 @@ abbrev pub onto : Option ℕ → Option (List ℕ) → Option (List ℕ)
 onto byte rest = option_and_then (λ b. option_map (λ bs. b ∷ bs) rest) byte
 
 -- the bytes that a word encodes
-abbrev pub spelled : List ℕ → Option (List ℕ)
-spelled [] = Some []
-spelled (a ∷ []) = onto (literal a) (spelled [])
-spelled (a ∷ b ∷ []) = onto (literal a) (spelled (b ∷ []))
-spelled (a ∷ b ∷ c ∷ rest) = if a == 37 then onto (escape b c) (spelled rest) else onto (literal a) (spelled (b ∷ c ∷ rest))
+abbrev pub read_bytes : List ℕ → Option (List ℕ)
+read_bytes [] = Some []
+read_bytes (a ∷ []) = onto (literal a) (read_bytes [])
+read_bytes (a ∷ b ∷ []) = onto (literal a) (read_bytes (b ∷ []))
+read_bytes (a ∷ b ∷ c ∷ rest) = if a == 37 then onto (escape b c) (read_bytes rest) else onto (literal a) (read_bytes (b ∷ c ∷ rest))
 
 -- two quotes are the empty text
 unfoldable pub token : List ℕ → Option (List ℕ)
-token word = if bytes_eq word (34 ∷ 34 ∷ []) then Some [] else spelled word
+token word = if bytes_eq word (34 ∷ 34 ∷ []) then Some [] else read_bytes word

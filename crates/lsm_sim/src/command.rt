@@ -1,7 +1,7 @@
 //! The commands' names.
 
 ghost use Rattle.std.specs.Prelude.{◌≡◌};
-ghost use Rattle.lsm_sim.specs.Script.{command_of};
+ghost use Rattle.lsm_sim.specs.Script.{read_command};
 
 /// The commands of a script.
 #[derive(Clone, Copy, Debug, PartialEq, Eq)]

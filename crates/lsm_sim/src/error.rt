@@ -55,9 +55,9 @@ impl<T: Drop> From<AllocFailed<T>> for RunError {
 
 impl From<Refused<Fault>> for RunError {
     ghost use Rattle.std.specs.Prelude.{◌≡◌};
-    ghost use Rattle.lsm_sim.specs.Runs.{error_of};
+    ghost use Rattle.lsm_sim.specs.Runs.{run_error_of};
 
-    ghost from_gives = { λ refused e. e ≡ error_of refused };
+    ghost from_gives = { λ refused e. e ≡ run_error_of refused };
 
     fn from(refused: Refused<Fault>) -> RunError {
         match refused {

@@ -1,16 +1,16 @@
 //! Which words name commands and nodes.
 
 ghost use Rattle.std.specs.Prelude.{◌≡◌, position};
-ghost use Rattle.lsm_sim.specs.Script.{command_of, is_comment, is_follower, is_point, paired, snapshot_of, reading_at};
+ghost use Rattle.lsm_sim.specs.Script.{read_command, is_comment, is_follower, is_point, snapshot_from, read_snapshot, reading_at};
 
 use crate::command::Command;
-use crate::number::number_of;
+use crate::number::read_number;
 use lsm_coord::SnapId;
 
 /// The command of this name.
-#[tactic(auto, unfolding(crate::specs::Script::command_of))]
-pub fn command_of(word: &[u8]) -> Option<Command>
-    ensures { result ≡ command_of word.now }
+#[tactic(auto, unfolding(crate::specs::Script::read_command))]
+pub fn read_command(word: &[u8]) -> Option<Command>
+    ensures { result ≡ read_command word.now }
 {
     if word == b"put".as_slice() {
         Some(Command::Put)
@@ -48,12 +48,12 @@ pub fn is_comment(word: &[u8]) -> bool
 }
 
 /// The snapshot that a word `E.N` names.
-pub fn snapshot_of(word: &[u8]) -> Option<SnapId>
-    ensures { result ≡ snapshot_of word.now }
+pub fn read_snapshot(word: &[u8]) -> Option<SnapId>
+    ensures { result ≡ read_snapshot word.now }
 {
     match point_in(word) {
         None => None,
-        Some(point) => paired(number_of(&word[..point]), number_of(&word[point + 1..])),
+        Some(point) => paired(read_number(&word[..point]), read_number(&word[point + 1..])),
     }
 }
 
@@ -66,7 +66,7 @@ fn point_in(word: &[u8]) -> Option<usize>
 
 // The snapshot of an epoch and a number.
 fn paired(epoch: Option<u64>, number: Option<u64>) -> Option<SnapId>
-    ensures { result ≡ paired epoch number }
+    ensures { result ≡ snapshot_from epoch number }
 {
     match (epoch, number) {
         (Some(epoch), Some(number)) => Some(SnapId { epoch, number }),
@@ -82,7 +82,7 @@ pub fn reading_at(word: &[u8]) -> Option<SnapId>
     if *first != b'@' {
         return None;
     }
-    snapshot_of(name)
+    read_snapshot(name)
 }
 
 /// Whether the word is `f` and a number from 1 to 4.
@@ -92,5 +92,5 @@ pub fn is_follower(word: &[u8]) -> bool
     let Some((first, digits)) = word.split_first() else {
         return false;
     };
-    *first == b'f' && matches!(number_of(digits), Some(1..=4))
+    *first == b'f' && matches!(read_number(digits), Some(1..=4))
 }

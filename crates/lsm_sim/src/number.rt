@@ -5,7 +5,7 @@ ghost use Rattle.lsm_sim.specs.Numbers.{number};
 
 /// The number that a word writes: 1 to 20 decimal digits, of a value below 2^64.
 #[tactic(auto, unfolding(crate::specs::Numbers::number))]
-pub fn number_of(word: &[u8]) -> Option<u64>
+pub fn read_number(word: &[u8]) -> Option<u64>
     ensures { result ≡ number word.now }
 {
     if word.is_empty() || word.len() > 20 {

@@ -8,7 +8,7 @@ ghost use Rattle.lsm_sim.specs.declared.reply.Reply.{Reply};
 
 use crate::error::RunError;
 use crate::event::Event;
-use crate::lines::put_line;
+use crate::lines::write_line;
 use crate::script::parse;
 use crate::streams::{read_all, write_all};
 use crate::world::step;
@@ -51,7 +51,7 @@ fn run<W: Write>(
     let mut out = Vec::new(alloc);
     for event in events {
         let reply = step(alloc, coord, event);
-        put_line(alloc, &mut out, &reply)?;
+        write_line(alloc, &mut out, &reply)?;
         drop(reply);
         if out.len() >= BUFFER_BYTES {
             write_all(writer, &out)?;

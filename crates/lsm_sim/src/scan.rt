@@ -4,12 +4,12 @@ ghost use Rattle.std.specs.Prelude.{Ok, None};
 ghost use Rattle.lsm_key.specs.Reading.{Gives};
 ghost use Rattle.lsm_sim.specs.Events.{event_of};
 ghost use Rattle.lsm_sim.specs.Text.{words};
-ghost use Rattle.lsm_sim.specs.Script.{counted, named, reading_at, scan, scan_at, some_name};
+ghost use Rattle.lsm_sim.specs.Script.{number_or_fault, name_or_fault, reading_at, scan, scan_at, some_name};
 
 use crate::event::Event;
 use crate::fault::Reason;
 use crate::names::reading_at;
-use crate::number::number_of;
+use crate::number::read_number;
 use crate::script::named;
 use crate::token::key_or_value;
 use crate::words::Words;
@@ -36,7 +36,7 @@ fn scan_now(alloc: Global, lo: &[u8], hi: &[u8], limit: &[u8]) -> Result<Event, 
 {
     let lo = key_or_value(alloc, lo)?;
     let hi = key_or_value(alloc, hi)?;
-    let limit = counted(number_of(limit))?;
+    let limit = counted(read_number(limit))?;
     Ok(Event::Scan(lo, hi, None, limit))
 }
 
@@ -48,18 +48,18 @@ fn scan_then(
     limit: &[u8],
     name: &[u8],
 ) -> Result<Event, Refused<Reason>>
-    ensures { Gives event_of result (scan_at lo.now hi.now limit.now (some_name (named (reading_at name.now)))) }
+    ensures { Gives event_of result (scan_at lo.now hi.now limit.now (some_name (name_or_fault (reading_at name.now)))) }
 {
     let lo = key_or_value(alloc, lo)?;
     let hi = key_or_value(alloc, hi)?;
-    let limit = counted(number_of(limit))?;
+    let limit = counted(read_number(limit))?;
     let id = named(reading_at(name))?;
     Ok(Event::Scan(lo, hi, Some(id), limit))
 }
 
 /// The number that a word must be.
 fn counted(number: Option<u64>) -> Result<u64, Refused<Reason>>
-    ensures { Gives (λ n. n) result (counted number) }
+    ensures { Gives (λ n. n) result (number_or_fault number) }
 {
     number.ok_or(Refused::Fault(Reason::BadNumber))
 }

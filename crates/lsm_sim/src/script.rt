@@ -6,13 +6,13 @@ ghost use Rattle.std.specs.Option.{option_map};
 ghost use Rattle.lsm_key.specs.Reading.{Gives};
 ghost use Rattle.lsm_sim.specs.Events.{event_of};
 ghost use Rattle.lsm_sim.specs.Text.{words};
-ghost use Rattle.lsm_sim.specs.Script.{asked, named, event, script, put, delete, freeze, flush, snap, release, get, show};
+ghost use Rattle.lsm_sim.specs.Script.{event_of_command, name_or_fault, event, script, put, delete, freeze, flush, snap, release, get, show};
 
 use crate::batch::batch;
 use crate::command::Command;
 use crate::event::Event;
 use crate::fault::{Fault, Reason};
-use crate::names::{command_of, is_comment, is_follower, reading_at, snapshot_of};
+use crate::names::{is_comment, is_follower, read_command, read_snapshot, reading_at};
 use crate::scan::scan;
 use crate::token::key_or_value;
 use crate::words::{Lines, Words};
@@ -45,7 +45,7 @@ fn delete(alloc: Global, mut args: Words<'_>) -> Result<Event, Refused<Reason>>
 
 /// The snapshot that a word must name.
 pub fn named(id: Option<SnapId>) -> Result<SnapId, Refused<Reason>>
-    ensures { Gives (λ id. id) result (named id) }
+    ensures { Gives (λ id. id) result (name_or_fault id) }
 {
     id.ok_or(Refused::Fault(Reason::BadName))
 }
@@ -77,7 +77,7 @@ fn release(mut args: Words<'_>) -> Result<Event, Refused<Reason>>
     let (Some(name), None) = (args.next(), args.next()) else {
         return Err(Refused::Fault(Reason::WrongWordCount));
     };
-    let id = named(snapshot_of(name))?;
+    let id = named(read_snapshot(name))?;
     Ok(Event::Release(id))
 }
 
@@ -132,7 +132,7 @@ fn show(mut args: Words<'_>) -> Result<Event, Refused<Reason>>
 
 /// The event of a command with these arguments.
 fn asked(alloc: Global, command: Option<Command>, args: Words<'_>) -> Result<Event, Refused<Reason>>
-    ensures { Gives event_of result (asked command (words args.entry.rest.now)) }
+    ensures { Gives event_of result (event_of_command command (words args.entry.rest.now)) }
 {
     match command {
         None => Err(Refused::Fault(Reason::UnknownCommand)),
@@ -161,7 +161,7 @@ fn event_in(alloc: Global, line: &[u8]) -> Result<Option<Event>, Refused<Reason>
     if is_comment(word) {
         return Ok(None);
     }
-    asked(alloc, command_of(word), words).map(Some)
+    asked(alloc, read_command(word), words).map(Some)
 }
 
 /// The events of a script, or its first fault. One pass over the text.

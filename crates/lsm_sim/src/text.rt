@@ -3,27 +3,27 @@
 ghost use Rattle.std.specs.Prelude.{◌≡◌, ◌++◌, ◌∷◌, [], ◌<◌, OnOk, length, map};
 ghost use Rattle.std.specs.Fmt.{decimal};
 ghost use Rattle.std.specs.List.{join_with_byte};
-ghost use Rattle.lsm_sim.specs.Lines.{hex_digit, prints_as_itself, printed_byte, printed};
+ghost use Rattle.lsm_sim.specs.Lines.{hex_digit, prints_as_itself, byte_text, bytes_text};
 
 use std::alloc::AllocError;
 use std::io::Write;
 
 /// Appends text.
-pub fn put_text(out: &mut Vec<u8>, text: &str) -> Result<(), AllocError>
+pub fn write_text(out: &mut Vec<u8>, text: &str) -> Result<(), AllocError>
     ensures { OnOk result (out.new.items ≡ out.old.items ++ text.now) }
 {
     out.extend_from_slice(text.as_bytes())
 }
 
 /// Appends the decimal digits of a number.
-pub fn put_number(out: &mut Vec<u8>, number: u64) -> Result<(), AllocError>
+pub fn write_number(out: &mut Vec<u8>, number: u64) -> Result<(), AllocError>
     ensures { OnOk result (out.new.items ≡ out.old.items ++ decimal number) }
 {
     write!(out, "{number}").map_err(|_| AllocError)
 }
 
 /// Appends the end of a line.
-pub fn put_line_end(out: &mut Vec<u8>) -> Result<(), AllocError>
+pub fn write_line_end(out: &mut Vec<u8>) -> Result<(), AllocError>
     ensures { OnOk result (out.new.items ≡ out.old.items ++ 10 ∷ []) }
 {
     out.push(b'\n')?;
@@ -50,8 +50,8 @@ fn prints_as_itself(byte: u8) -> bool
 }
 
 /// Appends a byte of a key or value.
-fn put_byte(out: &mut Vec<u8>, byte: u8) -> Result<(), AllocError>
-    ensures { OnOk result (out.new.items ≡ out.old.items ++ printed_byte byte) }
+fn write_byte(out: &mut Vec<u8>, byte: u8) -> Result<(), AllocError>
+    ensures { OnOk result (out.new.items ≡ out.old.items ++ byte_text byte) }
 {
     if prints_as_itself(byte) {
         out.push(byte)?;
@@ -63,29 +63,29 @@ fn put_byte(out: &mut Vec<u8>, byte: u8) -> Result<(), AllocError>
 
 /// Appends a key or value: a byte from `!` to `~` except `%`, `"` and `=` as itself, any other as `%` and two
 /// hexadecimal digits, and the empty text as `""`.
-pub fn put_bytes(out: &mut Vec<u8>, bytes: &[u8]) -> Result<(), AllocError>
-    ensures { OnOk result (out.new.items ≡ out.old.items ++ printed bytes.now) }
+pub fn write_bytes(out: &mut Vec<u8>, bytes: &[u8]) -> Result<(), AllocError>
+    ensures { OnOk result (out.new.items ≡ out.old.items ++ bytes_text bytes.now) }
 {
     if bytes.is_empty() {
-        return put_text(out, "\"\"");
+        return write_text(out, "\"\"");
     }
     for byte in bytes {
-        put_byte(out, *byte)?;
+        write_byte(out, *byte)?;
     }
     Ok(())
 }
 
 /// Appends numbers with commas between them.
-pub fn put_numbers(out: &mut Vec<u8>, numbers: &[u64]) -> Result<(), AllocError>
+pub fn write_numbers(out: &mut Vec<u8>, numbers: &[u64]) -> Result<(), AllocError>
     ensures { OnOk result (out.new.items ≡ out.old.items ++ join_with_byte 44 (map decimal numbers.now)) }
 {
     let Some((first, others)) = numbers.split_first() else {
         return Ok(());
     };
-    put_number(out, *first)?;
+    write_number(out, *first)?;
     for number in others {
         out.push(b',')?;
-        put_number(out, *number)?;
+        write_number(out, *number)?;
     }
     Ok(())
 }

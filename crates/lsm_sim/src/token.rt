@@ -3,7 +3,7 @@
 
 ghost use Rattle.std.specs.Prelude.{◌≡◌, ◌<◌, IfOk, length};
 ghost use Rattle.lsm_key.specs.Reading.{Gives};
-ghost use Rattle.lsm_sim.specs.Tokens.{hex, escape, literal, onto, spelled, token};
+ghost use Rattle.lsm_sim.specs.Tokens.{hex, escape, literal, onto, read_bytes, token};
 ghost use Rattle.lsm_sim.specs.Script.{key_or_value};
 
 use crate::fault::Reason;
@@ -12,7 +12,7 @@ use lsm_key::Refused;
 use std::alloc::{AllocError, Global};
 
 /// The value of a hexadecimal digit.
-fn hex_of(byte: u8) -> Option<u8>
+fn read_hex(byte: u8) -> Option<u8>
     ensures { result ≡ hex byte }
 {
     match byte {
@@ -24,14 +24,14 @@ fn hex_of(byte: u8) -> Option<u8>
 }
 
 /// The byte of two hexadecimal digits.
-fn escape_of(high: u8, low: u8) -> Option<u8>
+fn read_escape(high: u8, low: u8) -> Option<u8>
     ensures { result ≡ escape high low }
 {
-    Some(hex_of(high)? * 16 + hex_of(low)?)
+    Some(read_hex(high)? * 16 + read_hex(low)?)
 }
 
 /// The byte that stands for itself.
-fn literal_of(byte: u8) -> Option<u8>
+fn read_literal(byte: u8) -> Option<u8>
     ensures { result ≡ literal byte }
 {
     if byte < b'!' || byte > b'~' || byte == b'%' {
@@ -42,24 +42,24 @@ fn literal_of(byte: u8) -> Option<u8>
 }
 
 /// The first byte that the word encodes, and the rest of the word.
-fn first_of(word: &[u8]) -> (Option<u8>, &[u8])
+fn read_first(word: &[u8]) -> (Option<u8>, &[u8])
     requires { 0 < length word.now }
-    ensures value { spelled word.now ≡ onto result.0 (spelled result.1.now) }
+    ensures value { read_bytes word.now ≡ onto result.0 (read_bytes result.1.now) }
     ensures shorter { length result.1.now < length word.now }
 {
     let first = word[0];
     if first != b'%' {
-        (literal_of(first), &word[1..])
+        (read_literal(first), &word[1..])
     } else if word.len() < 3 {
         (None, &word[1..])
     } else {
-        (escape_of(word[1], word[2]), &word[3..])
+        (read_escape(word[1], word[2]), &word[3..])
     }
 }
 
 /// The bytes that a key or value word means, or `None` if it is no such word.
 #[tactic(auto, unfolding(crate::specs::Tokens::token))]
-pub fn token_of(alloc: Global, word: &[u8]) -> Result<Option<Bytes>, AllocError>
+pub fn read_token(alloc: Global, word: &[u8]) -> Result<Option<Bytes>, AllocError>
     ensures { IfOk result (λ bytes. bytes ≡ token word.now) }
 {
     if word == b"\"\"".as_slice() {
@@ -68,7 +68,7 @@ pub fn token_of(alloc: Global, word: &[u8]) -> Result<Option<Bytes>, AllocError>
     let mut bytes = Vec::with_capacity(alloc, word.len())?;
     let mut rest = word;
     while !rest.is_empty() {
-        let (Some(byte), after) = first_of(rest) else {
+        let (Some(byte), after) = read_first(rest) else {
             return Ok(None);
         };
         bytes.push(byte)?;
@@ -81,5 +81,5 @@ pub fn token_of(alloc: Global, word: &[u8]) -> Result<Option<Bytes>, AllocError>
 pub fn key_or_value(alloc: Global, word: &[u8]) -> Result<Bytes, Refused<Reason>>
     ensures { Gives (λ bytes. bytes) result (key_or_value word.now) }
 {
-    token_of(alloc, word)?.ok_or(Refused::Fault(Reason::BadToken))
+    read_token(alloc, word)?.ok_or(Refused::Fault(Reason::BadToken))
 }

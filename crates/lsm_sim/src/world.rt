@@ -1,10 +1,10 @@
 //! One coordinator, and what it answers to a command.
 
 ghost use Rattle.std.specs.Prelude.{◌≡◌, IfOk, map};
-ghost use Rattle.lsm_coord.specs.Event.{Write};
-ghost use Rattle.lsm_coord.specs.State.{State};
-ghost use Rattle.lsm_coord.specs.Shows.{Shows, Follows};
-ghost use Rattle.lsm_coord.specs.Manifest.{place_of};
+ghost use Rattle.lsm_coord.specs.Model.Event.{Write};
+ghost use Rattle.lsm_coord.specs.Model.State.{State};
+ghost use Rattle.lsm_coord.specs.Contract.Shows.{Shows, Follows};
+ghost use Rattle.lsm_coord.specs.Contract.Manifest.{place_of};
 ghost use Rattle.lsm_sim.specs.Events.{event_of};
 ghost use Rattle.lsm_sim.specs.Replies.{reply_of, place_at};
 ghost use Rattle.lsm_sim.specs.Runs.{Tells};

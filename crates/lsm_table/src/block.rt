@@ -3,14 +3,14 @@
 ghost use Rattle.std.specs.Prelude.{◌≡◌, List, IfOk, Ok};
 ghost use Rattle.std.specs.Option.{option_map};
 ghost use Rattle.lsm_key.specs.declared.entry.Entry.{Entry};
-ghost use Rattle.lsm_key.specs.Visible.{visible, lent};
+ghost use Rattle.lsm_key.specs.Visible.{visible, lent_entry};
 ghost use Rattle.lsm_key.specs.Reading.{Gives};
 ghost use Rattle.lsm_table.specs.Blocks.{AreEntries, IsBlock};
-ghost use Rattle.lsm_table.specs.BlockReading.{next_at, block_of, may_follow, last_of};
+ghost use Rattle.lsm_table.specs.BlockReading.{next_at, read_block, may_follow, last_of};
 
 use bytes::Bytes;
 use lsm_key::{ENTRY_OVERHEAD, Entry, EntryRef, Refused, Seq, compare_place, know_bytes, seek_in};
-use reading::entry_of;
+use reading::read_entry;
 use std::alloc::Global;
 use std::marker::Model;
 
@@ -20,7 +20,7 @@ mod writing;
 
 pub use fault::{BlockError, BlockFault};
 pub use writing::encode_block;
-pub(crate) use writing::put_entry;
+pub(crate) use writing::write_entry;
 
 /// The entries of a block, in order. They share its bytes.
 #[derive(Debug, Drop)]
@@ -39,7 +39,7 @@ impl Model for Block {
 impl Block {
     /// The entry of the key with the greatest sequence at most `at`. Allocates nothing.
     pub fn seek(&self, key: &[u8], at: Seq) -> Option<EntryRef<'_>>
-        ensures { option_map lent result ≡ visible self.now key.now at }
+        ensures { option_map lent_entry result ≡ visible self.now key.now at }
     {
         seek_in(&self.entries, key, at)
     }
@@ -75,10 +75,10 @@ pub(crate) fn may_come(before: &[Entry], entry: &Entry) -> bool
 
 // The next entry, which must follow those before it.
 #[tactic(auto, unfolding(crate::specs::BlockReading::next_at))]
-fn next_of(before: &[Entry], rest: &mut Bytes) -> Result<Entry, BlockError>
+fn read_next(before: &[Entry], rest: &mut Bytes) -> Result<Entry, BlockError>
     ensures { Gives (λ e. (e, rest.new)) result (next_at before.now rest.old) }
 {
-    let entry = entry_of(rest)?;
+    let entry = read_entry(rest)?;
     if !may_come(before, &entry) {
         return Err(Refused::Fault(BlockFault::OutOfOrder));
     }
@@ -87,15 +87,15 @@ fn next_of(before: &[Entry], rest: &mut Bytes) -> Result<Entry, BlockError>
 
 // The entries that the bytes encode, all of the bytes. Room is reserved for as many as `about` says, if the bytes can
 // hold them, since growing the list would move its entries.
-pub(crate) fn entries_of(alloc: Global, bytes: Bytes, about: usize) -> Result<Block, BlockError>
-    ensures { Gives (λ b. b) result (block_of bytes) }
+pub(crate) fn read_entries(alloc: Global, bytes: Bytes, about: usize) -> Result<Block, BlockError>
+    ensures { Gives (λ b. b) result (read_block bytes) }
 {
     know_bytes(&bytes);
     let room = about.min(bytes.len() / ENTRY_OVERHEAD);
     let mut entries = Vec::with_capacity(alloc, room)?;
     let mut rest = bytes;
     loop {
-        let entry = next_of(&entries, &mut rest)?;
+        let entry = read_next(&entries, &mut rest)?;
         entries.push(entry)?;
         if rest.is_empty() {
             return Ok(Block { entries });
@@ -110,8 +110,8 @@ pub fn decode_block(alloc: Global, bytes: Bytes) -> Result<Block, BlockError>
     // What encodes to these bytes is decoded, unless memory runs out.
     ensures only { (es : List Entry) → IsBlock bytes es → Gives (λ b. b) result (Ok es) }
     // The fault is the first one.
-    ensures exact { Gives (λ b. b) result (block_of bytes) }
+    ensures exact { Gives (λ b. b) result (read_block bytes) }
 {
     know_bytes(&bytes);
-    entries_of(alloc, bytes, 0)
+    read_entries(alloc, bytes, 0)
 }

@@ -1,16 +1,16 @@
 //! Claims of jobs: how they are picked, and how they are given back.
 
 ghost use Rattle.std.specs.Prelude.{◌≡◌, ℕ, None, IfOk, IfErr, IfSome, OnOk, OnErr};
-ghost use Rattle.lsm_claim.specs.Book.{settled, claim_fault, claimed, next_job};
+ghost use Rattle.lsm_claim.specs.Book.{settle_answer, claim_fault, after_claim, next_job};
 ghost use Rattle.lsm_edit.specs.Served.{IsServed};
 ghost use Rattle.lsm_edit.specs.Version.{IsVersion};
-ghost use Rattle.lsm_coord.specs.Changes.{IsIndex};
-ghost use Rattle.lsm_coord.specs.Event.{Pick, GiveUp, Other};
-ghost use Rattle.lsm_coord.specs.Shows.{Follows};
-ghost use Rattle.lsm_coord.specs.Sound.{IsSound, KeepsSound};
-ghost use Rattle.lsm_coord.specs.Calls.{gave_back};
-ghost use Rattle.lsm_coord.specs.Replies.{pick_reply};
-ghost use Rattle.lsm_coord.specs.Picking.{GivesNone, HasRoom, IsJobFor, MayClaim, PickRefuses, Picks};
+ghost use Rattle.lsm_coord.specs.Model.Changes.{IsIndex};
+ghost use Rattle.lsm_coord.specs.Model.Event.{Pick, GiveUp, Other};
+ghost use Rattle.lsm_coord.specs.Contract.Shows.{Follows};
+ghost use Rattle.lsm_coord.specs.Contract.Sound.{IsSound, KeepsSound};
+ghost use Rattle.lsm_coord.specs.Contract.Calls.{after_give_back};
+ghost use Rattle.lsm_coord.specs.Contract.Replies.{pick_reply};
+ghost use Rattle.lsm_coord.specs.Contract.Picking.{RulePicksNone, HasRoom, IsJobFor, MayClaim, PickRefuses, Picks};
 
 use super::Coord;
 use crate::CoordError;
@@ -43,7 +43,7 @@ impl Coord {
     // What the rule of a pick gives, if it can be claimed.
     fn wanted(&self) -> Result<Option<Want>, CoordError>
         ensures some { IfOk result (λ wanted. IfSome wanted (MayClaim self.now)) }
-        ensures none { IfOk result (λ wanted. wanted ≡ None → HasRoom self.now × GivesNone self.now) }
+        ensures none { IfOk result (λ wanted. wanted ≡ None → HasRoom self.now × RulePicksNone self.now) }
         ensures refused { IfErr result (PickRefuses self.now) }
     {
         if self.book.live().len() >= MAX_LIVE_CLAIMS {
@@ -90,7 +90,7 @@ impl Coord {
     fn claim(&mut self, want: Want) -> Result<Claim, AllocError>
         requires { MayClaim self.old want }
         ensures claim { IfOk result (λ claim. claim ≡ next_job self.old.book want) }
-        ensures ok { OnOk result (self.new ≡ record self.old { book = claimed self.old.book want }) }
+        ensures ok { OnOk result (self.new ≡ record self.old { book = after_claim self.old.book want }) }
         ensures err { OnErr result (self.new ≡ self.old) }
     {
         match self.book.claim(want) {
@@ -103,8 +103,8 @@ impl Coord {
     /// otherwise the claim is stale, and nothing changes. Allocates nothing.
     pub fn give_back(&mut self, claim: Claim) -> Settled
         ensures step { (dispatcher : ℕ) → IsIndex dispatcher → Follows self.old (GiveUp dispatcher) Other self.new }
-        ensures answer { result ≡ settled self.old.book claim.id }
-        ensures book { self.new ≡ gave_back self.old claim.id }
+        ensures answer { result ≡ settle_answer self.old.book claim.id }
+        ensures book { self.new ≡ after_give_back self.old claim.id }
         ensures sound { KeepsSound self.old self.new }
     {
         self.book.settle(claim, Ending::Returned)

@@ -4,12 +4,12 @@ ghost use Rattle.std.specs.Prelude.{◌≡◌, ◌<◌, None, Some, IfErr, OnOk,
 ghost use Rattle.lsm_key.specs.Faults.{Refuses};
 ghost use Rattle.lsm_edit.specs.File.{IsFile};
 ghost use Rattle.lsm_edit.specs.Served.{IsAsRecorded};
-ghost use Rattle.lsm_coord.specs.Event.{Flush};
-ghost use Rattle.lsm_coord.specs.Shows.{Follows};
-ghost use Rattle.lsm_coord.specs.Calls.{Adds, AddsTable, flush_fault, taken};
-ghost use Rattle.lsm_coord.specs.Manifest.{CanNumber};
-ghost use Rattle.lsm_coord.specs.Sound.{KeepsSound};
-ghost use Rattle.lsm_coord.specs.Replies.{flush_reply};
+ghost use Rattle.lsm_coord.specs.Model.Event.{Flush};
+ghost use Rattle.lsm_coord.specs.Contract.Shows.{Follows};
+ghost use Rattle.lsm_coord.specs.Contract.Calls.{Adds, AddsTable, flush_fault, flush_source};
+ghost use Rattle.lsm_coord.specs.Contract.Manifest.{CanNumber};
+ghost use Rattle.lsm_coord.specs.Contract.Sound.{KeepsSound};
+ghost use Rattle.lsm_coord.specs.Contract.Replies.{flush_reply};
 
 use super::Coord;
 use crate::CoordError;
@@ -70,7 +70,7 @@ impl Coord {
 
     // The memtable that a flush takes.
     fn flushable(&self) -> &Memtable
-        ensures { result.now ≡ (taken self.now).memtable }
+        ensures { result.now ≡ (flush_source self.now).memtable }
     {
         match &self.frozen {
             Some(frozen) => &frozen.memtable,
@@ -80,7 +80,7 @@ impl Coord {
 
     // Its last sequence.
     fn flush_end(&self) -> Seq
-        ensures { result ≡ (taken self.now).end }
+        ensures { result ≡ (flush_source self.now).end }
     {
         match &self.frozen {
             Some(frozen) => frozen.end,
@@ -91,7 +91,7 @@ impl Coord {
     // Adds a table with the entries of the memtable that a flush takes, which goes. A refusal changes nothing.
     fn add_table(&mut self, meta: FileMeta, table: Table, end: Seq) -> Result<(), AllocError>
         requires room { CanNumber self.old.served.version }
-        requires end { end ≡ (taken self.old).end }
+        requires end { end ≡ (flush_source self.old).end }
         requires newer { self.old.served.version.flushed < end }
         requires sound { IsFile meta }
         requires place { (meta.number ≡ self.old.served.version.next_file) × (meta.level ≡ 0) }

@@ -4,15 +4,15 @@ ghost use Rattle.std.specs.Prelude.{◌≡◌, ◌↔◌, ◌<◌, ◌≤◌, �
 ghost use Rattle.std.specs.Option.{option_copied};
 ghost use Rattle.lsm_key.specs.Sets.{IsIn};
 ghost use Rattle.lsm_claim.specs.declared.job.LiveJob.{LiveJob};
-ghost use Rattle.lsm_claim.specs.Jobs.{same_id};
+ghost use Rattle.lsm_claim.specs.Jobs.{same_job_id};
 ghost use Rattle.lsm_table.specs.Tables.{IsTable, Opened};
 ghost use Rattle.lsm_edit.specs.Edit.{IsEdit};
 ghost use Rattle.lsm_edit.specs.Version.{apply_fault};
 ghost use Rattle.lsm_msg.specs.declared.job.JobParts.{JobParts};
 ghost use Rattle.lsm_msg.specs.Legal.{IsLegal};
-ghost use Rattle.lsm_coord.specs.Installing.{AreAscending, Became, Explains, HasNumbers, HoldsMergeOf, Puts, RefusalsStep, StepsTo, edit_of, is_inside, number_fault};
-ghost use Rattle.lsm_coord.specs.Memory.{IsOrderly};
-ghost use Rattle.lsm_coord.specs.Sound.{IsSound, KeepsSound};
+ghost use Rattle.lsm_coord.specs.Contract.Installing.{AreAscending, Became, Explains, HasNumbers, HoldsMergeOf, Puts, RefusalsStep, StepsTo, install_edit_of, is_table_inside, number_fault};
+ghost use Rattle.lsm_coord.specs.Contract.Memory.{IsJobWant};
+ghost use Rattle.lsm_coord.specs.Contract.Sound.{IsSound, KeepsSound};
 
 use super::Coord;
 use super::outputs::{open_outputs, records_of};
@@ -106,7 +106,7 @@ impl Coord {
 
 // The live job of a name.
 fn job_named(jobs: &[LiveJob], id: JobId) -> Option<&LiveJob>
-    ensures { option_copied result ≡ find (λ j. same_id j.id id) jobs.now }
+    ensures { option_copied result ≡ find (λ j. same_job_id j.id id) jobs.now }
 {
     jobs.iter().find(|job| job.id == id)
 }
@@ -120,7 +120,7 @@ fn put_outputs(
 ) -> Result<(u64, Items<u64>), InstallError>
     requires epoch { 1 ≤ versions.old.served.version.epoch }
     requires legal { IsLegal versions.old.served.version.files job.now.want }
-    requires orderly { IsOrderly job.now.want }
+    requires orderly { IsJobWant job.now.want }
     ensures ok { IfOk result (λ put. Puts versions.old job.now made.now put.0 put.1 versions.new) }
     ensures err { OnErr result (versions.new ≡ versions.old) }
     ensures why { IfErr result (Explains versions.old.served.version job.now made.now) }
@@ -168,12 +168,12 @@ fn edit_of(
     requires fits { HasNumbers version.now tables.now }
     requires epoch { 1 ≤ version.now.epoch }
     requires legal { IsLegal version.now.files want.now }
-    requires orderly { IsOrderly want.now }
+    requires orderly { IsJobWant want.now }
     requires few { length tables.now < 2 ^ 32 }
     requires sound { (t : Opened) → IsIn t tables.now → IsTable t.bytes t.entries }
-    requires inside { (t : Opened) → IsIn t tables.now → is_inside want.now.hull t ≡ true }
+    requires inside { (t : Opened) → IsIn t tables.now → is_table_inside want.now.hull t ≡ true }
     requires ascending { AreAscending tables.now }
-    ensures edit { IfOk result (λ edit. edit ≡ edit_of version.now want.now tables.now) }
+    ensures edit { IfOk result (λ edit. edit ≡ install_edit_of version.now want.now tables.now) }
     ensures sound { IfOk result IsEdit }
     ensures applies { IfOk result (λ edit. apply_fault version.now edit ≡ None) }
 {

@@ -6,7 +6,7 @@ ghost use Rattle.lsm_key.specs.declared.limits.TheConstants.{MAX_NUMBER};
 ghost use Rattle.lsm_key.specs.Order.{key_lt};
 ghost use Rattle.lsm_table.specs.Tables.{IsTable, Opened, largest_key, smallest_key};
 ghost use Rattle.lsm_coord.specs.declared.coord.install.InstallError.TheVariants as why;
-ghost use Rattle.lsm_coord.specs.Installing.{AreOutputs, comes_next, is_inside, record_of, records};
+ghost use Rattle.lsm_coord.specs.Contract.Installing.{AreOutputTables, comes_next, is_table_inside, record_of, records};
 
 use super::install::InstallError;
 use bytes::Bytes;
@@ -25,8 +25,8 @@ pub(crate) fn open_outputs(
     hull: &Hull,
     texts: &[Bytes],
 ) -> Result<Vec<Table>, InstallError>
-    ensures ok { IfOk result (λ tables. AreOutputs hull.now texts.now tables.items) }
-    ensures bad { IfErr result (λ e. (e ≡ why.OutOfMemory) ⊎ ((e ≡ why.BadResult) × ((ts : List Opened) → AreOutputs hull.now texts.now ts → ⊥))) }
+    ensures ok { IfOk result (λ tables. AreOutputTables hull.now texts.now tables.items) }
+    ensures bad { IfErr result (λ e. (e ≡ why.OutOfMemory) ⊎ ((e ≡ why.BadResult) × ((ts : List Opened) → AreOutputTables hull.now texts.now ts → ⊥))) }
 {
     if texts.len() > MAX_RESULT_TABLES {
         return Err(InstallError::BadResult);
@@ -66,7 +66,7 @@ fn comes_next(hull: &Hull, last: Option<&Table>, table: &Table) -> bool
 }
 
 fn is_inside(hull: &Hull, table: &Table) -> bool
-    ensures { result ≡ is_inside hull.now table.now }
+    ensures { result ≡ is_table_inside hull.now table.now }
 {
     hull.lo.cmp(table.smallest()).is_le() && table.largest().cmp(&hull.hi).is_le()
 }

@@ -2,14 +2,14 @@
 
 ghost use Rattle.std.specs.Prelude.{◌≡◌, None, Some, IfOk, IfErr, IsSome};
 ghost use Rattle.std.specs.Option.{option_map, option_and_then};
-ghost use Rattle.lsm_key.specs.Visible.{visible, entry_value, lent};
-ghost use Rattle.lsm_coord.specs.State.{snapshot_at};
-ghost use Rattle.lsm_coord.specs.Event.{Get, Show, Coordinator};
-ghost use Rattle.lsm_coord.specs.Shows.{Follows};
-ghost use Rattle.lsm_coord.specs.Memory.{IsFit};
-ghost use Rattle.lsm_coord.specs.Calls.{point_of, GetRefuses, IsPoint, Answers, HasValue};
-ghost use Rattle.lsm_coord.specs.Value.{frozen_entries};
-ghost use Rattle.lsm_coord.specs.Replies.{get_reply, show_reply};
+ghost use Rattle.lsm_key.specs.Visible.{visible, entry_value, lent_entry};
+ghost use Rattle.lsm_coord.specs.Model.State.{snapshot_at};
+ghost use Rattle.lsm_coord.specs.Model.Event.{Get, Show, Coordinator};
+ghost use Rattle.lsm_coord.specs.Contract.Shows.{Follows};
+ghost use Rattle.lsm_coord.specs.Contract.Memory.{IsFit};
+ghost use Rattle.lsm_coord.specs.Contract.Calls.{point_of, GetRefuses, IsPoint, Answers, HasValue};
+ghost use Rattle.lsm_coord.specs.Contract.Value.{frozen_entries};
+ghost use Rattle.lsm_coord.specs.Contract.Replies.{get_reply, show_reply};
 
 use super::Coord;
 use crate::CoordError;
@@ -70,7 +70,7 @@ impl Coord {
     // The newest entry of the key.
     fn found(&self, key: &[u8], point: Seq) -> Option<EntryRef<'_>>
         requires { IsPoint self.now point }
-        ensures { Answers self.now point key.now (option_and_then entry_value (option_map lent result)) }
+        ensures { Answers self.now point key.now (option_and_then entry_value (option_map lent_entry result)) }
     {
         match self.active.get(key, point) {
             Some(entry) => return Some(entry),
@@ -84,7 +84,7 @@ impl Coord {
 
     // The newest entry of the key in the frozen memtable.
     fn frozen_entry(&self, key: &[u8], point: Seq) -> Option<EntryRef<'_>>
-        ensures { option_map lent result ≡ visible (frozen_entries self.now.frozen) key.now point }
+        ensures { option_map lent_entry result ≡ visible (frozen_entries self.now.frozen) key.now point }
     {
         match &self.frozen {
             Some(frozen) => frozen.memtable.get(key, point),
@@ -116,8 +116,8 @@ impl Coord {
 
 // What a read returns that finds the entry.
 fn value_in(alloc: Global, entry: EntryRef<'_>) -> Result<Option<Bytes>, AllocError>
-    ensures ok { IfOk result (λ value. value ≡ entry_value (lent entry.entry)) }
-    ensures refused { IfErr result (λ _. IsSome (entry_value (lent entry.entry))) }
+    ensures ok { IfOk result (λ value. value ≡ entry_value (lent_entry entry.entry)) }
+    ensures refused { IfErr result (λ _. IsSome (entry_value (lent_entry entry.entry))) }
 {
     match entry.kind {
         Kind::Put => Ok(Some(Bytes::copy_from_slice(alloc, entry.value)?)),

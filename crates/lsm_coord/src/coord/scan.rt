@@ -6,12 +6,12 @@ ghost use Rattle.std.specs.Option.{option_map};
 ghost use Rattle.lsm_key.specs.declared.entry.Entry.{Entry};
 ghost use Rattle.lsm_key.specs.Order.{IsAscending, IsInOrder, is_between, key_le};
 ghost use Rattle.lsm_edit.specs.Served.{IsServed};
-ghost use Rattle.lsm_coord.specs.Event.{Scan};
-ghost use Rattle.lsm_coord.specs.Shows.{Follows};
-ghost use Rattle.lsm_coord.specs.Calls.{IsPoint, ScanRefuses, Scans};
-ghost use Rattle.lsm_coord.specs.Value.{everything, frozen_entries};
-ghost use Rattle.lsm_coord.specs.Replies.{scan_reply};
-ghost use Rattle.lsm_coord.specs.Scan.{is_hidden, pair_of, shown_pairs};
+ghost use Rattle.lsm_coord.specs.Model.Event.{Scan};
+ghost use Rattle.lsm_coord.specs.Contract.Shows.{Follows};
+ghost use Rattle.lsm_coord.specs.Contract.Calls.{IsPoint, ScanRefuses, Scans};
+ghost use Rattle.lsm_coord.specs.Contract.Value.{everything, frozen_entries};
+ghost use Rattle.lsm_coord.specs.Contract.Replies.{scan_reply};
+ghost use Rattle.lsm_coord.specs.Inner.Scan.{is_hidden, pair_of, shown_pairs};
 
 use super::Coord;
 use crate::CoordError;

@@ -2,9 +2,9 @@
 
 ghost use Rattle.std.specs.Prelude.{◌≡◌, ℕ, IfOk, IfErr, IsSome};
 ghost use Rattle.lsm_edit.specs.Served.{table_at};
-ghost use Rattle.lsm_coord.specs.Event.{Deliver, Other};
-ghost use Rattle.lsm_coord.specs.Shows.{Follows};
-ghost use Rattle.lsm_coord.specs.Serving.{FetchesTable, answered, sent};
+ghost use Rattle.lsm_coord.specs.Model.Event.{Deliver, Other};
+ghost use Rattle.lsm_coord.specs.Contract.Shows.{Follows};
+ghost use Rattle.lsm_coord.specs.Contract.Serving.{FetchesTable, answer_message, table_body};
 
 use super::Coord;
 use lsm_msg::{Body, Message, Node};
@@ -15,7 +15,7 @@ impl Coord {
     /// table shares its bytes, so it runs out of memory only if their reference count is full.
     pub fn serve(&self, message: &Message) -> Result<Option<Message>, AllocError>
         ensures step { (number : ℕ) → Follows self.now (Deliver number) Other self.now }
-        ensures ok { IfOk result (λ answer. answer ≡ answered self.now message.now message.now.body) }
+        ensures ok { IfOk result (λ answer. answer ≡ answer_message self.now message.now message.now.body) }
         ensures err { IfErr result (λ e. FetchesTable self.now message.now.body) }
     {
         match &message.body {
@@ -30,7 +30,7 @@ impl Coord {
 
     // The table of a file, or that it is gone.
     fn file_body(&self, file: u64) -> Result<Body, AllocError>
-        ensures ok { IfOk result (λ body. body ≡ sent file (table_at self.now.served.places file)) }
+        ensures ok { IfOk result (λ body. body ≡ table_body file (table_at self.now.served.places file)) }
         ensures err { IfErr result (λ e. IsSome (table_at self.now.served.places file)) }
     {
         match self.served().table(file) {

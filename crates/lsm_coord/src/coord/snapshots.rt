@@ -2,12 +2,12 @@
 
 ghost use Rattle.std.specs.Prelude.{◌≡◌, None, IfErr, OnOk, OnErr, Some};
 ghost use Rattle.lsm_key.specs.Faults.{Refuses};
-ghost use Rattle.lsm_coord.specs.State.{State};
-ghost use Rattle.lsm_coord.specs.Event.{Snap, Release};
-ghost use Rattle.lsm_coord.specs.Shows.{Follows, Shows};
-ghost use Rattle.lsm_coord.specs.Calls.{snapshot_fault, snapped, release_fault, released};
-ghost use Rattle.lsm_coord.specs.Sound.{KeepsSound};
-ghost use Rattle.lsm_coord.specs.Replies.{snapshot_reply, release_reply};
+ghost use Rattle.lsm_coord.specs.Model.State.{State};
+ghost use Rattle.lsm_coord.specs.Model.Event.{Snap, Release};
+ghost use Rattle.lsm_coord.specs.Contract.Shows.{Follows, Shows};
+ghost use Rattle.lsm_coord.specs.Contract.Calls.{snapshot_fault, after_snapshot, release_fault, after_release};
+ghost use Rattle.lsm_coord.specs.Contract.Sound.{KeepsSound};
+ghost use Rattle.lsm_coord.specs.Contract.Replies.{snapshot_reply, release_reply};
 
 use super::Coord;
 use crate::CoordError;
@@ -18,7 +18,7 @@ impl Coord {
     /// Makes a snapshot of the latest sequence, and returns its name and that sequence. A refusal changes nothing.
     pub fn snapshot(&mut self) -> Result<(SnapId, Seq), CoordError>
         ensures step { Follows self.old Snap (snapshot_reply result) self.new }
-        ensures ok { OnOk result ((snapshot_fault self.old ≡ None) × (self.new ≡ snapped self.old)) }
+        ensures ok { OnOk result ((snapshot_fault self.old ≡ None) × (self.new ≡ after_snapshot self.old)) }
         ensures err { OnErr result (self.new ≡ self.old) }
         ensures refused { IfErr result (Refuses CoordError.OutOfMemory (snapshot_fault self.old)) }
         ensures sound { (s : State) → Shows self.old s → KeepsSound self.old self.new }
@@ -40,7 +40,7 @@ impl Coord {
     /// Releases a snapshot. Allocates nothing. A refusal changes nothing.
     pub fn release(&mut self, id: SnapId) -> Result<(), CoordError>
         ensures step { Follows self.old (Release id) (release_reply id result) self.new }
-        ensures ok { OnOk result ((release_fault self.old id ≡ None) × (self.new ≡ released self.old id)) }
+        ensures ok { OnOk result ((release_fault self.old id ≡ None) × (self.new ≡ after_release self.old id)) }
         ensures err { OnErr result (self.new ≡ self.old) }
         ensures refused { IfErr result (λ e. release_fault self.old id ≡ Some e) }
         ensures sound { KeepsSound self.old self.new }

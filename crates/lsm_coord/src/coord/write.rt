@@ -2,11 +2,11 @@
 
 ghost use Rattle.std.specs.Prelude.{◌≡◌, None, IfErr, OnOk, OnErr, Some};
 ghost use Rattle.lsm_key.specs.Faults.{Refuses};
-ghost use Rattle.lsm_coord.specs.Event.{Write, Freeze};
-ghost use Rattle.lsm_coord.specs.Shows.{Follows};
-ghost use Rattle.lsm_coord.specs.Calls.{write_fault, freeze_fault, IsWritten, froze};
-ghost use Rattle.lsm_coord.specs.Sound.{KeepsSound};
-ghost use Rattle.lsm_coord.specs.Replies.{write_reply, freeze_reply};
+ghost use Rattle.lsm_coord.specs.Model.Event.{Write, Freeze};
+ghost use Rattle.lsm_coord.specs.Contract.Shows.{Follows};
+ghost use Rattle.lsm_coord.specs.Contract.Calls.{write_fault, freeze_fault, IsWritten, after_freezing};
+ghost use Rattle.lsm_coord.specs.Contract.Sound.{KeepsSound};
+ghost use Rattle.lsm_coord.specs.Contract.Replies.{write_reply, freeze_reply};
 
 use super::Coord;
 use crate::CoordError;
@@ -57,7 +57,7 @@ impl Coord {
     /// refusal changes nothing.
     pub fn freeze(&mut self) -> Result<Seq, CoordError>
         ensures step { Follows self.old Freeze (freeze_reply result) self.new }
-        ensures ok { OnOk result ((freeze_fault self.old ≡ None) × (self.new ≡ froze self.old)) }
+        ensures ok { OnOk result ((freeze_fault self.old ≡ None) × (self.new ≡ after_freezing self.old)) }
         ensures err { OnErr result (self.new ≡ self.old) }
         ensures refused { IfErr result (λ e. freeze_fault self.old ≡ Some e) }
         ensures sound { KeepsSound self.old self.new }

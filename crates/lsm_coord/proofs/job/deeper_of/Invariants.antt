@@ -1,6 +1,6 @@
 use Rattle.std.proofs.Common.{◌≡◌, ◌++◌, ◌-◌, map, filter, flat_map}
 use Rattle.std.specs.List.{range_with_len}
-use Rattle.lsm_coord.specs.Picking.{deeper_files, range_of, touches_at}
+use Rattle.lsm_coord.specs.Contract.Picking.{deeper_files, range_of, touches_at}
 use Rattle.lsm_coord.proofs.job.deeper_of.Given as goal
 
 abbrev pub invariant-loop-level : goal.invariant-loop-level

@@ -1,5 +1,5 @@
 use Rattle.std.proofs.Common.{◌≡◌, ◌++◌, drop, map, filter}
-use Rattle.lsm_coord.specs.Picking.{range_of, touches_at}
+use Rattle.lsm_coord.specs.Contract.Picking.{range_of, touches_at}
 use Rattle.lsm_coord.proofs.job.push_ranges.Given as goal
 
 abbrev pub invariant-loop-file : goal.invariant-loop-file

@@ -10,5 +10,5 @@ overflow_cast-files c =
     let small = added_small c.args.e.now.kind c.args.e.now.added c.requires.added in
     omega (arith, small, ap length c.as_slice-files.ensures)
 
-pub put_files-requires : goal.put_files-requires
-put_files-requires c = subst (λ (files : List FileMeta). All IsFile files) (sym c.as_slice-files.ensures) (added_files c.args.e.now.kind c.args.e.now.added c.requires.added)
+pub write_files-requires : goal.write_files-requires
+write_files-requires c = subst (λ (files : List FileMeta). All IsFile files) (sym c.as_slice-files.ensures) (added_files c.args.e.now.kind c.args.e.now.added c.requires.added)

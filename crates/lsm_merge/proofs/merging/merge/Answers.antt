@@ -4,7 +4,7 @@ use Rattle.lsm_key.specs.declared.entry.Entry.{Entry}
 use Rattle.lsm_table.specs.Blocks.{AreEntries}
 use Rattle.lsm_edit.specs.declared.file.FileMeta.{FileMeta}
 use Rattle.lsm_edit.specs.Served.{AreAsRecorded}
-use Rattle.lsm_merge.specs.Cutting.{AreFew, AreOutputs}
+use Rattle.lsm_merge.specs.Cutting.{AreFew, IsSplitInto}
 use Rattle.lsm_merge.specs.Keeping.{kept_list}
 use Rattle.lsm_merge.proofs.Comparing.{recorded_tables}
 use Rattle.lsm_merge.proofs.Merged.{can_merge, kept_sound, kept_few, is_merge}
@@ -55,5 +55,5 @@ returns-clause-ok c =
     let merged = c.in_ok-merged.ensures in
     let kept_is = c.deref-2.ensures.value ∙ c.in_ok-kept.ensures ∙ ap (kept_list job.points job.deeper None) c.deref.ensures.value in
     let outputs = c.in_ok-outputs.outputs.items in
-    let made = subst (λ (es : List Entry). AreOutputs es outputs) kept_is c.in_ok-outputs.ensures in
+    let made = subst (λ (es : List Entry). IsSplitInto es outputs) kept_is c.in_ok-outputs.ensures in
     (can_merge tables job c.in_ok-merged.merged.items recorded merged.all merged.order, is_merge tables job c.in_ok-merged.merged.items recorded merged.all merged.order outputs made)

@@ -4,7 +4,7 @@ use Rattle.lsm_key.specs.Sets.{IsIn}
 use Rattle.lsm_key.proofs.Sets.{IsIn-map, IsIn-mapped}
 use Rattle.lsm_edit.specs.declared.file.FileMeta.{FileMeta}
 use Rattle.lsm_edit.specs.declared.served.Placed.{Placed}
-use Rattle.lsm_pick.specs.Reach.{Grows, IsReach, is_inside, is_met, may_join, trial_of}
+use Rattle.lsm_pick.specs.Reach.{Grows, IsReach, is_inside, is_met, may_join, candidate_of}
 use Rattle.lsm_pick.proofs.Growing.{reach_first}
 use Rattle.lsm_pick.proofs.Outside.{fewer_outside}
 use Rattle.lsm_pick.proofs.reach.closure.Goals as goal
@@ -14,7 +14,7 @@ widened-wider-requires-in-loop-reach-clause-recorded c = λ p m. (c.listing-list
 
 pub loop-reach-init : goal.loop-reach-init
 loop-reach-init c =
-    let t = trial_of c.args.first.now c.args.narrow in
+    let t = candidate_of c.args.first.now c.args.older_only in
     let files = c.args.served.now.version.files in (
       subst (λ (k : List ℕ). IsReach files t k c.of-reach.result.hi.now) (sym c.of-reach.ensures.lo)
           (subst (λ (k : List ℕ). IsReach files t t.first.smallest k) (sym c.of-reach.ensures.hi) (reach_first files t c.requires.listed)),
@@ -23,7 +23,7 @@ loop-reach-init c =
 
 pub loop-reach-preserved : goal.loop-reach-preserved
 loop-reach-preserved c =
-    let t = trial_of c.args.first.now c.args.narrow in
+    let t = candidate_of c.args.first.now c.args.older_only in
     let files = c.args.served.now.version.files in
     let places = c.args.served.now.places in
     let old = c.loop-reach.invariant in (
@@ -33,7 +33,7 @@ loop-reach-preserved c =
 
 pub loop-reach-smaller : goal.loop-reach-smaller
 loop-reach-smaller c =
-    let t = trial_of c.args.first.now c.args.narrow in
+    let t = candidate_of c.args.first.now c.args.older_only in
     let files = c.args.served.now.version.files in
     let places = c.args.served.now.places in
     let old = c.loop-reach.invariant in
@@ -43,7 +43,7 @@ loop-reach-smaller c =
 
 pub returns : goal.returns
 returns c =
-    let t = trial_of c.args.first.now c.args.narrow in
+    let t = candidate_of c.args.first.now c.args.older_only in
     let files = c.args.served.now.version.files in
     let places = c.args.served.now.places in
     let old = c.loop-reach.invariant in

@@ -2,17 +2,17 @@ use Rattle.std.proofs.Common.{◌+◌, ◌&&◌, List, ℕ, subst, sym, arith, r
 use Rattle.lsm_key.specs.Sets.{IsIn}
 use Rattle.lsm_key.proofs.Sets.{IsIn-at}
 use Rattle.lsm_edit.specs.declared.served.Placed.{Placed}
-use Rattle.lsm_pick.specs.Reach.{is_met, lower, may_join, trial_of}
+use Rattle.lsm_pick.specs.Reach.{is_met, lower, may_join, candidate_of}
 use Rattle.lsm_pick.proofs.Walks.{Walk, walk_none, walk_by, walk_done, zero_walked, zero_all}
 use Rattle.lsm_pick.proofs.reach.with_level_zero.Goals as goal
 
 pub loop-placed-init : goal.loop-placed-init
-loop-placed-init c = walk_none (trial_of c.args.first.now c.args.narrow) c.args.places.now c.args.places.now 0 c.args.reach.lo.now c.args.reach.hi.now
+loop-placed-init c = walk_none (candidate_of c.args.first.now c.args.older_only) c.args.places.now c.args.places.now 0 c.args.reach.lo.now c.args.reach.hi.now
 
 pub loop-placed-preserved : goal.loop-placed-preserved
 loop-placed-preserved c =
     let places = c.args.places.now in
-    let t = trial_of c.args.first.now c.args.narrow in
+    let t = candidate_of c.args.first.now c.args.older_only in
     let lo = c.args.reach.lo.now in
     let hi = c.args.reach.hi.now in
     let p = c.placed-item.result in
@@ -28,7 +28,7 @@ loop-placed-preserved c =
 pub returns-then-placed-gt0 : goal.returns-then-placed-gt0
 returns-then-placed-gt0 c =
     let places = c.args.places.now in
-    let t = trial_of c.args.first.now c.args.narrow in
+    let t = candidate_of c.args.first.now c.args.older_only in
     let lo = c.args.reach.lo.now in
     let hi = c.args.reach.hi.now in
     walk_done t places places 0 lo hi c.loop-placed.wider.lo.now c.loop-placed.wider.hi.now c.loop-placed.placed-index c.loop-placed.invariant
@@ -37,7 +37,7 @@ returns-then-placed-gt0 c =
 pub returns : goal.returns
 returns c =
     let places = c.args.places.now in
-    let t = trial_of c.args.first.now c.args.narrow in
+    let t = candidate_of c.args.first.now c.args.older_only in
     let lo = c.args.reach.lo.now in
     let hi = c.args.reach.hi.now in
     walk_done t places places 0 lo hi c.loop-placed.wider.lo.now c.loop-placed.wider.hi.now c.loop-placed.placed-index c.loop-placed.invariant

@@ -5,7 +5,7 @@ use Rattle.lsm_key.specs.Order.{key_le}
 use Rattle.lsm_key.specs.Sets.{IsIn}
 use Rattle.lsm_key.proofs.Sets.{IsIn-at}
 use Rattle.lsm_edit.specs.declared.served.Placed.{Placed}
-use Rattle.lsm_pick.specs.Reach.{lower, trial_of}
+use Rattle.lsm_pick.specs.Reach.{lower, candidate_of}
 use Rattle.lsm_pick.proofs.Growing.{met_more}
 use Rattle.lsm_pick.proofs.Walks.{Walk, walk_none, walk_more, walk_done, rest_in, all_walked, stopped_at, begun_met}
 use Rattle.lsm_pick.proofs.reach.with_next.Goals as goal
@@ -14,7 +14,7 @@ pub loop-placed-init : goal.loop-placed-init
 loop-placed-init c =
     let places = c.args.places.now in
     let start = c.place_in-start.result in
-    walk_none (trial_of c.args.first.now c.args.narrow) places (take (length places - start) (drop start places)) (c.args.first.now.level + 1) c.args.reach.lo.now c.args.reach.hi.now
+    walk_none (candidate_of c.args.first.now c.args.older_only) places (take (length places - start) (drop start places)) (c.args.first.now.level + 1) c.args.reach.lo.now c.args.reach.hi.now
 
 pub loop-placed-preserved : goal.loop-placed-preserved
 loop-placed-preserved c =
@@ -24,7 +24,7 @@ loop-placed-preserved c =
     let lo = c.args.reach.lo.now in
     let hi = c.args.reach.hi.now in
     let level = c.args.first.now.level + 1 in
-    let t = trial_of c.args.first.now c.args.narrow in
+    let t = candidate_of c.args.first.now c.args.older_only in
     let w = c.loop-placed.invariant in
     let p = c.placed-item.result in
     let here : IsIn p rest = subst (λ (x : Placed). IsIn x rest) (sym c.placed-item.is) (IsIn-at rest c.loop-placed.placed-index p c.loop-placed-test.true) in
@@ -47,7 +47,7 @@ returns-then-not-begins_by c =
     let lo = c.args.reach.lo.now in
     let hi = c.args.reach.hi.now in
     let level = c.args.first.now.level + 1 in
-    let t = trial_of c.args.first.now c.args.narrow in
+    let t = candidate_of c.args.first.now c.args.older_only in
     walk_done t places rest level lo hi c.loop-placed.wider.lo.now c.loop-placed.wider.hi.now c.loop-placed.placed-index c.loop-placed.invariant
     (stopped_at places rest level start lo hi (omega arith) c.requires.recorded c.requires.ordered (take_rest places start) c.place_in-start.ensures.left c.place_in-start.ensures.right t
     c.loop-placed.placed-index c.placed-item.result c.loop-placed-test.true c.placed-item.is (sym c.begins_by.ensures ∙ c.if-not-begins_by.true))
@@ -60,7 +60,7 @@ returns c =
     let lo = c.args.reach.lo.now in
     let hi = c.args.reach.hi.now in
     let level = c.args.first.now.level + 1 in
-    let t = trial_of c.args.first.now c.args.narrow in
+    let t = candidate_of c.args.first.now c.args.older_only in
     walk_done t places rest level lo hi c.loop-placed.wider.lo.now c.loop-placed.wider.hi.now c.loop-placed.placed-index c.loop-placed.invariant
     (all_walked places rest level start lo hi (omega arith) c.requires.recorded c.requires.ordered (take_rest places start) c.place_in-start.ensures.left c.place_in-start.ensures.right t
     c.loop-placed.placed-index (omega (arith, c.loop-placed-test.false)))

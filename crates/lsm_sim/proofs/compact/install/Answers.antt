@@ -1,6 +1,6 @@
 use Rattle.std.proofs.Common.{ℕ, List, sym, subst}
 use Rattle.lsm_coord.specs.declared.coord.install.Install.TheVariants as became
-use Rattle.lsm_coord.specs.Installing.{Became, StepsTo}
+use Rattle.lsm_coord.specs.Contract.Installing.{Became, StepsTo}
 use Rattle.lsm_sim.proofs.compact.install.Goals as goal
 
 pub returns-in-Done-clause-done : goal.returns-in-Done-clause-done

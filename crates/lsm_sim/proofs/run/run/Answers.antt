@@ -23,22 +23,22 @@ pub loop-event-preserved-then-len-ge-BUFFER_BYTES : goal.loop-event-preserved-th
 loop-event-preserved-then-len-ge-BUFFER_BYTES g c =
     let was = g.W.Write.contents c.args.writer.now in
     let held = g.W.Write.contents c.loop-event.writer in
-    let out = c.put_line.new.out.items in
+    let out = c.write_line.new.out.items in
     let all = done_more c.loop-event.yielded c.loop-event.event-iterator.rest.items c.next.new.self.rest.items c.args.events.items c.in-Some.event c.loop-event.invariant.all c.in-Some.ensures.steps.0 in
-    let so = IsSoFar-step c.args.coord.now c.loop-event.coord c.step-reply.new.coord c.loop-event.yielded c.in-Some.event c.step-reply.result was held c.loop-event.out.items out c.loop-event.invariant.so c.step-reply.ensures.follows c.step-reply.ensures.told c.in_ok-put_line.ensures in
+    let so = IsSoFar-step c.args.coord.now c.loop-event.coord c.step-reply.new.coord c.loop-event.yielded c.in-Some.event c.step-reply.result was held c.loop-event.out.items out c.loop-event.invariant.so c.step-reply.ensures.follows c.step-reply.ensures.told c.in_ok-write_line.ensures in
     record { all = all; so = IsSoFar-written c.args.coord.now c.step-reply.new.coord _ was held (g.W.Write.contents c.write_all.new.writer) (g.W.Write.contents c.write_all.new.writer) out c.deref.result.now c.clear.new.self.items so c.deref.ensures.value c.in_ok-write_all.ensures.ok refl (search rules) }
 
 pub loop-event-preserved : goal.loop-event-preserved
 loop-event-preserved g c =
     let was = g.W.Write.contents c.args.writer.now in
     let held = g.W.Write.contents c.loop-event.writer in
-    let out = c.put_line.new.out.items in
+    let out = c.write_line.new.out.items in
     let all = done_more c.loop-event.yielded c.loop-event.event-iterator.rest.items c.next.new.self.rest.items c.args.events.items c.in-Some.event c.loop-event.invariant.all c.in-Some.ensures.steps.0 in
-    let so = IsSoFar-step c.args.coord.now c.loop-event.coord c.step-reply.new.coord c.loop-event.yielded c.in-Some.event c.step-reply.result was held c.loop-event.out.items out c.loop-event.invariant.so c.step-reply.ensures.follows c.step-reply.ensures.told c.in_ok-put_line.ensures in
+    let so = IsSoFar-step c.args.coord.now c.loop-event.coord c.step-reply.new.coord c.loop-event.yielded c.in-Some.event c.step-reply.result was held c.loop-event.out.items out c.loop-event.invariant.so c.step-reply.ensures.follows c.step-reply.ensures.told c.in_ok-write_line.ensures in
     record { all = all; so = so }
 
-pub returns-in_err-put_line-clause-err : goal.returns-in_err-put_line-clause-err
-returns-in_err-put_line-clause-err g c =
+pub returns-in_err-write_line-clause-err : goal.returns-in_err-write_line-clause-err
+returns-in_err-write_line-clause-err g c =
     let was = g.W.Write.contents c.args.writer.now in
     let held = g.W.Write.contents c.loop-event.writer in
     let out = c.loop-event.out.items ++ line c.step-reply.result in
@@ -50,9 +50,9 @@ pub returns-in_err-write_all-clause-err : goal.returns-in_err-write_all-clause-e
 returns-in_err-write_all-clause-err g c =
     let was = g.W.Write.contents c.args.writer.now in
     let held = g.W.Write.contents c.loop-event.writer in
-    let out = c.put_line.new.out.items in
+    let out = c.write_line.new.out.items in
     let all = done_more c.loop-event.yielded c.loop-event.event-iterator.rest.items c.next.new.self.rest.items c.args.events.items c.in-Some.event c.loop-event.invariant.all c.in-Some.ensures.steps.0 in
-    let so = IsSoFar-step c.args.coord.now c.loop-event.coord c.step-reply.new.coord c.loop-event.yielded c.in-Some.event c.step-reply.result was held c.loop-event.out.items out c.loop-event.invariant.so c.step-reply.ensures.follows c.step-reply.ensures.told c.in_ok-put_line.ensures in
+    let so = IsSoFar-step c.args.coord.now c.loop-event.coord c.step-reply.new.coord c.loop-event.yielded c.in-Some.event c.step-reply.result was held c.loop-event.out.items out c.loop-event.invariant.so c.step-reply.ensures.follows c.step-reply.ensures.told c.in_ok-write_line.ensures in
     on_err c.from_residual-in_err-write_all.result _ (IsSoFar-stops c.args.coord.now c.step-reply.new.coord _ c.next.new.self.rest.items c.args.events.items was held (g.W.Write.contents c.write_all.new.writer) out c.deref.result.now all so c.deref.ensures.value c.in_err-write_all.ensures.err)
 
 pub returns-in_err-write_all-2-clause-err : goal.returns-in_err-write_all-2-clause-err

@@ -1,8 +1,8 @@
 use Rattle.std.proofs.Common.{◌≡◌, ◌+◌, ◌∷◌, ◌++◌, [], ℕ, List, Some, None, Ok, Err, ap, sym, ◌∙◌, length, map, rules, arith}
 use Rattle.lsm_sim.specs.Text.{words, lines, lines_left}
 use Rattle.lsm_sim.specs.Events.{event_of}
-use Rattle.lsm_coord.specs.Event as say
-use Rattle.lsm_sim.specs.Script.{event, numbered}
+use Rattle.lsm_coord.specs.Model.Event as say
+use Rattle.lsm_sim.specs.Script.{event, events_from}
 use Rattle.lsm_sim.proofs.Steps.{after, after_none, skipped, one_more, at_fault, at_end, events-push, lines-few}
 use Rattle.lsm_sim.proofs.script.parse.Goals as goal
 
@@ -12,7 +12,7 @@ loop-line-init c =
     record {
       can_next = tt;
       is_finite = tt;
-      so_far = rw (is, c.new-events.ensures.items) (sym (after_none (numbered 1 (lines c.args.text.now))));
+      so_far = rw (is, c.new-events.ensures.items) (sym (after_none (events_from 1 (lines c.args.text.now))));
       count = rw is (omega (arith, lines-few c.args.text.now));
     }
 
@@ -25,7 +25,7 @@ loop-line-preserved-in-Ok-None c =
     record {
       can_next = tt;
       is_finite = tt;
-      so_far = c.loop-line.invariant.so_far ∙ ap (after (map event_of c.loop-line.events.items)) (ap (numbered n) next ∙ skipped n c.in-Some.line.now ls none);
+      so_far = c.loop-line.invariant.so_far ∙ ap (after (map event_of c.loop-line.events.items)) (ap (events_from n) next ∙ skipped n c.in-Some.line.now ls none);
       count = omega (arith, c.loop-line.invariant.count, ap (λ (x : List (List ℕ)). length x) next);
     }
 
@@ -40,7 +40,7 @@ loop-line-preserved c =
     record {
       can_next = tt;
       is_finite = tt;
-      so_far = c.loop-line.invariant.so_far ∙ ap (λ (l : List (List ℕ)). after done (numbered n l)) next ∙ one_more n c.in-Some.line.now ls done (event_of c.in-Ok-Some.event) some ∙ ap (λ (d : List say.Event). after d (numbered (n + 1) ls)) (sym push);
+      so_far = c.loop-line.invariant.so_far ∙ ap (λ (l : List (List ℕ)). after done (events_from n l)) next ∙ one_more n c.in-Some.line.now ls done (event_of c.in-Ok-Some.event) some ∙ ap (λ (d : List say.Event). after d (events_from (n + 1) ls)) (sym push);
       count = omega (arith, c.loop-line.invariant.count, ap (λ (x : List (List ℕ)). length x) next);
     }
 
@@ -51,11 +51,11 @@ returns-in-Err-Fault c =
     let done = map event_of c.loop-line.events.items in
     let next : lines_left c.loop-line.line-iterator.rest ≡ c.in-Some.line.now ∷ ls = c.in-Some.ensures.steps in
     let fault : event (words c.in-Some.line.now) ≡ Err c.in-Err-Fault.reason = search rules in
-    rw c.in-Err-Fault.reason-is (c.loop-line.invariant.so_far ∙ ap (λ (l : List (List ℕ)). after done (numbered n l)) next ∙ at_fault n c.in-Some.line.now ls done c.in-Err-Fault.reason fault)
+    rw c.in-Err-Fault.reason-is (c.loop-line.invariant.so_far ∙ ap (λ (l : List (List ℕ)). after done (events_from n l)) next ∙ at_fault n c.in-Some.line.now ls done c.in-Err-Fault.reason fault)
 
 pub returns : goal.returns
 returns c =
     let n = c.loop-line.line_number + 1 in
     let done = map event_of c.loop-line.events.items in
     let none : lines_left c.loop-line.line-iterator.rest ≡ [] = c.in-None.ensures.steps.0 in
-    c.loop-line.invariant.so_far ∙ ap (λ (l : List (List ℕ)). after done (numbered n l)) none ∙ at_end n done
+    c.loop-line.invariant.so_far ∙ ap (λ (l : List (List ℕ)). after done (events_from n l)) none ∙ at_end n done

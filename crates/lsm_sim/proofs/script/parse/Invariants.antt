@@ -2,7 +2,7 @@
 use Rattle.std.proofs.Common.{◌≡◌, ◌+◌, ◌≤◌, map, length}
 use Rattle.lsm_sim.specs.Text.{lines_left}
 use Rattle.lsm_sim.specs.Events.{event_of}
-use Rattle.lsm_sim.specs.Script.{script, numbered}
+use Rattle.lsm_sim.specs.Script.{script, events_from}
 use Rattle.lsm_sim.proofs.Steps.{after}
 use Rattle.lsm_sim.proofs.script.parse.Given as goal
 
@@ -10,6 +10,6 @@ abbrev pub invariant-loop-line : goal.invariant-loop-line
 invariant-loop-line l = record {
   can_next : (goal.iterator-loop-line).can_next l.line-iterator;
   is_finite : (goal.iterator-loop-line).is_finite l.line-iterator;
-  so_far : script l.fn.text ≡ after (map event_of l.events.items) (numbered (l.line_number + 1) (lines_left l.line-iterator.rest));
+  so_far : script l.fn.text ≡ after (map event_of l.events.items) (events_from (l.line_number + 1) (lines_left l.line-iterator.rest));
   count : l.line_number + length (lines_left l.line-iterator.rest) ≤ length l.fn.text + 1;
 }

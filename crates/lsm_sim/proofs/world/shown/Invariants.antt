@@ -1,6 +1,6 @@
 -- the places that are copied, and those that are left
 use Rattle.std.proofs.Common.{◌≡◌, ◌++◌, drop, map}
-use Rattle.lsm_coord.specs.Manifest.{place_of}
+use Rattle.lsm_coord.specs.Contract.Manifest.{place_of}
 use Rattle.lsm_sim.specs.Replies.{place_at}
 use Rattle.lsm_sim.proofs.world.shown.Given as goal
 

@@ -5,10 +5,10 @@ use Rattle.lsm_edit.specs.Next.{flush_edit}
 use Rattle.lsm_edit.specs.Version.{IsVersion, apply_fault}
 use Rattle.lsm_msg.specs.Installs.{with_flushed}
 use Rattle.lsm_msg.proofs.Flushed.{legal_flushed}
-use Rattle.lsm_coord.specs.Calls.{AddsTable, taken, taken_of, active_after}
-use Rattle.lsm_coord.specs.Manifest.{AddsFile, VersionSetValue}
-use Rattle.lsm_coord.specs.Memory.{AreLegal, IsCoord}
-use Rattle.lsm_coord.specs.Value.{CoordValue}
+use Rattle.lsm_coord.specs.Contract.Calls.{AddsTable, flush_source, flush_source_of, active_after}
+use Rattle.lsm_coord.specs.Contract.Manifest.{AddsFile, VersionSetValue}
+use Rattle.lsm_coord.specs.Contract.Memory.{AreLegal, IsCoord}
+use Rattle.lsm_coord.specs.Contract.Value.{CoordValue}
 use Rattle.lsm_coord.proofs.Memories.{after_flush, frozen_from, none_from}
 use Rattle.lsm_coord.proofs.Soundness.{flush_keeps}
 use Rattle.lsm_coord.proofs.coord.Coord.add_table.Goals as goal
@@ -16,10 +16,10 @@ use Rattle.lsm_coord.proofs.coord.Coord.add_table.Goals as goal
 pub invariant_of-self-then-is_some : goal.invariant_of-self-then-is_some
 invariant_of-self-then-is_some c =
     let m = c.self.inside in
-    let from = taken_of m.active m.newest m.frozen in
+    let from = flush_source_of m.active m.newest m.frozen in
     let new : VersionSetValue = c.add_table.new.self in
     let adds : AddsFile m.versions c.args.end c.args.meta c.args.table new = c.in_ok-add_table.ensures.ok in
-    let end : c.args.end ≡ from.end = c.requires.end ∙ ap (λ (v : CoordValue). (taken v).end) (sym c.self.view_is) in
+    let end : c.args.end ≡ from.end = c.requires.end ∙ ap (λ (v : CoordValue). (flush_source v).end) (sym c.self.view_is) in
     let some = frozen_from m.frozen (sym c.is_some.ensures ∙ c.if-is_some.true) in
     let version : IsVersion m.versions.served.version = subst IsVersion c.version.ensures c.files-files.ensures.sound in
     let number : c.args.meta.number ≡ m.versions.served.version.next_file = c.requires.place.0 ∙ ap (λ (v : CoordValue). v.served.version.next_file) (sym c.self.view_is) in
@@ -30,10 +30,10 @@ invariant_of-self-then-is_some c =
 pub invariant_of-self-2 : goal.invariant_of-self-2
 invariant_of-self-2 c =
     let m = c.self.inside in
-    let from = taken_of m.active m.newest m.frozen in
+    let from = flush_source_of m.active m.newest m.frozen in
     let new : VersionSetValue = c.add_table.new.self in
     let adds : AddsFile m.versions c.args.end c.args.meta c.args.table new = c.in_ok-add_table.ensures.ok in
-    let end : c.args.end ≡ from.end = c.requires.end ∙ ap (λ (v : CoordValue). (taken v).end) (sym c.self.view_is) in
+    let end : c.args.end ≡ from.end = c.requires.end ∙ ap (λ (v : CoordValue). (flush_source v).end) (sym c.self.view_is) in
     let none : m.frozen ≡ None = none_from m.frozen (sym c.is_some.ensures ∙ c.if-is_some.false) in
     let active : active_after m.active m.frozen ≡ c.new.result = ap (active_after m.active) none ∙ sym c.new.ensures in
     let version : IsVersion m.versions.served.version = subst IsVersion c.version.ensures c.files-files.ensures.sound in
@@ -46,9 +46,9 @@ pub returns-then-is_some-clause-ok : goal.returns-then-is_some-clause-ok
 returns-then-is_some-clause-ok c =
     let m = c.self.inside in
     let s = m.versions.served in
-    let from = taken_of m.active m.newest m.frozen in
+    let from = flush_source_of m.active m.newest m.frozen in
     let adds : AddsFile m.versions c.args.end c.args.meta c.args.table c.add_table.new.self = c.in_ok-add_table.ensures.ok in
-    let end : c.args.end ≡ from.end = c.requires.end ∙ ap (λ (v : CoordValue). (taken v).end) (sym c.self.view_is) in
+    let end : c.args.end ≡ from.end = c.requires.end ∙ ap (λ (v : CoordValue). (flush_source v).end) (sym c.self.view_is) in
     let some = frozen_from m.frozen (sym c.is_some.ensures ∙ c.if-is_some.true) in
     let active : m.active ≡ active_after m.active m.frozen = ap (active_after m.active) (sym some.1) in
     rw (← c.self.view_is, adds.new_is) (record {
@@ -62,9 +62,9 @@ pub returns-clause-ok : goal.returns-clause-ok
 returns-clause-ok c =
     let m = c.self.inside in
     let s = m.versions.served in
-    let from = taken_of m.active m.newest m.frozen in
+    let from = flush_source_of m.active m.newest m.frozen in
     let adds : AddsFile m.versions c.args.end c.args.meta c.args.table c.add_table.new.self = c.in_ok-add_table.ensures.ok in
-    let end : c.args.end ≡ from.end = c.requires.end ∙ ap (λ (v : CoordValue). (taken v).end) (sym c.self.view_is) in
+    let end : c.args.end ≡ from.end = c.requires.end ∙ ap (λ (v : CoordValue). (flush_source v).end) (sym c.self.view_is) in
     let none : m.frozen ≡ None = none_from m.frozen (sym c.is_some.ensures ∙ c.if-is_some.false) in
     let active : c.new.result ≡ active_after m.active m.frozen = c.new.ensures ∙ ap (active_after m.active) (sym none) in
     rw (← c.self.view_is, adds.new_is) (record {

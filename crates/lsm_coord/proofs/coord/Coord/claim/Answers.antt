@@ -1,8 +1,8 @@
 use Rattle.std.proofs.Common.{◌∙◌, ap, subst, sym, inl, inr}
 use Rattle.lsm_claim.specs.Book.{BookValue}
 use Rattle.lsm_msg.specs.Legal.{IsLegal}
-use Rattle.lsm_coord.specs.Memory.{AreLegal, AreOrderly}
-use Rattle.lsm_coord.specs.Value.{CoordValue}
+use Rattle.lsm_coord.specs.Contract.Memory.{AreLegal, AreJobWants}
+use Rattle.lsm_coord.specs.Contract.Value.{CoordValue}
 use Rattle.lsm_coord.proofs.Jobs.{claimed_or_not, legal_claimed, orderly_claimed}
 use Rattle.lsm_coord.proofs.coord.Coord.claim.Goals as goal
 
@@ -26,8 +26,8 @@ invariant_of-self c =
         | inr e ↦ subst (λ (b : BookValue). AreLegal files b.live) (sym e) i.legal
       ];
       orderly = elim either [
-        | inl e ↦ subst (λ (b : BookValue). AreOrderly b.live) (sym e) (orderly_claimed m.book want i.orderly c.requires.orderly)
-        | inr e ↦ subst (λ (b : BookValue). AreOrderly b.live) (sym e) i.orderly
+        | inl e ↦ subst (λ (b : BookValue). AreJobWants b.live) (sym e) (orderly_claimed m.book want i.orderly c.requires.orderly)
+        | inr e ↦ subst (λ (b : BookValue). AreJobWants b.live) (sym e) i.orderly
       ];
       few = i.few;
     }

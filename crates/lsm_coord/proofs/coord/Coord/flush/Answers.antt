@@ -1,13 +1,13 @@
 use Rattle.std.proofs.Common.{◌≡◌, None, Some, sym, ap, subst, ◌∙◌, refl, arith}
 use Rattle.std.specs.Option.{option_map}
 use Rattle.lsm_edit.specs.Version.{VersionValue}
-use Rattle.lsm_coord.specs.Changes.{after_flush}
-use Rattle.lsm_coord.specs.Value.{CoordValue}
-use Rattle.lsm_coord.specs.Shows.{Shows}
-use Rattle.lsm_coord.specs.Calls.{AddsTable, flush_fault, taken}
-use Rattle.lsm_coord.specs.Replies.{refusal_of}
-use Rattle.lsm_coord.specs.Rules.{refusal}
-use Rattle.lsm_coord.specs.Event as say
+use Rattle.lsm_coord.specs.Model.Changes.{after_flush}
+use Rattle.lsm_coord.specs.Contract.Value.{CoordValue}
+use Rattle.lsm_coord.specs.Contract.Shows.{Shows}
+use Rattle.lsm_coord.specs.Contract.Calls.{AddsTable, flush_fault, flush_source}
+use Rattle.lsm_coord.specs.Contract.Replies.{refusal_of}
+use Rattle.lsm_coord.specs.Model.Rules.{refusal}
+use Rattle.lsm_coord.specs.Model.Event as say
 use Rattle.lsm_coord.proofs.Faults.{flush_forced, flush_refused}
 use Rattle.lsm_coord.proofs.Flushing.{end_of, shows_after}
 use Rattle.lsm_coord.proofs.Manifests.{version_count}
@@ -34,7 +34,7 @@ returns-clause-step c = λ s h.
     let number : c.number-number.result ≡ v.served.version.number = c.number-number.ensures.value ∙ ap (λ (x : VersionValue). x.number) c.version.ensures ∙ ap (λ (x : CoordValue). x.served.version.number) c.self.view_is in
     let file : c.next_file-file.result ≡ v.served.version.next_file = c.next_file-file.ensures.value ∙ ap (λ (x : VersionValue). x.next_file) c.version-2.ensures ∙ ap (λ (x : CoordValue). x.served.version.next_file) c.self.view_is in
     let adds : AddsTable v c.in_ok-meta.meta c.in_ok-table.table c.add_table.new.self = c.in_ok-add_table.ensures.ok in
-    let whole : c.in_ok-table.table.entries ≡ (taken v).memtable = c.in_ok-table.ensures ∙ c.flushable.ensures in
+    let whole : c.in_ok-table.table.entries ≡ (flush_source v).memtable = c.in_ok-table.ensures ∙ c.flushable.ensures in
     let shows = shows_after v v.frozen s c.in_ok-meta.meta c.in_ok-table.table adds.text h refl whole (c.in_ok-meta.ensures.place.0 ∙ file) c.in_ok-meta.ensures.place.1 adds.spelled adds.applies in
     (after_flush s, (may, (omega (arith, versions, number), c.flush_end-seq.ensures ∙ sym (end_of v v.frozen s h refl), file ∙ sym h.tables.next_file, refl)), subst (λ (x : CoordValue). Shows x (after_flush s)) (sym adds.new_is) shows)
 

@@ -1,11 +1,11 @@
 use Rattle.std.proofs.Common.{◌≡◌, None, Some, sym, ap, subst, ◌∙◌, refl}
 use Rattle.std.specs.Option.{option_map}
-use Rattle.lsm_coord.specs.State.{last_seq}
-use Rattle.lsm_coord.specs.Memory.{IsCoord}
-use Rattle.lsm_coord.specs.Calls.{freeze_fault}
-use Rattle.lsm_coord.specs.Replies.{refusal_of}
-use Rattle.lsm_coord.specs.Rules.{refusal}
-use Rattle.lsm_coord.specs.Event as say
+use Rattle.lsm_coord.specs.Model.State.{last_seq}
+use Rattle.lsm_coord.specs.Contract.Memory.{IsCoord}
+use Rattle.lsm_coord.specs.Contract.Calls.{freeze_fault}
+use Rattle.lsm_coord.specs.Contract.Replies.{refusal_of}
+use Rattle.lsm_coord.specs.Model.Rules.{refusal}
+use Rattle.lsm_coord.specs.Model.Event as say
 use Rattle.lsm_coord.proofs.Faults.{freeze_forced, freeze_refused}
 use Rattle.lsm_coord.proofs.Memories.{after_freeze, freezable}
 use Rattle.lsm_coord.proofs.Freezing.{Shows-froze}

@@ -1,8 +1,8 @@
 use Rattle.std.proofs.Common.{◌++◌, List, None, length, subst, sym, ap, arith}
 use Rattle.std.proofs.lemmas.List.{length-take}
 use Rattle.std.proofs.lemmas.Result.{on_ok_weaker}
-use Rattle.lsm_coord.specs.Calls.{Scans}
-use Rattle.lsm_coord.specs.Scan.{shown_pairs}
+use Rattle.lsm_coord.specs.Contract.Calls.{Scans}
+use Rattle.lsm_coord.specs.Inner.Scan.{shown_pairs}
 use Rattle.lsm_coord.proofs.Ranges.{Pair}
 use Rattle.lsm_coord.proofs.Windows.{scans_on}
 use Rattle.lsm_coord.proofs.coord.Coord.go_on.Goals as goal

@@ -4,14 +4,14 @@ use Rattle.std.specs.Option.{option_copied}
 use Rattle.lsm_claim.specs.declared.ending.Ending.TheVariants as ending
 use Rattle.lsm_claim.specs.declared.job.LiveJob.{LiveJob}
 use Rattle.lsm_claim.specs.declared.job.JobId.{JobId}
-use Rattle.lsm_claim.specs.Jobs.{same_id}
+use Rattle.lsm_claim.specs.Jobs.{same_job_id}
 use Rattle.lsm_claim.specs.Book.{IsBook, holds}
 use Rattle.lsm_key.specs.Sets.{IsIn}
 use Rattle.lsm_coord.proofs.Installing.{after_install, became_done, found_none, found_some, unheld_after, with_book}
 use Rattle.lsm_edit.specs.Served.{IsServed, ServedValue}
 use Rattle.lsm_edit.specs.Version.{IsVersion}
-use Rattle.lsm_coord.specs.Memory.{AreLegal, AreOrderly}
-use Rattle.lsm_coord.specs.Value.{CoordValue}
+use Rattle.lsm_coord.specs.Contract.Memory.{AreLegal, AreJobWants}
+use Rattle.lsm_coord.specs.Contract.Value.{CoordValue}
 use Rattle.lsm_coord.proofs.InstallRefusals.{kept_steps, stale_steps}
 use Rattle.lsm_coord.proofs.InstallSound.{install_keeps}
 use Rattle.lsm_coord.proofs.InstallStep.{install_steps}
@@ -36,18 +36,18 @@ invariant_of-self c =
 
 pub put_outputs-requires-clause-legal : goal.put_outputs-requires-clause-legal
 put_outputs-requires-clause-legal c =
-    let found = found_some (λ j. same_id j.id c.id-id.result) c.live.result.now c.in-Some.job.now (sym c.job_named.ensures ∙ ap option_copied c.in-Some.is) in
+    let found = found_some (λ j. same_job_id j.id c.id-id.result) c.live.result.now c.in-Some.job.now (sym c.job_named.ensures ∙ ap option_copied c.in-Some.is) in
     c.self.invariant.legal c.in-Some.job.now (subst (IsIn c.in-Some.job.now) c.live.ensures.all found.0)
 
 pub put_outputs-requires-clause-orderly : goal.put_outputs-requires-clause-orderly
 put_outputs-requires-clause-orderly c =
-    let found = found_some (λ j. same_id j.id c.id-id.result) c.live.result.now c.in-Some.job.now (sym c.job_named.ensures ∙ ap option_copied c.in-Some.is) in
+    let found = found_some (λ j. same_job_id j.id c.id-id.result) c.live.result.now c.in-Some.job.now (sym c.job_named.ensures ∙ ap option_copied c.in-Some.is) in
     c.self.invariant.orderly c.in-Some.job.now (subst (IsIn c.in-Some.job.now) c.live.ensures.all found.0)
 
 pub returns-in-None-clause-became : goal.returns-in-None-clause-became
 returns-in-None-clause-became c =
-    let none = found_none (λ j. same_id j.id c.id-id.result) c.live.result.now (sym c.job_named.ensures ∙ ap option_copied c.in-None.is) in
-    let unheld = ap (λ (js : List LiveJob). list_any (λ j. same_id j.id c.id-id.result) js) (sym c.live.ensures.all) ∙ none in
+    let none = found_none (λ j. same_job_id j.id c.id-id.result) c.live.result.now (sym c.job_named.ensures ∙ ap option_copied c.in-None.is) in
+    let unheld = ap (λ (js : List LiveJob). list_any (λ j. same_job_id j.id c.id-id.result) js) (sym c.live.ensures.all) ∙ none in
     let held = subst (λ (id : JobId). holds c.self.inside.book id ≡ false) c.id-id.ensures unheld in
     rw (c.settle.ensures.book, ← c.self.view_is) (held, c.id-id.ensures, c.epoch-epoch.ensures, with_book _ _ (unheld_after c.self.inside.book c.args.claim.id held))
 
@@ -58,7 +58,7 @@ invariant_of-self-in-Ok c =
     let served : IsServed m.versions.served = subst IsServed c.served.ensures.served listed.0 in
     let version : IsVersion m.versions.served.version = subst (λ (s : ServedValue). IsVersion s.version) c.served.ensures.served listed.1 in
     let found = sym c.job_named.ensures ∙ ap option_copied c.in-Some.is in
-    let live = (λ i. find (λ (j : LiveJob). same_id j.id (sym c.id-id.ensures i)) (sym c.live.ensures.all i)) ∙ found in
+    let live = (λ i. find (λ (j : LiveJob). same_job_id j.id (sym c.id-id.ensures i)) (sym c.live.ensures.all i)) ∙ found in
     rw c.settle-in-Ok.ensures.book
     (after_install m.active m.frozen m.newest m.versions c.put_outputs.new.versions m.book c.args.claim.id c.in-Some.job.now c.args.made.now c.in-Ok.number c.in-Ok.files m.live.items
     c.self.invariant c.live.ensures.sound served version live c.in-Ok.ensures.ok)
@@ -66,7 +66,7 @@ invariant_of-self-in-Ok c =
 pub returns-in-Ok-clause-became : goal.returns-in-Ok-clause-became
 returns-in-Ok-clause-became c =
     let found = sym c.job_named.ensures ∙ ap option_copied c.in-Some.is in
-    let live = (λ i. find (λ (j : LiveJob). same_id j.id (sym c.id-id.ensures i)) (sym c.live.ensures.all i)) ∙ found in
+    let live = (λ i. find (λ (j : LiveJob). same_job_id j.id (sym c.id-id.ensures i)) (sym c.live.ensures.all i)) ∙ found in
     rw (c.settle-in-Ok.ensures.book, ← c.self.view_is)
     (became_done _ c.args.claim c.in-Some.job.now c.args.made.now c.in-Ok.number c.in-Ok.files c.put_outputs.new.versions live c.in-Ok.ensures.ok)
 
@@ -78,14 +78,14 @@ returns-in-Ok-clause-step c = λ job named sound merge.
     (subst (λ (v : CoordValue). IsServed v.served) view (subst IsServed c.served.ensures.served c.listing-listing.ensures.sound.0))
     (subst (λ (v : CoordValue). IsVersion v.served.version) view (subst (λ (s : ServedValue). IsVersion s.version) c.served.ensures.served c.listing-listing.ensures.sound.1))
     (subst (λ (v : CoordValue). AreLegal v.served.version.files v.book.live) view c.self.invariant.legal)
-    (subst (λ (v : CoordValue). AreOrderly v.book.live) view c.self.invariant.orderly)
+    (subst (λ (v : CoordValue). AreJobWants v.book.live) view c.self.invariant.orderly)
     (returns-in-Ok-clause-became c) named sound merge
 
 pub returns-in-Err-clause-became : goal.returns-in-Err-clause-became
 returns-in-Err-clause-became c =
     let m = c.self.inside in
     let found = sym c.job_named.ensures ∙ ap option_copied c.in-Some.is in
-    let live = (λ i. find (λ (j : LiveJob). same_id j.id (sym c.id-id.ensures i)) (sym c.live.ensures.all i)) ∙ found in
+    let live = (λ i. find (λ (j : LiveJob). same_job_id j.id (sym c.id-id.ensures i)) (sym c.live.ensures.all i)) ∙ found in
     let same = c.in-Err.ensures.err in
     rw (← c.self.view_is)
     (c.in-Some.job.now, live, refl, c.in-Err.ensures.why, λ i. record { limits = m.limits; active = m.active; frozen = m.frozen; served = (same i).served; edits = (same i).edits; last = m.newest; snapshots = m.live.items; made = m.made; floor = 1; book = m.book })

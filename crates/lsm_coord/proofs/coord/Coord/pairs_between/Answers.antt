@@ -2,7 +2,7 @@ use Rattle.std.proofs.Common.{◌≡◌, List, ℕ, Option, true, subst, sym, ap
 use Rattle.std.specs.Ordering.{is_ge}
 use Rattle.std.specs.Option.{IfSome}
 use Rattle.lsm_key.specs.Order.{key_le, key_lt}
-use Rattle.lsm_coord.specs.Calls.{Scans}
+use Rattle.lsm_coord.specs.Contract.Calls.{Scans}
 use Rattle.lsm_coord.proofs.Keys.{below_is_upto, upto_back, upto_on, upto_itself, upto_trans}
 use Rattle.lsm_coord.proofs.Windows.{scans_nothing, scans_full}
 use Rattle.lsm_coord.proofs.coord.Coord.pairs_between.Goals as goal

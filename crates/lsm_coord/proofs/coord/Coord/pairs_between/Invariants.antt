@@ -1,6 +1,6 @@
 use Rattle.std.proofs.Common.{◌≡◌, ◌≤◌, length, true}
 use Rattle.lsm_key.specs.Order.{key_le}
-use Rattle.lsm_coord.specs.Calls.{Scans}
+use Rattle.lsm_coord.specs.Contract.Calls.{Scans}
 use Rattle.lsm_coord.proofs.coord.Coord.pairs_between.Given as goal
 
 abbrev pub invariant-loop-window : goal.invariant-loop-window

@@ -1,9 +1,9 @@
 use Rattle.std.proofs.Common.{Option, IfSome, subst, sym}
 use Rattle.std.proofs.lemmas.Result.{err_from_is_err_and}
 use Rattle.lsm_claim.specs.declared.job.Want.{Want}
-use Rattle.lsm_coord.specs.Value.{CoordValue}
-use Rattle.lsm_coord.specs.Sound.{KeepsSound}
-use Rattle.lsm_coord.specs.Picking.{MayClaim}
+use Rattle.lsm_coord.specs.Contract.Value.{CoordValue}
+use Rattle.lsm_coord.specs.Contract.Sound.{KeepsSound}
+use Rattle.lsm_coord.specs.Contract.Picking.{MayClaim}
 use Rattle.lsm_coord.proofs.Jobs.{claim_keeps, picked_sound, wants_memory}
 use Rattle.lsm_coord.proofs.coord.Coord.pick.Goals as goal
 

@@ -2,22 +2,22 @@ use Rattle.std.proofs.Common.{◌≡◌, ◌∙◌, None, ap, sym, refl, rules, 
 use Rattle.std.specs.Option.{option_map}
 use Rattle.std.proofs.lemmas.Fn.{filter_same}
 use Rattle.lsm_coord.specs.declared.snapshot.Snapshot.{Snapshot}
-use Rattle.lsm_coord.specs.State.{same_id, snapshot_at}
-use Rattle.lsm_coord.specs.Changes.{without_snapshot}
-use Rattle.lsm_coord.specs.Value.{CoordValue}
-use Rattle.lsm_coord.specs.Calls.{release_fault, released}
-use Rattle.lsm_coord.specs.Replies.{refusal_of}
-use Rattle.lsm_coord.specs.Rules.{refusal}
-use Rattle.lsm_coord.specs.Event as say
+use Rattle.lsm_coord.specs.Model.State.{same_snapshot_id, snapshot_at}
+use Rattle.lsm_coord.specs.Model.Changes.{without_snapshot}
+use Rattle.lsm_coord.specs.Contract.Value.{CoordValue}
+use Rattle.lsm_coord.specs.Contract.Calls.{release_fault, after_release}
+use Rattle.lsm_coord.specs.Contract.Replies.{refusal_of}
+use Rattle.lsm_coord.specs.Model.Rules.{refusal}
+use Rattle.lsm_coord.specs.Model.Event as say
 use Rattle.lsm_coord.proofs.Faults.{release_forced}
-use Rattle.lsm_coord.specs.Sound.{KeepsSound}
+use Rattle.lsm_coord.specs.Contract.Sound.{KeepsSound}
 use Rattle.lsm_coord.proofs.Soundness.{release_keeps}
 use Rattle.lsm_coord.proofs.Snapping.{releasable, Shows-released}
 use Rattle.lsm_coord.proofs.coord.Coord.release.Goals as goal
 
 pub returns-clause-step : goal.returns-clause-step
 returns-clause-step c =
-    let others : c.retain.new.self.items ≡ filter (λ (x : Snapshot). not (same_id x.id c.args.id)) c.self.inside.live.items = filter_same _ _ _ (λ x b f k. search rules) _ _ c.retain.ensures.filtered in
+    let others : c.retain.new.self.items ≡ filter (λ (x : Snapshot). not (same_snapshot_id x.id c.args.id)) c.self.inside.live.items = filter_same _ _ _ (λ x b f k. search rules) _ _ c.retain.ensures.filtered in
     let free : release_fault c.args.self.now c.args.id ≡ None = releasable (snapshot_at c.args.self.now.snapshots c.args.id) (ap is_some (sym c.seq_of.ensures) ∙ c.is_none.ensures ∙ ap not c.if-is_none.false) in
     rw (others, ← c.self.view_is) (λ s h.
     let may : refusal s (say.Release c.args.id) ≡ None = release_forced _ s c.args.id h ∙ ap (option_map refusal_of) (ap (λ (v : CoordValue). release_fault v c.args.id) c.self.view_is ∙ free) in
@@ -25,9 +25,9 @@ returns-clause-step c =
 
 pub returns-clause-ok : goal.returns-clause-ok
 returns-clause-ok c =
-    let others : c.retain.new.self.items ≡ filter (λ (x : Snapshot). not (same_id x.id c.args.id)) c.self.inside.live.items = filter_same _ _ _ (λ x b f k. search rules) _ _ c.retain.ensures.filtered in
+    let others : c.retain.new.self.items ≡ filter (λ (x : Snapshot). not (same_snapshot_id x.id c.args.id)) c.self.inside.live.items = filter_same _ _ _ (λ x b f k. search rules) _ _ c.retain.ensures.filtered in
     let free : release_fault c.args.self.now c.args.id ≡ None = releasable (snapshot_at c.args.self.now.snapshots c.args.id) (ap is_some (sym c.seq_of.ensures) ∙ c.is_none.ensures ∙ ap not c.if-is_none.false) in
-    (free, rw others (ap (λ (v : CoordValue). released v c.args.id) c.self.view_is))
+    (free, rw others (ap (λ (v : CoordValue). after_release v c.args.id) c.self.view_is))
 
 pub returns-clause-sound : goal.returns-clause-sound
 returns-clause-sound c = subst (λ (v : CoordValue). KeepsSound c.args.self.now v) (sym (returns-clause-ok c).1) (release_keeps c.args.self.now c.args.id)

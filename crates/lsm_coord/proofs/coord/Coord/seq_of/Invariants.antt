@@ -1,5 +1,5 @@
 use Rattle.std.proofs.Common.{◌≡◌, drop}
-use Rattle.lsm_coord.specs.State.{snapshot_at}
+use Rattle.lsm_coord.specs.Model.State.{snapshot_at}
 use Rattle.lsm_coord.proofs.coord.Coord.seq_of.Given as goal
 
 abbrev pub invariant-loop-live : goal.invariant-loop-live

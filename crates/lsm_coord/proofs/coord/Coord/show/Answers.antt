@@ -3,11 +3,11 @@ use Rattle.lsm_edit.specs.declared.file.FileMeta.{FileMeta}
 use Rattle.lsm_claim.specs.Book.{IsBook}
 use Rattle.lsm_edit.specs.Served.{IsServed, ServedValue}
 use Rattle.lsm_edit.specs.Version.{IsVersion}
-use Rattle.lsm_coord.specs.Memory.{IsFit}
-use Rattle.lsm_coord.specs.Value.{CoordValue}
-use Rattle.lsm_coord.specs.State.{current, last_flushed, current_files}
-use Rattle.lsm_coord.specs.Step.{Lists}
-use Rattle.lsm_coord.specs.Manifest.{place_of}
+use Rattle.lsm_coord.specs.Contract.Memory.{IsFit}
+use Rattle.lsm_coord.specs.Contract.Value.{CoordValue}
+use Rattle.lsm_coord.specs.Model.State.{current, last_flushed, current_files}
+use Rattle.lsm_coord.specs.Model.Step.{Lists}
+use Rattle.lsm_coord.specs.Contract.Manifest.{place_of}
 use Rattle.lsm_coord.proofs.Refusals.{show_may}
 use Rattle.lsm_coord.proofs.States.{lists_current}
 use Rattle.lsm_coord.proofs.Manifests.{version_count, flushed_is, files_are, removed_by_one}

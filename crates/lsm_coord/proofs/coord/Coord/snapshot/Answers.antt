@@ -1,11 +1,11 @@
 use Rattle.std.proofs.Common.{◌≡◌, ◌+◌, None, Some, sym, ap, ◌∙◌, refl}
 use Rattle.std.specs.Option.{option_map}
 use Rattle.lsm_edit.specs.Version.{VersionValue}
-use Rattle.lsm_coord.specs.Calls.{snapshot_fault}
-use Rattle.lsm_coord.specs.Changes.{with_snapshot, next_snapshot}
-use Rattle.lsm_coord.specs.Replies.{refusal_of}
-use Rattle.lsm_coord.specs.Rules.{refusal}
-use Rattle.lsm_coord.specs.Event as say
+use Rattle.lsm_coord.specs.Contract.Calls.{snapshot_fault}
+use Rattle.lsm_coord.specs.Model.Changes.{with_snapshot, next_snapshot}
+use Rattle.lsm_coord.specs.Contract.Replies.{refusal_of}
+use Rattle.lsm_coord.specs.Model.Rules.{refusal}
+use Rattle.lsm_coord.specs.Model.Event as say
 use Rattle.lsm_coord.proofs.Faults.{snapshot_forced, snapshot_refused}
 use Rattle.lsm_coord.proofs.Snapping.{Shows-snapped}
 use Rattle.lsm_coord.proofs.Soundness.{snapshot_keeps}

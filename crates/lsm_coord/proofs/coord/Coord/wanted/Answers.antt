@@ -1,7 +1,7 @@
 use Rattle.std.proofs.Common.{List, length, Option, IfSome, ap, subst, arith}
 use Rattle.lsm_claim.specs.declared.job.LiveJob.{LiveJob}
 use Rattle.lsm_claim.specs.declared.job.Want.{Want}
-use Rattle.lsm_pick.specs.Rule.{IsFirst, trials}
+use Rattle.lsm_pick.specs.Rule.{IsFirst, candidates}
 use Rattle.lsm_coord.proofs.coord.Coord.wanted.Goals as goal
 
 pub returns-in-Ok-None-clause-none : goal.returns-in-Ok-None-clause-none
@@ -13,7 +13,7 @@ pub returns-in-Ok-Some-clause-refused : goal.returns-in-Ok-Some-clause-refused
 returns-in-Ok-Some-clause-refused c =
     let live = ap (λ (js : List LiveJob). length js) c.live.ensures.all in
     let m = c.self.inside in
-    let first = subst (λ (o : Option Want). IfSome o (IsFirst c.served.result.now.version.files m.book.live (trials m.limits c.served.result.now.version.files))) c.in-Ok-Some.field-0-is c.in-Ok-Some.ensures.some in
+    let first = subst (λ (o : Option Want). IfSome o (IsFirst c.served.result.now.version.files m.book.live (candidates m.limits c.served.result.now.version.files))) c.in-Ok-Some.field-0-is c.in-Ok-Some.ensures.some in
     rw (← c.self.view_is, ← c.served.ensures.served) (omega (arith, live, c.if-live-ge-MAX_LIVE_CLAIMS.false), (c.in-Ok-Some.field-0-0, first), omega (arith, c.made-exhausted.ensures.value, c.if-exhausted.true))
 
 pub returns-in-Err-TooWide-clause-refused : goal.returns-in-Err-TooWide-clause-refused

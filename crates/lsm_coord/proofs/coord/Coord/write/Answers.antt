@@ -3,11 +3,11 @@ use Rattle.std.specs.List.Sorted.{IsPermutation}
 use Rattle.std.specs.Option.{option_map}
 use Rattle.lsm_key.specs.declared.op.Op.{Op}
 use Rattle.lsm_key.specs.Places.{entries_after}
-use Rattle.lsm_coord.specs.State.{last_seq}
-use Rattle.lsm_coord.specs.Calls.{write_fault}
-use Rattle.lsm_coord.specs.Replies.{refusal_of}
-use Rattle.lsm_coord.specs.Rules.{refusal}
-use Rattle.lsm_coord.specs.Event as say
+use Rattle.lsm_coord.specs.Model.State.{last_seq}
+use Rattle.lsm_coord.specs.Contract.Calls.{write_fault}
+use Rattle.lsm_coord.specs.Contract.Replies.{refusal_of}
+use Rattle.lsm_coord.specs.Model.Rules.{refusal}
+use Rattle.lsm_coord.specs.Model.Event as say
 use Rattle.lsm_coord.proofs.Faults.{write_forced, write_refused}
 use Rattle.lsm_coord.proofs.Memories.{last_below, after_write}
 use Rattle.lsm_coord.proofs.Writing.{Shows-written}

@@ -4,8 +4,8 @@ use Rattle.lsm_edit.specs.declared.edit.EditKind.TheVariants.{Install}
 use Rattle.lsm_edit.specs.declared.file.FileMeta.{FileMeta}
 use Rattle.lsm_edit.specs.Edit.{AreAdded}
 use Rattle.lsm_edit.specs.Next.{number_after}
-use Rattle.lsm_edit.specs.Version.{has_overlap, without}
-use Rattle.lsm_coord.specs.Installing.{records}
+use Rattle.lsm_edit.specs.Version.{has_overlap, files_without}
+use Rattle.lsm_coord.specs.Contract.Installing.{records}
 use Rattle.lsm_coord.proofs.Editing.{inputs_there, none_overlaps, records_added, records_end, recorded_of}
 use Rattle.lsm_coord.proofs.coord.install.edit_of.Goals as goal
 
@@ -44,5 +44,5 @@ install-requires-clause-disjoint c =
     let want = c.args.want.now in
     let is = c.from_vec.ensures ∙ c.in_ok-files.ensures ∙ ap (λ (n : ℕ). records (want.level + 1) n c.args.tables.now) c.next_file.ensures.value in
     let none = none_overlaps v want c.requires.legal c.args.tables.now c.requires.inside c.files-files.ensures.sound c.requires.ascending in
-    subst (λ (fs : List FileMeta). has_overlap (without c.in_ok-removed.removed v.files ++ fs) ≡ false) (sym is)
-    (subst (λ (ns : List ℕ). has_overlap (without ns v.files ++ records (want.level + 1) v.next_file c.args.tables.now) ≡ false) (sym c.in_ok-removed.ensures) none)
+    subst (λ (fs : List FileMeta). has_overlap (files_without c.in_ok-removed.removed v.files ++ fs) ≡ false) (sym is)
+    (subst (λ (ns : List ℕ). has_overlap (files_without ns v.files ++ records (want.level + 1) v.next_file c.args.tables.now) ≡ false) (sym c.in_ok-removed.ensures) none)

@@ -6,8 +6,8 @@ use Rattle.lsm_edit.specs.declared.file.FileMeta.{FileMeta}
 use Rattle.lsm_edit.specs.Edit.{IsEdit}
 use Rattle.lsm_edit.specs.Served.{AreAsRecorded}
 use Rattle.lsm_edit.specs.Version.{VersionValue, apply_fault}
-use Rattle.lsm_coord.specs.Installing.{AreOutputs, edit_of, number_fault}
-use Rattle.lsm_coord.specs.Manifest.{after_logging}
+use Rattle.lsm_coord.specs.Contract.Installing.{AreOutputTables, install_edit_of, number_fault}
+use Rattle.lsm_coord.specs.Contract.Manifest.{after_logging}
 use Rattle.lsm_coord.proofs.Editing.{records_recorded}
 use Rattle.lsm_coord.proofs.InstallRefusals.{has_numbers, lacks_numbers}
 use Rattle.lsm_coord.proofs.Outputs.{tables_each, tables_length}
@@ -29,7 +29,7 @@ edit_of-requires-clause-sound c = λ t m.
 pub log_and_apply-requires-clause-recorded : goal.log_and_apply-requires-clause-recorded
 log_and_apply-requires-clause-recorded c =
     let o = c.in_ok-tables.ensures.ok in
-    let is = ap (λ (e : Edit). e.added) (c.in_ok-edit.ensures.edit ∙ ap (edit_of c.version-version.result.now c.args.job.now.want) c.deref.ensures.value) in
+    let is = ap (λ (e : Edit). e.added) (c.in_ok-edit.ensures.edit ∙ ap (install_edit_of c.version-version.result.now c.args.job.now.want) c.deref.ensures.value) in
     subst (λ (fs : List FileMeta). AreAsRecorded fs c.in_ok-tables.tables.items) (sym is)
     (records_recorded _ _ c.in_ok-tables.tables.items (tables_each c.as_slice.result.now c.in_ok-tables.tables.items o.tables))
 
@@ -38,13 +38,13 @@ returns-clause-ok c =
     let s = c.args.versions.now.served in
     let want = c.args.job.now.want in
     let ts = c.in_ok-tables.tables.items in
-    let is : c.in_ok-edit.edit ≡ edit_of s.version want ts =
-    c.in_ok-edit.ensures.edit ∙ (λ i. edit_of (c.version-version.ensures i) want (c.deref.ensures.value i)) in
+    let is : c.in_ok-edit.edit ≡ install_edit_of s.version want ts =
+    c.in_ok-edit.ensures.edit ∙ (λ i. install_edit_of (c.version-version.ensures i) want (c.deref.ensures.value i)) in
     let len : c.len.result ≡ length ts = grind (arith, common_steps) in
     record {
       named = (c.are_same.ensures).0 c.if-not-are_same.false;
       tables = ts;
-      outputs = subst (λ (texts : List (List ℕ)). AreOutputs want.hull texts ts) c.as_slice.ensures c.in_ok-tables.ensures.ok;
+      outputs = subst (λ (texts : List (List ℕ)). AreOutputTables want.hull texts ts) c.as_slice.ensures c.in_ok-tables.ensures.ok;
       fit = has_numbers s.version ts ((λ i. number_fault (sym c.version-version.ensures i) (sym len i)) ∙ sym c.number_fault.ensures ∙ c.in-None.is);
       valid = subst IsEdit is c.in_ok-edit.ensures.sound;
       applies = subst (λ (e : Edit). apply_fault s.version e ≡ None) is (subst (λ (v : VersionValue). apply_fault v c.in_ok-edit.edit ≡ None) c.version-version.ensures c.in_ok-edit.ensures.applies);
@@ -57,6 +57,6 @@ pub returns-in-Some-clause-why : goal.returns-in-Some-clause-why
 returns-in-Some-clause-why c =
     let ts = c.in_ok-tables.tables.items in
     let len : c.len.result ≡ length ts = grind (arith, common_steps) in
-    let outputs : AreOutputs c.args.job.now.want.hull c.args.made.now.tables ts = subst (λ (texts : List (List ℕ)). AreOutputs c.args.job.now.want.hull texts ts) c.as_slice.ensures c.in_ok-tables.ensures.ok in
+    let outputs : AreOutputTables c.args.job.now.want.hull c.args.made.now.tables ts = subst (λ (texts : List (List ℕ)). AreOutputTables c.args.job.now.want.hull texts ts) c.as_slice.ensures c.in_ok-tables.ensures.ok in
     let some : number_fault c.args.versions.now.served.version (length ts) ≡ Some c.in-Some.why = (λ i. number_fault (sym c.version-version.ensures i) (sym len i)) ∙ sym c.number_fault.ensures ∙ c.in-Some.is in
     lacks_numbers c.args.versions.now.served.version c.args.job.now c.args.made.now ts c.in-Some.why ((c.are_same.ensures).0 c.if-not-are_same.false) outputs some

@@ -1,5 +1,5 @@
 use Rattle.std.proofs.Common.{◌≡◌, ◌+◌, ◌++◌, drop}
-use Rattle.lsm_coord.specs.Installing.{records}
+use Rattle.lsm_coord.specs.Contract.Installing.{records}
 use Rattle.lsm_coord.proofs.coord.outputs.records_of.Given as goal
 
 abbrev pub invariant-loop-place : goal.invariant-loop-place

@@ -1,7 +1,7 @@
 use Rattle.std.proofs.Common.{◌≡◌, ◌∙◌, ℕ, List, ◌∷◌, [], ◌++◌, None, refl, sym, ap, subst}
 use Rattle.lsm_edit.specs.Edit.{edit as spelling}
 use Rattle.lsm_edit.specs.Version.{apply_fault}
-use Rattle.lsm_coord.specs.Manifest.{VersionSetValue}
+use Rattle.lsm_coord.specs.Contract.Manifest.{VersionSetValue}
 use Rattle.lsm_coord.proofs.Manifests.{Folds-push}
 use Rattle.lsm_coord.proofs.version_set.VersionSet.log_and_apply.Goals as goal
 

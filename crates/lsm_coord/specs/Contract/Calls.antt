@@ -1,0 +1,156 @@
+-- What each call of the coordinator refuses and does, on the value that contracts see (LevelDB, db_impl.cc: Write, CompactMemTable, Get, GetSnapshot).
+use Rattle.std.specs.Prelude.{◌≡◌, ℕ, ◌+◌, ◌≤◌, not, List, ◌++◌, [], ◌∷◌, Option, None, Some, IsSome, MatchOption, length, filter, sum_by, is_none, is_some, nat_eq, nat_lt, nat_le, ◌&&◌, ◌||◌, ◌⊎◌, if◌then◌else◌}
+use Rattle.std.specs.List.Sorted.{IsPermutation}
+use Rattle.lsm_key.specs.declared.entry.Entry.{Entry}
+use Rattle.lsm_key.specs.declared.op.Op.{Op}
+use Rattle.lsm_key.specs.declared.limits.TheConstants.{MAX_MEMTABLE_WEIGHT, MAX_NUMBER}
+use Rattle.lsm_key.specs.declared.seq.TheConstants.Seq as seq
+use Rattle.lsm_key.specs.Sets.{IsIn}
+use Rattle.lsm_key.specs.Limits.{total_weight, entry_weight}
+use Rattle.lsm_key.specs.Places.{entries_after}
+use Rattle.lsm_key.specs.Writes.{answer}
+use Rattle.lsm_claim.specs.declared.ending.Ending.TheVariants.{Returned}
+use Rattle.lsm_claim.specs.declared.job.JobId.{JobId}
+use Rattle.lsm_claim.specs.Book.{after_settling}
+use Rattle.lsm_table.specs.Tables.{Opened}
+use Rattle.lsm_edit.specs.declared.file.FileMeta.{FileMeta}
+use Rattle.lsm_edit.specs.declared.edit.Edit.{Edit}
+use Rattle.lsm_edit.specs.Edit.{IsSpelled}
+use Rattle.lsm_edit.specs.Next.{flush_edit}
+use Rattle.lsm_edit.specs.Version.{apply_fault}
+use Rattle.lsm_msg.specs.Installs.{with_flushed}
+use Rattle.lsm_coord.specs.declared.error.CoordError.{CoordError}
+use Rattle.lsm_coord.specs.declared.error.CoordError.TheVariants.{EmptyBatch, SequenceExhausted, MemtableFull, FrozenWaiting, NothingToFreeze, NothingToFlush, TooManySnapshots, NoSnapshot, NumbersExhausted, OutOfMemory}
+use Rattle.lsm_coord.specs.declared.frozen.Frozen.{Frozen}
+use Rattle.lsm_coord.specs.declared.snapshot.SnapId.{SnapId}
+use Rattle.lsm_coord.specs.declared.snapshot.Snapshot.{Snapshot}
+use Rattle.lsm_coord.specs.declared.snapshot.TheConstants.{MAX_SNAPSHOTS}
+use Rattle.lsm_coord.specs.Model.State.{State, same_snapshot_id, snapshot_at}
+use Rattle.lsm_coord.specs.Model.Range.{IsRange}
+use Rattle.lsm_coord.specs.Contract.Value.{CoordValue}
+use Rattle.lsm_coord.specs.Contract.Shows.{Shows}
+
+-- ---- writes
+
+-- why a batch is not applied: the first reason that holds
+abbrev pub write_fault : CoordValue → List Op → Option CoordError
+write_fault c ops =
+    if nat_eq (length ops) 0 then Some EmptyBatch
+    else if nat_lt seq.MAX (c.last + length ops) then Some SequenceExhausted
+    else if nat_lt MAX_MEMTABLE_WEIGHT (sum_by entry_weight c.active + total_weight ops) then Some MemtableFull
+    else None
+
+-- the entries of the batch are in the active memtable, at the next sequences
+pub record IsWritten (old : CoordValue) (ops : List Op) (new : CoordValue) : Type 0 where
+  pub active : IsPermutation (old.active ++ entries_after old.last ops) new.active
+  pub rest : new ≡ record old { active = new.active; last = old.last + length ops }
+
+-- why nothing is frozen: the first reason that holds
+abbrev pub freeze_fault : CoordValue → Option CoordError
+freeze_fault c =
+    if is_some c.frozen then Some FrozenWaiting
+    else if nat_eq (length c.active) 0 then Some NothingToFreeze
+    else None
+
+-- the active memtable is frozen, and a new one is empty
+abbrev pub after_freezing : CoordValue → CoordValue
+after_freezing c = record c { active = []; frozen = Some (record { memtable = c.active; end = c.last }) }
+
+-- ---- flushes
+
+-- why nothing is flushed: the first reason that holds
+abbrev pub flush_fault : CoordValue → Option CoordError
+flush_fault c =
+    if is_none c.frozen && nat_eq (length c.active) 0 then Some NothingToFlush
+    else if nat_le MAX_NUMBER c.served.version.number || nat_le MAX_NUMBER c.served.version.next_file then Some NumbersExhausted
+    else None
+
+-- a flush takes the frozen memtable, or the active one if none is frozen
+abbrev pub flush_source_of : List Entry → ℕ → Option Frozen → Frozen
+flush_source_of active last None = record { memtable = active; end = last }
+flush_source_of active last (Some f) = f
+
+abbrev pub flush_source : CoordValue → Frozen
+flush_source c = flush_source_of c.active c.last c.frozen
+
+-- the active memtable after it: a new one, if it was taken
+abbrev pub active_after : List Entry → Option Frozen → List Entry
+active_after active None = []
+active_after active (Some f) = active
+
+-- the edit of a flush to this file
+abbrev pub flush_edit_of : CoordValue → FileMeta → Edit
+flush_edit_of c file = flush_edit c.served.version (flush_source c).end file
+
+-- The edit applies and is the last of the manifest, the version after it has the table's file, which is searched first, and the
+-- memtable that was taken is gone.
+pub record AddsTable (old : CoordValue) (file : FileMeta) (table : Opened) (new : CoordValue) : Type 0 where
+  pub applies : apply_fault old.served.version (flush_edit_of old file) ≡ None
+  pub text : List ℕ
+  pub spelled : IsSpelled text (flush_edit_of old file)
+  pub new_is : new ≡ record old { active = active_after old.active old.frozen; frozen = None; served = with_flushed old.served (flush_source old).end file table; edits = old.edits ++ text ∷ [] }
+
+-- one file more, of a table with just the entries of the memtable that was taken
+abbrev pub Adds : CoordValue → CoordValue → Type 0
+Adds old new = (file : FileMeta) × (table : Opened) × (table.entries ≡ (flush_source old).memtable) × AddsTable old file table new
+
+-- ---- snapshots
+
+-- why no snapshot is made: the first reason that holds
+abbrev pub snapshot_fault : CoordValue → Option CoordError
+snapshot_fault c =
+    if nat_le MAX_SNAPSHOTS (length c.snapshots) then Some TooManySnapshots
+    else if nat_le MAX_NUMBER c.made then Some NumbersExhausted
+    else None
+
+abbrev pub next_id : CoordValue → SnapId
+next_id c = record { epoch = c.served.version.epoch; number = c.made + 1 }
+
+-- one more snapshot, of the latest sequence
+abbrev pub after_snapshot : CoordValue → CoordValue
+after_snapshot c = record c { snapshots = c.snapshots ++ record { id = next_id c; at = c.last } ∷ []; made = c.made + 1 }
+
+-- a snapshot that is not live can't be released
+abbrev pub release_fault : CoordValue → SnapId → Option CoordError
+release_fault c id = if is_none (snapshot_at c.snapshots id) then Some NoSnapshot else None
+
+-- all snapshots except this one
+abbrev pub after_release : CoordValue → SnapId → CoordValue
+after_release c id = record c { snapshots = filter (λ live. not (same_snapshot_id live.id id)) c.snapshots }
+
+-- ---- claims
+
+-- a claim ends without a result
+abbrev pub after_give_back : CoordValue → JobId → CoordValue
+after_give_back c id = record c { book = after_settling c.book id Returned }
+
+-- ---- reads
+
+-- the sequence of a read: the last one, or that of a live snapshot
+abbrev pub point_of : CoordValue → Option SnapId → Option ℕ
+point_of c None = Some c.last
+point_of c (Some id) = snapshot_at c.snapshots id
+
+-- the latest sequence, or a live snapshot's
+abbrev pub IsPoint : CoordValue → ℕ → Type 0
+IsPoint c point = (point ≡ c.last) ⊎ ((x : Snapshot) × IsIn x c.snapshots × (x.at ≡ point))
+
+-- the value of a key at a sequence, in every state that is shown
+abbrev pub Answers : CoordValue → ℕ → List ℕ → Option (List ℕ) → Type 0
+Answers c point key value = (s : State) → Shows c s → value ≡ answer s.writes point key
+
+-- the key has a value at a sequence, in every state that is shown
+abbrev pub HasValue : CoordValue → ℕ → List ℕ → Type 0
+HasValue c point key = (s : State) → Shows c s → IsSome (answer s.writes point key)
+
+-- a get is refused if its snapshot does not exist, or if there is a value to copy and memory runs out
+abbrev pub GetRefuses : CoordValue → List ℕ → Option SnapId → CoordError → Type 0
+GetRefuses c key at e = MatchOption (point_of c at) (e ≡ NoSnapshot) (λ point. (e ≡ OutOfMemory) × HasValue c point key)
+
+-- a scan is refused if its snapshot does not exist, or if memory runs out
+abbrev pub ScanRefuses : CoordValue → Option SnapId → CoordError → Type 0
+ScanRefuses c at e = MatchOption (point_of c at) (e ≡ NoSnapshot) (λ point. e ≡ OutOfMemory)
+
+-- the pairs of a scan at a sequence, in every state that is shown
+abbrev pub Scans : CoordValue → ℕ → List ℕ → List ℕ → ℕ → List (List ℕ × List ℕ) → Type 0
+Scans c point lo hi limit pairs = (s : State) → Shows c s → IsRange (answer s.writes point) lo hi limit pairs

@@ -1,0 +1,167 @@
+-- What an install accepts, and what it does (RocksDB wiki, Remote Compaction: the primary verifies and installs the result of a job; LevelDB, db_impl.cc: InstallCompactionResults).
+use Rattle.std.specs.Prelude.{◌≡◌, ◌↔◌, ℕ, ◌+◌, ◌<◌, ◌≤◌, ◌^◌, Bool, true, false, ◌&&◌, List, [], ◌∷◌, ◌++◌, Option, None, Some, find, length, map, nat_le, if◌then◌else◌}
+use Rattle.lsm_key.specs.declared.entry.Entry.{Entry}
+use Rattle.lsm_key.specs.declared.limits.TheConstants.{MAX_NUMBER}
+use Rattle.lsm_key.specs.Sets.{IsIn}
+use Rattle.lsm_key.specs.Order.{key_le, key_lt}
+use Rattle.lsm_claim.specs.declared.ending.Ending.TheVariants as ending
+use Rattle.lsm_claim.specs.declared.hull.Hull.{Hull}
+use Rattle.lsm_claim.specs.declared.job.JobId.{JobId}
+use Rattle.lsm_claim.specs.declared.job.LiveJob.{LiveJob}
+use Rattle.lsm_claim.specs.declared.job.Want.{Want}
+use Rattle.lsm_claim.specs.Jobs.{same_job_id}
+use Rattle.lsm_claim.specs.Book.{after_settling, holds}
+use Rattle.lsm_table.specs.Tables.{Opened, IsTable, smallest_key, largest_key}
+use Rattle.lsm_edit.specs.declared.file.FileMeta.{FileMeta}
+use Rattle.lsm_edit.specs.declared.edit.Edit.{Edit}
+use Rattle.lsm_edit.specs.Edit.{IsEdit, IsSpelled}
+use Rattle.lsm_edit.specs.Next.{install_edit}
+use Rattle.lsm_edit.specs.declared.served.Placed.{Placed}
+use Rattle.lsm_edit.specs.Served.{ServedValue, after_advance}
+use Rattle.lsm_edit.specs.Version.{VersionValue, apply_fault}
+use Rattle.lsm_msg.specs.declared.job.JobParts.{JobParts}
+use Rattle.lsm_msg.specs.declared.job.JobResult.{JobResult}
+use Rattle.lsm_msg.specs.Merge.{HoldsKept}
+use Rattle.lsm_msg.specs.Installs.{entries_of}
+use Rattle.lsm_coord.specs.declared.coord.install.Install.{Install}
+use Rattle.lsm_coord.specs.declared.coord.install.Install.TheVariants as became
+use Rattle.lsm_coord.specs.declared.coord.install.InstallError.{InstallError}
+use Rattle.lsm_coord.specs.declared.coord.install.InstallError.TheVariants.{WrongJob, BadResult, NumbersExhausted, OutOfMemory}
+use Rattle.lsm_coord.specs.Model.Event.{Deliver, Installed, OldEpoch, Refused}
+use Rattle.lsm_coord.specs.Contract.Manifest.{VersionSetValue, after_logging}
+use Rattle.lsm_coord.specs.Contract.Replies.{error_of, refusal_of}
+use Rattle.lsm_coord.specs.Contract.Shows.{Follows}
+use Rattle.lsm_coord.specs.Contract.Value.{CoordValue}
+
+-- ---- outputs
+
+-- the texts are those of these tables, one by one
+abbrev pub DecodeTo : List (List ℕ) → List Opened → Type 0
+DecodeTo [] [] = Unit {0}
+DecodeTo (text ∷ texts) (t ∷ ts) = (t.bytes ≡ text) × IsTable text t.entries × DecodeTo texts ts
+DecodeTo [] (t ∷ ts) = ⊥
+DecodeTo (text ∷ texts) [] = ⊥
+
+-- all keys of the table are in the hull
+abbrev pub is_table_inside : Hull → Opened → Bool
+is_table_inside hull t = key_le hull.lo (smallest_key t.entries) && key_le (largest_key t.entries) hull.hi
+
+-- all keys of the one table are before those of the other
+abbrev pub IsTableBefore : Opened → Opened → Type 0
+IsTableBefore t u = key_lt (largest_key t.entries) (smallest_key u.entries) ≡ true
+
+-- each is before all after it
+abbrev pub AreAscending : List Opened → Type 0
+AreAscending [] = Unit {0}
+AreAscending (t ∷ ts) = ((u : Opened) → IsIn u ts → IsTableBefore t u) × AreAscending ts
+
+-- what the outputs of a job may be: tables with only keys of its hull, in ascending order
+pub record AreOutputTables (hull : Hull) (texts : List (List ℕ)) (ts : List Opened) : Type 0 where
+  pub few : length texts < 2 ^ 32
+  pub tables : DecodeTo texts ts
+  pub inside : (t : Opened) → IsIn t ts → is_table_inside hull t ≡ true
+  pub ascending : AreAscending ts
+
+-- its keys are in the hull, and after those of the last table before it
+abbrev pub comes_next : Hull → Option Opened → Opened → Bool
+comes_next hull None t = is_table_inside hull t
+comes_next hull (Some last) t = is_table_inside hull t && key_lt (largest_key last.entries) (smallest_key t.entries)
+
+-- the record of a table
+abbrev pub record_of : ℕ → ℕ → Opened → FileMeta
+record_of level number t = record { number = number; level = level; smallest = smallest_key t.entries; largest = largest_key t.entries; bytes = length t.bytes; entries = length t.entries }
+
+-- the records of tables under consecutive numbers
+abbrev pub records : ℕ → ℕ → List Opened → List FileMeta
+records level number [] = []
+records level number (t ∷ ts) = record_of level number t ∷ records level (number + 1) ts
+
+-- ---- the next version
+
+-- the outputs replace the inputs, one level deeper, under the next file numbers
+abbrev pub install_edit_of : VersionValue → Want → List Opened → Edit
+install_edit_of v want ts = install_edit v want.files (records (want.level + 1) v.next_file ts)
+
+abbrev pub numbers_of : VersionValue → Want → List Opened → List ℕ
+numbers_of v want ts = map (λ f. f.number) (records (want.level + 1) v.next_file ts)
+
+-- the version's number and the file numbers fit
+pub record HasNumbers (v : VersionValue) (ts : List Opened) : Type 0 where
+  pub number : v.number + 1 ≤ MAX_NUMBER
+  pub next_file : v.next_file + length ts ≤ MAX_NUMBER
+
+-- why an install has no numbers for its version and its files
+abbrev pub number_fault : VersionValue → ℕ → Option InstallError
+number_fault v files = if nat_le (v.number + 1) MAX_NUMBER && nat_le (v.next_file + files) MAX_NUMBER then None else Some NumbersExhausted
+
+-- the next version with its tables
+abbrev pub next_served : ServedValue → Want → List Opened → ServedValue
+next_served s want ts = after_advance s (install_edit_of s.version want ts) ts
+
+-- the next version is current, its edit is the last of the list, and the claim is settled
+pub record IsInstallDone (old : CoordValue) (live : LiveJob) (ts : List Opened) (new : CoordValue) : Type 0 where
+  pub text : List ℕ
+  pub spelled : IsSpelled text (install_edit_of old.served.version live.want ts)
+  pub applies : apply_fault old.served.version (install_edit_of old.served.version live.want ts) ≡ None
+  pub new_is : new ≡ record old { served = next_served old.served live.want ts; edits = old.edits ++ text ∷ []; book = after_settling old.book live.id ending.Installed }
+
+-- the same of a version set, by the outputs of a result
+pub record Puts (old : VersionSetValue) (live : LiveJob) (made : JobResult) (number : ℕ) (files : List ℕ) (new : VersionSetValue) : Type 0 where
+  pub named : made.job ≡ live.id
+  pub tables : List Opened
+  pub outputs : AreOutputTables live.want.hull made.tables tables
+  pub fit : HasNumbers old.served.version tables
+  pub valid : IsEdit (install_edit_of old.served.version live.want tables)
+  pub applies : apply_fault old.served.version (install_edit_of old.served.version live.want tables) ≡ None
+  pub new_is : new ≡ after_logging old (install_edit_of old.served.version live.want tables) tables
+  pub number_is : number ≡ old.served.version.number + 1
+  pub files_are : files ≡ numbers_of old.served.version live.want tables
+
+-- ---- what becomes of a claim
+
+-- the job that the book has under a name
+abbrev pub IsLive : CoordValue → JobId → LiveJob → Type 0
+IsLive c id live = find (λ j. same_job_id j.id id) c.book.live ≡ Some live
+
+-- why a result is not installed: the first reason that holds, unless memory runs out
+abbrev pub Explains : VersionValue → LiveJob → JobResult → InstallError → Type 0
+Explains v live made WrongJob = made.job ≡ live.id → ⊥
+Explains v live made BadResult = (made.job ≡ live.id) × ((ts : List Opened) → AreOutputTables live.want.hull made.tables ts → ⊥)
+Explains v live made NumbersExhausted = (made.job ≡ live.id) × (ts : List Opened) × AreOutputTables live.want.hull made.tables ts × (HasNumbers v ts → ⊥)
+Explains v live made OutOfMemory = made.job ≡ live.id
+
+-- A claim that the book does not have is stale, and the epoch is reported; a refused result leaves the claim; otherwise the
+-- outputs are installed, and their files reported.
+abbrev pub Became : CoordValue → LiveJob → JobResult → Install → CoordValue → Type 0
+Became old claim made (became.Done number files) new =
+    (live : LiveJob) × IsLive old claim.id live × (made.job ≡ claim.id)
+    × (ts : List Opened) × AreOutputTables live.want.hull made.tables ts × HasNumbers old.served.version ts
+    × IsInstallDone old live ts new × (number ≡ old.served.version.number + 1) × (files ≡ numbers_of old.served.version live.want ts)
+Became old claim made (became.Stale job epoch) new = (holds old.book claim.id ≡ false) × (job ≡ claim.id) × (epoch ≡ old.book.epoch) × (new ≡ old)
+Became old claim made (became.Kept back why) new = (live : LiveJob) × IsLive old claim.id live × (back ≡ claim) × Explains old.served.version live made why × (new ≡ old)
+
+-- an install that is done is a step, whatever message brought the result
+abbrev pub StepsTo : CoordValue → Install → CoordValue → Type 0
+StepsTo old (became.Done number files) new = (message : ℕ) → Follows old (Deliver message) (Installed number files) new
+StepsTo old (became.Stale job epoch) new = Unit {0}
+StepsTo old (became.Kept back why) new = Unit {0}
+
+-- a stale claim and a refused result are refusals that every state allows, whatever message brought the result
+abbrev pub RefusalsStep : CoordValue → Install → CoordValue → Type 0
+RefusalsStep old (became.Done number files) new = Unit {0}
+RefusalsStep old (became.Stale job epoch) new = (message : ℕ) → Follows old (Deliver message) (Refused OldEpoch) new
+RefusalsStep old (became.Kept back why) new = (message : ℕ) → Follows old (Deliver message) (Refused (refusal_of (error_of why))) new
+
+-- ---- the promise of a sound job
+
+-- the entries of the tables of the job's inputs, in whatever order
+abbrev pub AreEntriesOf : ServedValue → JobParts → List Entry → Type 0
+AreEntriesOf served job entries = (e : Entry) → IsIn e entries ↔ ((p : Placed) × IsIn p served.places × IsIn p.meta job.inputs × IsIn e p.table.entries)
+
+-- the result's tables hold exactly what a merge keeps of the job's inputs
+pub record HoldsMergeOf (served : ServedValue) (job : JobParts) (made : JobResult) : Type 0 where
+  pub inputs : List Entry
+  pub are : AreEntriesOf served job inputs
+  pub tables : List Opened
+  pub opened : DecodeTo made.tables tables
+  pub kept : HoldsKept inputs job.points job.deeper (entries_of tables)

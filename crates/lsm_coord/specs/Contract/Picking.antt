@@ -1,0 +1,98 @@
+-- What a pick returns, and the job that it hands out (LevelDB, version_set.cc: PickCompaction, SetupOtherInputs; RocksDB wiki, Remote Compaction: the input of a compaction service).
+use Rattle.std.specs.Prelude.{◌≡◌, ℕ, ◌+◌, ◌-◌, ◌<◌, ◌≤◌, Bool, ◌&&◌, List, Option, None, Some, AllPairs, filter, flat_map, length, map, nat_eq}
+use Rattle.std.specs.List.{range_with_len}
+use Rattle.lsm_key.specs.declared.limits.TheConstants.{MAX_NUMBER, MAX_TABLE_BYTES}
+use Rattle.lsm_key.specs.Sets.{SameMembers}
+use Rattle.lsm_claim.specs.declared.hull.Hull.{Hull}
+use Rattle.lsm_claim.specs.declared.job.LiveJob.{LiveJob}
+use Rattle.lsm_claim.specs.declared.job.TheConstants.{MAX_LIVE_CLAIMS}
+use Rattle.lsm_claim.specs.declared.job.Want.{Want}
+use Rattle.lsm_claim.specs.Book.{after_claim, next_job}
+use Rattle.lsm_edit.specs.declared.file.FileMeta.{FileMeta}
+use Rattle.lsm_msg.specs.declared.job.JobParts.{JobParts}
+use Rattle.lsm_msg.specs.declared.job.KeyRange.{KeyRange}
+use Rattle.lsm_msg.specs.declared.rules.TheConstants.{MAX_JOB_LEVEL}
+use Rattle.lsm_msg.specs.Legal.{IsLegal, touches}
+use Rattle.lsm_pick.specs.Rule.{IsFirst, AreBlocked, AreTooLarge, inputs_of, candidates}
+use Rattle.lsm_coord.specs.declared.error.CoordError.{CoordError}
+use Rattle.lsm_coord.specs.declared.error.CoordError.TheVariants.{BookFull, TooWide, NumbersExhausted, OutOfMemory}
+use Rattle.lsm_coord.specs.declared.snapshot.Snapshot.{Snapshot}
+use Rattle.lsm_coord.specs.Contract.Memory.{IsJobWant}
+use Rattle.lsm_coord.specs.Contract.Value.{CoordValue}
+
+-- ---- the job of a compaction
+
+-- the sequences of the snapshots, each once, ascending
+pub record ArePointsOf (snapshots : List Snapshot) (points : List ℕ) : Type 0 where
+  pub rising : AllPairs (λ p q. p < q) points
+  pub all : SameMembers points (map (λ x. x.at) snapshots)
+
+-- a file of the level that may have keys of the hull
+abbrev pub touches_at : Hull → ℕ → FileMeta → Bool
+touches_at hull level f = nat_eq f.level level && touches hull f
+
+-- the levels more than one below the compaction's, down to the deepest
+abbrev pub deeper_levels : Want → List ℕ
+deeper_levels want = range_with_len (want.level + 2) (MAX_JOB_LEVEL - want.level)
+
+-- the files there that may have keys of the compaction, by level and number
+abbrev pub deeper_files : List FileMeta → Want → List FileMeta
+deeper_files files want = flat_map (λ level. filter (touches_at want.hull level) files) (deeper_levels want)
+
+abbrev pub range_of : FileMeta → KeyRange
+range_of f = record { lo = f.smallest; hi = f.largest }
+
+pub record IsJobFor (c : CoordValue) (want : Want) (job : JobParts) : Type 0 where
+  pub id : job.id ≡ (next_job c.book want).id
+  pub level : job.level ≡ want.level
+  pub block : job.block ≡ MAX_TABLE_BYTES
+  pub points : ArePointsOf c.snapshots job.points
+  pub inputs : job.inputs ≡ inputs_of c.served.version.files want
+  pub deeper : job.deeper ≡ map range_of (deeper_files c.served.version.files want)
+
+-- ---- the answers
+
+-- one more claim may be live
+abbrev pub HasRoom : CoordValue → Type 0
+HasRoom c = length c.book.live < MAX_LIVE_CLAIMS
+
+-- the rule of a pick gives this compaction
+abbrev pub RulePicks : CoordValue → Want → Type 0
+RulePicks c want = IsFirst c.served.version.files c.book.live (candidates c.limits c.served.version.files) want
+
+-- it gives none: no level needs compaction, or every candidate conflicts with a running job
+abbrev pub RulePicksNone : CoordValue → Type 0
+RulePicksNone c = AreBlocked c.served.version.files c.book.live (candidates c.limits c.served.version.files)
+
+-- no candidate is eligible, and at least one failed only by size
+abbrev pub OnlySizeBlocks : CoordValue → Type 0
+OnlySizeBlocks c = AreTooLarge c.served.version.files c.book.live (candidates c.limits c.served.version.files)
+
+-- the compaction is given, is one that a job may have, may be merged and can be claimed
+pub record MayClaim (c : CoordValue) (want : Want) : Type 0 where
+  pub room : HasRoom c
+  pub fits : c.book.made < MAX_NUMBER
+  pub given : RulePicks c want
+  pub orderly : IsJobWant want
+  pub legal : IsLegal c.served.version.files want
+
+-- its claim with its job, and the job in the book
+pub record IsPicked (old : CoordValue) (claim : LiveJob) (job : JobParts) (new : CoordValue) : Type 0 where
+  pub want : Want
+  pub may : MayClaim old want
+  pub claim_is : claim ≡ next_job old.book want
+  pub job_is : IsJobFor old want job
+  pub new_is : new ≡ record old { book = after_claim old.book want }
+
+-- what is picked, or that the rule gives nothing
+abbrev pub Picks : CoordValue → CoordValue → Option (LiveJob × JobParts) → Type 0
+Picks old new None = HasRoom old × RulePicksNone old × (new ≡ old)
+Picks old new (Some picked) = IsPicked old picked.0 picked.1 new
+
+-- why nothing is picked: the first reason that holds
+abbrev pub PickRefuses : CoordValue → CoordError → Type 0
+PickRefuses c BookFull = MAX_LIVE_CLAIMS ≤ length c.book.live
+PickRefuses c TooWide = HasRoom c × OnlySizeBlocks c
+PickRefuses c NumbersExhausted = HasRoom c × ((want : Want) × RulePicks c want) × (MAX_NUMBER ≤ c.book.made)
+PickRefuses c OutOfMemory = HasRoom c × ((want : Want) × RulePicks c want) × (c.book.made < MAX_NUMBER)
+PickRefuses c e = ⊥

@@ -1,0 +1,38 @@
+-- What contracts see of a coordinator (LevelDB, implementation notes: memtable, immutable memtable, versions).
+use Rattle.std.specs.Prelude.{ℕ, List, [], ◌++◌, Option, None, Some}
+use Rattle.lsm_key.specs.declared.entry.Entry.{Entry}
+use Rattle.lsm_key.specs.declared.limits.Limits.{Limits}
+use Rattle.lsm_key.specs.Places.{all_entries}
+use Rattle.lsm_claim.specs.Book.{BookValue}
+use Rattle.lsm_edit.specs.Served.{ServedValue, tables_of}
+use Rattle.lsm_coord.specs.declared.frozen.Frozen.{Frozen}
+use Rattle.lsm_coord.specs.declared.snapshot.Snapshot.{Snapshot}
+
+pub record CoordValue : Type 0 where
+  pub limits : Limits  -- when its levels are due
+  pub active : List Entry  -- the entries of the active memtable
+  pub frozen : Option Frozen
+  pub served : ServedValue  -- the current version with its tables
+  pub edits : List (List ℕ)  -- the encoding of each edit, from edit 1
+  pub last : ℕ  -- the last sequence
+  pub snapshots : List Snapshot  -- the live ones
+  pub made : ℕ  -- how many snapshots this epoch has made
+  pub floor : ℕ  -- the floor: the least version whose files are to be served to followers
+  pub book : BookValue  -- the claims of this epoch
+
+abbrev pub frozen_entries : Option Frozen → List Entry
+frozen_entries None = []
+frozen_entries (Some frozen) = frozen.memtable
+
+-- the sequence after which the active memtable begins
+abbrev pub start_of : Option Frozen → ℕ → ℕ
+start_of None flushed = flushed
+start_of (Some frozen) flushed = frozen.end
+
+-- the entries of all tables of the current version
+abbrev pub stored_entries : ServedValue → List Entry
+stored_entries served = all_entries (tables_of served.places)
+
+-- all entries
+abbrev pub everything : CoordValue → List Entry
+everything c = c.active ++ (frozen_entries c.frozen ++ stored_entries c.served)

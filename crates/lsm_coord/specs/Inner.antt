@@ -1,0 +1,2 @@
+-- What only contracts of private functions cite: nothing that a reader has to believe.
+pub mod Scan

@@ -1,0 +1,129 @@
+-- Runs of a new store, written out: what a reader can check by hand, and some that are not runs.
+use Rattle.std.specs.Prelude.{ℕ, List, [], ◌∷◌, None, Some}
+use Rattle.lsm_key.specs.declared.op.Op.TheVariants.{Put, Delete}
+use Rattle.lsm_coord.specs.declared.snapshot.SnapId.{SnapId}
+use Rattle.lsm_coord.specs.Model.Event as say
+use Rattle.lsm_coord.specs.Model.Run.{RunOfNew}
+
+-- texts of one letter or none, by their bytes
+abbrev pub none : List ℕ
+none = []
+
+abbrev pub a : List ℕ
+a = 97 ∷ []
+
+abbrev pub b : List ℕ
+b = 98 ∷ []
+
+abbrev pub z : List ℕ
+z = 122 ∷ []
+
+abbrev pub one : List ℕ
+one = 49 ∷ []
+
+abbrev pub two : List ℕ
+two = 50 ∷ []
+
+-- the first snapshot of a new store
+abbrev pub first_snapshot : SnapId
+first_snapshot = record { epoch = 1; number = 1 }
+
+-- a write is found after its flush
+abbrev pub FlushedWriteIsFound : Type 0
+FlushedWriteIsFound = RunOfNew
+    (say.Write (Put a one ∷ []) ∷ say.Flush ∷ say.Get a None ∷ [])
+    (say.Wrote 1 1 ∷ say.Flushed 2 1 1 ∷ say.Got (Some one) ∷ [])
+
+-- a restart loses what was not flushed, and reuses its sequence
+abbrev pub RestartLosesWrites : Type 0
+RestartLosesWrites = RunOfNew
+    (say.Write (Put a one ∷ []) ∷ say.Restart say.Coordinator ∷ say.Get a None ∷ say.Write (Put b two ∷ []) ∷ [])
+    (say.Wrote 1 1 ∷ say.Restarted 2 2 0 ∷ say.Got None ∷ say.Wrote 1 1 ∷ [])
+
+-- in a batch the last write of a key counts, and a scan leaves out deleted keys
+abbrev pub LastOfABatchCounts : Type 0
+LastOfABatchCounts = RunOfNew
+    (say.Write (Put a one ∷ Put b two ∷ Delete a ∷ []) ∷ say.Get a None ∷ say.Scan none z None 10 ∷ [])
+    (say.Wrote 1 3 ∷ say.Got None ∷ say.Scanned ((b, two) ∷ []) ∷ [])
+
+-- the frozen memtable is flushed before the active one
+abbrev pub FrozenIsFlushedFirst : Type 0
+FrozenIsFlushedFirst = RunOfNew
+    (say.Write (Put a one ∷ []) ∷ say.Freeze ∷ say.Freeze ∷ say.Write (Put b two ∷ []) ∷ say.Flush ∷ say.Flush ∷ say.Flush ∷ say.Freeze ∷ [])
+    (say.Wrote 1 1 ∷ say.Froze 1 ∷ say.Refused say.FrozenWaiting ∷ say.Wrote 2 2 ∷ say.Flushed 2 1 1 ∷ say.Flushed 3 2 2 ∷ say.Refused say.NothingToFlush ∷ say.Refused say.NothingToFreeze ∷ [])
+
+-- what is not there is refused by name
+abbrev pub AbsentIsRefused : Type 0
+AbsentIsRefused = RunOfNew
+    (say.Snap ∷ say.Release first_snapshot ∷ say.Release first_snapshot ∷ say.Get a (Some first_snapshot) ∷ say.Deliver 1 ∷ say.GiveUp 1 ∷ say.Trim 2 ∷ [])
+    (say.Snapped first_snapshot 0 ∷ say.Released first_snapshot ∷ say.Refused say.NoSnapshot ∷ say.Refused say.NoSnapshot ∷ say.Refused say.NoMessage ∷ say.Refused say.NoClaim ∷ say.Refused say.BadFloor ∷ [])
+
+-- a restart that fails leaves the coordinator down, until one succeeds
+abbrev pub DownUntilRestarted : Type 0
+DownUntilRestarted = RunOfNew
+    (say.Write (Put a one ∷ []) ∷ say.Flush ∷ say.Restart say.Coordinator ∷ say.Get a None ∷ say.Write (Put none one ∷ []) ∷ say.Restart say.Coordinator ∷ say.Get a None ∷ [])
+    (say.Wrote 1 1 ∷ say.Flushed 2 1 1 ∷ say.Refused say.Device ∷ say.Refused say.Down ∷ say.Refused say.EmptyKey ∷ say.Restarted 2 3 1 ∷ say.Got (Some one) ∷ [])
+
+-- a merge changes the files, and no answer
+abbrev pub MergeKeepsAnswers : Type 0
+MergeKeepsAnswers = RunOfNew
+    (say.Write (Put a one ∷ []) ∷ say.Flush ∷ say.Snap ∷ say.Write (Delete a ∷ []) ∷ say.Flush ∷ say.Pick 1 ∷ say.Deliver 6 ∷ say.Show say.Coordinator ∷ say.Get a (Some first_snapshot) ∷ say.Get a None ∷ [])
+    (say.Wrote 1 1 ∷ say.Flushed 2 1 1 ∷ say.Snapped first_snapshot 1 ∷ say.Wrote 2 2 ∷ say.Flushed 3 2 2 ∷ say.Other ∷ say.Installed 4 (3 ∷ []) ∷ say.Shown 4 2 (record { level = 1; file = 3 } ∷ []) ∷ say.Got (Some one) ∷ say.Got None ∷ [])
+
+-- a follower answers from its version, which may be behind, and begins again at version 0
+abbrev pub FollowerLiesBehind : Type 0
+FollowerLiesBehind = RunOfNew
+    (say.Write (Put a one ∷ []) ∷ say.Flush ∷ say.Write (Put a two ∷ []) ∷ say.Flush ∷ say.Ask 1 ∷ say.Deliver 2 ∷ say.Read 1 a ∷ say.Show (say.Follower 1) ∷ say.Trim 3 ∷ say.Deliver 4 ∷ say.Read 1 a ∷ say.Restart (say.Follower 1) ∷ say.Read 1 a ∷ [])
+    (say.Wrote 1 1 ∷ say.Flushed 2 1 1 ∷ say.Wrote 2 2 ∷ say.Flushed 3 2 2 ∷ say.Other ∷ say.Advanced 2 ∷ say.ReadAt 2 (Some one) ∷ say.Shown 2 1 (record { level = 0; file = 1 } ∷ []) ∷ say.Trimmed 3 ∷ say.Advanced 3 ∷ say.ReadAt 3 (Some two) ∷ say.Reset ∷ say.ReadAt 0 None ∷ [])
+
+-- A write is not lost while the coordinator runs.
+abbrev pub LostWriteIsNoRun : Type 0
+LostWriteIsNoRun = RunOfNew (say.Write (Put a one ∷ []) ∷ say.Get a None ∷ []) (say.Wrote 1 1 ∷ say.Got None ∷ []) → ⊥
+
+-- A flush leaves nothing out.
+abbrev pub ShortFlushIsNoRun : Type 0
+ShortFlushIsNoRun = RunOfNew (say.Write (Put a one ∷ []) ∷ say.Flush ∷ []) (say.Wrote 1 1 ∷ say.Flushed 2 0 1 ∷ []) → ⊥
+
+-- A listing has the file of the flush.
+abbrev pub EmptyListingIsNoRun : Type 0
+EmptyListingIsNoRun = RunOfNew
+    (say.Write (Put a one ∷ []) ∷ say.Flush ∷ say.Show say.Coordinator ∷ [])
+    (say.Wrote 1 1 ∷ say.Flushed 2 1 1 ∷ say.Shown 2 1 [] ∷ []) → ⊥
+
+-- A restart keeps nothing that was not flushed.
+abbrev pub KeptWriteIsNoRun : Type 0
+KeptWriteIsNoRun = RunOfNew
+    (say.Write (Put a one ∷ []) ∷ say.Restart say.Coordinator ∷ say.Get a None ∷ [])
+    (say.Wrote 1 1 ∷ say.Restarted 2 2 0 ∷ say.Got (Some one) ∷ []) → ⊥
+
+-- A refusal is given only if it holds.
+abbrev pub UnforcedRefusalIsNoRun : Type 0
+UnforcedRefusalIsNoRun = RunOfNew (say.Write (Put a one ∷ []) ∷ []) (say.Refused say.MemtableFull ∷ []) → ⊥
+
+-- A file number is not given twice.
+abbrev pub FileGivenTwiceIsNoRun : Type 0
+FileGivenTwiceIsNoRun = RunOfNew
+    (say.Write (Put a one ∷ []) ∷ say.Flush ∷ say.Write (Put a two ∷ []) ∷ say.Flush ∷ [])
+    (say.Wrote 1 1 ∷ say.Flushed 2 1 1 ∷ say.Wrote 2 2 ∷ say.Flushed 3 2 1 ∷ []) → ⊥
+
+-- A follower at an older version does not give a newer value.
+abbrev pub NewerValueIsNoRun : Type 0
+NewerValueIsNoRun = RunOfNew
+    (say.Write (Put a one ∷ []) ∷ say.Flush ∷ say.Write (Put a two ∷ []) ∷ say.Flush ∷ say.Deliver 2 ∷ say.Read 1 a ∷ [])
+    (say.Wrote 1 1 ∷ say.Flushed 2 1 1 ∷ say.Wrote 2 2 ∷ say.Flushed 3 2 2 ∷ say.Advanced 2 ∷ say.ReadAt 2 (Some two) ∷ []) → ⊥
+
+-- A batch is accepted whole: its second write is found too.
+abbrev pub SecondWriteLostIsNoRun : Type 0
+SecondWriteLostIsNoRun = RunOfNew (say.Write (Put a one ∷ Put b two ∷ []) ∷ say.Get b None ∷ []) (say.Wrote 1 2 ∷ say.Got None ∷ []) → ⊥
+
+-- A listing has the files of earlier flushes too.
+abbrev pub FileForgottenIsNoRun : Type 0
+FileForgottenIsNoRun = RunOfNew
+    (say.Write (Put a one ∷ []) ∷ say.Flush ∷ say.Write (Put b two ∷ []) ∷ say.Flush ∷ say.Show say.Coordinator ∷ [])
+    (say.Wrote 1 1 ∷ say.Flushed 2 1 1 ∷ say.Wrote 2 2 ∷ say.Flushed 3 2 2 ∷ say.Shown 3 2 (record { level = 0; file = 2 } ∷ []) ∷ []) → ⊥
+
+-- A flush changes no read.
+abbrev pub FlushLosesWriteIsNoRun : Type 0
+FlushLosesWriteIsNoRun = RunOfNew
+    (say.Write (Put a one ∷ []) ∷ say.Flush ∷ say.Get a None ∷ [])
+    (say.Wrote 1 1 ∷ say.Flushed 2 1 1 ∷ say.Got None ∷ []) → ⊥

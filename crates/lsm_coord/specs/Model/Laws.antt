@@ -1,0 +1,74 @@
+-- What holds of every run (LevelDB, implementation notes: a version never changes; RocksDB wiki: secondary instances).
+use Rattle.std.specs.Prelude.{◌≡◌, ℕ, ◌≤◌, List, ◌∷◌, ◌++◌, Option, None, Some, length, slice_get}
+use Rattle.lsm_key.specs.declared.op.Op.{Op}
+use Rattle.lsm_key.specs.Sets.{IsIn}
+use Rattle.lsm_key.specs.Writes.{answer, last_write, value_of}
+use Rattle.lsm_coord.specs.Model.State.{State, Version, Place, first_state, last_seq}
+use Rattle.lsm_coord.specs.declared.snapshot.SnapId.{SnapId}
+use Rattle.lsm_coord.specs.Model.Event.{Event, Reply}
+use Rattle.lsm_coord.specs.Model.Event as say
+use Rattle.lsm_coord.specs.Model.Range.{IsRange}
+use Rattle.lsm_coord.specs.Model.Run.{Run, RunOfNew}
+
+-- A version, once it is there, keeps its flushed sequence and its files.
+abbrev pub VersionsStay : Type 0
+VersionsStay = (s t : State) (events : List Event) (replies : List Reply) → Run s events replies t
+    → (number : ℕ) (version : Version) → slice_get s.versions number ≡ Some version → slice_get t.versions number ≡ Some version
+
+-- Two listings at one number are equal, whichever nodes showed them.
+abbrev pub ListingsAgree : Type 0
+ListingsAgree = (s t : State) (events : List Event) (replies : List Reply) → Run s events replies t
+    → (number seq other_seq : ℕ) (files other_files : List Place)
+    → IsIn (say.Shown number seq files) replies → IsIn (say.Shown number other_seq other_files) replies
+    → (seq ≡ other_seq) × (files ≡ other_files)
+
+-- somewhere in a run the event got the reply
+abbrev pub IsAnswered : List Event → List Reply → Event → Reply → Type 0
+IsAnswered events replies event reply = (i : ℕ) × (slice_get events i ≡ Some event) × (slice_get replies i ≡ Some reply)
+
+-- In a run of a new store, two reads of one key at one number give one value, whichever followers gave it.
+abbrev pub FollowersAgree : Type 0
+FollowersAgree = (events : List Event) (replies : List Reply) → RunOfNew events replies
+    → (follower other number : ℕ) (key : List ℕ) (value other_value : Option (List ℕ))
+    → IsAnswered events replies (say.Read follower key) (say.ReadAt number value)
+    → IsAnswered events replies (say.Read other key) (say.ReadAt number other_value)
+    → value ≡ other_value
+
+-- In a run of a new store, two gets of one key at one snapshot give one value.
+abbrev pub SnapshotsAgree : Type 0
+SnapshotsAgree = (events : List Event) (replies : List Reply) → RunOfNew events replies
+    → (id : SnapId) (key : List ℕ) (value other_value : Option (List ℕ))
+    → IsAnswered events replies (say.Get key (Some id)) (say.Got value)
+    → IsAnswered events replies (say.Get key (Some id)) (say.Got other_value)
+    → value ≡ other_value
+
+-- the event writes another key than this or nothing, and does not restart the coordinator
+abbrev pub SparesKey : List ℕ → Event → Type 0
+SparesKey key (say.Write ops) = last_write ops key ≡ None
+SparesKey key (say.Restart say.Coordinator) = ⊥
+SparesKey key event = Unit {0}
+
+-- In a run, a get returns what the last write of its key leaves: the value of a put, none for a deletion. It is the last of
+-- its key in a batch that was answered, and no event between them writes the key or restarts the coordinator.
+abbrev pub GetGivesTheWrite : Type 0
+GetGivesTheWrite = (s t : State) (before between after : List Event) (ops : List Op) (key : List ℕ) (write : Op)
+    → (replies_before replies_between replies_after : List Reply) (first last : ℕ) (found : Option (List ℕ))
+    → length replies_before ≡ length before → length replies_between ≡ length between
+    → Run s (before ++ say.Write ops ∷ (between ++ say.Get key None ∷ after)) (replies_before ++ say.Wrote first last ∷ (replies_between ++ say.Got found ∷ replies_after)) t
+    → last_write ops key ≡ Some write
+    → ((event : Event) → IsIn event between → SparesKey key event)
+    → found ≡ value_of write
+
+-- A scan can return one list only.
+abbrev pub ScansAreDetermined : Type 0
+ScansAreDetermined = (writes : List Op) (at : ℕ) (lo hi : List ℕ) (limit : ℕ) (pairs others : List (List ℕ × List ℕ))
+    → IsRange (answer writes at) lo hi limit pairs → IsRange (answer writes at) lo hi limit others → pairs ≡ others
+
+-- flushed sequences ascend with the version number, up to the number of writes
+pub record FlushedAscends (s : State) : Type 0 where
+  pub ascending : (m n : ℕ) (v w : Version) → m ≤ n → slice_get s.versions m ≡ Some v → slice_get s.versions n ≡ Some w → v.flushed ≤ w.flushed
+  pub written : (n : ℕ) (v : Version) → slice_get s.versions n ≡ Some v → v.flushed ≤ last_seq s
+
+-- In a run of a new store, flushed sequences ascend with the version number, up to the number of writes.
+abbrev pub FlushedRises : Type 0
+FlushedRises = (events : List Event) (replies : List Reply) (s : State) → Run first_state events replies s → FlushedAscends s

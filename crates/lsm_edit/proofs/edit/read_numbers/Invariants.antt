@@ -1,0 +1,7 @@
+use Rattle.std.proofs.Common.{◌≡◌, ◌-◌}
+use Rattle.lsm_edit.specs.Edit.{numbers_at}
+use Rattle.lsm_edit.proofs.InTurn.{after_these}
+use Rattle.lsm_edit.proofs.edit.read_numbers.Given as goal
+
+abbrev pub invariant-loop-place : goal.invariant-loop-place
+invariant-loop-place l = numbers_at l.count 1 l.fn.rest ≡ after_these l.numbers (numbers_at (l.count - l._place) l.least l.rest)
