@@ -21,7 +21,7 @@ use Rattle.lsm_claim.specs.Conflicts.{conflicts, hulls_meet}
 use Rattle.lsm_claim.specs.Laws.{ConflictsGoBothWays}
 use Rattle.lsm_claim.specs.Jobs.{JobNumbersRise, AreApart, ShareNoKey, IsLeastConflict, first_conflict, same_job_id, without_job}
 use Rattle.lsm_claim.specs.Book.{BookValue, IsBook, IsGiven, NamesLeast, claim_fault, fault_by, fault_without_conflict, next_job, after_claim, holds, with_ending}
-use Rattle.lsm_claim.proofs.KeyRanges.{ranges_meet_from}
+use Rattle.lsm_key.proofs.KeyRanges.{ranges_meet_from}
 
 pub conflicts_sym : ConflictsGoBothWays
 conflicts_sym w v = grind (arith, common_steps)

@@ -1,2 +1,1 @@
-pub mod KeyRanges
 pub mod Books

@@ -20,7 +20,7 @@ pub struct Hull {
 impl Hull {
     ghost use Rattle.std.specs.Prelude.{◌≡◌, ◌↔◌, true, IsSome, IfSome};
     ghost use Rattle.lsm_key.specs.Order.{key_le};
-    ghost use Rattle.lsm_claim.specs.Conflicts.{ranges_meet};
+    ghost use Rattle.lsm_key.specs.KeyRanges.{ranges_meet};
 
     /// The keys from `lo` to `hi`, or `None` if `lo` is after `hi`.
     pub fn new(lo: Bytes, hi: Bytes) -> Option<Hull>

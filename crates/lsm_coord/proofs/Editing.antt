@@ -6,7 +6,7 @@ use Rattle.lsm_key.specs.declared.limits.TheConstants.{MAX_NUMBER}
 use Rattle.lsm_key.specs.Sets.{IsIn}
 use Rattle.lsm_key.specs.Order.{key_le, key_lt}
 use Rattle.lsm_claim.specs.declared.job.Want.{Want}
-use Rattle.lsm_claim.proofs.KeyRanges.{key_le_trans}
+use Rattle.lsm_key.proofs.KeyRanges.{key_le_trans}
 use Rattle.lsm_table.specs.Tables.{IsTable, Opened, largest_key, smallest_key}
 use Rattle.lsm_table.proofs.Contents.{table_small, table_ends, smallest_fits, largest_fits}
 use Rattle.lsm_table.proofs.TableSizes.{few_entries}

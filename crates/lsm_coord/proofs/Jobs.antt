@@ -16,7 +16,7 @@ use Rattle.lsm_claim.specs.declared.hull.Hull.{Hull}
 use Rattle.lsm_claim.specs.declared.job.LiveJob.{LiveJob}
 use Rattle.lsm_claim.specs.declared.job.Want.{Want}
 use Rattle.lsm_claim.specs.Book.{BookValue, after_claim, next_job}
-use Rattle.lsm_claim.specs.Conflicts.{in_closed_range}
+use Rattle.lsm_key.specs.KeyRanges.{in_closed_range}
 use Rattle.lsm_edit.specs.declared.file.FileMeta.{FileMeta}
 use Rattle.lsm_edit.specs.declared.served.Placed.{Placed}
 use Rattle.lsm_edit.specs.Served.{IsServed, ServedValue, is_covered}

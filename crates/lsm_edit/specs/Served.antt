@@ -4,6 +4,7 @@ use Rattle.std.specs.List.{list_any}
 use Rattle.lsm_key.specs.declared.entry.Entry.{Entry}
 use Rattle.lsm_key.specs.Sets.{IsIn, SameMembers}
 use Rattle.lsm_key.specs.Order.{key_le}
+use Rattle.lsm_key.specs.KeyRanges.{in_closed_range}
 use Rattle.lsm_key.specs.Visible.{visible}
 use Rattle.lsm_table.specs.Tables.{Opened, IsTable, smallest_key, largest_key}
 use Rattle.lsm_edit.specs.declared.file.FileMeta.{FileMeta}
@@ -76,7 +77,7 @@ tables_of ps = map (λ p. p.table.entries) ps
 
 -- the key is in the file's range
 abbrev pub is_covered : FileMeta → List ℕ → Bool
-is_covered f key = key_le f.smallest key && key_le key f.largest
+is_covered f key = in_closed_range f.smallest f.largest key
 
 -- a table has no visible entry of the key
 abbrev pub ShowsNone : List ℕ → ℕ → Placed → Type 0

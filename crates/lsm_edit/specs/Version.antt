@@ -3,7 +3,7 @@ use Rattle.std.specs.Prelude.{◌≡◌, ℕ, ◌+◌, ◌<◌, ◌≤◌, ◌^�
 use Rattle.std.specs.List.{list_any}
 use Rattle.lsm_key.specs.declared.limits.TheConstants.{MAX_NUMBER}
 use Rattle.lsm_key.specs.Sets.{IsIn}
-use Rattle.lsm_key.specs.Order.{key_le}
+use Rattle.lsm_key.specs.KeyRanges.{ranges_meet}
 use Rattle.lsm_edit.specs.declared.file.FileMeta.{FileMeta}
 use Rattle.lsm_edit.specs.declared.edit.Edit.{Edit}
 use Rattle.lsm_edit.specs.declared.edit.EditKind.{EditKind}
@@ -36,7 +36,7 @@ files_after files edit = files_without edit.removed files ++ edit.added
 
 -- two files have a key in common, by their ranges
 abbrev pub files_meet : FileMeta → FileMeta → Bool
-files_meet f g = key_le f.smallest g.largest && key_le g.smallest f.largest
+files_meet f g = ranges_meet f.smallest f.largest g.smallest g.largest
 
 -- two files of a level from 1 up whose ranges meet
 abbrev pub clashes : FileMeta → FileMeta → Bool

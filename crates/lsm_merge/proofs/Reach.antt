@@ -11,8 +11,8 @@ use Rattle.std.proofs.lemmas.Cmp.{nat_list_cmp_total}
 use Rattle.std.proofs.lemmas.List.{get_or_default}
 use Rattle.std.proofs.lemmas.List.MinMax.{IsStrictWeakOrder-from_at_least}
 use Rattle.std.proofs.lemmas.List.Sorted.{sorted_far}
-use Rattle.lsm_claim.specs.Conflicts.{in_closed_range}
-use Rattle.lsm_claim.proofs.KeyRanges.{key_le_refl, key_le_trans, key_le_total}
+use Rattle.lsm_key.specs.KeyRanges.{in_closed_range}
+use Rattle.lsm_key.proofs.KeyRanges.{key_le_refl, key_le_trans, key_le_total}
 use Rattle.lsm_key.specs.Order.{key_le}
 use Rattle.lsm_key.specs.Sets.{IsIn}
 use Rattle.lsm_key.proofs.Sets.{IsIn-at, IsIn-place, SameMembers-permutation}

@@ -8,7 +8,7 @@ use Rattle.lsm_key.specs.Order.{key_le}
 use Rattle.lsm_claim.specs.declared.job.Want.{Want}
 use Rattle.lsm_claim.specs.Levels.{uses_level}
 use Rattle.lsm_claim.specs.Conflicts.{covers}
-use Rattle.lsm_claim.proofs.KeyRanges.{key_le_refl, key_le_trans, ranges_meet_from}
+use Rattle.lsm_key.proofs.KeyRanges.{key_le_refl, key_le_trans, ranges_meet_from}
 use Rattle.lsm_edit.specs.declared.file.FileMeta.{FileMeta}
 use Rattle.lsm_edit.specs.declared.served.Placed.{Placed}
 use Rattle.lsm_edit.specs.Version.{IsVersion, has_number}

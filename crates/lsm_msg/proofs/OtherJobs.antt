@@ -8,7 +8,7 @@ use Rattle.lsm_claim.specs.declared.job.Want.{Want}
 use Rattle.lsm_claim.specs.Levels.{uses_level, shares_level}
 use Rattle.lsm_claim.specs.Conflicts.{conflicts, covers, hulls_meet}
 use Rattle.lsm_claim.proofs.Books.{both_use}
-use Rattle.lsm_claim.proofs.KeyRanges.{common_key, ranges_meet_from}
+use Rattle.lsm_key.proofs.KeyRanges.{common_key, ranges_meet_from}
 use Rattle.lsm_edit.specs.declared.file.FileMeta.{FileMeta}
 use Rattle.lsm_edit.specs.declared.edit.Edit.{Edit}
 use Rattle.lsm_edit.specs.declared.served.Placed.{Placed}

@@ -2,11 +2,10 @@
 use Rattle.std.specs.Prelude.{◌≡◌, ℕ, ◌+◌, ◌<◌, ◌≤◌, Bool, true, false, ◌&&◌, List}
 use Rattle.lsm_key.specs.declared.entry.Entry.{Entry}
 use Rattle.lsm_key.specs.Sets.{IsIn}
-use Rattle.lsm_key.specs.Order.{key_le}
 use Rattle.lsm_claim.specs.declared.hull.Hull.{Hull}
 use Rattle.lsm_claim.specs.declared.job.Want.{Want}
 use Rattle.lsm_claim.specs.Levels.{uses_level}
-use Rattle.lsm_claim.specs.Conflicts.{ranges_meet}
+use Rattle.lsm_key.specs.KeyRanges.{range_encloses, ranges_meet}
 use Rattle.lsm_edit.specs.declared.file.FileMeta.{FileMeta}
 use Rattle.lsm_edit.specs.declared.served.Placed.{Placed}
 use Rattle.lsm_msg.specs.declared.job.JobParts.{JobParts}
@@ -18,7 +17,7 @@ touches hull f = ranges_meet hull.lo hull.hi f.smallest f.largest
 
 -- all keys of the file are in the hull
 abbrev pub encloses : Hull → FileMeta → Bool
-encloses hull f = key_le hull.lo f.smallest && key_le f.largest hull.hi
+encloses hull f = range_encloses hull.lo hull.hi f.smallest f.largest
 
 -- the file is one of the version's, and an input
 abbrev pub Takes : List FileMeta → Want → FileMeta → Type 0

@@ -9,8 +9,8 @@ use Rattle.lsm_key.proofs.Falls.{IsIn-filter}
 use Rattle.lsm_claim.specs.declared.job.LiveJob.{LiveJob}
 use Rattle.lsm_claim.specs.declared.job.Want.{Want}
 use Rattle.lsm_claim.specs.Levels.{shares_level}
-use Rattle.lsm_claim.specs.Conflicts.{ranges_meet}
-use Rattle.lsm_claim.proofs.KeyRanges.{key_le_trans}
+use Rattle.lsm_key.specs.KeyRanges.{ranges_meet}
+use Rattle.lsm_key.proofs.KeyRanges.{key_le_trans}
 use Rattle.lsm_edit.specs.declared.file.FileMeta.{FileMeta}
 use Rattle.lsm_edit.specs.File.{IsFile}
 use Rattle.lsm_edit.proofs.Places.{one_number}

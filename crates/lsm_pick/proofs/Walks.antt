@@ -5,7 +5,7 @@ use Rattle.std.proofs.lemmas.List.{take-append-drop, take_more, drop_more, drop_
 use Rattle.lsm_key.specs.Sets.{IsIn}
 use Rattle.lsm_key.specs.Order.{key_le}
 use Rattle.lsm_key.proofs.Sets.{IsIn-append_cases, IsIn-append_left, IsIn-append_right, IsIn-at, IsIn-place}
-use Rattle.lsm_claim.proofs.KeyRanges.{key_le_refl, key_le_trans, key_le_total}
+use Rattle.lsm_key.proofs.KeyRanges.{key_le_refl, key_le_trans, key_le_total}
 use Rattle.lsm_edit.specs.declared.file.FileMeta.{FileMeta}
 use Rattle.lsm_edit.specs.declared.served.Placed.{Placed}
 use Rattle.lsm_edit.specs.Served.{AllRecorded, AreInSearchOrder, IsAsRecorded, comes_left}

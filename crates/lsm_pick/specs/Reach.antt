@@ -2,7 +2,7 @@
 use Rattle.std.specs.Prelude.{◌≡◌, ◌⊎◌, ℕ, ◌+◌, Bool, true, not, ◌&&◌, ◌||◌, List, nat_eq, nat_lt, if◌then◌else◌}
 use Rattle.lsm_key.specs.Sets.{IsIn}
 use Rattle.lsm_key.specs.Order.{key_le}
-use Rattle.lsm_claim.specs.Conflicts.{ranges_meet}
+use Rattle.lsm_key.specs.KeyRanges.{range_encloses, ranges_meet}
 use Rattle.lsm_edit.specs.declared.file.FileMeta.{FileMeta}
 use Rattle.lsm_edit.specs.declared.served.Placed.{Placed}
 use Rattle.lsm_pick.specs.Closure.{Candidate, IsClosed}
@@ -23,7 +23,7 @@ is_met lo hi f = ranges_meet lo hi f.smallest f.largest
 
 -- its range is inside them
 abbrev pub is_inside : List ℕ → List ℕ → FileMeta → Bool
-is_inside lo hi f = key_le lo f.smallest && key_le f.largest hi
+is_inside lo hi f = range_encloses lo hi f.smallest f.largest
 
 -- a file that joins the closure if it overlaps its key range
 abbrev pub may_join : Candidate → FileMeta → Bool

@@ -4,7 +4,7 @@ ghost use Rattle.std.specs.Prelude.{◌≡◌, ◌≤◌, ◌⊎◌, ◌∷◌, 
 ghost use Rattle.std.specs.List.{list_any};
 ghost use Rattle.lsm_key.specs.Sets.{IsIn};
 ghost use Rattle.lsm_claim.specs.Levels.{shares_level};
-ghost use Rattle.lsm_claim.specs.Conflicts.{ranges_meet};
+ghost use Rattle.lsm_key.specs.KeyRanges.{ranges_meet};
 ghost use Rattle.lsm_edit.specs.declared.edit.EditKind.TheVariants.{Install};
 ghost use Rattle.lsm_edit.specs.Edit.{AreRemoved};
 ghost use Rattle.lsm_msg.specs.Legal.{IsLegal};

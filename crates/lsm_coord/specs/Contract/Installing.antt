@@ -3,7 +3,8 @@ use Rattle.std.specs.Prelude.{◌≡◌, ◌↔◌, ℕ, ◌+◌, ◌<◌, ◌�
 use Rattle.lsm_key.specs.declared.entry.Entry.{Entry}
 use Rattle.lsm_key.specs.declared.limits.TheConstants.{MAX_NUMBER}
 use Rattle.lsm_key.specs.Sets.{IsIn}
-use Rattle.lsm_key.specs.Order.{key_le, key_lt}
+use Rattle.lsm_key.specs.Order.{key_lt}
+use Rattle.lsm_key.specs.KeyRanges.{range_encloses}
 use Rattle.lsm_claim.specs.declared.ending.Ending.TheVariants as ending
 use Rattle.lsm_claim.specs.declared.hull.Hull.{Hull}
 use Rattle.lsm_claim.specs.declared.job.JobId.{JobId}
@@ -44,7 +45,7 @@ DecodeTo (text ∷ texts) [] = ⊥
 
 -- all keys of the table are in the hull
 abbrev pub is_table_inside : Hull → Opened → Bool
-is_table_inside hull t = key_le hull.lo (smallest_key t.entries) && key_le (largest_key t.entries) hull.hi
+is_table_inside hull t = range_encloses hull.lo hull.hi (smallest_key t.entries) (largest_key t.entries)
 
 -- all keys of the one table are before those of the other
 abbrev pub IsTableBefore : Opened → Opened → Type 0

@@ -1,4 +1,4 @@
-use Rattle.lsm_claim.proofs.KeyRanges.{common_key, ranges_meet_from}
+use Rattle.lsm_key.proofs.KeyRanges.{common_key, ranges_meet_from}
 use Rattle.lsm_claim.proofs.laws.hulls_meet_where_they_share_a_key.Goals as goal
 
 pub returns : goal.returns

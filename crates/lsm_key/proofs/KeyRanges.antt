@@ -7,7 +7,7 @@ use Rattle.std.specs.Cmp.Lexicographic.{slice_cmp}
 use Rattle.std.proofs.lemmas.Bool.{and_parts, and_from, not-true}
 use Rattle.std.proofs.lemmas.Cmp.{nat_list_cmp_total, tied_itself, upto}
 use Rattle.lsm_key.specs.Order.{key_le}
-use Rattle.lsm_claim.specs.Conflicts.{in_closed_range, ranges_meet}
+use Rattle.lsm_key.specs.KeyRanges.{in_closed_range, ranges_meet}
 
 -- ---- keys
 
