@@ -5,10 +5,9 @@ use Rattle.std.specs.Option.{option_map}
 use Rattle.std.specs.Prelude.{nat_le, if◌then◌else◌}
 use Rattle.std.proofs.lemmas.Bool.{and_parts, and_from, eqb-true, leb-false}
 use Rattle.std.proofs.lemmas.Grind.{common_steps}
-use Rattle.lsm_key.specs.declared.limits.TheConstants.{MAX_NUMBER}
+use Rattle.lsm_key.specs.declared.limits.TheConstants.{MAX_NUMBER, MAX_LIVE_CLAIMS}
 use Rattle.lsm_key.specs.Sets.{IsIn}
 use Rattle.lsm_key.proofs.Sets.{IsIn-append_cases, IsIn-one}
-use Rattle.lsm_claim.specs.declared.job.TheConstants.{MAX_LIVE_CLAIMS}
 use Rattle.lsm_claim.specs.declared.ending.Ending.{Ending}
 use Rattle.lsm_claim.specs.declared.ending.Ending.TheVariants.{Installed, Returned}
 use Rattle.lsm_claim.specs.declared.error.ClaimError.{ClaimError}

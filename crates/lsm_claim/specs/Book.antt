@@ -1,9 +1,8 @@
 -- The book of claims: what it keeps, when it refuses, and what each call makes of it (RocksDB wiki, Remote Compaction: the primary hands out a job and alone installs its result).
 use Rattle.std.specs.Prelude.{◌≡◌, ℕ, ◌+◌, ◌≤◌, Bool, List, [], ◌∷◌, ◌++◌, Option, None, Some, length, nat_le, if◌then◌else◌}
 use Rattle.std.specs.List.{list_any}
-use Rattle.lsm_key.specs.declared.limits.TheConstants.{MAX_NUMBER}
+use Rattle.lsm_key.specs.declared.limits.TheConstants.{MAX_NUMBER, MAX_LIVE_CLAIMS}
 use Rattle.lsm_key.specs.Sets.{IsIn}
-use Rattle.lsm_claim.specs.declared.job.TheConstants.{MAX_LIVE_CLAIMS}
 use Rattle.lsm_claim.specs.declared.ending.Ending.{Ending}
 use Rattle.lsm_claim.specs.declared.ending.Ending.TheVariants.{Installed, Returned}
 use Rattle.lsm_claim.specs.declared.ending.Settled.{Settled}

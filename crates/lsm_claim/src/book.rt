@@ -6,9 +6,8 @@
 ghost use Rattle.std.specs.Prelude.{◌≡◌};
 ghost use Rattle.lsm_claim.specs.Jobs.{without_job};
 
-use crate::job::MAX_LIVE_CLAIMS;
 use crate::{ClaimError, Ending, Hull, JobId, LiveJob, Settled, Want};
-use lsm_key::MAX_NUMBER;
+use lsm_key::{MAX_LIVE_CLAIMS, MAX_NUMBER};
 use std::alloc::Global;
 use std::marker::Model;
 

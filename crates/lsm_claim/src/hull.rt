@@ -4,6 +4,7 @@ ghost use Rattle.std.specs.Prelude.{◌≡◌, true};
 ghost use Rattle.lsm_key.specs.Order.{key_le};
 
 use bytes::Bytes;
+use lsm_key::KeyRangeRef;
 use std::alloc::AllocError;
 
 /// The keys of a job, from the least to the greatest, both included. Its type keeps the two in order, so that no hull
@@ -20,7 +21,6 @@ pub struct Hull {
 impl Hull {
     ghost use Rattle.std.specs.Prelude.{◌≡◌, ◌↔◌, true, IsSome, IfSome};
     ghost use Rattle.lsm_key.specs.Order.{key_le};
-    ghost use Rattle.lsm_key.specs.KeyRanges.{ranges_meet};
 
     /// The keys from `lo` to `hi`, or `None` if `lo` is after `hi`.
     pub fn new(lo: Bytes, hi: Bytes) -> Option<Hull>
@@ -33,11 +33,15 @@ impl Hull {
         Some(Hull { lo, hi })
     }
 
-    /// Whether it overlaps the keys from `lo` to `hi`, both included, if there are any.
-    pub fn meets(&self, lo: &[u8], hi: &[u8]) -> bool
-        ensures { result ≡ ranges_meet self.now.lo self.now.hi lo.now hi.now }
+    /// Its keys, as a range that is lent.
+    pub fn range(&self) -> KeyRangeRef<'_>
+        ensures lo { result.lo.now ≡ self.now.lo }
+        ensures hi { result.hi.now ≡ self.now.hi }
     {
-        self.lo.as_slice().cmp(hi).is_le() && lo.cmp(self.hi.as_slice()).is_le()
+        KeyRangeRef {
+            lo: self.lo.as_slice(),
+            hi: self.hi.as_slice(),
+        }
     }
 }
 

@@ -7,9 +7,6 @@ use crate::Hull;
 use lsm_key::Items;
 use std::alloc::{AllocError, Global};
 
-/// The most claims that may be live at a time: one for each dispatcher.
-pub const MAX_LIVE_CLAIMS: usize = 4;
-
 /// The name of a job: the epoch that issued it, and its number there, from 1.
 #[derive(Clone, Copy, Debug, PartialEq, Eq)]
 pub struct JobId {
@@ -42,9 +39,7 @@ impl Want {
     pub fn conflicts_with(&self, other: &Want) -> bool
         ensures { result ≡ conflicts self.now other.now }
     {
-        let hull = &other.hull;
-        shares_level(self.level, other.level)
-            && self.hull.meets(hull.lo.as_slice(), hull.hi.as_slice())
+        shares_level(self.level, other.level) && self.hull.range().overlaps(other.hull.range())
     }
 
     /// The same want. Its keys share the bytes.

@@ -1,8 +1,5 @@
-//! What the tests for conflicts mean, and the limits as numbers. The functions do nothing: each is the proof of its contract.
+//! What the tests for conflicts mean. The functions do nothing: each is the proof of its contract.
 
-ghost use Rattle.std.specs.Prelude.{◌≡◌, ◌+◌, ◌^◌};
-ghost use Rattle.lsm_key.specs.declared.limits.TheConstants.{MAX_NUMBER};
-ghost use Rattle.lsm_claim.specs.declared.job.TheConstants.{MAX_LIVE_CLAIMS};
 ghost use Rattle.lsm_claim.specs.Laws.{ConflictsGoBothWays, HullsMeetWhereTheyShareAKey, JobsShareTheLevelsThatBothUse};
 
 /// Two hulls meet exactly when some key is in both.
@@ -18,10 +15,4 @@ pub fn jobs_share_the_levels_that_both_use()
 /// Conflicts are symmetric.
 pub fn conflicts_go_both_ways()
     ensures { ConflictsGoBothWays }
-{}
-
-/// The limits of a book.
-pub fn claim_limits_are_these()
-    ensures live { MAX_LIVE_CLAIMS ≡ 4 }
-    ensures numbers { MAX_NUMBER + 1 ≡ 2 ^ 63 }
 {}

@@ -18,8 +18,7 @@ pub use book::{Claim, ClaimBook};
 pub use ending::{Ending, Settled};
 pub use error::ClaimError;
 pub use hull::Hull;
-pub use job::{JobId, LiveJob, MAX_LIVE_CLAIMS, Want, shares_level};
+pub use job::{JobId, LiveJob, Want, shares_level};
 pub use laws::{
-    claim_limits_are_these, conflicts_go_both_ways, hulls_meet_where_they_share_a_key,
-    jobs_share_the_levels_that_both_use,
+    conflicts_go_both_ways, hulls_meet_where_they_share_a_key, jobs_share_the_levels_that_both_use,
 };

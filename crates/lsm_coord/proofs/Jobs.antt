@@ -6,7 +6,7 @@ use Rattle.std.proofs.lemmas.Bool.{and_parts, and_from, cases_eq, cases_lt, eqb-
 use Rattle.std.proofs.lemmas.List.{length-append, length-map}
 use Rattle.std.proofs.lemmas.List.Elements.{All-map}
 use Rattle.std.proofs.lemmas.List.Kept.{AllPairs-cons, AllPairs-filter}
-use Rattle.lsm_key.specs.declared.limits.TheConstants.{MAX_NUMBER, MAX_TABLE_BYTES}
+use Rattle.lsm_key.specs.declared.limits.TheConstants.{MAX_NUMBER, MAX_TABLE_BYTES, MAX_DEEPER, MAX_INPUTS, MAX_JOB_LEVEL, MAX_POINTS, MAX_INPUT_BYTES}
 use Rattle.lsm_key.specs.Order.{key_le}
 use Rattle.lsm_key.specs.Sets.{IsIn}
 use Rattle.lsm_key.proofs.Falls.{IsIn-filter}
@@ -23,13 +23,11 @@ use Rattle.lsm_edit.specs.Served.{IsServed, ServedValue, is_covered}
 use Rattle.lsm_edit.specs.Version.{VersionValue, IsVersion, FileNumbersRise}
 use Rattle.lsm_edit.proofs.Search.{key_covered}
 use Rattle.lsm_msg.specs.declared.job.JobParts.{JobParts}
-use Rattle.lsm_msg.specs.declared.job.KeyRange.{KeyRange}
-use Rattle.lsm_msg.specs.declared.rules.TheConstants.{MAX_DEEPER, MAX_INPUTS, MAX_JOB_LEVEL, MAX_POINTS}
+use Rattle.lsm_key.specs.declared.range.KeyRange.{KeyRange}
 use Rattle.lsm_msg.specs.Jobs.{IsJob}
 use Rattle.lsm_msg.specs.Legal.{IsLegal, KnowsDeeper, Takes, touches}
 use Rattle.lsm_msg.specs.Merge.{is_in_ranges}
 use Rattle.lsm_msg.specs.Rules.{AreDeeper, AreInputs, AreKeys, IsInput, IsJobId}
-use Rattle.lsm_pick.specs.declared.limit.TheConstants.{MAX_INPUT_BYTES}
 use Rattle.lsm_pick.specs.Rule.{inputs_of, is_deeper}
 use Rattle.lsm_coord.specs.declared.error.CoordError.TheVariants.{OutOfMemory}
 use Rattle.lsm_coord.specs.declared.snapshot.Snapshot.{Snapshot}

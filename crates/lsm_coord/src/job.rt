@@ -9,8 +9,7 @@ ghost use Rattle.lsm_coord.specs.Contract.Picking.{ArePointsOf, deeper_files, ra
 use crate::snapshot::Snapshot;
 use lsm_claim::{Hull, Want};
 use lsm_edit::FileMeta;
-use lsm_key::Seq;
-use lsm_msg::{KeyRange, MAX_JOB_LEVEL};
+use lsm_key::{KeyRange, MAX_JOB_LEVEL, Seq};
 use std::alloc::{AllocError, Global};
 
 /// The sequences of the snapshots, each once, ascending.
@@ -104,7 +103,7 @@ fn push_ranges(
 fn is_at(file: &FileMeta, hull: &Hull, level: u8) -> bool
     ensures { result ≡ touches_at hull.now level file.now }
 {
-    file.level == level && hull.meets(file.smallest.as_slice(), file.largest.as_slice())
+    file.level == level && hull.range().overlaps(file.range())
 }
 
 // The key range of a file, as its record says.

@@ -1,8 +1,6 @@
 //! What holds in every run of a store, and runs written out in full. The functions do nothing: each is the proof of its
 //! contract.
 
-ghost use Rattle.std.specs.Prelude.{◌≡◌};
-ghost use Rattle.lsm_coord.specs.declared.snapshot.TheConstants.{MAX_SNAPSHOTS};
 ghost use Rattle.lsm_coord.specs.Model.Laws.{VersionsStay, ListingsAgree, FollowersAgree, GetGivesTheWrite, FlushedRises, ScansAreDetermined, SnapshotsAgree};
 ghost use Rattle.lsm_coord.specs.Model.Examples.{FlushedWriteIsFound, RestartLosesWrites, LastOfABatchCounts, FrozenIsFlushedFirst, AbsentIsRefused, DownUntilRestarted, MergeKeepsAnswers, FollowerLiesBehind};
 ghost use Rattle.lsm_coord.specs.Model.Examples.{LostWriteIsNoRun, ShortFlushIsNoRun, EmptyListingIsNoRun, KeptWriteIsNoRun, UnforcedRefusalIsNoRun, FileGivenTwiceIsNoRun, NewerValueIsNoRun};
@@ -68,9 +66,4 @@ pub fn wrong_runs()
     ensures second { SecondWriteLostIsNoRun }
     ensures forgotten { FileForgottenIsNoRun }
     ensures emptied { FlushLosesWriteIsNoRun }
-{}
-
-/// At most so many snapshots are live.
-pub fn snapshot_limits_are_these()
-    ensures { MAX_SNAPSHOTS ≡ 64 }
 {}

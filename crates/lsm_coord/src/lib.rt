@@ -34,6 +34,6 @@ pub use dispatcher::Dispatcher;
 pub use error::CoordError;
 pub use laws::{
     flushed_rises, followers_agree, get_gives_the_write, listings_agree, scans_are_determined,
-    snapshot_limits_are_these, snapshots_agree, versions_stay, worked_runs, wrong_runs,
+    snapshots_agree, versions_stay, worked_runs, wrong_runs,
 };
-pub use snapshot::{MAX_SNAPSHOTS, SnapId};
+pub use snapshot::SnapId;

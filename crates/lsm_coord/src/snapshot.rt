@@ -2,9 +2,6 @@
 
 use lsm_key::Seq;
 
-/// The most snapshots that may be live at a time.
-pub const MAX_SNAPSHOTS: usize = 64;
-
 /// The name of a snapshot: the epoch that made it, and its number there, from 1.
 #[derive(Clone, Copy, Debug, PartialEq, Eq)]
 pub struct SnapId {

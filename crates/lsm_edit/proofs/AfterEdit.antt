@@ -56,9 +56,12 @@ ordered-if : (b : Bool) (p : Placed) (kept : List Placed) → ((q : Placed) → 
 ordered-if true p kept first up = (first, up)
 ordered-if false p kept first up = up
 
+pub ordered-filter : (test : Placed → Bool) (ps : List Placed) → AreInSearchOrder ps → AreInSearchOrder (filter test ps)
+ordered-filter test [] up = tt
+ordered-filter test (p ∷ ps) up = ordered-if (test p) p (filter test ps) (λ q m. up.0 q (IsIn-filter test q ps m).0) (ordered-filter test ps up.1)
+
 ordered-without : (numbers : List ℕ) (ps : List Placed) → AreInSearchOrder ps → AreInSearchOrder (places_without numbers ps)
-ordered-without numbers [] up = tt
-ordered-without numbers (p ∷ ps) up = ordered-if (stays numbers p.meta) p (places_without numbers ps) (λ q m. up.0 q (IsIn-filter (λ (x : Placed). stays numbers x.meta) q ps m).0) (ordered-without numbers ps up.1)
+ordered-without numbers ps up = ordered-filter (λ p. stays numbers p.meta) ps up
 
 -- ---- files of one version
 

@@ -259,25 +259,6 @@ recorded_left (suc i) (p ∷ ps) rec = recorded_left i ps (λ q m. rec q (inr m)
 
 -- ---- a walk over the places of a level, from a start on
 
--- a start that all places before it come left of is among the places
-pub start_within : (level : ℕ) (key : List ℕ) (ps : List Placed) (start : ℕ) → AllWithin (λ p. comes_left level key p ≡ true) ps 0 start → start ≤ length ps
-start_within level key ps start left = elim (cases_lt (length ps) start) [
-  | inl out ↦
-      let p : Placed = record { meta = record { number = 0; level = level + 1; smallest = []; largest = []; bytes = 0; entries = 0 }; table = record { bytes = []; entries = [] } } in
-      let last : get_or ps (length ps) p ≡ p = get_or_past ps p in
-      let h : comes_left level key p ≡ true = subst (λ (x : Placed). comes_left level key x ≡ true) last (left (length ps) p (omega arith) out) in
-      deeper_not_left level key p (omega arith) (left_of level key p h)
-  | inr le ↦ le
-]
-  where
-    get_or_past : (ps : List Placed) (d : Placed) → get_or ps (length ps) d ≡ d
-    get_or_past [] d = refl
-    get_or_past (q ∷ ps) d = get_or_past ps d
-
-    deeper_not_left : (level : ℕ) (key : List ℕ) (p : Placed) → level < p.meta.level → Left level key p.meta → start ≤ length ps
-    deeper_not_left level key p lt (above l) = absurd (omega (arith, lt, l))
-    deeper_not_left level key p lt (beside e k) = absurd (omega (arith, lt, e))
-
 -- with what is left of the rest after some places, a list has what the level has of the range
 abbrev pub Walked : List ℕ → List ℕ → ℕ → List Placed → List Placed → List Entry → ℕ → Type 0
 Walked lo hi level ps rest list i = list ++ within lo hi (filter (is_of level) (drop i rest)) ≡ within lo hi (filter (is_of level) ps)

@@ -1,12 +1,11 @@
 -- File records: what they may say, and how they are encoded (LevelDB, FileMetaData).
 use Rattle.std.specs.Prelude.{◌≡◌, ℕ, ◌<◌, ◌≤◌, ◌^◌, true, not, List, ◌++◌, Result, Ok, Err, if◌then◌else◌}
 use Rattle.std.specs.Int.{w8, w32, w64, to_be_bytes}
-use Rattle.lsm_key.specs.declared.limits.TheConstants.{MAX_KEY_BYTES, MAX_NUMBER, MAX_TABLE_BYTES}
+use Rattle.lsm_key.specs.declared.limits.TheConstants.{MAX_KEY_BYTES, MAX_NUMBER, MAX_TABLE_BYTES, MAX_LEVEL}
 use Rattle.lsm_key.specs.Order.{key_le}
 use Rattle.lsm_key.specs.Spelling.{key, IsKey}
 use Rattle.lsm_key.specs.Reading.{◌>>=◌, ranged_number_at, key_at}
 use Rattle.lsm_edit.specs.declared.file.FileMeta.{FileMeta}
-use Rattle.lsm_edit.specs.declared.file.TheConstants.{MAX_LEVEL}
 use Rattle.lsm_edit.specs.declared.format.FormatFault.{FormatFault}
 use Rattle.lsm_edit.specs.declared.format.FormatFault.TheVariants.{Truncated, BadField}
 

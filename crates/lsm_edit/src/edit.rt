@@ -10,12 +10,12 @@ ghost use Rattle.lsm_key.specs.Reading.{Gives};
 ghost use Rattle.lsm_edit.specs.declared.edit.Edit.{Edit};
 ghost use Rattle.lsm_edit.specs.Edit.{IsEdit, IsSpelled, edit, head, read_edit, fields_at, kind_at, kind_code, shape, removed_bytes, removed_at, added_at, numbers_at, files_at};
 
-use crate::file::{MAX_LEVEL, read_file, same_files, write_file};
+use crate::file::{read_file, same_files, write_file};
 use crate::{FileMeta, FormatError, FormatFault};
 use bytes::{BufMut, Bytes, BytesMut};
 use lsm_key::{
-    Items, MAX_KEY_BYTES, MAX_NUMBER, Refused, Seq, know_bytes, read_ranged_u32, read_ranged_u64,
-    read_u8, read_u32,
+    Items, MAX_KEY_BYTES, MAX_LEVEL, MAX_NUMBER, Refused, Seq, know_bytes, read_ranged_u32,
+    read_ranged_u64, read_u8, read_u32,
 };
 use std::alloc::{AllocError, Global};
 

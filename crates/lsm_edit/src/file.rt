@@ -16,9 +16,6 @@ use lsm_key::{
 };
 use std::alloc::AllocError;
 
-/// The deepest level.
-pub const MAX_LEVEL: u8 = 6;
-
 /// What a version knows of a table: its level, and what is in it.
 #[derive(Debug, Drop, Clone, PartialEq, Eq)]
 pub struct FileMeta {

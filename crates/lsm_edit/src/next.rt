@@ -12,9 +12,8 @@ ghost use Rattle.lsm_edit.specs.Next.{flush_edit, epoch_edit, install_edit, numb
 ghost use Rattle.lsm_edit.specs.Served.{IsAsRecorded};
 ghost use Rattle.lsm_table.specs.Tables.{IsTable};
 
-use crate::file::MAX_LEVEL;
 use crate::{Edit, EditKind, FileMeta, Version};
-use lsm_key::{Items, MAX_NUMBER, Seq};
+use lsm_key::{Items, KeyRangeRef, MAX_LEVEL, MAX_NUMBER, Seq};
 use lsm_table::Table;
 use std::alloc::{AllocError, Global};
 
@@ -39,6 +38,17 @@ impl FileMeta {
             bytes: table.bytes().len() as u32,
             entries: table.count() as u32,
         })
+    }
+
+    /// The keys of its table: from the least to the greatest.
+    pub fn range(&self) -> KeyRangeRef<'_>
+        ensures lo { result.lo.now ≡ self.now.smallest }
+        ensures hi { result.hi.now ≡ self.now.largest }
+    {
+        KeyRangeRef {
+            lo: self.smallest.as_slice(),
+            hi: self.largest.as_slice(),
+        }
     }
 }
 

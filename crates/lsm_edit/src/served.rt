@@ -2,7 +2,7 @@
 
 mod range;
 
-ghost use Rattle.std.specs.Prelude.{◌≡◌, ◌+◌, ◌<◌, ◌≤◌, ◌++◌, ◌∷◌, length, take, drop, slice_index_or, vec_capacity, true, false, OnOk, OnErr, IfOk, IfErr, IfSome, IfNone, None};
+ghost use Rattle.std.specs.Prelude.{◌≡◌, ◌+◌, ◌<◌, ◌≤◌, ◌++◌, ◌∷◌, length, take, drop, slice_index_or, vec_capacity, true, false, not, filter, OnOk, OnErr, IfOk, IfErr, IfSome, IfNone, None};
 ghost use Rattle.std.specs.List.Sorted.{IsPartitionPoint};
 ghost use Rattle.std.specs.Option.{option_map, option_copied, option_to_list};
 ghost use Rattle.lsm_key.specs.Faults.{Refuses};
@@ -14,10 +14,9 @@ ghost use Rattle.lsm_edit.specs.Edit.{IsEdit};
 ghost use Rattle.lsm_edit.specs.Version.{apply_fault};
 ghost use Rattle.lsm_edit.specs.Served.{AllRecorded, AreAsRecorded, AreInSearchOrder, UpperShowNone, comes_left, IsAsRecorded, is_before, is_covered, placed_of, put_in_order, put_all, in_order, tables_of};
 
-use crate::file::MAX_LEVEL;
 use crate::version::{is_among, removed_by};
 use crate::{ApplyError, Edit, FileMeta, Version};
-use lsm_key::{EntryRef, Seq};
+use lsm_key::{EntryRef, MAX_LEVEL, Seq};
 use lsm_table::Table;
 use std::alloc::{AllocError, Global};
 use std::marker::Model;
@@ -78,7 +77,8 @@ impl Served {
 
     /// The files with their tables, in search order.
     pub fn places(&self) -> &[Placed]
-        ensures { result.now ≡ self.now.places }
+        ensures all { result.now ≡ self.now.places }
+        ensures sound { IsServed self.now }
     {
         self.placed.as_slice()
     }
@@ -161,6 +161,18 @@ impl Served {
         ensures found { AreOrdered (tables_of self.now.places) → option_map lent_entry result ≡ visible (all_entries (tables_of self.now.places)) key.now self.now.version.flushed }
     {
         self.get_at(key, self.current.flushed())
+    }
+
+    /// The files of a level from the first whose largest key is at or after `key`, in the order of their keys, and after
+    /// them those of deeper levels. O(log n) comparisons, no allocation.
+    pub fn level_from(&self, level: u8, key: &[u8]) -> &[Placed]
+        requires { 1 ≤ level }
+        ensures from { result.now ≡ filter (λ p. not (comes_left level key.now p)) self.now.places }
+        ensures sound { IsServed self.now }
+    {
+        let places = self.places();
+        let start = place_in(places, level, key);
+        &places[start..]
     }
 
     /// The table of a file.
@@ -329,7 +341,8 @@ fn place_in(places: &[Placed], level: u8, key: &[u8]) -> usize
     requires recorded { AllRecorded places.now }
     requires ordered { AreInSearchOrder places.now }
     requires deeper { 1 ≤ level }
-    ensures { IsPartitionPoint (λ p. comes_left level key.now p ≡ true) (λ p. comes_left level key.now p ≡ false) places.now result }
+    ensures within { result ≤ length places.now }
+    ensures point { IsPartitionPoint (λ p. comes_left level key.now p ≡ true) (λ p. comes_left level key.now p ≡ false) places.now result }
 {
     places.partition_point(|placed| stands_left(placed, level, key))
 }
@@ -359,5 +372,5 @@ fn shown_by<'a>(placed: &'a Placed, key: &[u8], at: Seq) -> Option<EntryRef<'a>>
 fn covers(meta: &FileMeta, key: &[u8]) -> bool
     ensures { result ≡ is_covered meta.now key.now }
 {
-    meta.smallest.as_slice().cmp(key).is_le() && key.cmp(meta.largest.as_slice()).is_le()
+    meta.range().contains(key)
 }

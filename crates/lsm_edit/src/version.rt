@@ -315,10 +315,7 @@ fn has_clash(file: &FileMeta, others: &[FileMeta]) -> bool
 fn clash(file: &FileMeta, other: &FileMeta) -> bool
     ensures { result ≡ clashes file.now other.now }
 {
-    file.level == other.level
-        && file.level > 0
-        && file.smallest.cmp(&other.largest).is_le()
-        && other.smallest.cmp(&file.largest).is_le()
+    file.level == other.level && file.level > 0 && file.range().overlaps(other.range())
 }
 
 // Whether a file reuses a number.

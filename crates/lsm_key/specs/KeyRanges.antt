@@ -1,5 +1,5 @@
 -- Ranges of keys, both ends in them (LevelDB, version_set.cc: BeforeFile, AfterFile, SomeFileOverlapsRange).
-use Rattle.std.specs.Prelude.{ℕ, Bool, ◌&&◌, List}
+use Rattle.std.specs.Prelude.{ℕ, Bool, ◌&&◌, List, if◌then◌else◌}
 use Rattle.lsm_key.specs.Order.{key_le}
 
 -- the key is one of those from lo to hi
@@ -13,3 +13,11 @@ ranges_meet lo hi other_lo other_hi = key_le lo other_hi && key_le other_lo hi
 -- the keys from other_lo to other_hi, if there are any, are all among those from lo to hi
 abbrev pub range_encloses : List ℕ → List ℕ → List ℕ → List ℕ → Bool
 range_encloses lo hi other_lo other_hi = key_le lo other_lo && key_le other_hi hi
+
+-- the lesser of two least keys
+abbrev pub lower : List ℕ → List ℕ → List ℕ
+lower lo key = if key_le lo key then lo else key
+
+-- the greater of two greatest keys
+abbrev pub higher : List ℕ → List ℕ → List ℕ
+higher hi key = if key_le key hi then hi else key

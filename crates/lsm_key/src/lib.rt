@@ -14,6 +14,7 @@ mod limits;
 mod lookup;
 mod merge;
 mod op;
+mod range;
 mod refused;
 mod seq;
 #[cfg(test)]
@@ -32,10 +33,13 @@ pub use laws::{
 };
 pub use limits::{
     DEFAULT_BASE, DEFAULT_L0, ENTRY_OVERHEAD, Limits, MAX_BASE, MAX_BATCH_OPS, MAX_BATCH_WEIGHT,
-    MAX_KEY_BYTES, MAX_L0, MAX_MEMTABLE_WEIGHT, MAX_NUMBER, MAX_TABLE_BYTES, MAX_VALUE_BYTES,
+    MAX_DEEPER, MAX_INPUT_BYTES, MAX_INPUTS, MAX_JOB_LEVEL, MAX_KEY_BYTES, MAX_L0, MAX_LEVEL,
+    MAX_LIVE_CLAIMS, MAX_MEMTABLE_WEIGHT, MAX_NODES, MAX_NUMBER, MAX_POINTS, MAX_SNAPSHOTS,
+    MAX_TABLE_BYTES, MAX_VALUE_BYTES, NUM_LEVELS,
 };
 pub use lookup::{compare_place, range_in, seek_in};
 pub use merge::merge_lists;
 pub use op::Op;
+pub use range::{KeyRange, KeyRangeRef};
 pub use refused::Refused;
 pub use seq::Seq;

@@ -8,7 +8,7 @@ use Rattle.lsm_key.specs.Sets.{IsIn}
 use Rattle.lsm_key.specs.Visible.{has_key}
 use Rattle.lsm_key.proofs.Falls.{Falls}
 use Rattle.lsm_key.proofs.Visible.{has_key-is, has_key-at}
-use Rattle.lsm_msg.specs.declared.job.KeyRange.{KeyRange}
+use Rattle.lsm_key.specs.declared.range.KeyRange.{KeyRange}
 use Rattle.lsm_msg.specs.Merge.{may_go}
 use Rattle.lsm_merge.specs.Keeping.{is_seen_alone, is_needed, stays, kept_list}
 use Rattle.lsm_merge.proofs.Pass.{newer_first, alone_is, key_gone, kept_list-in}

@@ -13,7 +13,7 @@ use Rattle.lsm_key.specs.Visible.{Latest, IsUnique, has_key, is_seen, latest}
 use Rattle.lsm_key.proofs.Falls.{Falls}
 use Rattle.lsm_key.proofs.Order.{before_trans, of_one_key, keys_equal, is_less}
 use Rattle.lsm_key.proofs.Visible.{AreApart, latest-is, latest_one, at_visible, has_key-is, has_key-at, is_seen-key, is_seen-low, is_seen-from}
-use Rattle.lsm_msg.specs.declared.job.KeyRange.{KeyRange}
+use Rattle.lsm_key.specs.declared.range.KeyRange.{KeyRange}
 use Rattle.lsm_msg.specs.Merge.{IsNeeded, IsKept, HoldsKept, may_go}
 use Rattle.lsm_msg.proofs.Kept.{at_newest, kept_input}
 use Rattle.lsm_merge.specs.Keeping.{is_seen_alone, is_needed, stays, kept_list}

@@ -16,7 +16,7 @@ use Rattle.lsm_key.proofs.KeyRanges.{key_le_refl, key_le_trans, key_le_total}
 use Rattle.lsm_key.specs.Order.{key_le}
 use Rattle.lsm_key.specs.Sets.{IsIn}
 use Rattle.lsm_key.proofs.Sets.{IsIn-at, IsIn-place, SameMembers-permutation}
-use Rattle.lsm_msg.specs.declared.job.KeyRange.{KeyRange}
+use Rattle.lsm_key.specs.declared.range.KeyRange.{KeyRange}
 use Rattle.lsm_msg.specs.Merge.{is_in_ranges}
 use Rattle.lsm_merge.specs.Reaching.{IsByLeast, AreReaching, greater, with_raised_ends}
 use Rattle.lsm_merge.proofs.Comparing.{any_from, any_is, both_ways}

@@ -3,7 +3,7 @@ use Rattle.std.specs.Prelude.{◌≡◌, ◌≢◌, ℕ, ◌+◌, ◌-◌, ◌<�
 use Rattle.lsm_key.specs.declared.entry.Entry.{Entry}
 use Rattle.lsm_key.specs.Places.{all_entries}
 use Rattle.lsm_key.specs.Visible.{has_key}
-use Rattle.lsm_msg.specs.declared.rules.TheConstants.{MAX_POINTS}
+use Rattle.lsm_key.specs.declared.limits.TheConstants.{MAX_POINTS}
 use Rattle.lsm_merge.specs.declared.cut.TheConstants.{OUTPUT_TARGET}
 use Rattle.lsm_merge.specs.Outputs.{weight_of, before_last_key, HasLowerKeys, AreCut, EncodeEntries}
 

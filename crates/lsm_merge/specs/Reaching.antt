@@ -1,7 +1,7 @@
 -- Ranges of keys, prepared for a binary search (LevelDB, version_set.cc, SomeFileOverlapsRange: a binary search among ranges that are in order; the pass of the code).
 use Rattle.std.specs.Prelude.{◌≡◌, ℕ, ◌≤◌, ◌<◌, true, List, [], ◌∷◌, length, slice_index_or, if◌then◌else◌}
 use Rattle.lsm_key.specs.Order.{key_le}
-use Rattle.lsm_msg.specs.declared.job.KeyRange.{KeyRange}
+use Rattle.lsm_key.specs.declared.range.KeyRange.{KeyRange}
 
 -- the least keys ascend
 abbrev pub IsByLeast : List KeyRange → Type 0

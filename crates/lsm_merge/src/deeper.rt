@@ -3,12 +3,12 @@
 ghost use Rattle.std.specs.Prelude.{◌≡◌, ◌≤◌, ℕ, List, [], length, IfOk, IsPermutation, true, false};
 ghost use Rattle.std.specs.List.Sorted.{IsPartitionPoint};
 ghost use Rattle.lsm_key.specs.Order.{key_le};
-ghost use Rattle.lsm_msg.specs.declared.job.KeyRange.{KeyRange};
+ghost use Rattle.lsm_key.specs.declared.range.KeyRange.{KeyRange};
 ghost use Rattle.lsm_msg.specs.Merge.{is_in_ranges};
 ghost use Rattle.lsm_merge.specs.Reaching.{IsByLeast, AreReaching, with_raised_ends};
 
 use bytes::Bytes;
-use lsm_msg::KeyRange;
+use lsm_key::KeyRange;
 use std::alloc::{AllocError, Global};
 use std::marker::Model;
 

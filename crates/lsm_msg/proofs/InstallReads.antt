@@ -18,7 +18,7 @@ use Rattle.lsm_edit.specs.Served.{ServedValue, IsServed, tables_of}
 use Rattle.lsm_edit.proofs.LevelRanges.{in_tables}
 use Rattle.lsm_edit.proofs.Places.{newer_places, stored_unique, tables_in}
 use Rattle.lsm_msg.specs.declared.job.JobParts.{JobParts}
-use Rattle.lsm_msg.specs.declared.job.KeyRange.{KeyRange}
+use Rattle.lsm_key.specs.declared.range.KeyRange.{KeyRange}
 use Rattle.lsm_msg.specs.Merge.{HoldsKept}
 use Rattle.lsm_msg.specs.Laws.{ReadAlike}
 use Rattle.lsm_msg.specs.Legal.{IsLegal, KnowsDeeper}

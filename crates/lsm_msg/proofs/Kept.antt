@@ -5,7 +5,7 @@ use Rattle.lsm_key.specs.declared.entry.Entry.{Entry}
 use Rattle.lsm_key.specs.Sets.{IsIn}
 use Rattle.lsm_key.specs.Visible.{Latest, IsLatest, has_key, newest}
 use Rattle.lsm_key.proofs.Visible.{latest-is, at_visible, has_key-at, is_seen-from, is_seen-low}
-use Rattle.lsm_msg.specs.declared.job.KeyRange.{KeyRange}
+use Rattle.lsm_key.specs.declared.range.KeyRange.{KeyRange}
 use Rattle.lsm_msg.specs.Merge.{IsKept}
 use Rattle.lsm_msg.specs.Laws.{KeptAreInputs, HiddenEntriesGo, ASnapshotKeepsBoth, BothGo, ADeeperFileKeepsTheDeletion, put, deletion, over_a}
 

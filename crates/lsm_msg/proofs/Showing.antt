@@ -9,7 +9,7 @@ use Rattle.lsm_key.specs.Sets.{IsIn, SameMembers}
 use Rattle.lsm_key.specs.Visible.{Latest, IsLatest, IsUnique, has_key, is_seen, newer, latest, value_by_kind, entry_value}
 use Rattle.lsm_key.proofs.Visible.{latest-is, latest-append, latest_one, latest_alike, AreApart, at_visible, has_key-is, has_key-at, is_seen-key, is_seen-from}
 use Rattle.lsm_key.proofs.Sets.{IsIn-append_left, IsIn-append_cases}
-use Rattle.lsm_msg.specs.declared.job.KeyRange.{KeyRange}
+use Rattle.lsm_key.specs.declared.range.KeyRange.{KeyRange}
 use Rattle.lsm_msg.specs.Merge.{IsNeeded, IsKept, HoldsKept, is_deletion, is_at_most_all, is_in_ranges, may_go}
 use Rattle.lsm_msg.specs.Laws.{ReadAlike, ReadsStay}
 use Rattle.lsm_msg.proofs.Kept.{at_newest, kept_input}

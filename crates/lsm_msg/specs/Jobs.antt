@@ -1,7 +1,6 @@
 -- Which jobs there are (RocksDB wiki, Remote Compaction: the input of a compaction service; LevelDB, implementation notes: compactions).
 use Rattle.std.specs.Prelude.{◌≤◌}
-use Rattle.lsm_key.specs.declared.limits.TheConstants.{MAX_TABLE_BYTES}
-use Rattle.lsm_msg.specs.declared.rules.TheConstants.{MAX_JOB_LEVEL}
+use Rattle.lsm_key.specs.declared.limits.TheConstants.{MAX_TABLE_BYTES, MAX_JOB_LEVEL}
 use Rattle.lsm_msg.specs.declared.job.JobParts.{JobParts}
 use Rattle.lsm_msg.specs.Rules.{IsJobId, ArePoints, AreInputs, AreDeeper}
 

@@ -1,5 +1,5 @@
 -- Which files may be merged, and what a job of them has to know (LevelDB, version_set.cc: GetOverlappingInputs, SetupOtherInputs; Compaction::IsBaseLevelForKey).
-use Rattle.std.specs.Prelude.{◌≡◌, ℕ, ◌+◌, ◌<◌, ◌≤◌, Bool, true, false, ◌&&◌, List}
+use Rattle.std.specs.Prelude.{◌≡◌, ℕ, ◌+◌, ◌<◌, ◌≤◌, Bool, true, false, List}
 use Rattle.lsm_key.specs.declared.entry.Entry.{Entry}
 use Rattle.lsm_key.specs.Sets.{IsIn}
 use Rattle.lsm_claim.specs.declared.hull.Hull.{Hull}

@@ -7,7 +7,7 @@ use Rattle.lsm_key.specs.declared.entry.Kind.TheVariants.{Delete, Put}
 use Rattle.lsm_key.specs.Sets.{IsIn}
 use Rattle.lsm_key.specs.Visible.{visible, newest}
 use Rattle.lsm_key.specs.KeyRanges.{in_closed_range}
-use Rattle.lsm_msg.specs.declared.job.KeyRange.{KeyRange}
+use Rattle.lsm_key.specs.declared.range.KeyRange.{KeyRange}
 
 -- some read needs the entry: the latest one, or one at a point
 abbrev pub IsNeeded : List Entry → List ℕ → Entry → Type 0

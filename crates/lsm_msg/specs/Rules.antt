@@ -1,14 +1,13 @@
 -- What the parts of a job may be (RocksDB wiki, Remote Compaction: the input of a compaction service; the limits are the store's own).
 use Rattle.std.specs.Prelude.{◌≡◌, ℕ, ◌<◌, ◌≤◌, true, List, length, All, AllPairs, Any}
-use Rattle.lsm_key.specs.declared.limits.TheConstants.{MAX_KEY_BYTES, MAX_NUMBER}
+use Rattle.lsm_key.specs.declared.limits.TheConstants.{MAX_KEY_BYTES, MAX_NUMBER, MAX_DEEPER, MAX_INPUTS, MAX_POINTS}
 use Rattle.lsm_key.specs.Order.{key_le}
 use Rattle.lsm_key.specs.Spelling.{IsKey}
 use Rattle.lsm_claim.specs.declared.job.JobId.{JobId}
 use Rattle.lsm_claim.specs.Levels.{uses_level}
 use Rattle.lsm_edit.specs.declared.file.FileMeta.{FileMeta}
 use Rattle.lsm_edit.specs.File.{IsFile}
-use Rattle.lsm_msg.specs.declared.rules.TheConstants.{MAX_DEEPER, MAX_INPUTS, MAX_POINTS}
-use Rattle.lsm_msg.specs.declared.job.KeyRange.{KeyRange}
+use Rattle.lsm_key.specs.declared.range.KeyRange.{KeyRange}
 
 -- a name that an epoch may issue
 pub record IsJobId (id : JobId) : Type 0 where

@@ -1,22 +1,13 @@
 //! Jobs and their results.
 
 use crate::lists::{same_points, same_ranges, same_tables};
-use crate::rules::{MAX_JOB_LEVEL, are_deeper, are_inputs, are_points, is_job_id};
+use crate::rules::{are_deeper, are_inputs, are_points, is_job_id};
 use bytes::Bytes;
 use lsm_claim::JobId;
 use lsm_edit::{FileMeta, same_files};
-use lsm_key::{Items, MAX_TABLE_BYTES, Seq};
+use lsm_key::{Items, KeyRange, MAX_JOB_LEVEL, MAX_TABLE_BYTES, Seq};
 use std::alloc::{AllocError, Global};
 use std::marker::Model;
-
-/// A closed range of keys: those of a file, as its record says. It may break the rules.
-#[derive(Debug, Drop, Clone, PartialEq, Eq)]
-pub struct KeyRange {
-    /// Its least key.
-    pub lo: Bytes,
-    /// Its greatest key.
-    pub hi: Bytes,
-}
 
 /// The parts of a job, which may break the rules.
 #[derive(Debug, Drop)]

@@ -1,9 +1,6 @@
-//! What the definition of a merge implies, what installs and flushes leave unchanged, and the limits of a job as
-//! numbers. The functions do nothing: each is the proof of its contract.
+//! What the definition of a merge implies, and what installs and flushes leave unchanged. The functions do nothing: each
+//! is the proof of its contract.
 
-ghost use Rattle.std.specs.Prelude.{◌≡◌};
-ghost use Rattle.lsm_msg.specs.declared.node.TheConstants.{MAX_NODES};
-ghost use Rattle.lsm_msg.specs.declared.rules.TheConstants.{MAX_DEEPER, MAX_INPUTS, MAX_JOB_LEVEL, MAX_POINTS};
 ghost use Rattle.lsm_msg.specs.Laws.{KeptAreInputs, HiddenEntriesGo, ReadsStay, ASnapshotKeepsBoth, BothGo, ADeeperFileKeepsTheDeletion};
 ghost use Rattle.lsm_msg.specs.InstallLaws.{InstallsKeepReads, InstallsAddNoEntry, InstallsKeepOrder, InstallsKeepJobs, FlushesKeepOrder, FlushesKeepJobs};
 
@@ -58,17 +55,4 @@ pub fn worked_merges()
     ensures snapshot { ASnapshotKeepsBoth }
     ensures alone { BothGo }
     ensures deeper { ADeeperFileKeepsTheDeletion }
-{}
-
-/// The limits of a job are these numbers.
-pub fn job_limits_are_these()
-    ensures level { MAX_JOB_LEVEL ≡ 5 }
-    ensures points { MAX_POINTS ≡ 64 }
-    ensures inputs { MAX_INPUTS ≡ 1024 }
-    ensures deeper { MAX_DEEPER ≡ 65536 }
-{}
-
-/// There are at most so many workers, and as many followers.
-pub fn node_limits_are_these()
-    ensures { MAX_NODES ≡ 4 }
 {}

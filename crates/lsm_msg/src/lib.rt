@@ -17,12 +17,10 @@ mod rules;
 #[cfg(test)]
 mod tests;
 
-pub use job::{Job, JobParts, JobResult, KeyRange};
+pub use job::{Job, JobParts, JobResult};
 pub use laws::{
     flushes_keep_jobs, flushes_keep_order, hidden_entries_go, installs_keep_jobs,
-    installs_keep_order, installs_keep_reads, job_limits_are_these, kept_are_inputs,
-    node_limits_are_these, reads_stay, worked_merges,
+    installs_keep_order, installs_keep_reads, kept_are_inputs, reads_stay, worked_merges,
 };
 pub use message::{Body, Message};
-pub use node::{MAX_NODES, Node, NodeIndex};
-pub use rules::{MAX_DEEPER, MAX_INPUTS, MAX_JOB_LEVEL, MAX_POINTS};
+pub use node::{Node, NodeIndex};

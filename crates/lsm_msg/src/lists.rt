@@ -2,9 +2,8 @@
 
 ghost use Rattle.std.specs.Prelude.{◌≡◌, ◌↔◌, IsTrue};
 
-use crate::KeyRange;
 use bytes::Bytes;
-use lsm_key::Seq;
+use lsm_key::{KeyRange, Seq};
 
 pub(crate) fn same_ranges(rs: &[KeyRange], ss: &[KeyRange]) -> bool
     ensures { IsTrue result ↔ rs.now ≡ ss.now }

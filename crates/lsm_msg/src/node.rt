@@ -1,9 +1,7 @@
 //! Nodes, which send and receive messages.
 
+use lsm_key::MAX_NODES;
 use std::marker::Model;
-
-/// The most workers, and the most followers, that a coordinator may have: one worker for each live claim.
-pub const MAX_NODES: u8 = 4;
 
 /// Which worker or follower it is, from 1 to `MAX_NODES`.
 #[derive(Clone, Copy, Debug, PartialEq, Eq)]
@@ -13,7 +11,7 @@ pub struct NodeIndex {
 
 impl Model for NodeIndex {
     ghost use Rattle.std.specs.Prelude.{ℕ, ◌≤◌};
-    ghost use Rattle.lsm_msg.specs.declared.node.TheConstants.{MAX_NODES};
+    ghost use Rattle.lsm_key.specs.declared.limits.TheConstants.{MAX_NODES};
 
     ghost Value = { ℕ };
 

@@ -6,23 +6,13 @@ ghost use Rattle.lsm_edit.specs.File.{IsFile};
 ghost use Rattle.lsm_key.specs.Spelling.{IsKey};
 ghost use Rattle.lsm_msg.specs.Rules.{IsJobId, AreKeys, IsInput, ArePoints, AreInputs, AreDeeper};
 
-use crate::KeyRange;
 use bytes::Bytes;
 use lsm_claim::JobId;
 use lsm_edit::FileMeta;
-use lsm_key::{MAX_KEY_BYTES, MAX_NUMBER, MAX_TABLE_BYTES, Seq};
-
-/// The deepest level that has a level below to merge into.
-pub const MAX_JOB_LEVEL: u8 = 5;
-
-/// The most snapshots that may be live, since each may need a point.
-pub const MAX_POINTS: usize = 64;
-
-/// A worker has all inputs in memory at a time. In files.
-pub const MAX_INPUTS: usize = 1024;
-
-/// A job is sent in one message, which the ranges of deeper files must not fill. In ranges.
-pub const MAX_DEEPER: usize = 65_536;
+use lsm_key::{
+    KeyRange, MAX_DEEPER, MAX_INPUTS, MAX_KEY_BYTES, MAX_LEVEL, MAX_NUMBER, MAX_POINTS,
+    MAX_TABLE_BYTES, Seq,
+};
 
 // Whether an epoch may issue this name.
 pub(crate) fn is_job_id(id: JobId) -> bool
@@ -101,7 +91,7 @@ fn is_file(file: &FileMeta) -> bool
 {
     file.number >= 1
         && file.number <= MAX_NUMBER
-        && file.level <= MAX_JOB_LEVEL + 1
+        && file.level <= MAX_LEVEL
         && are_keys(&file.smallest, &file.largest)
         && file.bytes >= 1
         && file.bytes <= MAX_TABLE_BYTES as u32

@@ -1,10 +1,10 @@
 //! Jobs at each edge of their rules, and what is the same as what.
 
-use crate::{Body, Job, JobParts, JobResult, KeyRange, MAX_NODES, Message, Node, NodeIndex};
+use crate::{Body, Job, JobParts, JobResult, Message, Node, NodeIndex};
 use bytes::Bytes;
 use lsm_claim::JobId;
 use lsm_edit::{Edit, EditKind, FileMeta, Version};
-use lsm_key::{Items, Seq};
+use lsm_key::{Items, KeyRange, MAX_NODES, Seq};
 use std::alloc::{AllocError, Global};
 use std::process::Abort;
 use std::test::Fail;

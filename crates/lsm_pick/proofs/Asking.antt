@@ -16,8 +16,7 @@ use Rattle.lsm_edit.specs.File.{IsFile}
 use Rattle.lsm_edit.proofs.Places.{one_number}
 use Rattle.lsm_edit.proofs.AfterEdit.{keeps}
 use Rattle.lsm_edit.specs.Version.{FileNumbersRise}
-use Rattle.lsm_msg.specs.declared.rules.TheConstants.{MAX_DEEPER, MAX_INPUTS}
-use Rattle.lsm_pick.specs.declared.limit.TheConstants.{MAX_INPUT_BYTES}
+use Rattle.lsm_key.specs.declared.limits.TheConstants.{MAX_DEEPER, MAX_INPUTS, MAX_INPUT_BYTES}
 use Rattle.lsm_pick.specs.Closure.{Candidate, HasNewer, IsClosure}
 use Rattle.lsm_pick.specs.Reach.{IsFull, is_inside, is_met, is_taken, may_join}
 use Rattle.lsm_pick.specs.Counted.{deeper_than, fits_job}

@@ -9,7 +9,7 @@ use Rattle.lsm_key.proofs.Sets.{IsIn-append_cases, IsIn-append_right}
 use Rattle.lsm_claim.specs.declared.job.LiveJob.{LiveJob}
 use Rattle.lsm_claim.specs.declared.job.Want.{Want}
 use Rattle.lsm_edit.specs.declared.file.FileMeta.{FileMeta}
-use Rattle.lsm_msg.specs.declared.rules.TheConstants.{MAX_JOB_LEVEL}
+use Rattle.lsm_key.specs.declared.limits.TheConstants.{MAX_JOB_LEVEL}
 use Rattle.lsm_pick.specs.Closure.{Candidate}
 use Rattle.lsm_pick.specs.Due.{is_due, levels, of_level}
 use Rattle.lsm_pick.specs.Rule.{IsFirst, level_candidates, candidates, candidates_of}

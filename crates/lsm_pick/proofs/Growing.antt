@@ -7,7 +7,8 @@ use Rattle.lsm_key.proofs.KeyRanges.{key_le_refl, key_le_trans, key_le_total}
 use Rattle.lsm_edit.specs.declared.file.FileMeta.{FileMeta}
 use Rattle.lsm_edit.specs.declared.served.Placed.{Placed}
 use Rattle.lsm_pick.specs.Closure.{Candidate, IsClosed}
-use Rattle.lsm_pick.specs.Reach.{IsReach, MayBeInput, Grows, is_inside, is_met, joins_at, lower, higher, may_join}
+use Rattle.lsm_key.specs.KeyRanges.{lower, higher}
+use Rattle.lsm_pick.specs.Reach.{IsReach, MayBeInput, Grows, is_inside, is_met, joins_at, may_join}
 
 -- ---- keys
 

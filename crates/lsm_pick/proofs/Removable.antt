@@ -12,7 +12,7 @@ use Rattle.lsm_edit.specs.declared.file.FileMeta.{FileMeta}
 use Rattle.lsm_edit.specs.Edit.{AreInTurn, AreRemoved, IsNumberFrom, after_number}
 use Rattle.lsm_edit.specs.File.{IsFile}
 use Rattle.lsm_edit.specs.Version.{FileNumbersRise}
-use Rattle.lsm_msg.specs.declared.rules.TheConstants.{MAX_INPUTS}
+use Rattle.lsm_key.specs.declared.limits.TheConstants.{MAX_INPUTS}
 use Rattle.lsm_pick.specs.Closure.{Candidate}
 use Rattle.lsm_pick.specs.Rule.{IsEligible, inputs_of}
 

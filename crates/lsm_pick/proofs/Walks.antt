@@ -1,19 +1,22 @@
 -- A walk over places widens a reach by the files that it meets.
-use Rattle.std.proofs.Common.{◌≡◌, ℕ, ◌+◌, ◌<◌, ◌≤◌, Bool, true, false, cond, ◌&&◌, List, [], ◌∷◌, ◌⊎◌, inl, inr, refl, sym, ap, ◌∙◌, subst, arith, eqb, length, take, drop, get_or}
-use Rattle.std.proofs.lemmas.Bool.{true≢false, and_parts, and_from, and_cases, eqb-true, eq-eqb, eqb-false}
+use Rattle.std.proofs.Common.{◌≡◌, ℕ, ◌+◌, ◌<◌, ◌≤◌, Bool, true, false, cond, not, filter, ◌&&◌, List, [], ◌∷◌, ◌⊎◌, inl, inr, refl, sym, ap, ◌∙◌, subst, arith, eqb, length, take, drop, get_or}
+use Rattle.std.proofs.lemmas.Bool.{true≢false, not-true, and_parts, and_from, and_cases, eqb-true, eq-eqb, eqb-false}
 use Rattle.std.proofs.lemmas.List.{take-append-drop, take_more, drop_more, drop_all, get_or-take, get_or-drop, length-take, length-drop}
 use Rattle.lsm_key.specs.Sets.{IsIn}
 use Rattle.lsm_key.specs.Order.{key_le}
 use Rattle.lsm_key.proofs.Sets.{IsIn-append_cases, IsIn-append_left, IsIn-append_right, IsIn-at, IsIn-place}
+use Rattle.lsm_key.proofs.Falls.{IsIn-filter}
 use Rattle.lsm_key.proofs.KeyRanges.{key_le_refl, key_le_trans, key_le_total}
 use Rattle.lsm_edit.specs.declared.file.FileMeta.{FileMeta}
 use Rattle.lsm_edit.specs.declared.served.Placed.{Placed}
 use Rattle.lsm_edit.specs.Served.{AllRecorded, AreInSearchOrder, IsAsRecorded, comes_left}
 use Rattle.lsm_edit.proofs.SearchOrder.{Before, upper, newer, lesser, before_of}
 use Rattle.lsm_edit.proofs.Levels.{Left, above, beside, left_of, level_up, not_left, whole_of}
+use Rattle.lsm_edit.proofs.AfterEdit.{keeps, ordered-filter}
 use Rattle.lsm_edit.proofs.LevelRanges.{order_left}
 use Rattle.lsm_pick.specs.Closure.{Candidate}
-use Rattle.lsm_pick.specs.Reach.{IsReach, Grows, is_inside, is_met, joins_at, lower, higher, may_join}
+use Rattle.lsm_key.specs.KeyRanges.{lower, higher}
+use Rattle.lsm_pick.specs.Reach.{IsReach, Grows, is_inside, is_met, joins_at, may_join}
 use Rattle.lsm_pick.proofs.Growing.{lower_low, lower_key, higher_high, higher_key, met_parts, met_from, met_more, inside_from, inside_more, reach_more}
 
 -- ---- parts of a list
@@ -123,17 +126,20 @@ later_missed level lo hi q p rec some ge late (lesser e n k) at met =
     true≢false (sym (key_le_trans q.meta.smallest q.meta.largest hi whole (key_le_trans q.meta.largest p.meta.smallest hi up (met_parts lo hi p.meta met).1)) ∙ after)
 
 -- the walk over the places of the next level from the first whose keys don't all stand below the least one
-module _ (places rest : List Placed) (level start : ℕ) (lo hi : List ℕ) (some : 1 ≤ level) (rec : AllRecorded places) (up : AreInSearchOrder places) (rest_at : rest ≡ drop start places)
-    (left : (p : Placed) → IsIn p (take start places) → comes_left level lo p ≡ true) (right : (p : Placed) → IsIn p (drop start places) → comes_left level lo p ≡ false) (t : Candidate) where
+module _ (places rest : List Placed) (level : ℕ) (lo hi : List ℕ) (some : 1 ≤ level) (rec : AllRecorded places) (up : AreInSearchOrder places) (rest_is_from : rest ≡ filter (λ p. not (comes_left level lo p)) places) (t : Candidate) where
+  from_here : (p : Placed) → IsIn p rest → IsIn p places × (not (comes_left level lo p) ≡ true)
+  from_here p m = IsIn-filter (λ p. not (comes_left level lo p)) p places (subst (IsIn p) rest_is_from m)
+
   pub rest_in : (p : Placed) → IsIn p rest → IsIn p places
-  rest_in p m = in_back places start p (subst (IsIn p) rest_at m)
+  rest_in p m = (from_here p m).0
 
   -- what joins and is met stands in the rest
   in_rest : (p : Placed) → IsIn p places → joins_at t level p.meta ≡ true → is_met lo hi p.meta ≡ true → IsIn p rest
-  in_rest p m j met = elim (in_parts places start p m) [
-    | inl a ↦ absurd (left_missed level lo hi p (left p a) (joins_level t level p.meta j) met)
-    | inr b ↦ subst (IsIn p) (sym rest_at) b
-  ]
+  in_rest p m j met = by (comes_left level lo p) refl
+    where
+      by : (b : Bool) → comes_left level lo p ≡ b → IsIn p rest
+      by true left = absurd (left_missed level lo hi p left (joins_level t level p.meta j) met)
+      by false right = subst (IsIn p) (sym rest_is_from) (keeps (λ p. not (comes_left level lo p)) p places m (ap not right))
 
   pub all_walked : (i : ℕ) → length rest ≤ i → (p : Placed) → IsIn p places → joins_at t level p.meta ≡ true → is_met lo hi p.meta ≡ true → IsIn p (take i rest)
   all_walked i le p m j met = elim (in_parts rest i p (in_rest p m j met)) [
@@ -142,7 +148,7 @@ module _ (places rest : List Placed) (level start : ℕ) (lo hi : List ℕ) (som
   ]
 
   ahead : (p : Placed) → IsIn p rest → comes_left level lo p ≡ false
-  ahead p m = right p (subst (IsIn p) rest_at m)
+  ahead p m = not-true (comes_left level lo p) (from_here p m).1
 
   pub stopped_at : (i : ℕ) (q : Placed) → i < length rest → q ≡ get_or rest i q → begins level hi q ≡ false
       → (p : Placed) → IsIn p places → joins_at t level p.meta ≡ true → is_met lo hi p.meta ≡ true → IsIn p (take i rest)
@@ -154,7 +160,7 @@ module _ (places rest : List Placed) (level start : ℕ) (lo hi : List ℕ) (som
         elim (subst (IsIn p) (rest_is rest i q lt is) b) [
           | inl same ↦ absurd (true≢false (sym (and_from (eqb p.meta.level level) (key_le p.meta.smallest hi) (eq-eqb p.meta.level level at) (met_parts lo hi p.meta met).1) ∙ ap (begins level hi) same ∙ late))
           | inr after ↦
-              let order : AreInSearchOrder (q ∷ drop (i + 1) rest) = subst AreInSearchOrder (rest_is rest i q lt is) (order_left i rest (subst AreInSearchOrder (sym rest_at) (order_left start places up))) in
+              let order : AreInSearchOrder (q ∷ drop (i + 1) rest) = subst AreInSearchOrder (rest_is rest i q lt is) (order_left i rest (subst AreInSearchOrder (sym rest_is_from) (ordered-filter (λ p. not (comes_left level lo p)) places up))) in
               absurd (later_missed level lo hi q p (both q p (rec q (rest_in q here)) (rec p m)) some (not_left level lo q (ahead q here)).0 late (before_of q.meta p.meta (order.0 p after)) at met)
         ]
   ]
@@ -191,17 +197,3 @@ zero_walked places t lo hi i q up lt is deep p m j met = elim (in_parts places i
 
 pub zero_all : (places : List Placed) (t : Candidate) (lo hi : List ℕ) (i : ℕ) → length places ≤ i → (p : Placed) → IsIn p places → joins_at t 0 p.meta ≡ true → is_met lo hi p.meta ≡ true → IsIn p (take i places)
 zero_all places t lo hi i le p m j met = elim (in_parts places i p m) [ inl a ↦ a | inr b ↦ absurd (subst (IsIn p) (drop_all i places le) b) ]
-
--- what is taken at each place below a partition point, and at none above it
-pub taken_left : (P : Placed → Type 0) (xs : List Placed) (i : ℕ) → i ≤ length xs → ((k : ℕ) (d : Placed) → 0 ≤ k → k < i → P (get_or xs k d)) → (p : Placed) → IsIn p (take i xs) → P p
-taken_left P xs i le h p m =
-    let at = IsIn-place p (take i xs) m in
-    let len = length-take i xs in
-    let lt : at.0 < i = omega (arith, at.1, len) in
-    subst P (sym (get_or-take i xs at.0 p lt) ∙ at.2) (h at.0 p (omega arith) lt)
-
-pub taken_right : (P : Placed → Type 0) (xs : List Placed) (i : ℕ) → i ≤ length xs → ((k : ℕ) (d : Placed) → i ≤ k → k < length xs → P (get_or xs k d)) → (p : Placed) → IsIn p (drop i xs) → P p
-taken_right P xs i le h p m =
-    let at = IsIn-place p (drop i xs) m in
-    let len = length-drop i xs in
-    subst P (sym (get_or-drop i xs at.0 p) ∙ at.2) (h (i + at.0) p (omega arith) (omega (arith, at.1, len, le)))

@@ -1,8 +1,7 @@
 -- The job limits, for the closure with a given key range.
 use Rattle.std.specs.Prelude.{ℕ, ◌+◌, Bool, ◌&&◌, List, Option, None, Some, filter, length, nat_lt, nat_le, sum_by, if◌then◌else◌}
 use Rattle.lsm_edit.specs.declared.file.FileMeta.{FileMeta}
-use Rattle.lsm_msg.specs.declared.rules.TheConstants.{MAX_DEEPER, MAX_INPUTS}
-use Rattle.lsm_pick.specs.declared.limit.TheConstants.{MAX_INPUT_BYTES}
+use Rattle.lsm_key.specs.declared.limits.TheConstants.{MAX_DEEPER, MAX_INPUTS, MAX_INPUT_BYTES}
 use Rattle.lsm_pick.specs.Closure.{Candidate}
 use Rattle.lsm_pick.specs.Reach.{is_met, is_taken}
 

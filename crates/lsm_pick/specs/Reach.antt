@@ -10,13 +10,6 @@ use Rattle.lsm_pick.specs.Closure.{Candidate, IsClosed}
 abbrev pub candidate_of : FileMeta → Bool → Candidate
 candidate_of first older_only = record { first = first; older_only = older_only }
 
--- the lesser and the greater one of two keys
-abbrev pub lower : List ℕ → List ℕ → List ℕ
-lower lo key = if key_le lo key then lo else key
-
-abbrev pub higher : List ℕ → List ℕ → List ℕ
-higher hi key = if key_le key hi then hi else key
-
 -- the file's range overlaps the keys from lo to hi
 abbrev pub is_met : List ℕ → List ℕ → FileMeta → Bool
 is_met lo hi f = ranges_meet lo hi f.smallest f.largest

@@ -7,9 +7,8 @@ use Rattle.lsm_claim.specs.declared.job.LiveJob.{LiveJob}
 use Rattle.lsm_claim.specs.declared.job.Want.{Want}
 use Rattle.lsm_claim.specs.Conflicts.{conflicts}
 use Rattle.lsm_edit.specs.declared.file.FileMeta.{FileMeta}
-use Rattle.lsm_msg.specs.declared.rules.TheConstants.{MAX_DEEPER, MAX_INPUTS}
+use Rattle.lsm_key.specs.declared.limits.TheConstants.{MAX_DEEPER, MAX_INPUTS, MAX_INPUT_BYTES}
 use Rattle.lsm_msg.specs.Legal.{touches, encloses}
-use Rattle.lsm_pick.specs.declared.limit.TheConstants.{MAX_INPUT_BYTES}
 use Rattle.lsm_pick.specs.Closure.{Candidate, IsClosure}
 use Rattle.lsm_pick.specs.Due.{of_level, due_levels}
 

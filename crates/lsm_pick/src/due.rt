@@ -1,6 +1,7 @@
 //! Levels that need compaction (are due).
 
 ghost use Rattle.std.specs.Prelude.{◌≡◌, ◌≤◌, ◌*◌, ◌^◌, ◌-◌, ◌+◌, count_by, sum_by, length, nat_eq, nat_le, nat_lt};
+ghost use Rattle.lsm_key.specs.declared.limits.TheConstants.{MAX_JOB_LEVEL};
 ghost use Rattle.lsm_key.specs.declared.limits.TheConstants.{MAX_BASE};
 ghost use Rattle.lsm_pick.specs.Due.{is_due, is_full, is_heavy, of_level, most_level_bytes};
 
@@ -9,7 +10,7 @@ use lsm_key::Limits;
 
 /// Whether the level needs compaction. The deepest one, which has none below it, never does.
 pub(crate) fn is_due(limits: &Limits, files: &[FileMeta], level: u8) -> bool
-    requires { level ≤ 5 }
+    requires { level ≤ MAX_JOB_LEVEL }
     ensures { result ≡ is_due limits.now files.now level }
 {
     if level == 0 {
@@ -36,7 +37,7 @@ fn level_zero_count(files: &[FileMeta]) -> usize
 // The most bytes that a deeper level may have before it needs compaction.
 fn allowed(limits: &Limits, level: u8) -> u64
     requires some { 1 ≤ level }
-    requires most { level ≤ 5 }
+    requires most { level ≤ MAX_JOB_LEVEL }
     ensures { result ≡ most_level_bytes limits.now level }
 {
     const FACTORS: [u64; 5] = [1, 10, 100, 1000, 10_000];

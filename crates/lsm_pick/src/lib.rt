@@ -18,6 +18,5 @@ mod tests;
 mod want;
 
 pub use error::PickError;
-pub use laws::{a_candidate_proposes_one_want, pick_limits_are_these};
-pub use limit::MAX_INPUT_BYTES;
+pub use laws::a_candidate_proposes_one_want;
 pub use rule::pick;

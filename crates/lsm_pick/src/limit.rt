@@ -1,25 +1,22 @@
 //! The limits of a job.
 
 ghost use Rattle.std.specs.Prelude.{◌≡◌, ◌≤◌, filter, length};
+ghost use Rattle.lsm_key.specs.declared.limits.TheConstants.{MAX_JOB_LEVEL};
 ghost use Rattle.lsm_pick.specs.Counted.{input_bytes, deeper_than, fits_job};
 ghost use Rattle.lsm_pick.specs.Reach.{is_taken, candidate_of};
 
-use crate::reach::Reach;
 use crate::want::takes;
 use lsm_edit::FileMeta;
-use lsm_msg::{MAX_DEEPER, MAX_INPUTS};
-
-/// A worker has all inputs of a job in memory at a time, whatever their number. In bytes.
-pub const MAX_INPUT_BYTES: u64 = 268_435_456;
+use lsm_key::{KeyRangeRef, MAX_DEEPER, MAX_INPUT_BYTES, MAX_INPUTS};
 
 /// Whether the closure is within the job limits.
 pub(crate) fn fits_limits(
     files: &[FileMeta],
     first: &FileMeta,
     older_only: bool,
-    reach: Reach<'_>,
+    reach: KeyRangeRef<'_>,
 ) -> bool
-    requires { first.now.level ≤ 5 }
+    requires { first.now.level ≤ MAX_JOB_LEVEL }
     ensures { result ≡ fits_job (candidate_of first.now older_only) reach.entry.lo.now reach.entry.hi.now files.now }
 {
     let bytes = match input_bytes(files, first, older_only, reach) {
@@ -34,9 +31,9 @@ fn input_bytes(
     files: &[FileMeta],
     first: &FileMeta,
     older_only: bool,
-    reach: Reach<'_>,
+    reach: KeyRangeRef<'_>,
 ) -> Option<u64>
-    requires { first.now.level ≤ 5 }
+    requires { first.now.level ≤ MAX_JOB_LEVEL }
     ensures { result ≡ input_bytes (filter (is_taken (candidate_of first.now older_only) reach.entry.lo.now reach.entry.hi.now) files.now) }
 {
     let (mut inputs, mut bytes) = (0, 0);
@@ -53,12 +50,12 @@ fn input_bytes(
 }
 
 // How many files below both levels may have keys of the closure.
-fn deeper_count(files: &[FileMeta], level: u8, reach: Reach<'_>) -> usize
-    requires { level ≤ 5 }
+fn deeper_count(files: &[FileMeta], level: u8, reach: KeyRangeRef<'_>) -> usize
+    requires { level ≤ MAX_JOB_LEVEL }
     ensures { result ≡ length (deeper_than level reach.entry.lo.now reach.entry.hi.now files.now) }
 {
     files
         .iter()
-        .filter(|file| file.level > level + 1 && reach.meets(file))
+        .filter(|file| file.level > level + 1 && reach.overlaps(file.range()))
         .count()
 }

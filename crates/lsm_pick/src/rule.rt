@@ -19,12 +19,11 @@ use crate::PickError;
 use crate::due::is_due;
 use crate::limit::fits_limits;
 use crate::outcome::Outcome;
-use crate::reach::{Reach, closure};
+use crate::reach::closure;
 use crate::want::want_of;
 use lsm_claim::{ClaimBook, LiveJob, Want, shares_level};
 use lsm_edit::{FileMeta, Served};
-use lsm_key::Limits;
-use lsm_msg::MAX_JOB_LEVEL;
+use lsm_key::{KeyRangeRef, Limits, MAX_JOB_LEVEL};
 use std::alloc::{AllocError, Global};
 
 /// What to merge next: the first candidate that conflicts with no running job and is within the job limits. `None` if
@@ -87,7 +86,7 @@ fn try_level(
     live: &[LiveJob],
     level: u8,
 ) -> Result<Outcome, AllocError>
-    requires { level ≤ 5 }
+    requires { level ≤ MAX_JOB_LEVEL }
     ensures ok { IfOk result (HasOutcome served.now.version.files live.now (level_candidates served.now.version.files level)) }
     ensures err { OnErr result (CanPick served.now.version.files live.now (level_candidates served.now.version.files level)) }
 {
@@ -111,7 +110,7 @@ fn try_file(
     live: &[LiveJob],
     first: &FileMeta,
 ) -> Result<Outcome, AllocError>
-    requires level { first.now.level ≤ 5 }
+    requires level { first.now.level ≤ MAX_JOB_LEVEL }
     requires listed { IsIn first.now served.now.version.files }
     ensures ok { IfOk result (HasOutcome served.now.version.files live.now (candidates_of first.now)) }
     ensures err { OnErr result (CanPick served.now.version.files live.now (candidates_of first.now)) }
@@ -132,7 +131,7 @@ fn try_closure(
     first: &FileMeta,
     older_only: bool,
 ) -> Result<Outcome, AllocError>
-    requires level { first.now.level ≤ 5 }
+    requires level { first.now.level ≤ MAX_JOB_LEVEL }
     requires listed { IsIn first.now served.now.version.files }
     ensures ok { IfOk result (HasOutcome served.now.version.files live.now (candidate_of first.now older_only ∷ [])) }
     ensures err { OnErr result (CanPick served.now.version.files live.now (candidate_of first.now older_only ∷ [])) }
@@ -150,10 +149,10 @@ fn try_closure(
 }
 
 // Whether a live job shares a level and has a key in common.
-fn is_blocked(live: &[LiveJob], level: u8, reach: Reach<'_>) -> bool
+fn is_blocked(live: &[LiveJob], level: u8, reach: KeyRangeRef<'_>) -> bool
     ensures { result ≡ list_any (λ j. shares_level j.want.level level && ranges_meet j.want.hull.lo j.want.hull.hi reach.entry.lo.now reach.entry.hi.now) live.now }
 {
     live.iter().any(|job| {
-        shares_level(job.want.level, level) && job.want.hull.meets(reach.lo, reach.hi)
+        shares_level(job.want.level, level) && job.want.hull.range().overlaps(reach)
     })
 }

@@ -1,22 +1,29 @@
 //! The compaction of a closure.
 
 ghost use Rattle.std.specs.Prelude.{◌≡◌, ◌≤◌, IfOk, filter, map, true};
+ghost use Rattle.lsm_key.specs.declared.limits.TheConstants.{MAX_JOB_LEVEL};
 ghost use Rattle.lsm_key.specs.Order.{key_le};
 ghost use Rattle.lsm_pick.specs.Reach.{is_taken, candidate_of};
 
-use crate::reach::{Reach, may_join};
+use crate::reach::may_join;
 use bytes::Bytes;
 use lsm_claim::{Hull, Want};
 use lsm_edit::FileMeta;
-use lsm_key::Items;
+use lsm_key::{Items, KeyRangeRef};
 use std::alloc::{AllocError, Global};
 
 /// Whether the file is in the closure.
-pub(crate) fn takes(first: &FileMeta, older_only: bool, reach: Reach<'_>, file: &FileMeta) -> bool
-    requires { first.now.level ≤ 5 }
+pub(crate) fn takes(
+    first: &FileMeta,
+    older_only: bool,
+    reach: KeyRangeRef<'_>,
+    file: &FileMeta,
+) -> bool
+    requires { first.now.level ≤ MAX_JOB_LEVEL }
     ensures { result ≡ is_taken (candidate_of first.now older_only) reach.entry.lo.now reach.entry.hi.now file.now }
 {
-    file.number == first.number || (may_join(first, older_only, file) && reach.meets(file))
+    file.number == first.number
+        || (may_join(first, older_only, file) && reach.overlaps(file.range()))
 }
 
 /// The compaction of a closure.
@@ -25,9 +32,9 @@ pub(crate) fn want_of(
     files: &[FileMeta],
     first: &FileMeta,
     older_only: bool,
-    reach: Reach<'_>,
+    reach: KeyRangeRef<'_>,
 ) -> Result<Want, AllocError>
-    requires level { first.now.level ≤ 5 }
+    requires level { first.now.level ≤ MAX_JOB_LEVEL }
     requires proper { key_le reach.lo.now reach.hi.now ≡ true }
     ensures level { IfOk result (λ want. want.level ≡ first.now.level) }
     ensures files { IfOk result (λ want. want.files ≡ map (λ f. f.number) (filter (is_taken (candidate_of first.now older_only) reach.entry.lo.now reach.entry.hi.now) files.now)) }
@@ -49,9 +56,9 @@ fn numbers_of(
     files: &[FileMeta],
     first: &FileMeta,
     older_only: bool,
-    reach: Reach<'_>,
+    reach: KeyRangeRef<'_>,
 ) -> Result<Vec<u64>, AllocError>
-    requires { first.now.level ≤ 5 }
+    requires { first.now.level ≤ MAX_JOB_LEVEL }
     ensures { IfOk result (λ numbers. numbers.items ≡ map (λ f. f.number) (filter (is_taken (candidate_of first.now older_only) reach.entry.lo.now reach.entry.hi.now) files.now)) }
 {
     let mut numbers = Vec::new(alloc);

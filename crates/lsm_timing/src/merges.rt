@@ -8,9 +8,9 @@ use crate::tables::{entries_in, opened, sorted_indices, tables_of};
 use bytes::Bytes;
 use lsm_claim::JobId;
 use lsm_edit::FileMeta;
-use lsm_key::{Items, MAX_TABLE_BYTES};
+use lsm_key::{Items, MAX_INPUTS, MAX_TABLE_BYTES};
 use lsm_merge::merge;
-use lsm_msg::{Job, JobParts, MAX_INPUTS};
+use lsm_msg::{Job, JobParts};
 use lsm_table::Table;
 use std::alloc::{AllocError, Global};
 

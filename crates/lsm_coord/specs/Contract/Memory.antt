@@ -11,11 +11,10 @@ use Rattle.lsm_edit.specs.declared.file.FileMeta.{FileMeta}
 use Rattle.lsm_edit.specs.Edits.{RemovedOnce}
 use Rattle.lsm_edit.specs.Served.{IsServed, ServedValue}
 use Rattle.lsm_edit.specs.Version.{IsVersion}
-use Rattle.lsm_msg.specs.declared.rules.TheConstants.{MAX_JOB_LEVEL}
+use Rattle.lsm_key.specs.declared.limits.TheConstants.{MAX_JOB_LEVEL, MAX_SNAPSHOTS}
 use Rattle.lsm_msg.specs.Legal.{IsLegal}
 use Rattle.lsm_coord.specs.declared.frozen.Frozen.{Frozen}
 use Rattle.lsm_coord.specs.declared.snapshot.Snapshot.{Snapshot}
-use Rattle.lsm_coord.specs.declared.snapshot.TheConstants.{MAX_SNAPSHOTS}
 use Rattle.lsm_coord.specs.Contract.Manifest.{Folds, read_edits}
 use Rattle.lsm_coord.specs.Contract.Value.{CoordValue, start_of}
 

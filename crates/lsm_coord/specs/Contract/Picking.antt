@@ -1,17 +1,15 @@
 -- What a pick returns, and the job that it hands out (LevelDB, version_set.cc: PickCompaction, SetupOtherInputs; RocksDB wiki, Remote Compaction: the input of a compaction service).
 use Rattle.std.specs.Prelude.{◌≡◌, ℕ, ◌+◌, ◌-◌, ◌<◌, ◌≤◌, Bool, ◌&&◌, List, Option, None, Some, AllPairs, filter, flat_map, length, map, nat_eq}
 use Rattle.std.specs.List.{range_with_len}
-use Rattle.lsm_key.specs.declared.limits.TheConstants.{MAX_NUMBER, MAX_TABLE_BYTES}
+use Rattle.lsm_key.specs.declared.limits.TheConstants.{MAX_NUMBER, MAX_TABLE_BYTES, MAX_LIVE_CLAIMS, MAX_JOB_LEVEL}
 use Rattle.lsm_key.specs.Sets.{SameMembers}
 use Rattle.lsm_claim.specs.declared.hull.Hull.{Hull}
 use Rattle.lsm_claim.specs.declared.job.LiveJob.{LiveJob}
-use Rattle.lsm_claim.specs.declared.job.TheConstants.{MAX_LIVE_CLAIMS}
 use Rattle.lsm_claim.specs.declared.job.Want.{Want}
 use Rattle.lsm_claim.specs.Book.{after_claim, next_job}
 use Rattle.lsm_edit.specs.declared.file.FileMeta.{FileMeta}
 use Rattle.lsm_msg.specs.declared.job.JobParts.{JobParts}
-use Rattle.lsm_msg.specs.declared.job.KeyRange.{KeyRange}
-use Rattle.lsm_msg.specs.declared.rules.TheConstants.{MAX_JOB_LEVEL}
+use Rattle.lsm_key.specs.declared.range.KeyRange.{KeyRange}
 use Rattle.lsm_msg.specs.Legal.{IsLegal, touches}
 use Rattle.lsm_pick.specs.Rule.{IsFirst, AreBlocked, AreTooLarge, inputs_of, candidates}
 use Rattle.lsm_coord.specs.declared.error.CoordError.{CoordError}

@@ -2,7 +2,7 @@
 use Rattle.std.specs.Prelude.{◌≡◌, ℕ, ◌+◌, ◌-◌, ◌≤◌, List, [], ◌∷◌, ◌++◌, Option, None, Some, length, map, filter, take, max, Bool, true, false, not, nat_eq, ◌&&◌, slice_get, slice_set}
 use Rattle.std.specs.List.{list_any, range_with_len}
 use Rattle.std.specs.Option.{unwrap_or}
-use Rattle.lsm_key.specs.declared.limits.TheConstants.{MAX_NUMBER}
+use Rattle.lsm_key.specs.declared.limits.TheConstants.{MAX_LEVEL, MAX_NUMBER}
 use Rattle.lsm_key.specs.Sets.{IsIn}
 use Rattle.lsm_coord.specs.Model.State.{State, Version, Place, last_seq, last_flushed, current_version, current_files, snapshot_at, same_snapshot_id}
 use Rattle.lsm_coord.specs.declared.snapshot.SnapId.{SnapId}
@@ -72,7 +72,7 @@ pub record IsInstalled (s : State) (number : ℕ) (files : List ℕ) (new : Stat
   pub some_input : 1 ≤ length inputs
   pub of_current : (p : Place) → IsIn p inputs → IsIn p (current_files s)
   pub low : 1 ≤ level
-  pub high : level ≤ 6
+  pub high : level ≤ MAX_LEVEL
   pub number_is : number ≡ length s.versions
   pub files_are : files ≡ range_with_len s.next_file (length files)
   pub number_fits : length s.versions ≤ MAX_NUMBER

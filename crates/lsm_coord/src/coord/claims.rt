@@ -15,8 +15,8 @@ ghost use Rattle.lsm_coord.specs.Contract.Picking.{RulePicksNone, HasRoom, IsJob
 use super::Coord;
 use crate::CoordError;
 use crate::job::{deeper_of, inputs_of, points_of};
-use lsm_claim::{Claim, Ending, JobId, MAX_LIVE_CLAIMS, Settled, Want};
-use lsm_key::{Items, MAX_NUMBER, MAX_TABLE_BYTES};
+use lsm_claim::{Claim, Ending, JobId, Settled, Want};
+use lsm_key::{Items, MAX_LIVE_CLAIMS, MAX_NUMBER, MAX_TABLE_BYTES};
 use lsm_msg::{Job, JobParts};
 use lsm_pick::{PickError, pick};
 use std::alloc::AllocError;

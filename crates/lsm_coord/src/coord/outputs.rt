@@ -2,7 +2,7 @@
 
 ghost use Rattle.std.specs.Prelude.{◌≡◌, ◌≤◌, ◌⊎◌, ◌+◌, IfErr, IfOk, List, length};
 ghost use Rattle.std.specs.Option.{option_copied};
-ghost use Rattle.lsm_key.specs.declared.limits.TheConstants.{MAX_NUMBER};
+ghost use Rattle.lsm_key.specs.declared.limits.TheConstants.{MAX_LEVEL, MAX_NUMBER};
 ghost use Rattle.lsm_key.specs.Order.{key_lt};
 ghost use Rattle.lsm_table.specs.Tables.{IsTable, Opened, largest_key, smallest_key};
 ghost use Rattle.lsm_coord.specs.declared.coord.install.InstallError.TheVariants as why;
@@ -12,7 +12,7 @@ use super::install::InstallError;
 use bytes::Bytes;
 use lsm_claim::Hull;
 use lsm_edit::FileMeta;
-use lsm_key::Refused;
+use lsm_key::{KeyRangeRef, Refused};
 use lsm_table::Table;
 use std::alloc::{AllocError, Global};
 
@@ -68,7 +68,11 @@ fn comes_next(hull: &Hull, last: Option<&Table>, table: &Table) -> bool
 fn is_inside(hull: &Hull, table: &Table) -> bool
     ensures { result ≡ is_table_inside hull.now table.now }
 {
-    hull.lo.cmp(table.smallest()).is_le() && table.largest().cmp(&hull.hi).is_le()
+    let keys = KeyRangeRef {
+        lo: table.smallest().as_slice(),
+        hi: table.largest().as_slice(),
+    };
+    hull.range().encloses(keys)
 }
 
 fn stands_before(before: &Table, table: &Table) -> bool
@@ -84,7 +88,7 @@ pub(crate) fn records_of(
     first: u64,
     tables: &[Table],
 ) -> Result<Vec<FileMeta>, AllocError>
-    requires level { level ≤ 6 }
+    requires level { level ≤ MAX_LEVEL }
     requires some { 1 ≤ first }
     requires most { first + length tables.now ≤ MAX_NUMBER }
     ensures { IfOk result (λ files. files.items ≡ records level first tables.now) }
@@ -99,7 +103,7 @@ pub(crate) fn records_of(
 
 // The record of a table.
 fn record_of(number: u64, level: u8, table: &Table) -> Result<FileMeta, AllocError>
-    requires level { level ≤ 6 }
+    requires level { level ≤ MAX_LEVEL }
     requires some { 1 ≤ number }
     requires most { number ≤ MAX_NUMBER }
     ensures { IfOk result (λ file. file ≡ record_of level number table.now) }

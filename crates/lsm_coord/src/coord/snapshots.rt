@@ -11,8 +11,8 @@ ghost use Rattle.lsm_coord.specs.Contract.Replies.{snapshot_reply, release_reply
 
 use super::Coord;
 use crate::CoordError;
-use crate::snapshot::{MAX_SNAPSHOTS, SnapId, Snapshot};
-use lsm_key::{MAX_NUMBER, Seq};
+use crate::snapshot::{SnapId, Snapshot};
+use lsm_key::{MAX_NUMBER, MAX_SNAPSHOTS, Seq};
 
 impl Coord {
     /// Makes a snapshot of the latest sequence, and returns its name and that sequence. A refusal changes nothing.

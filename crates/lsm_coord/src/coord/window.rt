@@ -1,13 +1,13 @@
 //! Where a window of a scan ends. Any end is right: it is chosen so that a window has some entries, and of no source many
 //! more than the scan may still give. So only the bounds of an end have a contract: a window ends after it begins, so that a scan ends.
 
-ghost use Rattle.std.specs.Prelude.{◌≡◌, true, IfOk, IfSome};
+ghost use Rattle.std.specs.Prelude.{◌≡◌, ◌≤◌, true, IfOk, IfSome};
 ghost use Rattle.lsm_key.specs.Order.{key_le, key_lt};
 
 use super::Coord;
 use bytes::Bytes;
-use lsm_edit::Placed;
-use lsm_key::Entry;
+use lsm_edit::Served;
+use lsm_key::{Entry, NUM_LEVELS};
 use std::alloc::AllocError;
 
 /// How many keys or entries of a source a window has, at least and at most, if they have one version each.
@@ -52,15 +52,15 @@ impl Coord {
         if let Some(frozen) = &self.frozen {
             least = lesser(least, frozen.memtable.key_after(from, count)?);
         }
-        let places = self.served().places();
-        for placed in places {
+        let served = self.served();
+        for placed in served.places() {
             if placed.meta.level > 0 {
                 break;
             }
             least = lesser(least, key_in(placed.table.entries(), from, count));
         }
-        for level in 1..7 {
-            least = lesser(least, key_in_level(places, level, from, count));
+        for level in 1..NUM_LEVELS {
+            least = lesser(least, key_in_level(served, level, from, count));
         }
         Ok(least)
     }
@@ -84,14 +84,15 @@ fn key_in<'a>(entries: &'a [Entry], from: &[u8], count: usize) -> Option<&'a [u8
 
 // The same over the tables of a deeper level.
 fn key_in_level<'a>(
-    places: &'a [Placed],
+    served: &'a Served,
     level: u8,
     from: &[u8],
     count: usize,
-) -> Option<&'a [u8]> {
-    let start = places.partition_point(|placed| ends_before(placed, level, from));
+) -> Option<&'a [u8]>
+    requires { 1 ≤ level }
+{
     let mut left = count;
-    for placed in places.get(start..)? {
+    for placed in served.level_from(level, from) {
         if placed.meta.level != level {
             return None;
         }
@@ -102,12 +103,4 @@ fn key_in_level<'a>(
         }
     }
     None
-}
-
-// Whether the file is of an upper level, or of this one with all its keys before the key.
-fn ends_before(placed: &Placed, level: u8, key: &[u8]) -> bool {
-    if placed.meta.level != level {
-        return placed.meta.level < level;
-    }
-    placed.meta.largest.as_slice().cmp(key).is_lt()
 }

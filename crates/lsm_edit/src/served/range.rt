@@ -11,8 +11,7 @@ ghost use Rattle.lsm_edit.specs.declared.served.Placed.{Placed};
 ghost use Rattle.lsm_edit.specs.Served.{AllRecorded, AreInSearchOrder, tables_of};
 
 use super::{Placed, Served, place_in};
-use crate::file::MAX_LEVEL;
-use lsm_key::{Entry, merge_lists};
+use lsm_key::{Entry, MAX_LEVEL, merge_lists};
 use std::alloc::{AllocError, Global};
 
 impl Served {
@@ -91,7 +90,6 @@ fn list_in_level(
     ensures order { IfOk result (λ list. IsInOrder list.items) }
 {
     let start = place_in(places, level, lo);
-    prove!(start <= places.len());
     let mut list = Vec::new(alloc);
     for placed in &places[start..] {
         if !begins_below(placed, level, hi) {

@@ -1,6 +1,6 @@
 use Rattle.std.proofs.Common.{◌++◌, List, filter, map, arith, ap, ◌∙◌, flat_map, ◌-◌, ◌+◌}
 use Rattle.std.specs.List.{range_with_len}
-use Rattle.lsm_msg.specs.declared.job.KeyRange.{KeyRange}
+use Rattle.lsm_key.specs.declared.range.KeyRange.{KeyRange}
 use Rattle.lsm_coord.specs.Contract.Picking.{range_of, touches_at}
 use Rattle.lsm_coord.proofs.Parts.{next_level_of}
 use Rattle.lsm_coord.proofs.job.deeper_of.Goals as goal

@@ -9,10 +9,9 @@ ghost use Rattle.lsm_edit.specs.Served.{AllRecorded, AreInSearchOrder, IsAsRecor
 use super::super::{Placed, goes_first};
 use super::lists_of;
 use crate::FileMeta;
-use crate::file::MAX_LEVEL;
 use crate::tests::changed;
 use bytes::Bytes;
-use lsm_key::merge_lists;
+use lsm_key::{MAX_LEVEL, merge_lists};
 use lsm_table::Table;
 use std::alloc::Global;
 use std::test::Fail;

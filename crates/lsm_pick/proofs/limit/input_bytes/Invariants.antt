@@ -1,7 +1,7 @@
 use Rattle.std.proofs.Common.{◌≡◌, ◌≤◌, ◌*◌, take, length}
 use Rattle.std.specs.List.{filter, sum_by}
 use Rattle.lsm_edit.specs.declared.file.FileMeta.{FileMeta}
-use Rattle.lsm_msg.specs.declared.rules.TheConstants.{MAX_INPUTS}
+use Rattle.lsm_key.specs.declared.limits.TheConstants.{MAX_INPUTS}
 use Rattle.lsm_pick.specs.Reach.{is_taken, candidate_of}
 use Rattle.lsm_pick.proofs.limit.input_bytes.Given as goal
 

@@ -9,16 +9,13 @@ use Rattle.lsm_pick.proofs.Growing.{reach_first}
 use Rattle.lsm_pick.proofs.Outside.{fewer_outside}
 use Rattle.lsm_pick.proofs.reach.closure.Goals as goal
 
-pub widened-wider-requires-in-loop-reach-clause-recorded : goal.widened-wider-requires-in-loop-reach-clause-recorded
-widened-wider-requires-in-loop-reach-clause-recorded c = λ p m. (c.listing-listing.ensures.sound.0).recorded p (subst (IsIn p) c.places-places.ensures m)
-
 pub loop-reach-init : goal.loop-reach-init
 loop-reach-init c =
     let t = candidate_of c.args.first.now c.args.older_only in
     let files = c.args.served.now.version.files in (
-      subst (λ (k : List ℕ). IsReach files t k c.of-reach.result.hi.now) (sym c.of-reach.ensures.lo)
-          (subst (λ (k : List ℕ). IsReach files t t.first.smallest k) (sym c.of-reach.ensures.hi) (reach_first files t c.requires.listed)),
-      subst (λ (ps : List Placed). Grows t ps (may_join t) c.of-reach.result.lo.now c.of-reach.result.hi.now c.widened-wider.result.lo.now c.widened-wider.result.hi.now) c.places-places.ensures c.widened-wider.ensures,
+      subst (λ (k : List ℕ). IsReach files t k c.range-reach.result.hi.now) (sym c.range-reach.ensures.lo)
+          (subst (λ (k : List ℕ). IsReach files t t.first.smallest k) (sym c.range-reach.ensures.hi) (reach_first files t c.requires.listed)),
+      c.widened-wider.ensures.grows,
     )
 
 pub loop-reach-preserved : goal.loop-reach-preserved
@@ -27,8 +24,8 @@ loop-reach-preserved c =
     let files = c.args.served.now.version.files in
     let places = c.args.served.now.places in
     let old = c.loop-reach.invariant in (
-      (old.1).sound files (λ p m. ((c.listing-listing.ensures.sound.0).listed p.meta).0 (IsIn-map (λ (q : Placed). q.meta) p places m)) old.0,
-      subst (λ (ps : List Placed). Grows t ps (may_join t) c.loop-reach.wider.lo.now c.loop-reach.wider.hi.now c.widened-wider-in-loop-reach.result.lo.now c.widened-wider-in-loop-reach.result.hi.now) c.places-places.ensures c.widened-wider-in-loop-reach.ensures,
+      (old.1).sound files (λ p m. ((c.widened-wider.ensures.sound).listed p.meta).0 (IsIn-map (λ (q : Placed). q.meta) p places m)) old.0,
+      c.widened-wider-in-loop-reach.ensures.grows,
     )
 
 pub loop-reach-smaller : goal.loop-reach-smaller
@@ -37,7 +34,7 @@ loop-reach-smaller c =
     let files = c.args.served.now.version.files in
     let places = c.args.served.now.places in
     let old = c.loop-reach.invariant in
-    let next = (old.1).sound files (λ p m. ((c.listing-listing.ensures.sound.0).listed p.meta).0 (IsIn-map (λ (q : Placed). q.meta) p places m)) old.0 in
+    let next = (old.1).sound files (λ p m. ((c.widened-wider.ensures.sound).listed p.meta).0 (IsIn-map (λ (q : Placed). q.meta) p places m)) old.0 in
     fewer_outside files t c.loop-reach.reach.lo.now c.loop-reach.reach.hi.now c.loop-reach.wider.lo.now c.loop-reach.wider.hi.now next (old.1).low (old.1).high
     (λ same. true≢false (sym ((c.same.ensures).1 same) ∙ c.loop-reach-test.true))
 
@@ -51,7 +48,7 @@ returns c =
     record {
       reach = old.0;
       full = λ f m j met.
-          let p = IsIn-mapped (λ (q : Placed). q.meta) f places (((c.listing-listing.ensures.sound.0).listed f).1 m) in
+          let p = IsIn-mapped (λ (q : Placed). q.meta) f places (((c.widened-wider.ensures.sound).listed f).1 m) in
           subst (λ (k : List ℕ). is_inside k c.loop-reach.reach.hi.now f ≡ true) same.0
           (subst (λ (k : List ℕ). is_inside c.loop-reach.wider.lo.now k f ≡ true) same.1
           (subst (λ (g : FileMeta). is_inside c.loop-reach.wider.lo.now c.loop-reach.wider.hi.now g ≡ true) (sym p.2)

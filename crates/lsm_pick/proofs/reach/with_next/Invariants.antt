@@ -4,4 +4,4 @@ use Rattle.lsm_pick.proofs.Walks.{Walk}
 use Rattle.lsm_pick.proofs.reach.with_next.Given as goal
 
 abbrev pub invariant-loop-placed : goal.invariant-loop-placed
-invariant-loop-placed l = Walk (candidate_of l.first l.older_only) l.places l.placed-items (l.first.level + 1) l.reach.lo.now l.reach.hi.now l.wider.lo.now l.wider.hi.now l.placed-index
+invariant-loop-placed l = Walk (candidate_of l.first l.older_only) l.served.places l.placed-items (l.first.level + 1) l.reach.lo.now l.reach.hi.now l.wider.lo.now l.wider.hi.now l.placed-index

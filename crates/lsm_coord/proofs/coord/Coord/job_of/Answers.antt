@@ -1,10 +1,9 @@
 use Rattle.std.proofs.Common.{◌≡◌, ◌+◌, ◌≤◌, ℕ, List, length, map, refl, ap, subst, ◌∙◌, arith}
-use Rattle.lsm_key.specs.declared.limits.TheConstants.{MAX_TABLE_BYTES}
+use Rattle.lsm_key.specs.declared.limits.TheConstants.{MAX_TABLE_BYTES, MAX_POINTS}
 use Rattle.lsm_edit.specs.declared.file.FileMeta.{FileMeta}
 use Rattle.lsm_edit.specs.Served.{ServedValue}
 use Rattle.lsm_edit.specs.Version.{IsVersion}
 use Rattle.lsm_msg.specs.declared.job.JobParts.{JobParts}
-use Rattle.lsm_msg.specs.declared.rules.TheConstants.{MAX_POINTS}
 use Rattle.lsm_pick.specs.Rule.{inputs_of}
 use Rattle.lsm_coord.specs.declared.snapshot.Snapshot.{Snapshot}
 use Rattle.lsm_coord.specs.Contract.Value.{CoordValue}

@@ -1,15 +1,10 @@
-use Rattle.std.proofs.Common.{◌-◌, ◌++◌, List, take, drop, length, subst, sym, ap, ◌∙◌, arith}
+use Rattle.std.proofs.Common.{◌-◌, ◌++◌, List, take, drop, length, subst, sym, ap, ◌∙◌}
 use Rattle.std.proofs.lemmas.Bool.{and_parts}
 use Rattle.std.proofs.lemmas.List.{take_rest}
 use Rattle.lsm_key.specs.declared.entry.Entry.{Entry}
 use Rattle.lsm_key.specs.Order.{IsInOrder}
-use Rattle.lsm_edit.proofs.LevelRanges.{Walked, is_of, start_within, walked_none, walked_more, walked_all, walked_to, level_in_order}
+use Rattle.lsm_edit.proofs.LevelRanges.{Walked, is_of, walked_none, walked_more, walked_all, walked_to, level_in_order}
 use Rattle.lsm_edit.proofs.served.range.list_in_level.Goals as goal
-
-pub prove-unreachable-requires : goal.prove-unreachable-requires
-prove-unreachable-requires c =
-    let le = start_within c.args.level c.args.lo.now c.args.places.now c.place_in-start.result c.place_in-start.ensures.0 in
-    omega (arith, le, c.if-prove.true)
 
 pub loop-placed-init : goal.loop-placed-init
 loop-placed-init c =
@@ -17,7 +12,7 @@ loop-placed-init c =
     let start = c.place_in-start.result in
     let rest = take (length places - start) (drop start places) in
     subst (λ (es : List Entry). Walked c.args.lo.now c.args.hi.now c.args.level places rest es 0) (sym c.new-list.ensures.items)
-    (walked_none c.args.lo.now c.args.hi.now c.args.level places start rest (take_rest places start) c.if-prove.false c.requires.recorded c.place_in-start.ensures.0)
+    (walked_none c.args.lo.now c.args.hi.now c.args.level places start rest (take_rest places start) c.place_in-start.ensures.within c.requires.recorded c.place_in-start.ensures.point.0)
 
 pub loop-placed-preserved : goal.loop-placed-preserved
 loop-placed-preserved c =
@@ -37,7 +32,7 @@ returns-then-not-begins_below-clause-all c =
     let start = c.place_in-start.result in
     let rest = take (length places - start) (drop start places) in
     walked_to c.args.lo.now c.args.hi.now c.args.level places start rest (take_rest places start) c.loop-placed.list.items c.loop-placed.placed-index c.placed-item.result c.requires.deeper c.requires.recorded c.requires.ordered
-    c.place_in-start.ensures.1 c.loop-placed-test.true c.placed-item.is (sym c.begins_below.ensures ∙ c.if-not-begins_below.true) c.loop-placed.invariant
+    c.place_in-start.ensures.point.1 c.loop-placed-test.true c.placed-item.is (sym c.begins_below.ensures ∙ c.if-not-begins_below.true) c.loop-placed.invariant
 
 pub returns-then-not-begins_below-clause-order : goal.returns-then-not-begins_below-clause-order
 returns-then-not-begins_below-clause-order c =

@@ -4,7 +4,7 @@ use Rattle.std.specs.List.Sorted.{IsPartitionPoint}
 use Rattle.std.specs.Ordering.{nat_cmp, is_le}
 use Rattle.std.proofs.lemmas.Bool.{le-ltb}
 use Rattle.lsm_key.specs.Order.{key_le}
-use Rattle.lsm_msg.specs.declared.job.KeyRange.{KeyRange}
+use Rattle.lsm_key.specs.declared.range.KeyRange.{KeyRange}
 use Rattle.lsm_msg.specs.Merge.{is_in_ranges}
 use Rattle.lsm_merge.proofs.Reach.{le_is, none_begun, last_tells}
 use Rattle.lsm_merge.proofs.deeper.DeeperKeys.have.Goals as goal

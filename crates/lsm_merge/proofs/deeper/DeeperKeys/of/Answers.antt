@@ -1,5 +1,5 @@
 use Rattle.std.proofs.Common.{List, [], sym, ap, ◌∙◌, subst}
-use Rattle.lsm_msg.specs.declared.job.KeyRange.{KeyRange}
+use Rattle.lsm_key.specs.declared.range.KeyRange.{KeyRange}
 use Rattle.lsm_msg.specs.Merge.{is_in_ranges}
 use Rattle.lsm_merge.specs.Reaching.{AreReaching, with_raised_ends}
 use Rattle.lsm_merge.proofs.Reach.{moved_keys, widened_keys, reaching}

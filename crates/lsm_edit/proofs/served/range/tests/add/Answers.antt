@@ -1,7 +1,7 @@
 use Rattle.std.proofs.Common.{◌≡◌, ◌≤◌, ◌∷◌, ◌++◌, [], List, subst, sym, inl, inr}
 use Rattle.lsm_key.specs.Sets.{IsIn}
 use Rattle.lsm_key.proofs.Sets.{IsIn-append_cases, IsIn-one}
-use Rattle.lsm_edit.specs.declared.file.TheConstants.{MAX_LEVEL}
+use Rattle.lsm_key.specs.declared.limits.TheConstants.{MAX_LEVEL}
 use Rattle.lsm_edit.specs.declared.served.Placed.{Placed}
 use Rattle.lsm_edit.specs.Served.{IsAsRecorded}
 use Rattle.lsm_edit.proofs.served.range.tests.add.Goals as goal
