@@ -1,5 +1,5 @@
 -- The entries of a range of keys in the tables of places.
-use Rattle.std.proofs.Common.{◌≡◌, refl, ℕ, List, [], ◌∷◌, ◌++◌, All, sym, ap, subst, ◌∙◌, arith}
+use Rattle.std.proofs.Common.{◌≡◌, refl, ℕ, List, [], ◌∷◌, ◌++◌, All, Vec, Global, map, sym, ap, subst, ◌∙◌, arith}
 use Rattle.std.specs.List.{filter}
 use Rattle.std.proofs.lemmas.List.{append-nil, append_assoc}
 use Rattle.std.proofs.lemmas.List.Elements.{filter-append, All-push}
@@ -25,6 +25,10 @@ pub ranges_in_order : (lo hi : List ℕ) (es : List Entry) → IsAscending es �
 ranges_in_order lo hi es up = falls_in_order (filter (is_between lo hi) es) (falls-filter (is_between lo hi) es (ascending_falls es up))
 
 -- ---- one list after another
+
+-- what the lists hold
+abbrev pub items_of : List (Vec Entry Global) → List (List Entry)
+items_of lists = map (λ list. list.items) lists
 
 -- the lists have what the places before the rest have of the range
 pub record Gathers (lo hi : List ℕ) (ps : List Placed) (lists : List (List Entry)) (rest : List Placed) : Type 0 where

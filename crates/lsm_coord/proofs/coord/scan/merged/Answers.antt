@@ -1,13 +1,11 @@
-use Rattle.std.proofs.Common.{◌≡◌, ◌++◌, ◌∷◌, [], List, Vec, Global, All, IsPermutation, map, subst, sym, ap, ◌∙◌, arith}
+use Rattle.std.proofs.Common.{◌≡◌, ◌++◌, ◌∷◌, [], List, Vec, Global, All, IsPermutation, subst, sym, ap, ◌∙◌, arith}
 use Rattle.std.proofs.lemmas.List.{append-nil}
 use Rattle.std.proofs.lemmas.List.Elements.{All-cons}
 use Rattle.lsm_key.specs.declared.entry.Entry.{Entry}
 use Rattle.lsm_key.specs.Order.{IsInOrder}
 use Rattle.lsm_key.specs.Places.{all_entries}
+use Rattle.lsm_edit.proofs.Ranges.{items_of}
 use Rattle.lsm_coord.proofs.coord.scan.merged.Goals as goal
-
-abbrev items_of : List (Vec Entry Global) → List (List Entry)
-items_of vs = map (λ v. v.items) vs
 
 -- what was pushed
 lists_are : (c : goal.In_ok-entries) → c.push-3.new.self.items ≡ c.args.active ∷ c.args.frozen ∷ c.args.stored ∷ []

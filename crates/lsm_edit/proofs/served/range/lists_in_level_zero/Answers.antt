@@ -1,4 +1,4 @@
-use Rattle.std.proofs.Common.{◌≡◌, ◌+◌, ◌++◌, ◌∷◌, [], map, filter, List, Vec, Global, drop, subst, sym, ap, ◌∙◌, arith}
+use Rattle.std.proofs.Common.{◌≡◌, ◌+◌, ◌++◌, ◌∷◌, [], filter, List, Vec, Global, drop, subst, sym, ap, ◌∙◌, arith}
 use Rattle.std.proofs.lemmas.List.{drop_more, drop_all, map-append}
 use Rattle.lsm_key.specs.declared.entry.Entry.{Entry}
 use Rattle.lsm_key.specs.Sets.{IsIn}
@@ -6,12 +6,9 @@ use Rattle.lsm_key.proofs.Sets.{IsIn-at}
 use Rattle.lsm_table.proofs.Contents.{table_ascending}
 use Rattle.lsm_edit.specs.declared.served.Placed.{Placed}
 use Rattle.lsm_edit.specs.Served.{AreInSearchOrder}
-use Rattle.lsm_edit.proofs.Ranges.{Gathers, gathers_none, gathers_more, gathers_all}
+use Rattle.lsm_edit.proofs.Ranges.{Gathers, gathers_none, gathers_more, gathers_all, items_of}
 use Rattle.lsm_edit.proofs.LevelRanges.{is_of, zero_here, zero_stopped, order_left}
 use Rattle.lsm_edit.proofs.served.range.lists_in_level_zero.Goals as goal
-
-abbrev items_of : List (Vec Entry Global) → List (List Entry)
-items_of vs = map (λ v. v.items) vs
 
 pub loop-placed-init : goal.loop-placed-init
 loop-placed-init c =

@@ -1,15 +1,11 @@
-use Rattle.std.proofs.Common.{◌≡◌, ◌++◌, ◌∷◌, [], All, map, List, Vec, Global, subst, sym, ap, ◌∙◌, arith}
+use Rattle.std.proofs.Common.{◌≡◌, ◌++◌, ◌∷◌, [], All, subst, sym, ap, ◌∙◌, arith}
 use Rattle.std.proofs.lemmas.List.{map-append}
 use Rattle.std.proofs.lemmas.List.Elements.{All-push}
-use Rattle.lsm_key.specs.declared.entry.Entry.{Entry}
 use Rattle.lsm_key.specs.Order.{IsInOrder}
 use Rattle.lsm_key.specs.Places.{all_entries}
-use Rattle.lsm_edit.proofs.Ranges.{within}
+use Rattle.lsm_edit.proofs.Ranges.{items_of, within}
 use Rattle.lsm_edit.proofs.LevelRanges.{level_zero, all_levels, gathered_more}
 use Rattle.lsm_edit.proofs.served.range.lists_of.Goals as goal
-
-abbrev items_of : List (Vec Entry Global) → List (List Entry)
-items_of vs = map (λ v. v.items) vs
 
 pub loop-level-init : goal.loop-level-init
 loop-level-init c = record {
