@@ -8,9 +8,10 @@ use Rattle.lsm_key.specs.declared.entry.Entry.{Entry}
 use Rattle.lsm_key.specs.declared.limits.TheConstants.{MAX_KEY_BYTES, MAX_VALUE_BYTES}
 use Rattle.lsm_key.specs.Sets.{IsIn}
 use Rattle.lsm_key.specs.Writes.{key_of}
-use Rattle.lsm_key.specs.Limits.{value_len, push_fault, batch_fault_after, first_fault}
+use Rattle.lsm_key.specs.Limits.{value_len, push_fault, batch_fault_after}
 use Rattle.lsm_key.specs.Places.{entry_of, entries_after}
 use Rattle.lsm_key.specs.Entries.{IsEntry, AreSound}
+use Rattle.lsm_key.proofs.Batches.{first_fault-none}
 use Rattle.lsm_key.proofs.Writes.{entries_after-range, entry_seq}
 use Rattle.lsm_mem.specs.Chains.{SequencesRise}
 
@@ -19,10 +20,6 @@ use Rattle.lsm_mem.specs.Chains.{SequencesRise}
 none_first : (a : Bool) (x : KeyError) (r : Option KeyError) → cond a (Some x) r ≡ None → (a ≡ false) × (r ≡ None)
 none_first true x r h = absurd cc
 none_first false x r h = (refl, h)
-
-none_of_two : (a b : Option KeyError) → first_fault a b ≡ None → (a ≡ None) × (b ≡ None)
-none_of_two None b h = (refl, h)
-none_of_two (Some a) b h = absurd cc
 
 -- an operation that a batch takes
 pub record IsTaken (op : Op) : Type 0 where
@@ -45,7 +42,7 @@ entry_sound n (Delete key) first h = record { key = (h.some, h.key); written = f
 pub after_sound : (done ops : List Op) (n : ℕ) → batch_fault_after done ops ≡ None → AreSound (entries_after n ops)
 after_sound done [] n h e m = absurd m
 after_sound done (op ∷ ops) n h e m =
-    let parts = none_of_two (push_fault done op) (batch_fault_after (done ++ op ∷ []) ops) h in
+    let parts = first_fault-none (push_fault done op) (batch_fault_after (done ++ op ∷ []) ops) h in
     elim m [
       | inl same ↦ subst IsEntry (sym same) (entry_sound (n + 1) op (omega arith) (taken done op parts.0))
       | inr rest ↦ after_sound (done ++ op ∷ []) ops (n + 1) parts.1 e rest
