@@ -3,6 +3,7 @@ use Rattle.std.proofs.Common.{◌≡◌, ℕ, zero, suc, List, [], ◌∷◌, �
 use Rattle.std.specs.List.{slice_get}
 use Rattle.std.specs.Option.{option_and_then}
 use Rattle.std.proofs.Math.Seq.{take-length}
+use Rattle.std.proofs.lemmas.Option.{same_Some}
 use Rattle.lsm_key.specs.declared.op.Op.{Op}
 use Rattle.lsm_key.specs.Sets.{IsIn}
 use Rattle.lsm_key.specs.Writes.{last_write, value_of, answer}
@@ -14,7 +15,7 @@ use Rattle.lsm_coord.specs.Model.Step.{Step, Lists, FollowerReads}
 use Rattle.lsm_coord.specs.Model.Run.{Run}
 use Rattle.lsm_coord.specs.Model.Laws.{VersionsStay, ListingsAgree, FollowersAgree, GetGivesTheWrite, FlushedRises, SparesKey}
 use Rattle.lsm_coord.proofs.Effects.{Effect, stays, wrote, froze, flushed, installed, fell, rose, effect}
-use Rattle.lsm_coord.proofs.Versions.{IsSound, step_sound, step_versions, step_writes, run_versions, first_sound, below_tip, some}
+use Rattle.lsm_coord.proofs.Versions.{IsSound, step_sound, step_versions, step_writes, run_versions, first_sound, below_tip}
 
 pub versions_stay : VersionsStay
 versions_stay s t events replies h = run_versions s events replies t h
@@ -57,7 +58,7 @@ shown s (e ∷ es) (r ∷ rs) t n seq files h (inr i) = shown h.0 es rs t n seq 
 
 pub listings_agree : ListingsAgree
 listings_agree s t events replies h n a b files others x y =
-    let v = some _ _ (sym (shown s events replies t n a files h x) ∙ shown s events replies t n b others h y) in
+    let v = same_Some _ _ (sym (shown s events replies t n a files h x) ∙ shown s events replies t n b others h y) in
     (ap (λ (w : Version). w.flushed) v, ap (λ (w : Version). w.files) v)
 
 -- ---- reads at followers
@@ -85,14 +86,14 @@ read_at_end s [] rs t i follower n key value h sound a b = absurd cc
 read_at_end s (e ∷ es) [] t i follower n key value h sound a b = absurd h
 read_at_end s (e ∷ es) (r ∷ rs) t zero follower n key value h sound a b =
     let x = effect s e r h.0 h.1 in
-    let g = read_here s e r h.0 follower n key value h.1 (some _ _ a) (some _ _ b) in
+    let g = read_here s e r h.0 follower n key value h.1 (same_Some _ _ a) (same_Some _ _ b) in
     run_gives h.0 es rs t h.2 (step_sound s e h.0 x sound) n key value (step_gives s e h.0 x sound n key value g)
 read_at_end s (e ∷ es) (r ∷ rs) t (suc i) follower n key value h sound a b =
     read_at_end h.0 es rs t i follower n key value h.2 (step_sound s e h.0 (effect s e r h.0 h.1) sound) a b
 
 gives_one : (s : State) (n : ℕ) (key : List ℕ) (x y : Option (List ℕ)) → FollowerReads s n key x → FollowerReads s n key y → x ≡ y
 gives_one s n key x y g h =
-    let v = some g.0 h.0 (sym g.1 ∙ h.1) in
+    let v = same_Some g.0 h.0 (sym g.1 ∙ h.1) in
     g.2 ∙ ap (λ (w : Version). answer s.writes w.flushed key) v ∙ sym h.2
 
 pub followers_agree : FollowersAgree

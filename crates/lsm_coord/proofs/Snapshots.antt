@@ -5,6 +5,7 @@ use Rattle.std.specs.List.{slice_get}
 use Rattle.std.specs.Option.{unwrap_or, option_and_then}
 use Rattle.std.proofs.lemmas.Bool.{eqb-true}
 use Rattle.std.proofs.lemmas.List.{take-append-le}
+use Rattle.std.proofs.lemmas.Option.{same_Some}
 use Rattle.lsm_key.specs.declared.op.Op.{Op}
 use Rattle.lsm_key.specs.Writes.{answer, last_write, value_of}
 use Rattle.lsm_coord.specs.Model.State.{State, last_seq, same_snapshot_id, snapshot_at, first_state}
@@ -16,7 +17,6 @@ use Rattle.lsm_coord.specs.Model.Changes.{next_snapshot}
 use Rattle.lsm_coord.specs.Model.Step.{Step}
 use Rattle.lsm_coord.specs.Model.Run.{Run}
 use Rattle.lsm_coord.specs.Model.Laws.{SnapshotsAgree}
-use Rattle.lsm_coord.proofs.Versions.{some}
 use Rattle.lsm_coord.proofs.SnapshotEffects.{Effect, Goes, stays, snapped, released, fell, rose, effect}
 
 -- ---- lists of snapshots
@@ -40,7 +40,7 @@ id_of a b h =
     (eqb-true a.epoch b.epoch x.0, eqb-true a.number b.number x.1)
 
 pick : (b : Bool) (x : ℕ) (y : Option ℕ) (p : ℕ) → (if b then Some x else y) ≡ Some p → ((b ≡ true) × (x ≡ p)) ⊎ ((b ≡ false) × (y ≡ Some p))
-pick true x y p h = inl (refl, some x p h)
+pick true x y p h = inl (refl, same_Some x p h)
 pick false x y p h = inr (refl, h)
 
 -- a live one was live before, or is the one that was added
@@ -183,7 +183,7 @@ get_now s e r t id key value h a b =
 holds_now : (s : State) (id : SnapId) (key : List ℕ) (value : Option (List ℕ)) → Known s → (p : ℕ) × (snapshot_at s.snapshots id ≡ Some p) × (value ≡ answer s.writes p key) → Holds s id key value
 holds_now s id key value known (p, live, is) = record {
   used = (known id p live).used;
-  gives = λ q also. ap (λ n. answer s.writes n key) (sym (some p q (sym live ∙ also))) ∙ sym is;
+  gives = λ q also. ap (λ n. answer s.writes n key) (sym (same_Some p q (sym live ∙ also))) ∙ sym is;
 }
 
 run_holds : (s : State) (es : List Event) (rs : List Reply) (t : State) (id : SnapId) (key : List ℕ) (value : Option (List ℕ)) → Run s es rs t → Known s → Holds s id key value
@@ -191,7 +191,7 @@ run_holds : (s : State) (es : List Event) (rs : List Reply) (t : State) (id : Sn
 run_holds s [] rs t id key value run known h i other a b = absurd cc
 run_holds s (e ∷ es) [] t id key value run known h i other a b = absurd run
 run_holds s (e ∷ es) (r ∷ rs) t id key value run known h zero other a b =
-    let g = get_now s e r run.0 id key other run.1 (some _ _ a) (some _ _ b) in
+    let g = get_now s e r run.0 id key other run.1 (same_Some _ _ a) (same_Some _ _ b) in
     g.2 ∙ h.gives g.0 g.1
 run_holds s (e ∷ es) (r ∷ rs) t id key value run known h (suc i) other a b =
     let x = effect s e r run.0 run.1 in
@@ -203,9 +203,9 @@ run_agrees : (s : State) (es : List Event) (rs : List Reply) (t : State) (id : S
 run_agrees s [] rs t id key x y i j run known a b c d = absurd cc
 run_agrees s (e ∷ es) [] t id key x y i j run known a b c d = absurd run
 run_agrees s (e ∷ es) (r ∷ rs) t id key x y zero j run known a b c d =
-    sym (run_holds s (e ∷ es) (r ∷ rs) t id key x run known (holds_now s id key x known (get_now s e r run.0 id key x run.1 (some _ _ a) (some _ _ b))) j y c d)
+    sym (run_holds s (e ∷ es) (r ∷ rs) t id key x run known (holds_now s id key x known (get_now s e r run.0 id key x run.1 (same_Some _ _ a) (same_Some _ _ b))) j y c d)
 run_agrees s (e ∷ es) (r ∷ rs) t id key x y (suc i) zero run known a b c d =
-    run_holds s (e ∷ es) (r ∷ rs) t id key y run known (holds_now s id key y known (get_now s e r run.0 id key y run.1 (some _ _ c) (some _ _ d))) (suc i) x a b
+    run_holds s (e ∷ es) (r ∷ rs) t id key y run known (holds_now s id key y known (get_now s e r run.0 id key y run.1 (same_Some _ _ c) (same_Some _ _ d))) (suc i) x a b
 run_agrees s (e ∷ es) (r ∷ rs) t id key x y (suc i) (suc j) run known a b c d =
     run_agrees run.0 es rs t id key x y i j run.2 (step_known s run.0 (effect s e r run.0 run.1) known) a b c d
 

@@ -4,7 +4,7 @@ use Rattle.std.specs.List.{slice_get}
 use Rattle.std.specs.Option.{unwrap_or}
 use Rattle.std.proofs.Math.Seq.{get_or-append_seam}
 use Rattle.std.proofs.lemmas.List.{take-append-le, take-take, length-take-le}
-use Rattle.std.proofs.lemmas.Option.{slice_get_within, slice_get-get_or}
+use Rattle.std.proofs.lemmas.Option.{same_Some, slice_get_within, slice_get-get_or}
 use Rattle.lsm_coord.specs.Model.State.{State, Version, empty_version, first_state}
 use Rattle.lsm_coord.specs.Model.Event.{Event, Reply}
 use Rattle.lsm_coord.specs.Model.Run.{Run}
@@ -17,12 +17,9 @@ grown [] ys n x h = absurd cc
 grown (y ∷ xs) ys zero x h = h
 grown (y ∷ xs) ys (suc n) x h = grown xs ys n x h
 
-pub some : {X : Type 0} (x y : X) → Some x ≡ Some y → x ≡ y
-some x y h = ap (λ o. unwrap_or o x) h
-
 -- an element is one of the former list or the one that was added
 at_grown : {X : Type 0} (xs : List X) (y : X) (n : ℕ) (x : X) → slice_get (xs ++ y ∷ []) n ≡ Some x → slice_get xs n ≡ Some x ⊎ ((n ≡ length xs) × (x ≡ y))
-at_grown [] y zero x h = inr (refl, some x y (sym h))
+at_grown [] y zero x h = inr (refl, same_Some x y (sym h))
 at_grown [] y (suc n) x h = absurd cc
 at_grown (z ∷ xs) y zero x h = inl h
 at_grown (z ∷ xs) y (suc n) x h = elim (at_grown xs y n x h) [ inl a ↦ inl a | inr b ↦ inr (ap suc b.0, b.1) ]
@@ -74,7 +71,7 @@ longer : (n m : ℕ) (vs : List Version) (frozen : Option ℕ) → n ≤ m → S
 longer n m vs frozen le x = record { rising = x.rising; within = let w = x.within in omega arith; between = λ z h. let b = x.between z h in (b.0, omega (arith, b.1)) }
 
 frozen_now : (n : ℕ) (vs : List Version) (frozen : Option ℕ) → Sound n vs frozen → Sound n vs (Some n)
-frozen_now n vs frozen x = record { rising = x.rising; within = x.within; between = λ z h. let e = some n z h in let w = x.within in (omega arith, omega arith) }
+frozen_now n vs frozen x = record { rising = x.rising; within = x.within; between = λ z h. let e = same_Some n z h in let w = x.within in (omega arith, omega arith) }
 
 cut_back : (n : ℕ) (vs : List Version) (frozen : Option ℕ) → Sound n vs frozen → Sound (tip vs) vs None
 cut_back n vs frozen x = record { rising = x.rising; within = omega arith; between = no_frozen _ _ }
@@ -131,8 +128,8 @@ step_writes s e t (fell k a b c) x n v h = ap (take v.flushed) a ∙ take-take v
 step_writes s e t (rose y k f a b c) x n v h = ap (take v.flushed) a ∙ take-take v.flushed (tip s.versions) s.writes (below_tip s.versions n v x.rising h)
 
 first_flushed : (n : ℕ) (v : Version) → slice_get first_state.versions n ≡ Some v → v.flushed ≡ 0
-first_flushed zero v h = ap (λ (x : Version). x.flushed) (sym (some empty_version v h))
-first_flushed (suc zero) v h = ap (λ (x : Version). x.flushed) (sym (some empty_version v h))
+first_flushed zero v h = ap (λ (x : Version). x.flushed) (sym (same_Some empty_version v h))
+first_flushed (suc zero) v h = ap (λ (x : Version). x.flushed) (sym (same_Some empty_version v h))
 first_flushed (suc (suc n)) v h = absurd cc
 
 pub first_sound : IsSound first_state

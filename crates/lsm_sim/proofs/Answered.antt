@@ -2,6 +2,7 @@
 use Rattle.std.proofs.Common.{◌≡◌, ℕ, false, Option, None, Some, Result, Ok, Err, Vec, IfOk, IfErr, OnErr, refl, sym, ap, subst, ◌∙◌, inr}
 use Rattle.std.specs.Prelude.{IfSome}
 use Rattle.std.proofs.lemmas.Bool.{true≢false}
+use Rattle.std.proofs.lemmas.Option.{same_Some}
 use Rattle.lsm_key.specs.Sets.{IsIn}
 use Rattle.lsm_claim.specs.declared.ending.Ending.TheVariants as ending
 use Rattle.lsm_claim.specs.declared.job.LiveJob.{LiveJob}
@@ -26,7 +27,6 @@ use Rattle.lsm_coord.specs.Contract.Sound.{KeepsSound}
 use Rattle.lsm_coord.specs.Model.State.{State}
 use Rattle.lsm_coord.specs.Model.Step.{Step}
 use Rattle.lsm_coord.specs.Contract.Value.{CoordValue}
-use Rattle.lsm_coord.proofs.InstallStep.{same_some}
 use Rattle.lsm_coord.proofs.Jobs.{wants_memory}
 use Rattle.lsm_coord.proofs.Refusals.{give_up_may}
 use Rattle.lsm_coord.proofs.Returning.{live_before, Shows-with_book}
@@ -82,7 +82,7 @@ module _ (old mid new : CoordValue) (claim : LiveJob) (job : JobParts) (ver : Is
     pub answers_refused : {Z : Type 0} (r : Answer Z) → IfErr r (KeptBack mid claim made) → IfErr r (CompactionRefuses old)
     answers_refused (Ok a) k = tt
     answers_refused (Err e) k =
-        let one : k.live ≡ claim = same_some k.live claim (sym k.is_live ∙ claim_live old mid claim job ver is book picked) in
+        let one : k.live ≡ claim = same_Some k.live claim (sym k.is_live ∙ claim_live old mid claim job ver is book picked) in
         subst (CompactionRefuses old) (sym k.told) (refused_by k.live one k.why k.explained)
 
     -- ---- jobs that stay sound
