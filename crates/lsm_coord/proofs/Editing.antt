@@ -7,6 +7,7 @@ use Rattle.lsm_key.specs.Sets.{IsIn}
 use Rattle.lsm_key.specs.Order.{key_le, key_lt}
 use Rattle.lsm_claim.specs.declared.job.Want.{Want}
 use Rattle.lsm_key.proofs.KeyRanges.{key_le_trans}
+use Rattle.lsm_key.proofs.Lists.{any_from, any_is, none_from}
 use Rattle.lsm_table.specs.Tables.{IsTable, Opened, largest_key, smallest_key}
 use Rattle.lsm_table.proofs.Contents.{table_small, table_ends, smallest_fits, largest_fits}
 use Rattle.lsm_table.proofs.TableSizes.{few_entries}
@@ -22,11 +23,6 @@ use Rattle.lsm_msg.specs.Legal.{IsLegal, encloses}
 use Rattle.lsm_msg.proofs.Inputs.{is_listed}
 use Rattle.lsm_coord.specs.Contract.Installing.{AreAscending, is_table_inside, record_of, records}
 use Rattle.lsm_coord.proofs.Keys.{not_below_upto}
-use Rattle.lsm_coord.proofs.Lists.{any_found, any_here}
-
-any_none : {X : Type 0} (test : X → Bool) (xs : List X) → ((x : X) → IsIn x xs → test x ≡ false) → list_any test xs ≡ false
-any_none test [] h = refl
-any_none test (x ∷ xs) h = rw (h x (inl refl)) (any_none test xs (λ y m. h y (inr m)))
 
 -- ---- records
 
@@ -91,7 +87,7 @@ apart f g before = false_from_ne_true (clashes f g) (λ h.
 pub records_apart : (level number : ℕ) (ts : List Opened) → AreAscending ts → has_overlap (records level number ts) ≡ false
 records_apart level number [] pairs = refl
 records_apart level number (t ∷ ts) pairs =
-    let none = any_none (clashes (record_of level number t)) (records level (number + 1) ts) (λ g m.
+    let none = none_from (clashes (record_of level number t)) (records level (number + 1) ts) (λ g m.
     let r = recorded_of level (number + 1) ts g m in
     apart (record_of level number t) g (subst (λ (k : List ℕ). key_lt (largest_key t.entries) k ≡ true) (sym r.3) (pairs.0 r.0 r.1))) in
     rw none (records_apart level (number + 1) ts pairs.1)
@@ -114,7 +110,7 @@ module _ (v : VersionValue) (want : Want) (legal : IsLegal v.files want) (ts : L
       let added = records (want.level + 1) v.next_file ts in
       false_from_ne_true (stays want.files f && list_any (clashes f) added) (λ h.
       let parts = and_parts (stays want.files f) (list_any (clashes f) added) h in
-      let g = any_found (clashes f) added parts.1 in
+      let g = any_is (clashes f) added parts.1 in
       let input = is_listed want.files f (meets_input f g.0 m g.1 g.2) in
       true≢false (sym parts.0 ∙ ap not input))
 
@@ -122,13 +118,13 @@ module _ (v : VersionValue) (want : Want) (legal : IsLegal v.files want) (ts : L
   none_overlaps is pairs =
       let added = records (want.level + 1) v.next_file ts in
       overlap-after want.files v.files added is.disjoint
-      ∙ ap (λ (b : Bool). b || has_overlap added) (any_none (λ f. stays want.files f && list_any (clashes f) added) v.files stays_clear)
+      ∙ ap (λ (b : Bool). b || has_overlap added) (none_from (λ f. stays want.files f && list_any (clashes f) added) v.files stays_clear)
       ∙ records_apart (want.level + 1) v.next_file ts pairs
 
   pub inputs_there : (n : ℕ) → IsIn n want.files → list_any (has_number n) v.files ≡ true
   inputs_there n m =
       let f = legal.known n m in
-      any_here (has_number n) f.0 v.files f.1 (eq-eqb (f.0).number n f.2)
+      any_from (has_number n) v.files f.0 f.1 (eq-eqb (f.0).number n f.2)
 
   -- the records' keys are in the hull
   pub records_inside : (f : FileMeta) → IsIn f (records (want.level + 1) v.next_file ts) → encloses want.hull f ≡ true

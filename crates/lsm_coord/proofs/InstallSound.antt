@@ -2,6 +2,7 @@
 use Rattle.std.proofs.Common.{◌≡◌, ℕ, true, List, inl, inr, refl, sym, subst, ◌∙◌, Some}
 use Rattle.std.specs.List.{find}
 use Rattle.lsm_key.specs.Sets.{IsIn}
+use Rattle.lsm_key.proofs.Lists.{any_is}
 use Rattle.lsm_claim.specs.declared.ending.Ending.TheVariants as ending
 use Rattle.lsm_claim.specs.declared.job.JobId.{JobId}
 use Rattle.lsm_claim.specs.declared.job.LiveJob.{LiveJob}
@@ -25,7 +26,6 @@ use Rattle.lsm_coord.specs.Contract.Sound.{AreWrittenBy, IsSound, KeepsSound}
 use Rattle.lsm_coord.specs.Contract.Value.{CoordValue}
 use Rattle.lsm_coord.proofs.Installing.{held_by, installs_of, live_is, stays_apart}
 use Rattle.lsm_coord.proofs.InstallStep.{inputs_by_want, job_of_live, one_live}
-use Rattle.lsm_coord.proofs.Lists.{any_found}
 use Rattle.lsm_coord.proofs.Outputs.{tables_one}
 use Rattle.lsm_coord.proofs.Returning.{live_before, same_name}
 
@@ -45,7 +45,7 @@ install_keeps old new claim made number files job book served version all_legal 
     let after = after_settling old.book live.id ending.Installed in
     let held_now : holds after other.id ≡ true = subst (λ (c : CoordValue). holds c.book other.id ≡ true) install.new_is held in
     let own = sound.claimed.live in
-    let k = any_found (λ j. same_job_id j.id other.id) after.live held_now in
+    let k = any_is (λ j. same_job_id j.id other.id) after.live held_now in
     let k_is : k.0 ≡ own = one_live old.book.live book.rising k.0 own (live_before old.book live.id ending.Installed k.0 k.1) sound.claimed.member (same_name (k.0).id other.id k.2 ∙ sym sound.claimed.named) in
     let stays : IsIn own after.live = subst (λ (j : LiveJob). IsIn j after.live) k_is k.1 in
     let live_held = held_by old.book live live.id (subst (λ (i : JobId). find (λ j. same_job_id j.id i) old.book.live ≡ Some live) (sym found.1) b.1) in

@@ -1,5 +1,6 @@
 -- An install of what a merge keeps is a step of the states that a coordinator shows.
-use Rattle.std.proofs.Common.{◌≡◌, ℕ, ◌+◌, ◌≤◌, Bool, true, false, not, cond, List, [], ◌∷◌, ◌++◌, ◌⊎◌, inl, inr, Option, Some, refl, sym, ap, subst, ◌∙◌, arith, length, map, take, drop, unwrap_or, eqb}
+use Rattle.std.proofs.Common.{◌≡◌, ℕ, ◌+◌, ◌≤◌, Bool, true, false, not, cond, List, [], ◌∷◌, ◌++◌, ◌⊎◌, inl, inr, refl, sym, ap, subst, ◌∙◌, arith, length, map, take, drop, unwrap_or, eqb}
+use Rattle.std.specs.Cmp.{both_ways}
 use Rattle.std.specs.List.{filter, list_any, range_with_len}
 use Rattle.std.specs.List.Sorted.{IsPermutation}
 use Rattle.std.proofs.lemmas.Bool.{and_parts, and_from, eq-eqb, eqb-true}
@@ -11,6 +12,7 @@ use Rattle.lsm_key.specs.Writes.{answer}
 use Rattle.lsm_key.specs.Places.{entries_after}
 use Rattle.lsm_key.proofs.Sets.{IsIn-map, IsIn-mapped}
 use Rattle.lsm_key.proofs.Falls.{IsIn-filter}
+use Rattle.lsm_key.proofs.Lists.{IsIn-kept, any_from, any_is, some_in}
 use Rattle.lsm_claim.specs.declared.ending.Ending.TheVariants as ending
 use Rattle.lsm_claim.specs.declared.job.JobId.{JobId}
 use Rattle.lsm_claim.specs.declared.job.LiveJob.{LiveJob}
@@ -26,7 +28,6 @@ use Rattle.lsm_edit.specs.Served.{IsServed, ServedValue}
 use Rattle.lsm_edit.specs.Version.{IsVersion, VersionValue, after_apply, apply_fault, has_number}
 use Rattle.lsm_edit.specs.Version as edit
 use Rattle.lsm_edit.proofs.Places.{file_of, tables_in}
-use Rattle.lsm_edit.proofs.AfterEdit.{keeps}
 use Rattle.lsm_msg.specs.declared.job.JobParts.{JobParts}
 use Rattle.lsm_msg.specs.declared.job.JobResult.{JobResult}
 use Rattle.lsm_msg.specs.Installs.{AddNoEntry, AreInputsOf, Installs, IsJobOf, entries_of}
@@ -50,7 +51,6 @@ use Rattle.lsm_coord.specs.Contract.Value.{CoordValue, frozen_entries, stored_en
 use Rattle.lsm_coord.proofs.Editing.{records_end, records_length}
 use Rattle.lsm_coord.proofs.Installing.{installs_of, live_is}
 use Rattle.lsm_coord.proofs.Outputs.{tables_one}
-use Rattle.lsm_coord.proofs.Lists.{any_found, any_here}
 use Rattle.lsm_coord.proofs.Manifests.{Folds-push, files_are, flushed_is, listed-push, version_count}
 use Rattle.lsm_coord.proofs.Versions.{tip-grown}
 
@@ -67,26 +67,20 @@ same_stay : {X Y : Type 0} (p : Y → Bool) (q : X → Bool) (g : X → Y) (xs :
 same_stay p q g [] h = refl
 same_stay p q g (x ∷ xs) h = stay_by g x (p (g x)) (q x) (filter p (map g xs)) (filter q xs) (h x (inl refl)) (same_stay p q g xs (λ y m. h y (inr m)))
 
-one_test : (a b : Bool) → (a ≡ true → b ≡ true) → (b ≡ true → a ≡ true) → a ≡ b
-one_test true true f g = refl
-one_test true false f g = sym (f refl)
-one_test false true f g = g refl
-one_test false false f g = refl
-
 -- the places of the inputs
 abbrev pub input_places : List FileMeta → List ℕ → List Place
 input_places files numbers = map place_of (filter (λ f. list_any (λ n. has_number n f) numbers) files)
 
 input_listed : (files : List FileMeta) (numbers : List ℕ) (f : FileMeta) → IsIn f files → list_any (same_place (place_of f)) (input_places files numbers) ≡ list_any (λ n. has_number n f) numbers
-input_listed files numbers f m = one_test (list_any (same_place (place_of f)) (input_places files numbers)) (list_any (λ n. has_number n f) numbers)
+input_listed files numbers f m = both_ways (list_any (same_place (place_of f)) (input_places files numbers)) (list_any (λ n. has_number n f) numbers)
     (λ h.
-    let p = any_found (same_place (place_of f)) (input_places files numbers) h in
+    let p = any_is (same_place (place_of f)) (input_places files numbers) h in
     let g = IsIn-mapped place_of p.0 (filter (λ x. list_any (λ n. has_number n x) numbers) files) p.1 in
     let own = (IsIn-filter (λ x. list_any (λ n. has_number n x) numbers) g.0 files g.1).1 in
     let same = eqb-true f.number (p.0).file (and_parts (eqb f.level (p.0).level) (eqb f.number (p.0).file) p.2).1 ∙ ap (λ (q : Place). q.file) g.2 in
     is_listed numbers f (subst (λ (n : ℕ). IsIn n numbers) (sym same) (listed_is numbers g.0 own)))
-    (λ h. any_here (same_place (place_of f)) (place_of f) (input_places files numbers)
-    (IsIn-map place_of f (filter (λ x. list_any (λ n. has_number n x) numbers) files) (keeps (λ x. list_any (λ n. has_number n x) numbers) f files m h))
+    (λ h. any_from (same_place (place_of f)) (input_places files numbers) (place_of f)
+    (IsIn-map place_of f (filter (λ x. list_any (λ n. has_number n x) numbers) files) (IsIn-kept (λ x. list_any (λ n. has_number n x) numbers) f files m h))
     (and_from (eqb f.level f.level) (eqb f.number f.number) (eq-eqb f.level f.level refl) (eq-eqb f.number f.number refl)))
 
 without_is : (files : List FileMeta) (numbers : List ℕ) → change.without_inputs (input_places files numbers) (map place_of files) ≡ map place_of (edit.files_without numbers files)
@@ -99,10 +93,6 @@ at_level_is level number (t ∷ ts) = ap (λ (ps : List Place). record { level =
 numbers_range : (level number : ℕ) (ts : List Opened) → map (λ (f : FileMeta). f.number) (records level number ts) ≡ range_with_len number (length ts)
 numbers_range level number [] = refl
 numbers_range level number (t ∷ ts) = ap (λ (ns : List ℕ). number ∷ ns) (numbers_range level (number + 1) ts)
-
-some_in : {X : Type 0} (x : X) (xs : List X) → IsIn x xs → 1 ≤ length xs
-some_in x [] m = absurd m
-some_in x (y ∷ xs) m = omega arith
 
 -- ---- the step
 
@@ -209,7 +199,7 @@ module _ (c : CoordValue) (live : LiveJob) (ts : List Opened) (text : List ℕ) 
       let first = h.tables.next_file in
       let own = legal.own in
       let test = λ (f : FileMeta). list_any (λ n. has_number n f) live.want.files in
-      let there = keeps test own.0 v.files (own.1).0 (is_listed live.want.files own.0 (own.1).1) in
+      let there = IsIn-kept test own.0 v.files (own.1).0 (is_listed live.want.files own.0 (own.1).1) in
       let room = fit.next_file in
       let number = fit.number in
       let level = orderly.level in
@@ -246,9 +236,6 @@ one_live (j ∷ jobs) rise a b m n e =
         | inr y ↦ one_live jobs rise.1 a b x y e
       ]
     ]
-
-pub same_some : {X : Type 0} (a b : X) → Some a ≡ Some b → a ≡ b
-same_some a b e = ap (λ (o : Option _). unwrap_or o a) e
 
 -- the entries of the tables of a job's inputs are those that its want takes
 pub inputs_by_want : (served : ServedValue) (want : Want) (job : JobParts) (inputs : List Entry) → IsServed served → IsJobOf served.version.files want job → AreEntriesOf served job inputs → AreInputsOf served.places want inputs

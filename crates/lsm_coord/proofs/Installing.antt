@@ -5,6 +5,7 @@ use Rattle.std.proofs.lemmas.Bool.{true≢false, false_from_ne_true, eq-eqb}
 use Rattle.lsm_key.specs.declared.entry.Entry.{Entry}
 use Rattle.lsm_key.specs.Sets.{IsIn}
 use Rattle.lsm_key.proofs.Falls.{IsIn-filter}
+use Rattle.lsm_key.proofs.Lists.{any_from}
 use Rattle.lsm_claim.specs.declared.ending.Ending.TheVariants as ending
 use Rattle.lsm_claim.specs.declared.job.JobId.{JobId}
 use Rattle.lsm_claim.specs.declared.job.LiveJob.{LiveJob}
@@ -28,7 +29,6 @@ use Rattle.lsm_coord.specs.Contract.Manifest.{VersionSetValue}
 use Rattle.lsm_coord.specs.Contract.Memory.{IsCoord}
 use Rattle.lsm_coord.specs.Contract.Value.{CoordValue}
 use Rattle.lsm_coord.proofs.Editing.{recorded_of, records_inside, records_recorded}
-use Rattle.lsm_coord.proofs.Lists.{any_here}
 use Rattle.lsm_coord.proofs.Outputs.{tables_each}
 use Rattle.lsm_coord.proofs.Returning.{epoch_after, live_before, orderly_after, same_name}
 
@@ -115,10 +115,7 @@ stays_apart b id live j is held here named m =
     same_self a c e = subst (λ (x : JobId). same_job_id a x ≡ true) e (rw (eq-eqb a.epoch a.epoch refl) (eq-eqb a.number a.number refl))
 
 pub held_by : (b : BookValue) (live : LiveJob) (id : JobId) → find (λ j. same_job_id j.id id) b.live ≡ Some live → holds b id ≡ true
-held_by b live id h = let r = found_some (λ j. same_job_id j.id id) b.live live h in passes (λ j. same_job_id j.id id) b.live live r.0 r.1
-  where
-    passes : (test : LiveJob → Bool) (js : List LiveJob) (j : LiveJob) → IsIn j js → test j ≡ true → list_any test js ≡ true
-    passes test js j m e = any_here test j js m e
+held_by b live id h = let r = found_some (λ j. same_job_id j.id id) b.live live h in any_from (λ j. same_job_id j.id id) b.live live r.0 r.1
 
 pub after_install : (active : List Entry) (frozen : Option Frozen) (last : ℕ) (old new : VersionSetValue) (book : BookValue) (id : JobId) (live : LiveJob) (made : JobResult) (number : ℕ) (files : List ℕ) (snapshots : List Snapshot)
     → IsCoord active frozen last old.served book snapshots → IsBook book → IsServed old.served → IsVersion old.served.version → find (λ j. same_job_id j.id id) book.live ≡ Some live → Puts old live made number files new

@@ -1,6 +1,6 @@
 -- The job of a want is within the rules of a job, and sound.
 use Rattle.std.proofs.Common.{◌≡◌, ℕ, zero, suc, ◌+◌, ◌-◌, ◌<◌, ◌≤◌, Bool, true, false, cond, ◌&&◌, ◌⊎◌, List, [], ◌∷◌, length, get_or, filter, map, refl, sym, subst, ◌∙◌, arith, inl, inr, All, AllPairs, Result, Ok, Err, IfOk, OnErr}
-use Rattle.std.specs.Prelude.{flat_map, nat_eq, nat_lt, nat_le, sum_by}
+use Rattle.std.specs.Prelude.{◌↔◌, flat_map, nat_eq, nat_lt, nat_le, sum_by}
 use Rattle.std.specs.List.{range_with_len, list_any}
 use Rattle.std.proofs.lemmas.Bool.{and_parts, and_from, cases_eq, cases_lt, eqb-true, eq-eqb, ltb-true, lt-ltb, leb-true}
 use Rattle.std.proofs.lemmas.List.{length-append, length-map}
@@ -10,6 +10,8 @@ use Rattle.lsm_key.specs.declared.limits.TheConstants.{MAX_NUMBER, MAX_TABLE_BYT
 use Rattle.lsm_key.specs.Order.{key_le}
 use Rattle.lsm_key.specs.Sets.{IsIn}
 use Rattle.lsm_key.proofs.Falls.{IsIn-filter}
+use Rattle.lsm_key.proofs.KeyRanges.{key_le_trans}
+use Rattle.lsm_key.proofs.Lists.{IsIn-kept, any_from}
 use Rattle.lsm_key.proofs.Sets.{IsIn-append_left, IsIn-append_right, IsIn-append_cases, IsIn-at, IsIn-map, IsIn-one, IsIn-place}
 use Rattle.lsm_claim.specs.declared.error.ClaimError.{ClaimError}
 use Rattle.lsm_claim.specs.declared.hull.Hull.{Hull}
@@ -29,14 +31,13 @@ use Rattle.lsm_msg.specs.Legal.{IsLegal, KnowsDeeper, Takes, touches}
 use Rattle.lsm_msg.specs.Merge.{is_in_ranges}
 use Rattle.lsm_msg.specs.Rules.{AreDeeper, AreInputs, AreKeys, IsInput, IsJobId}
 use Rattle.lsm_pick.specs.Rule.{inputs_of, is_deeper}
+use Rattle.lsm_pick.proofs.Legal.{input_taken, taken_input}
 use Rattle.lsm_coord.specs.declared.error.CoordError.TheVariants.{OutOfMemory}
 use Rattle.lsm_coord.specs.declared.snapshot.Snapshot.{Snapshot}
 use Rattle.lsm_coord.specs.Contract.Value.{CoordValue}
 use Rattle.lsm_coord.specs.Contract.Memory.{AreLegal, AreJobWants, IsJobWant}
 use Rattle.lsm_coord.specs.Contract.Sound.{IsSound, KeepsSound}
 use Rattle.lsm_coord.specs.Contract.Picking.{IsJobFor, IsPicked, MayClaim, PickRefuses, deeper_files, deeper_levels, range_of, touches_at}
-use Rattle.lsm_coord.proofs.Keys.{upto_trans}
-use Rattle.lsm_coord.proofs.Lists.{any_found, any_here, IsIn-kept}
 
 all_from : {X : Type 0} (P : X → Type 0) (xs : List X) → ((x : X) → IsIn x xs → P x) → All P xs
 all_from P xs h k d lt = h (get_or xs k d) (IsIn-at xs k d lt)
@@ -71,24 +72,17 @@ rising_pairs [] up = λ i j d lt within. absurd (omega arith)
 rising_pairs (f ∷ files) up = AllPairs-cons (λ x y. x.number < y.number) f files (all_from (λ (g : FileMeta). f.number < g.number) files up.0) (rising_pairs files up.1)
 
 -- the inputs are what the want takes of the files
-module _ (files : List FileMeta) (want : Want) where
-  pub is_taken : (f : FileMeta) → IsIn f (inputs_of files want) → Takes files want f
-  is_taken f m =
-      let r = IsIn-filter (λ g. list_any (nat_eq g.number) want.files) f files m in
-      let n = any_found (nat_eq f.number) want.files r.1 in
-      (r.0, subst (λ (k : ℕ). IsIn k want.files) (sym (eqb-true f.number n.0 n.2)) n.1)
-
-  pub is_input : (f : FileMeta) → Takes files want f → IsIn f (inputs_of files want)
-  is_input f t = IsIn-kept (λ g. list_any (nat_eq g.number) want.files) f files t.0 (any_here (nat_eq f.number) f.number want.files t.1 (eq-eqb f.number f.number refl))
+pub inputs_taken : (files : List FileMeta) (want : Want) (inputs : List FileMeta) → inputs ≡ inputs_of files want → (f : FileMeta) → IsIn f inputs ↔ Takes files want f
+inputs_taken files want inputs are f = (λ m. input_taken files want f (subst (IsIn f) are m), λ t. subst (IsIn f) (sym are) (taken_input files want f t))
 
 inputs_are : (v : VersionValue) (want : Want) → IsVersion v → IsLegal v.files want → length (inputs_of v.files want) ≤ MAX_INPUTS → AreInputs want.level (inputs_of v.files want)
 inputs_are v want is legal few = record {
   few = few;
-  each = all_from (IsInput want.level) (inputs_of v.files want) (λ f m. let t = is_taken v.files want f m in record { level = legal.levels f t; file = is.files f t.0 });
+  each = all_from (IsInput want.level) (inputs_of v.files want) (λ f m. let t = input_taken v.files want f m in record { level = legal.levels f t; file = is.files f t.0 });
   rising = AllPairs-filter (λ f g. f.number < g.number) (λ f. list_any (nat_eq f.number) want.files) v.files (rising_pairs v.files is.rising);
   own =
       let o = legal.own in
-      let p = IsIn-place o.0 (inputs_of v.files want) (is_input v.files want o.0 o.1) in
+      let p = IsIn-place o.0 (inputs_of v.files want) (taken_input v.files want o.0 o.1) in
       (p.0, o.0, p.1, p.2, o.2);
 }
 
@@ -172,20 +166,20 @@ deeper_known served want job is version legal level inputs deeper p q mp mq inpu
       let files : List FileMeta = served.version.files in
       let key : List ℕ = e.ikey.key in
       let hull : Hull = want.hull in
-      let taken = is_taken files want p.meta (subst (λ (fs : List FileMeta). IsIn p.meta fs) inputs input) in
+      let taken = input_taken files want p.meta (subst (λ (fs : List FileMeta). IsIn p.meta fs) inputs input) in
       let inside = and_parts (key_le hull.lo p.meta.smallest) (key_le p.meta.largest hull.hi) (legal.inside p.meta taken) in
       let at_p = and_parts (key_le p.meta.smallest key) (key_le key p.meta.largest) (key_covered p.meta p.table (is.recorded p mp) e me) in
       let covered_q : is_covered q.meta key ≡ true = subst (λ (k : List ℕ). is_covered q.meta k ≡ true) same (key_covered q.meta q.table (is.recorded q mq) d md) in
       let at_q = and_parts (key_le q.meta.smallest key) (key_le key q.meta.largest) covered_q in
-      let from : key_le hull.lo key ≡ true = upto_trans hull.lo p.meta.smallest key inside.0 at_p.0 in
-      let to : key_le key hull.hi ≡ true = upto_trans key p.meta.largest hull.hi at_p.1 inside.1 in
-      let met : touches hull q.meta ≡ true = and_from (key_le hull.lo q.meta.largest) (key_le q.meta.smallest hull.hi) (upto_trans hull.lo key q.meta.largest from at_q.1) (upto_trans q.meta.smallest key hull.hi at_q.0 to) in
+      let from : key_le hull.lo key ≡ true = key_le_trans hull.lo p.meta.smallest key inside.0 at_p.0 in
+      let to : key_le key hull.hi ≡ true = key_le_trans key p.meta.largest hull.hi at_p.1 inside.1 in
+      let met : touches hull q.meta ≡ true = and_from (key_le hull.lo q.meta.largest) (key_le q.meta.smallest hull.hi) (key_le_trans hull.lo key q.meta.largest from at_q.1) (key_le_trans q.meta.smallest key hull.hi at_q.0 to) in
       let listed : IsIn q.meta files = (is.listed q.meta).0 (IsIn-map (λ (x : Placed). x.meta) q served.places mq) in
       let deepest : q.meta.level ≤ 6 = (version.files q.meta listed).level in
       let kept : IsIn q.meta (filter (touches_at hull q.meta.level) files) = IsIn-kept (touches_at hull q.meta.level) q.meta files listed (and_from (nat_eq q.meta.level q.meta.level) (touches hull q.meta) (eq-eqb q.meta.level q.meta.level refl) met) in
       let among : IsIn q.meta (deeper_files files want) = in_flat (λ l. filter (touches_at hull l) files) q.meta.level q.meta (deeper_levels want) (in_range (want.level + 2) (MAX_JOB_LEVEL - want.level) q.meta.level (omega arith) (omega arith)) kept in
       let found : is_in_ranges job.deeper key ≡ true = subst (λ (rs : List KeyRange). is_in_ranges rs key ≡ true) (sym deeper)
-      (any_here (λ r. in_closed_range r.lo r.hi key) (range_of q.meta) (map range_of (deeper_files files want)) (IsIn-map range_of q.meta (deeper_files files want) among) covered_q) in
+      (any_from (λ r. in_closed_range r.lo r.hi key) (map range_of (deeper_files files want)) (range_of q.meta) (IsIn-map range_of q.meta (deeper_files files want) among) covered_q) in
       absurd (let bad : true ≡ false = sym found ∙ clear in cc)
 ]
 
@@ -202,7 +196,7 @@ picked_sound old new claim job is version picked =
         named = sym of.id;
         of_want = record {
           level = of.level;
-          inputs = λ f. (λ m. is_taken files want f (subst (λ (fs : List FileMeta). IsIn f fs) of.inputs m), λ t. subst (λ (fs : List FileMeta). IsIn f fs) (sym of.inputs) (is_input files want f t));
+          inputs = inputs_taken files want job.inputs of.inputs;
         };
       };
       points = λ x live. inl ((of.points.all x.at).1 (IsIn-map (λ (y : Snapshot). y.at) x old.snapshots live));

@@ -54,9 +54,6 @@ upto_from a b h = not_before a b ∙ ap not (false_from_ne_true (key_lt b a) h)
 pub not_below_upto : (a b : List ℕ) → key_le a b ≡ true → IsBelow b a → ⊥
 not_below_upto a b le x = below_irreflexive b b refl (below_upto b a b x le)
 
-pub upto_trans : (a b c : List ℕ) → key_le a b ≡ true → key_le b c ≡ true → key_le a c ≡ true
-upto_trans a b c x y = upto_from a c (λ lt. not_below_upto b c y (below_upto c a b lt x))
-
 pub below_is_upto : (a b : List ℕ) → IsBelow a b → key_le a b ≡ true
 below_is_upto a b x = upto_from a b (λ y. below_asym a b x y)
 
@@ -66,9 +63,6 @@ key_or a b = by (key_lt a b) refl
     by : (c : Bool) → key_lt a b ≡ c → IsBelow a b ⊎ (key_le b a ≡ true)
     by true e = inl e
     by false e = inr (not_before b a ∙ ap not e)
-
-pub upto_itself : (a : List ℕ) → key_le a a ≡ true
-upto_itself a = upto_from a a (λ x. below_irreflexive a a refl x)
 
 -- as the code compares
 pub upto_back : (a b : List ℕ) → is_ge (slice_cmp nat_cmp a b) ≡ true → key_le b a ≡ true

@@ -28,7 +28,6 @@ pub mod Installing
 pub mod InstallStep
 pub mod InstallSound
 pub mod InstallRefusals
-pub mod Lists
 pub mod Returning
 pub mod Parts
 pub mod Jobs

@@ -5,11 +5,11 @@ use Rattle.std.specs.List.{range_with_len, list_any}
 use Rattle.std.proofs.lemmas.Bool.{eq-eqb}
 use Rattle.std.proofs.lemmas.List.{drop_more, length-drop, append_assoc, map-append}
 use Rattle.lsm_key.specs.Sets.{IsIn}
+use Rattle.lsm_key.proofs.Lists.{any_from}
 use Rattle.lsm_key.proofs.Sets.{IsIn-at}
 use Rattle.lsm_claim.specs.declared.job.Want.{Want}
 use Rattle.lsm_edit.specs.declared.file.FileMeta.{FileMeta}
 use Rattle.lsm_pick.specs.Rule.{inputs_of}
-use Rattle.lsm_coord.proofs.Lists.{any_here}
 
 -- ---- the inputs, by the numbers that are left
 
@@ -24,7 +24,7 @@ module _ (want : Want) (next : ℕ) (f : FileMeta) (rest : List FileMeta) (left 
       → (inputs_of (f ∷ rest) want ≡ f ∷ inputs_of rest want) × (drop (next + 1) want.files ≡ map (λ (g : FileMeta). g.number) (inputs_of rest want))
   input_is_next lt here =
       let member : IsIn f.number want.files = subst (λ (n : ℕ). IsIn n want.files) here (IsIn-at want.files next 0 lt) in
-      let taken : list_any (nat_eq f.number) want.files ≡ true = any_here (nat_eq f.number) f.number want.files member (eq-eqb f.number f.number refl) in
+      let taken : list_any (nat_eq f.number) want.files ≡ true = any_from (nat_eq f.number) want.files f.number member (eq-eqb f.number f.number refl) in
       let first : inputs_of (f ∷ rest) want ≡ f ∷ inputs_of rest want = ap (λ (b : Bool). cond b (f ∷ inputs_of rest want) (inputs_of rest want)) taken in
       let both : get_or want.files next 0 ∷ drop (next + 1) want.files ≡ f.number ∷ map (λ (g : FileMeta). g.number) (inputs_of rest want) =
       sym (drop_more want.files next 0 lt) ∙ left ∙ ap (map (λ (g : FileMeta). g.number)) first in

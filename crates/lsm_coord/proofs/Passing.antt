@@ -5,7 +5,7 @@ use Rattle.std.specs.Ordering.{nat_cmp, is_lt, ordering_then, ordering_reverse}
 use Rattle.std.specs.Cmp.Lexicographic.{slice_cmp}
 use Rattle.std.specs.declared.cmp.Ordering.{Ordering}
 use Rattle.std.specs.declared.cmp.Ordering.TheVariants.{Less, Equal, Greater}
-use Rattle.std.proofs.lemmas.Bool.{ltb-false, ltb-true, false_from_ne_true}
+use Rattle.std.proofs.lemmas.Bool.{ltb-false, ltb-true, false_from_ne_true, and_right}
 use Rattle.std.proofs.lemmas.Cmp.{nat_list_cmp_total}
 use Rattle.lsm_key.specs.declared.entry.Entry.{Entry}
 use Rattle.lsm_key.specs.Sets.{IsIn}
@@ -13,7 +13,6 @@ use Rattle.lsm_key.specs.Order.{place_cmp, precedes, IsInOrder}
 use Rattle.lsm_key.specs.Visible.{visible, newer, has_key, entry_value, value_at}
 use Rattle.lsm_key.proofs.Sets.{IsIn-append_cases, IsIn-append_left, IsIn-append_right, IsIn-one}
 use Rattle.lsm_key.proofs.Order.{keys_equal, of_one_key}
-use Rattle.lsm_key.proofs.Points.{and-false}
 use Rattle.lsm_key.proofs.Falls.{first_in_order, rest_in_order}
 use Rattle.lsm_key.proofs.Visible.{at_visible, has_key-is, has_key-at, is_seen-key}
 use Rattle.lsm_coord.specs.Model.Range.{IsBelow}
@@ -61,7 +60,7 @@ module _ (e : Entry) (es : List Entry) (p : ℕ) where
 
   -- too late to be seen
   too_late : (key : List ℕ) → leb e.ikey.seq p ≡ false → visible (e ∷ es) key p ≡ visible es key p
-  too_late key h = ap (λ (b : Bool). newer (cond b (Some e) None) (visible es key p)) (and-false (has_key key e) (leb e.ikey.seq p) h)
+  too_late key h = ap (λ (b : Bool). newer (cond b (Some e) None) (visible es key p)) (and_right (has_key key e) (leb e.ikey.seq p) h)
 
   stays_first : AllLater e es → (o : Option Entry) → visible es e.ikey.key p ≡ o → newer (Some e) o ≡ Some e
   stays_first all None found = refl

@@ -1,9 +1,8 @@
 -- When a state forces a refusal, and when none, over plain facts.
 use Rattle.std.proofs.Common.{◌≡◌, ℕ, ◌+◌, ◌<◌, ◌≤◌, List, None, Some, refl, arith, Bool, true, false, length, nat_eq, ◌||◌, ◌&&◌, is_none, inl, inr, ◌⊎◌}
 use Rattle.std.specs.Bool.{nat_lt}
-use Rattle.std.proofs.lemmas.Bool.{lt-ltb, le-ltb, le-leb, lt-leb, ne_eqb}
+use Rattle.std.proofs.lemmas.Bool.{and_right, lt-ltb, le-ltb, le-leb, lt-leb, ne_eqb}
 use Rattle.std.proofs.lemmas.Bool.Decides.{Decides-eqb}
-use Rattle.lsm_key.proofs.Points.{and-false}
 use Rattle.lsm_key.specs.declared.op.Op.{Op}
 use Rattle.lsm_key.specs.declared.batch.KeyError.{KeyError}
 use Rattle.lsm_key.specs.declared.limits.TheConstants.{MAX_NUMBER, MAX_MEMTABLE_WEIGHT, MAX_SNAPSHOTS}
@@ -72,7 +71,7 @@ or-true false = refl
 
 flushable : (s : State) → IsFlushable s → (is_none s.frozen && nat_eq (last_seq s) (last_flushed s)) ≡ false
 flushable s (inl frozen) = rw frozen.1 refl
-flushable s (inr some) = rw (ne_eqb (last_seq s) (last_flushed s) (λ e. omega arith)) (and-false (is_none s.frozen) false refl)
+flushable s (inr some) = rw (ne_eqb (last_seq s) (last_flushed s) (λ e. omega arith)) (and_right (is_none s.frozen) false refl)
 
 past_one : (a b : ℕ) → (MAX_NUMBER < a) ⊎ (MAX_NUMBER < b) → (nat_lt MAX_NUMBER a || nat_lt MAX_NUMBER b) ≡ true
 past_one a b (inl h) = rw (lt-ltb MAX_NUMBER a h) refl

@@ -5,6 +5,7 @@ use Rattle.std.specs.Prelude.{nat_eq}
 use Rattle.std.specs.List.{list_any}
 use Rattle.lsm_key.specs.Sets.{IsIn}
 use Rattle.lsm_key.proofs.Falls.{IsIn-filter}
+use Rattle.lsm_key.proofs.Lists.{IsIn-kept, any_from, any_is}
 use Rattle.lsm_claim.specs.declared.ending.Ending.{Ending}
 use Rattle.lsm_claim.specs.declared.ending.Ending.TheVariants.{Installed, Returned}
 use Rattle.lsm_claim.specs.declared.job.JobId.{JobId}
@@ -19,7 +20,6 @@ use Rattle.lsm_coord.specs.Contract.Calls.{after_give_back}
 use Rattle.lsm_coord.specs.Contract.Desks.{after_giving_back_all}
 use Rattle.lsm_coord.specs.Contract.Shows.{Shows}
 use Rattle.lsm_coord.specs.Contract.Sound.{KeepsSound}
-use Rattle.lsm_coord.proofs.Lists.{any_found, any_here, IsIn-kept}
 
 -- ---- the book
 
@@ -57,7 +57,7 @@ pub still_live : (b : BookValue) (id : JobId) (ending : Ending) (j : LiveJob) (n
 still_live b id ending j name m named =
     settled_has (λ epoch live. list_any (λ k. same_job_id k.id name) live ≡ true → IsIn j live) b id ending
     (λ h.
-    let found = any_found (λ k. same_job_id k.id name) (without_job id b.live) h in
+    let found = any_is (λ k. same_job_id k.id name) (without_job id b.live) h in
     let k = found.0 in
     let same : k.id ≡ j.id = same_name k.id name found.2 ∙ sym named in
     let other : not (same_job_id k.id id) ≡ true = (IsIn-filter (λ x. not (same_job_id x.id id)) k b.live found.1).1 in
@@ -112,8 +112,8 @@ shown_after_all c (id ∷ ids) s h = shown_after_all (after_give_back c id) ids 
 -- a name that is live in the end was live all along
 held_before : (b : BookValue) (id name : JobId) → holds (after_settling b id Returned) name ≡ true → holds b name ≡ true
 held_before b id name h =
-    let found = any_found (λ k. same_job_id k.id name) (after_settling b id Returned).live h in
-    any_here (λ k. same_job_id k.id name) found.0 b.live (live_before b id Returned found.0 found.1) found.2
+    let found = any_is (λ k. same_job_id k.id name) (after_settling b id Returned).live h in
+    any_from (λ k. same_job_id k.id name) b.live found.0 (live_before b id Returned found.0 found.1) found.2
 
 held_first : (c : CoordValue) (ids : List JobId) (name : JobId) → holds (after_giving_back_all c ids).book name ≡ true → holds c.book name ≡ true
 held_first c [] name h = h

@@ -9,11 +9,12 @@ use Rattle.lsm_key.specs.Sets.{IsIn}
 use Rattle.lsm_key.specs.Order.{IsInOrder, key_le, is_between}
 use Rattle.lsm_key.specs.Visible.{visible, newer, is_seen, entry_value, value_at, IsUnique}
 use Rattle.lsm_key.proofs.Sets.{IsIn-append_cases, IsIn-append_left, IsIn-append_right, IsIn-at, SameMembers-permutation}
+use Rattle.lsm_key.proofs.KeyRanges.{key_le_trans}
 use Rattle.lsm_key.proofs.Falls.{IsIn-filter}
 use Rattle.lsm_key.proofs.Visible.{visible_same, at_visible, is_seen-key}
 use Rattle.lsm_coord.specs.Model.Range.{IsBelow, InHalfOpenRange, IsRange}
 use Rattle.lsm_coord.specs.Inner.Scan.{shown_pairs, is_hidden, pair_of}
-use Rattle.lsm_coord.proofs.Keys.{below_upto, upto_trans, key_or, within_parts, within_from, none_within}
+use Rattle.lsm_coord.proofs.Keys.{below_upto, key_or, within_parts, within_from, none_within}
 use Rattle.lsm_coord.proofs.Ranges.{Pair, Ascends, ascends}
 use Rattle.lsm_coord.proofs.Passing.{pass_is}
 
@@ -88,7 +89,7 @@ module _ (value_of : List ℕ → Option (List ℕ)) where
     right_of : (p : Pair) → IsIn p (old ++ more) → InHalfOpenRange lo to p.0 × (value_of p.0 ≡ Some p.1)
     right_of p m = elim (IsIn-append_cases p old more m) [
       | inl i ↦ let q = r.right p i in let v = within_parts lo from p.0 q.0 in (within_from lo to p.0 v.0 (below_upto p.0 from to v.1 on), q.1)
-      | inr j ↦ let q = w.right p j in let v = within_parts from to p.0 q.0 in (within_from lo to p.0 (upto_trans lo from p.0 start v.0) v.1, q.1)
+      | inr j ↦ let q = w.right p j in let v = within_parts from to p.0 q.0 in (within_from lo to p.0 (key_le_trans lo from p.0 start v.0) v.1, q.1)
     ]
 
     first_of : (p : Pair) → IsIn p (old ++ more) → IsIn p (take limit (old ++ more)) ⊎ ((length (take limit (old ++ more)) ≡ limit) × ((q : Pair) → IsIn q (take limit (old ++ more)) → IsBelow q.0 p.0))

@@ -1,10 +1,11 @@
 -- A version with its tables after an edit: each file has its table, and the places stay in the order of a search.
-use Rattle.std.proofs.Common.{◌≡◌, ℕ, ◌<◌, Bool, true, false, cond, List, [], ◌∷◌, ◌++◌, None, map, filter, refl, sym, ap, subst, ◌∙◌, arith, inl, inr, ◌⊎◌}
+use Rattle.std.proofs.Common.{◌≡◌, ℕ, ◌<◌, Bool, true, false, cond, List, [], ◌∷◌, ◌++◌, None, map, refl, sym, ap, subst, ◌∙◌, arith, inl, inr, ◌⊎◌}
 use Rattle.std.specs.List.{list_any}
 use Rattle.std.proofs.lemmas.Bool.{or_parts}
 use Rattle.lsm_key.specs.Sets.{IsIn}
 use Rattle.lsm_key.specs.Order.{key_le}
 use Rattle.lsm_key.proofs.Falls.{IsIn-filter}
+use Rattle.lsm_key.proofs.Lists.{IsIn-kept}
 use Rattle.lsm_key.proofs.Sets.{IsIn-map, IsIn-mapped, IsIn-append_cases, IsIn-append_left, IsIn-append_right}
 use Rattle.lsm_table.specs.Tables.{Opened}
 use Rattle.lsm_edit.specs.declared.file.FileMeta.{FileMeta}
@@ -38,19 +39,6 @@ put_all-ordered (p ∷ ps) qs whole wholes out outs up =
     (put_all-ordered ps qs (λ q m. whole q (inr m)) wholes out.1 (λ q m. outs q (inr m)) up)
 
 -- ---- places that stay
-
-module _ {X : Type 0} (p : X → Bool) where
-  in_here : (x y : X) (zs : List X) (b : Bool) → b ≡ true → x ≡ y → IsIn x (cond b (y ∷ zs) zs)
-  in_here x y zs true e same = inl same
-  in_here x y zs false e same = absurd cc
-
-  in_later : (x y : X) (zs : List X) (b : Bool) → IsIn x zs → IsIn x (cond b (y ∷ zs) zs)
-  in_later x y zs true m = inr m
-  in_later x y zs false m = m
-
-  pub keeps : (x : X) (xs : List X) → IsIn x xs → p x ≡ true → IsIn x (filter p xs)
-  keeps x [] m e = absurd m
-  keeps x (y ∷ ys) m e = elim m [ inl same ↦ in_here x y (filter p ys) (p y) (ap p (sym same) ∙ e) same | inr n ↦ in_later x y (filter p ys) (p y) (keeps x ys n e) ]
 
 ordered-if : (b : Bool) (p : Placed) (kept : List Placed) → ((q : Placed) → IsIn q kept → is_before p.meta q.meta ≡ true) → AreInSearchOrder kept → AreInSearchOrder (cond b (p ∷ kept) kept)
 ordered-if true p kept first up = (first, up)
@@ -109,7 +97,7 @@ module _ (s : ServedValue) (edit : Edit) (tables : List Opened) (ver : IsVersion
   kept_file : (p : Placed) → IsIn p kept → IsIn p.meta files
   kept_file p m =
       let k = IsIn-filter (λ (x : Placed). stays edit.removed x.meta) p s.places m in
-      IsIn-append_left p.meta (files_without edit.removed s.version.files) edit.added (keeps (stays edit.removed) p.meta s.version.files ((is.listed p.meta).0 (IsIn-map (λ (x : Placed). x.meta) p s.places k.0)) k.1)
+      IsIn-append_left p.meta (files_without edit.removed s.version.files) edit.added (IsIn-kept (stays edit.removed) p.meta s.version.files ((is.listed p.meta).0 (IsIn-map (λ (x : Placed). x.meta) p s.places k.0)) k.1)
 
   whole_file : (f : FileMeta) → IsIn f files → key_le f.smallest f.largest ≡ true
   whole_file f m = (after.files f m).ordered
@@ -130,7 +118,7 @@ module _ (s : ServedValue) (edit : Edit) (tables : List Opened) (ver : IsVersion
     | inl a ↦
         let k = IsIn-filter (stays edit.removed) f s.version.files a in
         let p = IsIn-mapped (λ (q : Placed). q.meta) f s.places ((is.listed f).1 k.0) in
-        let there : IsIn p.0 kept = keeps (λ (x : Placed). stays edit.removed x.meta) p.0 s.places p.1 (subst (λ (g : FileMeta). stays edit.removed g ≡ true) p.2 k.1) in
+        let there : IsIn p.0 kept = IsIn-kept (λ (x : Placed). stays edit.removed x.meta) p.0 s.places p.1 (subst (λ (g : FileMeta). stays edit.removed g ≡ true) p.2 k.1) in
         subst (λ (g : FileMeta). IsIn g (map (λ (q : Placed). q.meta) (put_all added kept))) (sym p.2) (IsIn-map (λ (q : Placed). q.meta) p.0 (put_all added kept) ((put_all-members added kept p.0).1 (inr there)))
     | inr b ↦
         let p = IsIn-mapped (λ (q : Placed). q.meta) f added (placed_in edit.added tables f rec b) in

@@ -3,6 +3,7 @@ use Rattle.std.proofs.Common.{◌≡◌, ℕ, ◌<◌, ◌≤◌, true, false, n
 use Rattle.std.specs.List.{list_any}
 use Rattle.std.proofs.lemmas.Bool.{eqb-true, eq-eqb, leb-false, ltb-false, not-false, not-true, or_parts}
 use Rattle.lsm_key.specs.Sets.{IsIn}
+use Rattle.lsm_key.proofs.Lists.{any_is, none_is}
 use Rattle.lsm_key.proofs.Sets.{IsIn-append_cases}
 use Rattle.lsm_key.proofs.Falls.{IsIn-filter}
 use Rattle.lsm_edit.specs.declared.file.FileMeta.{FileMeta}
@@ -10,7 +11,6 @@ use Rattle.lsm_edit.specs.declared.edit.Edit.{Edit}
 use Rattle.lsm_edit.specs.Version.{VersionValue, IsVersion, apply_fault, after_apply, files_after, has_number, files_without}
 use Rattle.lsm_edit.specs.Edits.{Apply, IsHistory, RemovedOnce, versions_from}
 use Rattle.lsm_edit.specs.Laws.{NoFileIsRemovedTwice, ANumberNamesOneFile}
-use Rattle.lsm_edit.proofs.Lists.{any_is, none_is}
 use Rattle.lsm_edit.proofs.Places.{one_number}
 use Rattle.lsm_edit.proofs.VersionLaws.{passes, stays, fresh_added, applied_is}
 

@@ -2,7 +2,7 @@
 use Rattle.std.proofs.Common.{◌≡◌, refl, ℕ, zero, suc, ◌+◌, ◌<◌, ◌≤◌, Bool, true, false, not, cond, ◌&&◌, List, [], ◌∷◌, ◌++◌, length, get_or, drop, ◌-◌, sym, ap, subst, ◌∙◌, arith, inl, inr, eqb, ltb}
 use Rattle.std.specs.List.{filter, AllWithin}
 use Rattle.std.specs.declared.cmp.Ordering.{Ordering}
-use Rattle.std.specs.Ordering.{ordering_then, nat_cmp, is_lt, is_gt}
+use Rattle.std.specs.Ordering.{ordering_then, nat_cmp, is_lt}
 use Rattle.std.proofs.lemmas.Bool.{true≢false, eq-eqb, eqb-true, lt-ltb, le-ltb, and_right, cases_order, cases_lt, not-true}
 use Rattle.std.proofs.lemmas.List.{drop_more, drop_all, get_or-drop, length-drop, append-nil, append_assoc, map-append}
 use Rattle.std.proofs.lemmas.List.Elements.{filter-append, filter_agree}
@@ -11,6 +11,7 @@ use Rattle.lsm_key.specs.Sets.{IsIn}
 use Rattle.lsm_key.specs.Order.{Precedes, IsInOrder, key_le, key_lt, is_between}
 use Rattle.lsm_key.specs.Places.{all_entries}
 use Rattle.lsm_key.proofs.Sets.{IsIn-append_cases, IsIn-at}
+use Rattle.lsm_key.proofs.KeyRanges.{key_le_or, key_le_trans}
 use Rattle.lsm_key.proofs.Ranges.{not_before}
 use Rattle.lsm_key.proofs.Falls.{Falls, falls-append, falls-filter, ascending_falls, falls_in_order, IsIn-filter}
 use Rattle.lsm_table.proofs.Contents.{table_ascending, table_range}
@@ -36,16 +37,6 @@ at_least a b c h k = by (key_le c b) refl
     by : (r : Bool) → key_le c b ≡ r → key_le c b ≡ false
     by true e = absurd (true≢false (sym k ∙ above_le a b c h e))
     by false e = e
-
-le_trans : (a b c : List ℕ) → key_le a b ≡ true → key_le b c ≡ true → key_le a c ≡ true
-le_trans a b c h k = by (key_le a c) refl
-  where
-    by : (r : Bool) → key_le a c ≡ r → key_le a c ≡ true
-    by true e = e
-    by false e = absurd (true≢false (sym h ∙ above_le a c b e k))
-
-below_le : (a b : List ℕ) → key_le b a ≡ false → key_le a b ≡ true
-below_le a b h = ap (λ (o : Ordering). not (is_gt o)) (turned a b h)
 
 -- ---- filters
 
@@ -187,7 +178,7 @@ module _ (lo hi : List ℕ) where
 
   misses_right : (p : Placed) → IsAsRecorded p.meta p.table → key_le hi p.meta.smallest ≡ true → Misses p
   misses_right p is right = filter-none (is_between lo hi) p.table.entries (λ e m.
-      let out = sym (not_before hi e.ikey.key) ∙ le_trans hi p.meta.smallest e.ikey.key right (key_from p is e m) in
+      let out = sym (not_before hi e.ikey.key) ∙ key_le_trans hi p.meta.smallest e.ikey.key right (key_from p is e m) in
       and_right (key_le lo e.ikey.key) (key_lt e.ikey.key hi) (not-true (key_lt e.ikey.key hi) out))
 
   passed : (p : Placed) (rest : List Placed) (b : Bool) → (b ≡ true → Misses p) → within lo hi (cond b (p ∷ rest) rest) ≡ within lo hi rest
@@ -222,7 +213,7 @@ module _ (lo hi : List ℕ) where
     right_of p q deeper at is past e (upper lt) = absurd (omega (arith, at, lt, e))
     right_of p q deeper at is past e (newer d z n) = absurd (omega (arith, at, z, deeper))
     right_of p q deeper at is past e (lesser d n k) =
-        le_trans hi p.meta.smallest q.meta.smallest (past (d ∙ e)) (le_trans p.meta.smallest p.meta.largest q.meta.smallest (whole_of p.meta p.table is) (below_le p.meta.largest q.meta.smallest k))
+        key_le_trans hi p.meta.smallest q.meta.smallest (past (d ∙ e)) (key_le_trans p.meta.smallest p.meta.largest q.meta.smallest (whole_of p.meta p.table is) (key_le_or q.meta.smallest p.meta.largest k))
 
     -- the first place that is of a deeper level, or does not begin below the end of the range
     pub stopped : (p : Placed) (ps : List Placed) → 1 ≤ level → AllRecorded (p ∷ ps) → AreInSearchOrder (p ∷ ps) → level ≤ p.meta.level → (is_of level p && not (key_le hi p.meta.smallest)) ≡ false → within lo hi (filter (is_of level) (p ∷ ps)) ≡ []

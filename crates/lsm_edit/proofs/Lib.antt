@@ -1,7 +1,6 @@
 pub mod InTurn
 pub mod EditLaws
 pub mod Joins
-pub mod Lists
 pub mod VersionLaws
 pub mod EditsLemmas
 pub mod Search

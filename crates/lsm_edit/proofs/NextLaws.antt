@@ -1,10 +1,11 @@
 -- The edits that follow a version apply to it.
-use Rattle.std.proofs.Common.{◌≡◌, ℕ, suc, ◌+◌, ◌-◌, ◌<◌, ◌≤◌, ◌^◌, Bool, true, false, not, List, [], ◌∷◌, ◌++◌, length, Option, None, Some, refl, sym, ap, ◌∙◌, arith, inl, inr, ltb, leb}
+use Rattle.std.proofs.Common.{◌≡◌, ℕ, suc, ◌+◌, ◌-◌, ◌<◌, ◌≤◌, ◌^◌, true, false, not, List, [], ◌∷◌, ◌++◌, length, Option, None, Some, refl, sym, ap, ◌∙◌, arith, inl, inr, ltb, leb}
 use Rattle.std.specs.Prelude.{slice_get}
 use Rattle.std.specs.List.{list_any}
 use Rattle.lsm_key.specs.Sets.{IsIn}
+use Rattle.lsm_key.proofs.Lists.{none_from}
 use Rattle.lsm_edit.specs.declared.edit.EditKind.TheVariants.{Install}
-use Rattle.std.proofs.lemmas.Bool.{eq-eqb, le-ltb, lt-leb, or_from}
+use Rattle.std.proofs.lemmas.Bool.{eq-eqb, le-ltb, lt-leb}
 use Rattle.lsm_key.specs.declared.limits.TheConstants.{MAX_NUMBER}
 use Rattle.lsm_edit.specs.declared.file.FileMeta.{FileMeta}
 use Rattle.lsm_edit.specs.File.{IsFile}
@@ -67,10 +68,6 @@ after_each n (x ∷ files) up f m = elim m [
   | inr k ↦ after_each (x.number + 1) files up.1 f k
 ]
 
-any-none : {X : Type 0} (test : X → Bool) (xs : List X) → ((x : X) → IsIn x xs → test x ≡ false) → list_any test xs ≡ false
-any-none test [] none = refl
-any-none test (x ∷ xs) none = or_from (test x) (list_any test xs) (none x (inl refl)) (any-none test xs (λ y m. none y (inr m)))
-
 -- the number after the last file's
 pub after_last : (n : ℕ) (files : List FileMeta) (f : FileMeta) → slice_get files (length files - 1) ≡ Some f → number_after n files ≡ f.number + 1
 after_last n [] f h = absurd cc
@@ -113,7 +110,7 @@ module _ (v : VersionValue) (removed : List ℕ) (added : List FileMeta) (is : I
 
   pub install_applies : ((n : ℕ) → IsIn n removed → list_any (has_number n) v.files ≡ true) → has_overlap (files_without removed v.files ++ added) ≡ false → apply_fault v (install_edit v removed added) ≡ None
   install_applies present disjoint =
-      let all_there : list_any (λ n. not (list_any (has_number n) v.files)) removed ≡ false = any-none (λ n. not (list_any (has_number n) v.files)) removed (λ n m. ap not (present n m)) in
-      let all_new : list_any (λ f. ltb f.number v.next_file) added ≡ false = any-none (λ f. ltb f.number v.next_file) added (λ f m. le-ltb f.number v.next_file (fresh f m)) in
-      let all_below : list_any (λ f. leb (number_after v.next_file added) f.number) added ≡ false = any-none (λ f. leb (number_after v.next_file added) f.number) added (λ f m. lt-leb (number_after v.next_file added) f.number (after_each v.next_file added rise f m)) in
+      let all_there : list_any (λ n. not (list_any (has_number n) v.files)) removed ≡ false = none_from (λ n. not (list_any (has_number n) v.files)) removed (λ n m. ap not (present n m)) in
+      let all_new : list_any (λ f. ltb f.number v.next_file) added ≡ false = none_from (λ f. ltb f.number v.next_file) added (λ f m. le-ltb f.number v.next_file (fresh f m)) in
+      let all_below : list_any (λ f. leb (number_after v.next_file added) f.number) added ≡ false = none_from (λ f. leb (number_after v.next_file added) f.number) added (λ f m. lt-leb (number_after v.next_file added) f.number (after_each v.next_file added rise f m)) in
       rw (all_there, all_new, disjoint, all_below, eq-eqb (v.number + 1) (v.number + 1) refl, eq-eqb v.flushed v.flushed refl, le-ltb (number_after v.next_file added) v.next_file (after_least v.next_file added rise fresh), eq-eqb v.epoch v.epoch refl) refl

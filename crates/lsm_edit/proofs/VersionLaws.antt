@@ -1,7 +1,7 @@
 -- What an edit that applies makes of a version.
 use Rattle.std.proofs.Common.{◌≡◌, ℕ, ◌+◌, ◌<◌, ◌≤◌, Bool, true, false, not, cond, ◌&&◌, ◌||◌, List, [], ◌∷◌, ◌++◌, Option, None, Some, refl, sym, ap, subst, ◌∙◌, arith, inl, inr, eqb, ltb, leb}
-use Rattle.std.specs.List.{list_any}
-use Rattle.std.proofs.lemmas.Bool.{or_from, or_parts, ltb-false, leb-false, not-false, eqb-true, cases_Bool}
+use Rattle.std.specs.List.{filter, list_any}
+use Rattle.std.proofs.lemmas.Bool.{and_right, or_from, or_parts, ltb-false, leb-false, not-false, eqb-true, cases_Bool}
 use Rattle.lsm_key.specs.Sets.{IsIn}
 use Rattle.lsm_key.proofs.Falls.{IsIn-filter}
 use Rattle.lsm_key.proofs.Sets.{IsIn-append_cases}
@@ -24,15 +24,11 @@ files_after-is files edit none = ap (λ (numbers : List ℕ). files_without numb
 
 -- ---- overlaps
 
-and-false : (a b : Bool) → b ≡ false → (a && b) ≡ false
-and-false true b h = h
-and-false false b h = refl
-
 pub young : (f g : FileMeta) → g.level ≡ 0 → clashes f g ≡ false
 young f g zero_level = elim (cases_Bool (eqb f.level g.level)) [
   | inl same ↦
       let level : f.level ≡ 0 = eqb-true f.level g.level same ∙ zero_level in
-      and-false (eqb f.level g.level) (ltb 0 f.level && files_meet f g) (ap (λ (n : ℕ). ltb 0 n && files_meet f g) level)
+      and_right (eqb f.level g.level) (ltb 0 f.level && files_meet f g) (ap (λ (n : ℕ). ltb 0 n && files_meet f g) level)
   | inr other ↦ ap (λ (b : Bool). b && (ltb 0 f.level && files_meet f g)) other
 ]
 
@@ -101,13 +97,14 @@ added_is edit ok f m = (added_each (1, (shape edit.kind).lowest, (shape edit.kin
 pub added_rises : (edit : Edit) → IsEdit edit → FileNumbersRise edit.added
 added_rises edit ok = added_rise (1, (shape edit.kind).lowest, (shape edit.kind).deepest) edit.added ok.added.2
 
+-- some of the files stand by number, as all do
 rise-if : (b : Bool) (f : FileMeta) (kept : List FileMeta) → ((g : FileMeta) → IsIn g kept → f.number < g.number) → FileNumbersRise kept → FileNumbersRise (cond b (f ∷ kept) kept)
 rise-if true f kept first up = (first, up)
 rise-if false f kept first up = up
 
-rise-without : (numbers : List ℕ) (files : List FileMeta) → FileNumbersRise files → FileNumbersRise (files_without numbers files)
-rise-without numbers [] up = tt
-rise-without numbers (f ∷ files) up = rise-if (stays numbers f) f (files_without numbers files) (λ g m. up.0 g (IsIn-filter (stays numbers) g files m).0) (rise-without numbers files up.1)
+pub rise-filter : (test : FileMeta → Bool) (files : List FileMeta) → FileNumbersRise files → FileNumbersRise (filter test files)
+rise-filter test [] up = tt
+rise-filter test (f ∷ files) up = rise-if (test f) f (filter test files) (λ g m. up.0 g (IsIn-filter test g files m).0) (rise-filter test files up.1)
 
 rise-append : (files added : List FileMeta) (limit : ℕ) → FileNumbersRise files → FileNumbersRise added → ((f : FileMeta) → IsIn f files → f.number < limit) → ((f : FileMeta) → IsIn f added → limit ≤ f.number) → FileNumbersRise (files ++ added)
 rise-append [] added limit up more below above = more
@@ -177,7 +174,7 @@ applied_is v edit is ok h =
         | inl a ↦ let lt = is.below f (IsIn-filter (stays edit.removed) f v.files a).0 in omega arith
         | inr b ↦ none_from edit.next_file edit.added counts.1 f b
       ];
-      rising = rise-append kept edit.added v.next_file (rise-without edit.removed v.files is.rising) (added_rises edit ok)
+      rising = rise-append kept edit.added v.next_file (rise-filter (stays edit.removed) v.files is.rising) (added_rises edit ok)
           (λ f m. is.below f (IsIn-filter (stays edit.removed) f v.files m).0) (none_below v.next_file edit.added p.fresh);
       disjoint = p.disjoint;
     }

@@ -1,15 +1,21 @@
 -- Ranges of keys, both ends in them: that they meet, and a key that both have.
-use Rattle.std.proofs.Common.{◌≡◌, ◌∙◌, ◌⊎◌, Bool, true, false, not, List, ℕ, refl, ap, inl, inr}
+use Rattle.std.proofs.Common.{◌≡◌, ◌∙◌, ◌⊎◌, Bool, true, false, not, List, ℕ, refl, sym, ap, inl, inr}
 use Rattle.std.specs.declared.cmp.Ordering.{Ordering}
 use Rattle.std.specs.declared.cmp.Ordering.TheVariants.{Less, Equal, Greater}
-use Rattle.std.specs.Ordering.{nat_cmp, is_gt, ordering_reverse}
+use Rattle.std.specs.Ordering.{nat_cmp, is_gt, is_le, ordering_reverse}
 use Rattle.std.specs.Cmp.Lexicographic.{slice_cmp}
-use Rattle.std.proofs.lemmas.Bool.{and_parts, and_from, not-true}
+use Rattle.std.proofs.lemmas.Bool.{true≢false, and_parts, and_from, not-true}
 use Rattle.std.proofs.lemmas.Cmp.{nat_list_cmp_total, tied_itself, upto}
 use Rattle.lsm_key.specs.Order.{key_le}
 use Rattle.lsm_key.specs.KeyRanges.{in_closed_range, ranges_meet}
+use Rattle.lsm_key.proofs.Order.{keys_equal}
 
 -- ---- keys
+
+pub le_not_gt : (o : Ordering) → is_le o ≡ not (is_gt o)
+le_not_gt Less = refl
+le_not_gt Equal = refl
+le_not_gt Greater = refl
 
 pub key_le_refl : (a : List ℕ) → key_le a a ≡ true
 key_le_refl a = ap (λ (o : Ordering). not (is_gt o)) (tied_itself nat_list_cmp_total a)
@@ -28,6 +34,18 @@ key_le_total a b = by (key_le a b) refl
     by : (t : Bool) → key_le a b ≡ t → (key_le a b ≡ true) ⊎ (key_le b a ≡ true)
     by true e = inl e
     by false e = inr (ap (λ (o : Ordering). not (is_gt o)) (nat_list_cmp_total.antisymm b a) ∙ turned (slice_cmp nat_cmp a b) e)
+
+pub key_le_or : (a b : List ℕ) → key_le a b ≡ false → key_le b a ≡ true
+key_le_or a b h = elim (key_le_total a b) [ inl x ↦ absurd (true≢false (sym x ∙ h)) | inr y ↦ y ]
+
+-- what is greater neither way round is equal
+tied : (o : Ordering) → not (is_gt o) ≡ true → not (is_gt (ordering_reverse o)) ≡ true → o ≡ Equal
+tied Less h k = absurd cc
+tied Equal h k = refl
+tied Greater h k = absurd cc
+
+pub key_le_antisymm : (a b : List ℕ) → key_le a b ≡ true → key_le b a ≡ true → a ≡ b
+key_le_antisymm a b h k = keys_equal a b (tied (slice_cmp nat_cmp a b) h (ap (λ (o : Ordering). not (is_gt o)) (sym (nat_list_cmp_total.antisymm b a)) ∙ k))
 
 -- ---- ranges
 

@@ -14,13 +14,9 @@ use Rattle.lsm_key.specs.declared.entry.Entry.{Entry}
 use Rattle.lsm_key.specs.Sets.{IsIn}
 use Rattle.lsm_mem.specs.Chains.{Chain, AreChains, chain_of, chains_of, entries_in, chains_between}
 use Rattle.lsm_key.specs.Order.{key_between, is_between}
+use Rattle.lsm_key.proofs.KeyRanges.{le_not_gt}
 use Rattle.lsm_mem.proofs.Pairs.{key_cmp, vec_cmp}
 use Rattle.lsm_mem.proofs.Chained.{from_reverse}
-
-le_not_gt : (o : Ordering) → is_le o ≡ not (is_gt o)
-le_not_gt Less = refl
-le_not_gt Equal = refl
-le_not_gt Greater = refl
 
 not_le_reverse : (o : Ordering) → not (is_le (ordering_reverse o)) ≡ is_lt o
 not_le_reverse Less = refl

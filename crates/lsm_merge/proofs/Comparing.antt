@@ -1,7 +1,8 @@
 -- What the tests of the inputs come to.
 use Rattle.std.proofs.Common.{◌≡◌, ℕ, zero, suc, ◌+◌, ◌<◌, ◌≤◌, Bool, true, false, List, [], ◌∷◌, Some, None, All, eqb, length, get_or, drop, refl, sym, ap, ◌∙◌, subst, inl, inr, arith}
+use Rattle.std.specs.Cmp.{both_ways}
 use Rattle.std.specs.List.{list_any}
-use Rattle.std.proofs.lemmas.Bool.{false≢true, cases_lt, or_cases, or_left, or_right, eqb-true, eq-eqb}
+use Rattle.std.proofs.lemmas.Bool.{false≢true, cases_lt, eqb-true, eq-eqb}
 use Rattle.std.proofs.lemmas.List.{drop_more, get_or_default}
 use Rattle.lsm_key.specs.declared.entry.Entry.{Entry}
 use Rattle.lsm_key.specs.declared.entry.InternalKey.{InternalKey}
@@ -10,6 +11,7 @@ use Rattle.lsm_key.specs.Places.{all_entries}
 use Rattle.lsm_key.specs.Sets.{IsIn}
 use Rattle.lsm_key.specs.Visible.{Latest, is_seen, visible}
 use Rattle.lsm_key.proofs.Falls.{ascending_falls, falls_in_order}
+use Rattle.lsm_key.proofs.Lists.{any_from, any_is}
 use Rattle.lsm_key.proofs.Sets.{IsIn-append_left, IsIn-append_right, IsIn-append_cases}
 use Rattle.lsm_key.proofs.Visible.{latest-is, is_seen-from, is_seen-key, is_seen-low}
 use Rattle.lsm_table.specs.Tables.{Opened, IsTable}
@@ -39,12 +41,6 @@ recorded_more fs ts i f t before in_files in_tables f_is t_is own k d u lt = eli
       subst (λ (g : FileMeta). IsAsRecorded g (get_or ts k u)) at_file (subst (λ (v : Opened). IsAsRecorded f v) at_table own)
 ]
 
-pub recorded_long : (fs : List FileMeta) (ts : List Opened) → AreAsRecorded fs ts → length fs ≡ length ts
-recorded_long [] [] h = refl
-recorded_long [] (t ∷ ts) h = absurd h
-recorded_long (f ∷ fs) [] h = absurd h
-recorded_long (f ∷ fs) (t ∷ ts) h = let r = recorded_long fs ts h.1 in omega (arith, r)
-
 pub recorded_at : (fs : List FileMeta) (ts : List Opened) → AreAsRecorded fs ts → (k : ℕ) (d : FileMeta) (t : Opened) → k < length fs → IsAsRecorded (get_or fs k d) (get_or ts k t)
 recorded_at [] ts h k d t lt = absurd (omega arith)
 recorded_at (f ∷ fs) [] h k d t lt = absurd h
@@ -70,22 +66,6 @@ fall_in_order (es ∷ lists) h (suc k) d lt = fall_in_order lists h.1 k d (omega
 
 pub tables_in_order : (ts : List Opened) → AllTables ts → All IsInOrder (lists_of ts)
 tables_in_order ts h = fall_in_order (lists_of ts) (tables_fall ts h)
-
--- ---- tests of any
-
-module _ {X : Type 0} (p : X → Bool) where
-  pub any_from : (xs : List X) (x : X) → IsIn x xs → p x ≡ true → list_any p xs ≡ true
-  any_from [] x m h = absurd m
-  any_from (y ∷ ys) x m h = elim m [ inl e ↦ or_left (p y) (list_any p ys) (ap p (sym e) ∙ h) | inr n ↦ or_right (p y) (list_any p ys) (any_from ys x n h) ]
-
-  pub any_is : (xs : List X) → list_any p xs ≡ true → (x : X) × IsIn x xs × (p x ≡ true)
-  any_is [] h = absurd (false≢true h)
-  any_is (y ∷ ys) h = elim (or_cases (p y) (list_any p ys) h) [ inl a ↦ (y, inl refl, a) | inr b ↦ let r = any_is ys b in (r.0, inr r.1, r.2) ]
-
-pub both_ways : (a b : Bool) → (a ≡ true → b ≡ true) → (b ≡ true → a ≡ true) → a ≡ b
-both_ways true b f g = sym (f refl)
-both_ways false true f g = g refl
-both_ways false false f g = refl
 
 -- ---- an entry of a key and sequence is the one that is visible there
 

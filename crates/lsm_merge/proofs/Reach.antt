@@ -2,7 +2,7 @@
 use Rattle.std.proofs.Common.{◌≡◌, ℕ, zero, suc, ◌-◌, ◌<◌, ◌≤◌, Bool, true, false, not, cond, ◌⊎◌, List, [], ◌∷◌, length, get_or, refl, sym, ap, ◌∙◌, subst, inl, inr, arith}
 use Rattle.std.specs.declared.cmp.Ordering.{Ordering}
 use Rattle.std.specs.declared.cmp.Ordering.TheVariants.{Less, Equal, Greater}
-use Rattle.std.specs.Cmp.{IsStrictWeakOrder}
+use Rattle.std.specs.Cmp.{IsStrictWeakOrder, both_ways}
 use Rattle.std.specs.Cmp.Lexicographic.{slice_cmp}
 use Rattle.std.specs.List.Sorted.{IsPermutation, IsPartitionedBy, IsPartitionPoint, IsSortedBy}
 use Rattle.std.specs.Ordering.{nat_cmp, is_lt, is_le, is_gt, ordering_reverse}
@@ -12,14 +12,14 @@ use Rattle.std.proofs.lemmas.List.{get_or_default}
 use Rattle.std.proofs.lemmas.List.MinMax.{IsStrictWeakOrder-from_at_least}
 use Rattle.std.proofs.lemmas.List.Sorted.{sorted_far}
 use Rattle.lsm_key.specs.KeyRanges.{in_closed_range}
-use Rattle.lsm_key.proofs.KeyRanges.{key_le_refl, key_le_trans, key_le_total}
+use Rattle.lsm_key.proofs.KeyRanges.{key_le_or, key_le_refl, key_le_trans, le_not_gt}
 use Rattle.lsm_key.specs.Order.{key_le}
 use Rattle.lsm_key.specs.Sets.{IsIn}
+use Rattle.lsm_key.proofs.Lists.{any_from, any_is}
 use Rattle.lsm_key.proofs.Sets.{IsIn-at, IsIn-place, SameMembers-permutation}
 use Rattle.lsm_key.specs.declared.range.KeyRange.{KeyRange}
 use Rattle.lsm_msg.specs.Merge.{is_in_ranges}
 use Rattle.lsm_merge.specs.Reaching.{IsByLeast, AreReaching, greater, with_raised_ends}
-use Rattle.lsm_merge.proofs.Comparing.{any_from, any_is, both_ways}
 
 -- ---- a key in one of the ranges
 
@@ -48,11 +48,8 @@ moved_keys one other perm =
 abbrev pub begins_lower : KeyRange → KeyRange → Bool
 begins_lower r s = not (key_le s.lo r.lo)
 
-le_or : (a b : List ℕ) → key_le a b ≡ false → key_le b a ≡ true
-le_or a b f = elim (key_le_total a b) [ inl t ↦ absurd (true≢false (sym t ∙ f)) | inr t ↦ t ]
-
 pub weak : IsStrictWeakOrder begins_lower
-weak = IsStrictWeakOrder-from_at_least (λ (r s : KeyRange). key_le r.lo s.lo) (λ r s f. le_or r.lo s.lo f) (λ r s t a b. key_le_trans r.lo s.lo t.lo a b)
+weak = IsStrictWeakOrder-from_at_least (λ (r s : KeyRange). key_le r.lo s.lo) (λ r s f. key_le_or r.lo s.lo f) (λ r s t a b. key_le_trans r.lo s.lo t.lo a b)
 
 less_is : (o r : Ordering) → o ≡ ordering_reverse r → is_lt o ≡ not (not (is_gt r))
 less_is o Less e = ap is_lt e
@@ -76,7 +73,7 @@ greater_left a b = by (key_le b a) refl
   where
     by : (c : Bool) → key_le b a ≡ c → key_le a (cond c a b) ≡ true
     by true e = key_le_refl a
-    by false e = le_or b a e
+    by false e = key_le_or b a e
 
 greater_right : (a b : List ℕ) → key_le b (greater a b) ≡ true
 greater_right a b = by (key_le b a) refl
@@ -176,12 +173,7 @@ reaching rs up =
 -- ---- one look
 
 pub le_is : (a b : List ℕ) → is_le (slice_cmp nat_cmp a b) ≡ key_le a b
-le_is a b = by (slice_cmp nat_cmp a b)
-  where
-    by : (o : Ordering) → is_le o ≡ not (is_gt o)
-    by Less = refl
-    by Equal = refl
-    by Greater = refl
+le_is a b = le_not_gt (slice_cmp nat_cmp a b)
 
 pub begun : (ranges : List KeyRange) (key : List ℕ) → IsByLeast ranges → IsPartitionedBy (λ r. key_le r.lo key) ranges
 begun ranges key up i j d le lt h = key_le_trans (get_or ranges i d).lo (get_or ranges j d).lo key (up i j d le lt) h

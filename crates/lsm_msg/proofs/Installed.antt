@@ -8,6 +8,7 @@ use Rattle.lsm_key.specs.declared.entry.Entry.{Entry}
 use Rattle.lsm_key.specs.Sets.{IsIn}
 use Rattle.lsm_key.specs.Places.{AreOrdered, all_entries}
 use Rattle.lsm_key.proofs.Falls.{IsIn-filter}
+use Rattle.lsm_key.proofs.Lists.{IsIn-kept}
 use Rattle.lsm_key.proofs.Sets.{IsIn-append_left, IsIn-append_right, IsIn-append_cases}
 use Rattle.lsm_table.specs.Tables.{Opened}
 use Rattle.lsm_claim.specs.declared.job.Want.{Want}
@@ -16,7 +17,7 @@ use Rattle.lsm_edit.specs.declared.edit.Edit.{Edit}
 use Rattle.lsm_edit.specs.declared.served.Placed.{Placed}
 use Rattle.lsm_edit.specs.Version.{IsVersion, has_number, files_after, files_without}
 use Rattle.lsm_edit.specs.Served.{ServedValue, IsServed, AreAsRecorded, is_covered, placed_of, places_without, put_all, tables_of}
-use Rattle.lsm_edit.proofs.AfterEdit.{keeps, put_all-members, served_after}
+use Rattle.lsm_edit.proofs.AfterEdit.{put_all-members, served_after}
 use Rattle.lsm_edit.proofs.LevelRanges.{in_tables, level_le}
 use Rattle.lsm_edit.proofs.Places.{AreNewer, covered, newer_places, no_shared, ordered_from, tables_in}
 use Rattle.lsm_edit.proofs.Rebase.{placed_meta, placed_recorded}
@@ -73,7 +74,7 @@ module _ (s : ServedValue) (want : Want) (edit : Edit) (tables : List Opened) (v
   kept_cases p m = let k = IsIn-filter (λ (x : Placed). stays edit.removed x.meta) p s.places m in (k.0, not_taken p.meta k.1)
 
   pub kept_in : (p : Placed) → IsIn p s.places → (IsIn p.meta.number want.files → ⊥) → IsIn p kept
-  kept_in p m out = keeps (λ (x : Placed). stays edit.removed x.meta) p s.places m (stays_there p.meta out)
+  kept_in p m out = IsIn-kept (λ (x : Placed). stays edit.removed x.meta) p s.places m (stays_there p.meta out)
 
   -- a place after the install is an output's, or one that stays
   pub place_cases : (p : Placed) → IsIn p after → IsIn p added ⊎ (IsIn p s.places × (IsIn p.meta.number want.files → ⊥))
@@ -87,7 +88,7 @@ module _ (s : ServedValue) (want : Want) (edit : Edit) (tables : List Opened) (v
   ]
 
   pub file_stays : (f : FileMeta) → IsIn f s.version.files → (IsIn f.number want.files → ⊥) → IsIn f (files_after s.version.files edit)
-  file_stays f m out = IsIn-append_left f (files_without edit.removed s.version.files) edit.added (keeps (stays edit.removed) f s.version.files m (stays_there f out))
+  file_stays f m out = IsIn-append_left f (files_without edit.removed s.version.files) edit.added (IsIn-kept (stays edit.removed) f s.version.files m (stays_there f out))
 
   -- ---- the outputs
 

@@ -1,9 +1,11 @@
 -- What a candidate proposes, once its closure's hull is known.
 use Rattle.std.proofs.Common.{◌≡◌, ℕ, ◌+◌, ◌≤◌, Bool, true, false, not, cond, ◌&&◌, ◌||◌, List, [], ◌∷◌, ◌⊎◌, inl, inr, refl, sym, ap, ◌∙◌, subst, arith, map, eqb, ltb, leb, length}
+use Rattle.std.specs.Cmp.{both_ways}
 use Rattle.std.specs.List.{filter, list_any, sum_by}
 use Rattle.std.proofs.lemmas.Bool.{true≢false, or_cases, or_left, or_right, and_parts, and_from, eq-eqb, eqb-true, lt-ltb}
 use Rattle.lsm_key.specs.Sets.{IsIn}
 use Rattle.lsm_key.specs.Order.{key_le}
+use Rattle.lsm_key.proofs.Lists.{IsIn-kept, any_from, any_is}
 use Rattle.lsm_key.proofs.Sets.{IsIn-map, IsIn-mapped}
 use Rattle.lsm_key.proofs.Falls.{IsIn-filter}
 use Rattle.lsm_claim.specs.declared.job.LiveJob.{LiveJob}
@@ -14,7 +16,6 @@ use Rattle.lsm_key.proofs.KeyRanges.{key_le_trans}
 use Rattle.lsm_edit.specs.declared.file.FileMeta.{FileMeta}
 use Rattle.lsm_edit.specs.File.{IsFile}
 use Rattle.lsm_edit.proofs.Places.{one_number}
-use Rattle.lsm_edit.proofs.AfterEdit.{keeps}
 use Rattle.lsm_edit.specs.Version.{FileNumbersRise}
 use Rattle.lsm_key.specs.declared.limits.TheConstants.{MAX_DEEPER, MAX_INPUTS, MAX_INPUT_BYTES}
 use Rattle.lsm_pick.specs.Closure.{Candidate, HasNewer, IsClosure}
@@ -26,29 +27,9 @@ use Rattle.lsm_pick.proofs.Growing.{inside_from, inside_parts, join_cases, joins
 -- ---- lists
 
 module _ {X : Type 0} (p : X → Bool) where
-  pub some_passes : (xs : List X) → list_any p xs ≡ true → (x : X) × IsIn x xs × (p x ≡ true)
-  some_passes [] h = absurd cc
-  some_passes (x ∷ xs) h = elim (or_cases (p x) (list_any p xs) h) [
-    | inl a ↦ (x, inl refl, a)
-    | inr b ↦ let r = some_passes xs b in (r.0, inr r.1, r.2)
-  ]
-
-  pub passes_some : (xs : List X) (x : X) → IsIn x xs → p x ≡ true → list_any p xs ≡ true
-  passes_some [] x m h = absurd m
-  passes_some (y ∷ xs) x m h = elim m [
-    | inl e ↦ or_left (p y) (list_any p xs) (ap p (sym e) ∙ h)
-    | inr n ↦ or_right (p y) (list_any p xs) (passes_some xs x n h)
-  ]
-
   pub filter_same : (q : X → Bool) (xs : List X) → ((x : X) → IsIn x xs → p x ≡ q x) → filter p xs ≡ filter q xs
   filter_same q [] h = refl
   filter_same q (x ∷ xs) h = (λ i. cond (h x (inl refl) i) (x ∷ filter p xs) (filter p xs)) ∙ ap (λ (ys : List X). cond (q x) (x ∷ ys) ys) (filter_same q xs (λ y m. h y (inr m)))
-
-pub same_test : (a b : Bool) → (a ≡ true → b ≡ true) → (b ≡ true → a ≡ true) → a ≡ b
-same_test true true f g = refl
-same_test true false f g = sym (f refl)
-same_test false true f g = g refl
-same_test false false f g = refl
 
 -- ---- files by their numbers
 
@@ -56,13 +37,13 @@ same_test false false f g = refl
 pub numbered : (files : List FileMeta) → FileNumbersRise files → (test : FileMeta → Bool) → filter (λ f. list_any (eqb f.number) (map (λ (g : FileMeta). g.number) (filter test files))) files ≡ filter test files
 numbered files rise test =
     let numbers = map (λ (g : FileMeta). g.number) (filter test files) in
-    filter_same (λ f. list_any (eqb f.number) numbers) test files (λ f m. same_test (list_any (eqb f.number) numbers) (test f)
+    filter_same (λ f. list_any (eqb f.number) numbers) test files (λ f m. both_ways (list_any (eqb f.number) numbers) (test f)
     (λ h.
-    let n = some_passes (eqb f.number) numbers h in
+    let n = any_is (eqb f.number) numbers h in
     let g = IsIn-mapped (λ (x : FileMeta). x.number) n.0 (filter test files) n.1 in
     let into = IsIn-filter test g.0 files g.1 in
     subst (λ (x : FileMeta). test x ≡ true) (sym (one_number files rise f g.0 m into.0 (eqb-true f.number n.0 n.2 ∙ g.2))) into.1)
-    (λ h. passes_some (eqb f.number) numbers f.number (IsIn-map (λ (x : FileMeta). x.number) f (filter test files) (keeps test f files m h)) (eq-eqb f.number f.number refl)))
+    (λ h. any_from (eqb f.number) numbers f.number (IsIn-map (λ (x : FileMeta). x.number) f (filter test files) (IsIn-kept test f files m h)) (eq-eqb f.number f.number refl)))
 
 -- ---- the closure
 
@@ -71,10 +52,10 @@ module _ (files : List FileMeta) (rise : FileNumbersRise files) (each : (f : Fil
   set = filter (is_taken t lo hi) files
 
   first_in : IsIn t.first set
-  first_in = keeps (is_taken t lo hi) t.first files listed (or_left (eqb t.first.number t.first.number) _ (eq-eqb t.first.number t.first.number refl))
+  first_in = IsIn-kept (is_taken t lo hi) t.first files listed (or_left (eqb t.first.number t.first.number) _ (eq-eqb t.first.number t.first.number refl))
 
   joined_in : (f : FileMeta) → IsIn f files → may_join t f ≡ true → is_met lo hi f ≡ true → IsIn f set
-  joined_in f m j met = keeps (is_taken t lo hi) f files m (or_right (eqb f.number t.first.number) _ (and_from (may_join t f) (is_met lo hi f) j met))
+  joined_in f m j met = IsIn-kept (is_taken t lo hi) f files m (or_right (eqb f.number t.first.number) _ (and_from (may_join t f) (is_met lo hi f) j met))
 
   set_cases : (f : FileMeta) → IsIn f set → IsIn f files × ((f ≡ t.first) ⊎ ((may_join t f ≡ true) × (is_met lo hi f ≡ true)))
   set_cases f m =

@@ -3,7 +3,7 @@ use Rattle.std.proofs.Common.{◌≡◌, ℕ, ◌+◌, ◌<◌, Bool, true, fals
 use Rattle.std.proofs.lemmas.Bool.{or_cases, and_parts, and_from, not-true, eqb-true, ltb-true}
 use Rattle.lsm_key.specs.Sets.{IsIn}
 use Rattle.lsm_key.specs.Order.{key_le}
-use Rattle.lsm_key.proofs.KeyRanges.{key_le_refl, key_le_trans, key_le_total}
+use Rattle.lsm_key.proofs.KeyRanges.{key_le_or, key_le_refl, key_le_trans}
 use Rattle.lsm_edit.specs.declared.file.FileMeta.{FileMeta}
 use Rattle.lsm_edit.specs.declared.served.Placed.{Placed}
 use Rattle.lsm_pick.specs.Closure.{Candidate, IsClosed}
@@ -12,15 +12,12 @@ use Rattle.lsm_pick.specs.Reach.{IsReach, MayBeInput, Grows, is_inside, is_met, 
 
 -- ---- keys
 
-total_from : (a b : List ℕ) → key_le a b ≡ false → key_le b a ≡ true
-total_from a b h = elim (key_le_total a b) [ inl x ↦ absurd cc | inr y ↦ y ]
-
 pub lower_low : (lo key : List ℕ) → key_le (lower lo key) lo ≡ true
 lower_low lo key = by (key_le lo key) refl
   where
     by : (b : Bool) → key_le lo key ≡ b → key_le (cond b lo key) lo ≡ true
     by true e = key_le_refl lo
-    by false e = total_from lo key e
+    by false e = key_le_or lo key e
 
 pub lower_key : (lo key : List ℕ) → key_le (lower lo key) key ≡ true
 lower_key lo key = by (key_le lo key) refl
@@ -34,7 +31,7 @@ higher_high hi key = by (key_le key hi) refl
   where
     by : (b : Bool) → key_le key hi ≡ b → key_le hi (cond b hi key) ≡ true
     by true e = key_le_refl hi
-    by false e = total_from key hi e
+    by false e = key_le_or key hi e
 
 pub higher_key : (hi key : List ℕ) → key_le key (higher hi key) ≡ true
 higher_key hi key = by (key_le key hi) refl

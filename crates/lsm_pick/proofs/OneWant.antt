@@ -1,37 +1,24 @@
 -- A candidate proposes at most one compaction: its closure is least, and a hull has its ends among the closure's keys.
-use Rattle.std.proofs.Common.{◌≡◌, ℕ, true, not, List, refl, sym, ap, subst, ◌∙◌, map, eqb}
+use Rattle.std.proofs.Common.{◌≡◌, ℕ, true, List, sym, ap, subst, ◌∙◌, map, eqb}
 use Rattle.std.proofs.Math.Bool.{Bool-set}
 use Rattle.std.proofs.Math.Path.{PathP, to_path_p}
-use Rattle.std.specs.declared.cmp.Ordering.{Ordering}
-use Rattle.std.specs.declared.cmp.Ordering.TheVariants.{Less, Equal, Greater}
-use Rattle.std.specs.Ordering.{is_gt, nat_cmp, ordering_reverse}
-use Rattle.std.specs.Cmp.Lexicographic.{slice_cmp}
+use Rattle.std.specs.Cmp.{both_ways}
 use Rattle.std.specs.List.{list_any}
-use Rattle.std.proofs.lemmas.Cmp.{nat_list_cmp_total}
 use Rattle.lsm_key.specs.Sets.{IsIn}
 use Rattle.lsm_key.specs.Order.{key_le}
 use Rattle.lsm_key.proofs.Falls.{IsIn-filter}
-use Rattle.lsm_key.proofs.Order.{keys_equal}
+use Rattle.lsm_key.proofs.KeyRanges.{key_le_antisymm}
+use Rattle.lsm_key.proofs.Lists.{IsIn-kept}
 use Rattle.lsm_claim.specs.declared.hull.Hull.{Hull}
 use Rattle.lsm_claim.specs.declared.job.Want.{Want}
 use Rattle.lsm_edit.specs.declared.file.FileMeta.{FileMeta}
-use Rattle.lsm_edit.proofs.AfterEdit.{keeps}
 use Rattle.lsm_pick.specs.Closure.{Candidate}
 use Rattle.lsm_pick.specs.Rule.{Proposes, inputs_of}
 use Rattle.lsm_pick.specs.Laws.{ACandidateProposesOneWant}
-use Rattle.lsm_pick.proofs.Asking.{filter_same, same_test}
+use Rattle.lsm_pick.proofs.Asking.{filter_same}
 use Rattle.lsm_pick.proofs.Growing.{inside_parts}
 
--- ---- keys and hulls
-
--- what is greater neither way round is equal
-tied : (o : Ordering) → not (is_gt o) ≡ true → not (is_gt (ordering_reverse o)) ≡ true → o ≡ Equal
-tied Less h k = absurd cc
-tied Equal h k = refl
-tied Greater h k = absurd cc
-
-key_le_antisymm : (a b : List ℕ) → key_le a b ≡ true → key_le b a ≡ true → a ≡ b
-key_le_antisymm a b h k = keys_equal a b (tied (slice_cmp nat_cmp a b) h (ap (λ (o : Ordering). not (is_gt o)) (sym (nat_list_cmp_total.antisymm b a)) ∙ k))
+-- ---- hulls
 
 -- that its keys are in order is no further part of a hull
 same_hull : (one other : Hull) → one.lo ≡ other.lo → one.hi ≡ other.hi → one ≡ other
@@ -50,7 +37,7 @@ module _ (files : List FileMeta) (t : Candidate) (one other : Want) (asks : Prop
   taken_too : (f : FileMeta) → IsIn f files → list_any (eqb f.number) one.files ≡ true → list_any (eqb f.number) other.files ≡ true
   taken_too f m h =
       let test = λ (want : Want) (g : FileMeta). list_any (eqb g.number) want.files in
-      (IsIn-filter (test other) f files (inputs_within f (keeps (test one) f files m h))).1
+      (IsIn-filter (test other) f files (inputs_within f (IsIn-kept (test one) f files m h))).1
 
   -- the other hull reaches as low, and as high
   low_enough : key_le other.hull.lo one.hull.lo ≡ true
@@ -65,7 +52,7 @@ module _ (files : List FileMeta) (t : Candidate) (one other : Want) (asks : Prop
 
 pub one_want : ACandidateProposesOneWant
 one_want files t one other asks also =
-    let inputs : inputs_of files one ≡ inputs_of files other = filter_same _ _ files (λ f m. same_test (list_any (eqb f.number) one.files) (list_any (eqb f.number) other.files) (taken_too files t one other asks also f m) (taken_too files t other one also asks f m)) in
+    let inputs : inputs_of files one ≡ inputs_of files other = filter_same _ _ files (λ f m. both_ways (list_any (eqb f.number) one.files) (list_any (eqb f.number) other.files) (taken_too files t one other asks also f m) (taken_too files t other one also asks f m)) in
     let level = asks.level ∙ sym also.level in
     let numbers = asks.files_are ∙ ap (map (λ (f : FileMeta). f.number)) inputs ∙ sym also.files_are in
     let low = key_le_antisymm one.hull.lo other.hull.lo (low_enough files t other one also asks) (low_enough files t one other asks also) in

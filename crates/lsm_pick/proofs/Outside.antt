@@ -1,16 +1,10 @@
 -- A search for a closure ends: each round takes in a file that was outside.
 use Rattle.std.proofs.Common.{◌≡◌, ℕ, ◌+◌, ◌<◌, ◌≤◌, Bool, true, false, not, cond, ◌&&◌, List, [], ◌∷◌, inl, inr, refl, sym, ap, ◌∙◌, subst, arith, length}
 use Rattle.std.specs.List.{filter}
-use Rattle.std.specs.declared.cmp.Ordering.{Ordering}
-use Rattle.std.specs.declared.cmp.Ordering.TheVariants.{Less, Equal, Greater}
-use Rattle.std.specs.Ordering.{nat_cmp, is_gt, ordering_reverse}
-use Rattle.std.specs.Cmp.Lexicographic.{slice_cmp}
 use Rattle.std.proofs.lemmas.Bool.{true≢false}
-use Rattle.std.proofs.lemmas.Cmp.{nat_list_cmp_total}
 use Rattle.lsm_key.specs.Sets.{IsIn}
 use Rattle.lsm_key.specs.Order.{key_le}
-use Rattle.lsm_key.proofs.Order.{keys_equal}
-use Rattle.lsm_key.proofs.KeyRanges.{key_le_refl}
+use Rattle.lsm_key.proofs.KeyRanges.{key_le_antisymm, key_le_refl}
 use Rattle.lsm_edit.specs.declared.file.FileMeta.{FileMeta}
 use Rattle.lsm_pick.specs.Closure.{Candidate}
 use Rattle.lsm_pick.specs.Reach.{IsReach, is_inside}
@@ -58,16 +52,6 @@ module _ {X : Type 0} (p q : X → Bool) where
       strict n m true v here one other = omega (arith, here, one, other)
       strict n m false v here one other = omega (arith, here, one, other)
 
--- ---- keys
-
-same_by : (o r : Ordering) → r ≡ ordering_reverse o → not (is_gt o) ≡ true → not (is_gt r) ≡ true → o ≡ Equal
-same_by Less r e a b = absurd (true≢false (sym b ∙ ap (λ (x : Ordering). not (is_gt x)) e))
-same_by Equal r e a b = refl
-same_by Greater r e a b = absurd cc
-
-pub same_key : (a b : List ℕ) → key_le a b ≡ true → key_le b a ≡ true → a ≡ b
-same_key a b h k = keys_equal a b (same_by (slice_cmp nat_cmp a b) (slice_cmp nat_cmp b a) (nat_list_cmp_total.antisymm b a) h k)
-
 -- ---- files outside
 
 abbrev pub outside : List ℕ → List ℕ → List FileMeta → ℕ
@@ -110,4 +94,4 @@ module _ (files : List FileMeta) (t : Candidate) (lo hi new_lo new_hi : List ℕ
           let f = r.greatest in
           taken_in f.0 f.1 (inside_from new_lo new_hi f.0 f.4 (subst (λ (k : List ℕ). key_le k new_hi ≡ true) (sym f.3) (key_le_refl new_hi)))
           (out_high lo hi f.0 (subst (λ (k : List ℕ). key_le k hi ≡ false) (sym f.3) d))
-      by true true e d = absurd (differ (same_key new_lo lo low e, same_key new_hi hi d high))
+      by true true e d = absurd (differ (key_le_antisymm new_lo lo low e, key_le_antisymm new_hi hi d high))

@@ -5,6 +5,7 @@ use Rattle.std.proofs.lemmas.Bool.{and_parts, eq-eqb, false_from_ne_true, leb-tr
 use Rattle.lsm_key.specs.declared.entry.Entry.{Entry}
 use Rattle.lsm_key.specs.Places.{AreOrdered, all_entries}
 use Rattle.lsm_key.specs.Sets.{IsIn}
+use Rattle.lsm_key.proofs.Lists.{any_from, any_is}
 use Rattle.lsm_claim.specs.declared.ending.Ending.TheVariants.{Returned}
 use Rattle.lsm_claim.specs.declared.job.JobId.{JobId}
 use Rattle.lsm_claim.specs.declared.job.LiveJob.{LiveJob}
@@ -15,6 +16,7 @@ use Rattle.lsm_table.specs.Tables.{Opened}
 use Rattle.lsm_edit.specs.declared.file.FileMeta.{FileMeta}
 use Rattle.lsm_edit.specs.Served.{IsServed, ServedValue, tables_of}
 use Rattle.lsm_edit.specs.Version.{IsVersion, FileNumbersRise}
+use Rattle.lsm_edit.proofs.VersionLaws.{rise-filter}
 use Rattle.lsm_msg.specs.declared.job.JobParts.{JobParts}
 use Rattle.lsm_msg.specs.declared.job.JobResult.{JobResult}
 use Rattle.lsm_msg.specs.Legal.{IsLegal, Takes}
@@ -29,11 +31,10 @@ use Rattle.lsm_coord.specs.Contract.Sound.{IsSound, KeepsSound}
 use Rattle.lsm_coord.specs.Model.State.{State}
 use Rattle.lsm_coord.specs.Contract.Value.{CoordValue}
 use Rattle.lsm_coord.proofs.Installing.{held_by}
-use Rattle.lsm_coord.proofs.Jobs.{is_input, is_taken}
-use Rattle.lsm_coord.proofs.Lists.{any_found, any_here}
+use Rattle.lsm_coord.proofs.Jobs.{inputs_taken}
 use Rattle.lsm_coord.proofs.Returning.{live_before, same_name}
 use Rattle.lsm_sim.specs.Compacting.{IsLeft, Merges, tables_at}
-use Rattle.lsm_sim.proofs.Inputs.{fetched, fetched_in, in_fetched, none_shared, rise_filter}
+use Rattle.lsm_sim.proofs.Inputs.{fetched, fetched_in, in_fetched, none_shared}
 use Rattle.lsm_sim.proofs.Made.{opened_as, opened_entries, opened_tables, outputs_are}
 
 -- ---- the last job of a list, whose name no other has
@@ -79,8 +80,8 @@ module _ (b : BookValue) (is : IsBook b) (want : Want) where
 
 pub fewer_held : (b after : BookValue) (id : JobId) → ((j : LiveJob) → IsIn j after.live → IsIn j b.live) → holds after id ≡ true → holds b id ≡ true
 fewer_held b after id among h =
-    let found = any_found (λ j. same_job_id j.id id) after.live h in
-    any_here (λ j. same_job_id j.id id) found.0 b.live (among found.0 found.1) found.2
+    let found = any_is (λ j. same_job_id j.id id) after.live h in
+    any_from (λ j. same_job_id j.id id) b.live found.0 (among found.0 found.1) found.2
 
 pub keeps_then : (old mid new : CoordValue) → KeepsSound old mid → KeepsSound mid new → ((j : LiveJob) → IsIn j new.book.live → IsIn j mid.book.live) → KeepsSound old new
 keeps_then old mid new first second among job sound held = second job (first job sound (fewer_held mid.book new.book job.id among held)) held
@@ -127,10 +128,7 @@ module _ (old mid : CoordValue) (claim : LiveJob) (job : JobParts) (ver : IsVers
   legal = subst (λ (w : Want). IsLegal mid.served.version.files w) (sym want_is) (subst (λ (s : ServedValue). IsLegal s.version.files picked.want) (sym served_is) picked.may.legal)
 
   takes_old : (f : FileMeta) → IsIn f job.inputs ↔ Takes old.served.version.files picked.want f
-  takes_old f = (
-    λ m. is_taken old.served.version.files picked.want f (subst (λ (fs : List FileMeta). IsIn f fs) picked.job_is.inputs m),
-    λ t. subst (λ (fs : List FileMeta). IsIn f fs) (sym picked.job_is.inputs) (is_input old.served.version.files picked.want f t),
-  )
+  takes_old = inputs_taken old.served.version.files picked.want job.inputs picked.job_is.inputs
 
   takes : (f : FileMeta) → IsIn f job.inputs ↔ Takes mid.served.version.files claim.want f
   takes f = subst (λ (w : Want). IsIn f job.inputs ↔ Takes mid.served.version.files w f) (sym want_is) (subst (λ (s : ServedValue). IsIn f job.inputs ↔ Takes s.version.files picked.want f) (sym served_is) (takes_old f))
@@ -140,7 +138,7 @@ module _ (old mid : CoordValue) (claim : LiveJob) (job : JobParts) (ver : IsVers
   inputs_of_version f m = ((takes f).0 m).0
 
   inputs_rise : FileNumbersRise job.inputs
-  inputs_rise = subst FileNumbersRise (sym picked.job_is.inputs) (rise_filter _ old.served.version.files ver.rising)
+  inputs_rise = subst FileNumbersRise (sym picked.job_is.inputs) (rise-filter _ old.served.version.files ver.rising)
 
   inputs_few : sum_by (λ f. f.bytes) job.inputs ≤ 268435456
   inputs_few =

@@ -1,11 +1,10 @@
 -- The entries of a job's tables are those of its inputs, no two tables have one, and they are few.
-use Rattle.std.proofs.Common.{◌≡◌, ℕ, ◌+◌, ◌<◌, ◌≤◌, Bool, true, false, cond, List, [], ◌∷◌, ◌++◌, length, filter, refl, sym, ap, subst, ◌∙◌, arith, inl, inr, length-append}
+use Rattle.std.proofs.Common.{◌≡◌, ℕ, ◌+◌, ◌≤◌, List, [], ◌∷◌, ◌++◌, length, refl, sym, ap, subst, ◌∙◌, arith, inl, inr, length-append}
 use Rattle.std.specs.Prelude.{sum_by}
 use Rattle.std.proofs.lemmas.List.Sums.{sum_by-cons}
 use Rattle.lsm_key.specs.declared.entry.Entry.{Entry}
 use Rattle.lsm_key.specs.Places.{AreOrdered, all_entries}
 use Rattle.lsm_key.specs.Sets.{IsIn}
-use Rattle.lsm_key.proofs.Falls.{IsIn-filter}
 use Rattle.lsm_key.proofs.Sets.{IsIn-append_left, IsIn-append_right, IsIn-append_cases}
 use Rattle.lsm_table.specs.Blocks.{entries}
 use Rattle.lsm_table.specs.Tables.{Opened, header, index, table}
@@ -93,12 +92,3 @@ module _ (s : ServedValue) (ver : IsVersion s.version) (is : IsServed s) where
       let parts : length (table es) ≡ length (header (length es)) + length (index es ++ entries es) = length-append (header (length es)) (index es ++ entries es) in
       let more : length (index es ++ entries es) ≡ length (index es) + length (entries es) = length-append (index es) (entries es) in
       omega (arith, total, size, parts, more, as_long es, fetched_few files (λ g n. all g (inr n)), sum_by-cons (λ (g : FileMeta). g.bytes) f files)
-
--- some of the files stand by number, as all do
-rise_by : (b : Bool) (f : FileMeta) (kept : List FileMeta) → ((g : FileMeta) → IsIn g kept → f.number < g.number) → FileNumbersRise kept → FileNumbersRise (cond b (f ∷ kept) kept)
-rise_by true f kept low up = (low, up)
-rise_by false f kept low up = up
-
-pub rise_filter : (test : FileMeta → Bool) (files : List FileMeta) → FileNumbersRise files → FileNumbersRise (filter test files)
-rise_filter test [] up = tt
-rise_filter test (f ∷ files) up = rise_by (test f) f (filter test files) (λ g m. up.0 g (IsIn-filter test g files m).0) (rise_filter test files up.1)

@@ -3,11 +3,12 @@ use Rattle.std.proofs.lemmas.Bool.{false≢true}
 use Rattle.lsm_table.specs.Tables.{Opened}
 use Rattle.lsm_edit.specs.declared.file.FileMeta.{FileMeta}
 use Rattle.lsm_edit.specs.Served.{IsAsRecorded}
-use Rattle.lsm_merge.proofs.Comparing.{recorded_from, recorded_more, recorded_long, recorded_at}
+use Rattle.lsm_edit.proofs.Rebase.{as_many}
+use Rattle.lsm_merge.proofs.Comparing.{recorded_from, recorded_more, recorded_at}
 use Rattle.lsm_merge.proofs.inputs.are_as_recorded.Goals as goal
 
 pub returns-then-files-tables : goal.returns-then-files-tables
-returns-then-files-tables c = (λ h. absurd (false≢true h), λ recorded. absurd (c.if-files-tables.true (recorded_long c.args.files.now c.args.tables.now recorded)))
+returns-then-files-tables c = (λ h. absurd (false≢true h), λ recorded. absurd (c.if-files-tables.true (as_many c.args.files.now c.args.tables.now recorded)))
 
 pub returns-then-not-is_as_recorded : goal.returns-then-not-is_as_recorded
 returns-then-not-is_as_recorded c = (

@@ -2,8 +2,9 @@ use Rattle.std.proofs.Common.{◌≡◌, List, ℕ, Option, true, subst, sym, ap
 use Rattle.std.specs.Ordering.{is_ge}
 use Rattle.std.specs.Option.{IfSome}
 use Rattle.lsm_key.specs.Order.{key_le, key_lt}
+use Rattle.lsm_key.proofs.KeyRanges.{key_le_refl, key_le_trans}
 use Rattle.lsm_coord.specs.Contract.Calls.{Scans}
-use Rattle.lsm_coord.proofs.Keys.{below_is_upto, upto_back, upto_on, upto_itself, upto_trans}
+use Rattle.lsm_coord.proofs.Keys.{below_is_upto, upto_back, upto_on}
 use Rattle.lsm_coord.proofs.Windows.{scans_nothing, scans_full}
 use Rattle.lsm_coord.proofs.coord.Coord.pairs_between.Goals as goal
 
@@ -15,7 +16,7 @@ returns-then-is_ge c =
 pub loop-window-init : goal.loop-window-init
 loop-window-init c =
     let on = upto_on c.args.lo.now c.args.hi.now (sym (ap is_ge c.cmp.ensures) ∙ sym c.if-is_ge.ensures) in
-    let self = upto_itself c.args.lo.now in
+    let self = key_le_refl c.args.lo.now in
     rw (c.new-pairs.ensures.items, c.in_ok-from.ensures) (scans_nothing c.args.self.now c.args.point c.args.lo.now c.args.lo.now c.args.limit self, omega arith, self, on)
 
 pub returns-then-len-limit : goal.returns-then-len-limit
@@ -34,7 +35,7 @@ loop-window-preserved c =
     let next : key_le c.loop-window.from c.in-Some.end ≡ true = subst (λ (k : List ℕ). key_le k c.in-Some.end ≡ true) c.deref.ensures (below_is_upto c.deref.result.now c.in-Some.end onward) in (
       subst (λ (k : List ℕ). Scans c.args.self.now c.args.point c.args.lo.now k c.args.limit c.go_on.new.pairs.items) c.deref-in-loop-window-2.ensures after,
       c.in_ok-go_on.ensures.few,
-      upto_trans c.args.lo.now c.loop-window.from c.in-Some.end i.2 next,
+      key_le_trans c.args.lo.now c.loop-window.from c.in-Some.end i.2 next,
       within,
     )
 
