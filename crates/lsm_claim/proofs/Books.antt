@@ -3,8 +3,9 @@ use Rattle.std.proofs.Common.{◌≡◌, ℕ, ◌+◌, ◌<◌, ◌≤◌, Bool,
 use Rattle.std.specs.List.{list_any, find}
 use Rattle.std.specs.Option.{option_map}
 use Rattle.std.specs.Prelude.{nat_le, if◌then◌else◌}
-use Rattle.std.proofs.lemmas.Bool.{and_parts, and_from, eqb-true, leb-false}
+use Rattle.std.proofs.lemmas.Bool.{and_parts, and_from, both_ways, eqb-true, leb-false}
 use Rattle.std.proofs.lemmas.Grind.{common_steps}
+use Rattle.std.proofs.lemmas.Option.{same_Some}
 use Rattle.lsm_key.specs.declared.limits.TheConstants.{MAX_NUMBER, MAX_LIVE_CLAIMS}
 use Rattle.lsm_key.specs.Sets.{IsIn}
 use Rattle.lsm_key.proofs.Sets.{IsIn-append_cases, IsIn-one}
@@ -24,13 +25,6 @@ use Rattle.lsm_key.proofs.KeyRanges.{ranges_meet_from}
 
 pub conflicts_sym : ConflictsGoBothWays
 conflicts_sym w v = grind (arith, common_steps)
-
-never : (t : Bool) → t ≡ true → t ≡ false → ⊥
-never true h n = cc
-never false h n = cc
-
-some_same : (a b : JobId) → Some a ≡ Some b → a ≡ b
-some_same a b h = cc
 
 -- ---- jobs that are apart
 
@@ -92,13 +86,13 @@ found_least want (k ∷ jobs) id up h = by (conflicts k.want want) refl (found_l
       named = is.named;
       conflicting = is.conflicting;
       least = λ j m c. elim m [
-        | inl first ↦ absurd (never (conflicts j.want want) c (subst (λ (x : LiveJob). conflicts x.want want ≡ false) (sym first) f))
+        | inl first ↦ absurd (both_ways (conflicts j.want want) (subst (λ (x : LiveJob). conflicts x.want want ≡ false) (sym first) f) c)
         | inr old ↦ is.least j old c
       ];
     }
 
     by : (t : Bool) → conflicts k.want want ≡ t → (first_conflict jobs want ≡ Some id → IsLeastConflict jobs want id) → option_map (λ (j : LiveJob). j.id) (cond t (Some k) (find (λ j. conflicts j.want want) jobs)) ≡ Some id → IsLeastConflict (k ∷ jobs) want id
-    by true e rest h = here e (some_same k.id id h)
+    by true e rest h = here e (same_Some k.id id h)
     by false e rest h = later e (rest h)
 
 overlaps_by : (o : Option JobId) (b : BookValue) (id : JobId) → fault_by o b ≡ Some (Overlaps id) → o ≡ Some id
@@ -131,12 +125,12 @@ AreApart-append jobs new apart free j k mj mk h =
         | inl old_k ↦ apart j k old_j old_k h
         | inr one ↦ let e = IsIn-one k new one in
             let no : conflicts j.want k.want ≡ false = subst (λ (x : LiveJob). conflicts j.want x.want ≡ false) (sym e) (free j old_j) in
-            absurd (never (conflicts j.want k.want) h no)
+            absurd (both_ways (conflicts j.want k.want) no h)
       ]
       | inr new_j ↦ let d = IsIn-one j new new_j in elim (IsIn-append_cases k jobs (new ∷ []) mk) [
         | inl old_k ↦
             let no : conflicts k.want j.want ≡ false = subst (λ (x : LiveJob). conflicts k.want x.want ≡ false) (sym d) (free k old_k) in
-            absurd (never (conflicts j.want k.want) h (conflicts_sym j.want k.want ∙ no))
+            absurd (both_ways (conflicts j.want k.want) (conflicts_sym j.want k.want ∙ no) h)
         | inr one ↦ d ∙ sym (IsIn-one k new one)
       ]
     ]

@@ -3,7 +3,7 @@ use Rattle.std.proofs.Common.{◌≡◌, refl, ℕ, zero, suc, ◌+◌, ◌<◌,
 use Rattle.std.specs.List.{filter, AllWithin}
 use Rattle.std.specs.declared.cmp.Ordering.{Ordering}
 use Rattle.std.specs.Ordering.{ordering_then, nat_cmp, is_lt}
-use Rattle.std.proofs.lemmas.Bool.{true≢false, eq-eqb, eqb-true, lt-ltb, le-ltb, and_right, cases_order, cases_lt, not-true}
+use Rattle.std.proofs.lemmas.Bool.{true≢false, eq-eqb, eqb-true, lt-ltb, le-ltb, and_right, cases_order, cases_lt, not-false, not-true}
 use Rattle.std.proofs.lemmas.List.{drop_more, drop_all, get_or-drop, length-drop, append-nil, append_assoc, map-append}
 use Rattle.std.proofs.lemmas.List.Elements.{filter-append, filter_agree}
 use Rattle.lsm_key.specs.declared.entry.Entry.{Entry}
@@ -19,7 +19,7 @@ use Rattle.lsm_edit.specs.declared.file.FileMeta.{FileMeta}
 use Rattle.lsm_edit.specs.declared.served.Placed.{Placed}
 use Rattle.lsm_edit.specs.Served.{IsAsRecorded, AllRecorded, AreInSearchOrder, tables_of, comes_left}
 use Rattle.lsm_edit.proofs.SearchOrder.{Before, upper, newer, lesser, before_of, above_le, turned}
-use Rattle.lsm_edit.proofs.Levels.{Left, above, beside, left_of, not_left, not-false_is, and-second, whole_of, level_up}
+use Rattle.lsm_edit.proofs.Levels.{Left, above, beside, left_of, not_left, and-second, whole_of, level_up}
 use Rattle.lsm_edit.proofs.Ranges.{within, within-cons, all_entries-append}
 
 -- a place of the level, and one of a level above it
@@ -218,7 +218,7 @@ module _ (lo hi : List ℕ) where
     -- the first place that is of a deeper level, or does not begin below the end of the range
     pub stopped : (p : Placed) (ps : List Placed) → 1 ≤ level → AllRecorded (p ∷ ps) → AreInSearchOrder (p ∷ ps) → level ≤ p.meta.level → (is_of level p && not (key_le hi p.meta.smallest)) ≡ false → within lo hi (filter (is_of level) (p ∷ ps)) ≡ []
     stopped p ps deeper rec up at out =
-        let past : p.meta.level ≡ level → key_le hi p.meta.smallest ≡ true = λ e. not-false_is (key_le hi p.meta.smallest) (and-second (is_of level p) (not (key_le hi p.meta.smallest)) (eq-eqb p.meta.level level e) out) in
+        let past : p.meta.level ≡ level → key_le hi p.meta.smallest ≡ true = λ e. not-false (key_le hi p.meta.smallest) (and-second (is_of level p) (not (key_le hi p.meta.smallest)) (eq-eqb p.meta.level level e) out) in
         none_within (p ∷ ps) (λ q m e. misses_right q (rec q m) (elim m [
           | inl same ↦ subst (λ (x : Placed). key_le hi x.meta.smallest ≡ true) (sym same) (past (ap (λ (x : Placed). x.meta.level) (sym same) ∙ e))
           | inr after ↦ right_of p q deeper at (rec p (inl refl)) past e (before_of p.meta q.meta (up.0 q after))

@@ -1,7 +1,7 @@
 -- A search of one level: all of its files but one miss the key.
 use Rattle.std.proofs.Common.{◌≡◌, ℕ, zero, suc, ◌+◌, ◌<◌, ◌≤◌, Bool, true, false, not, cond, ◌&&◌, List, [], ◌∷◌, length, get_or, Option, None, Some, is_some, refl, sym, ap, subst, ◌∙◌, arith, inl, inr, eqb, ltb}
 use Rattle.std.specs.List.{AllWithin}
-use Rattle.std.proofs.lemmas.Bool.{lt-ltb, ltb-true, ltb-false, eq-eqb, eqb-true, cases_order, cases_lt, or_cases, or_parts, and_parts, not-true}
+use Rattle.std.proofs.lemmas.Bool.{lt-ltb, ltb-true, ltb-false, eq-eqb, eqb-true, cases_order, cases_lt, or_cases, or_parts, and_parts, not-false, not-true}
 use Rattle.std.proofs.lemmas.List.{get_or_default}
 use Rattle.std.specs.Option.{option_map, IfSome, IfNone}
 use Rattle.lsm_key.specs.declared.entry.Entry.{Entry}
@@ -61,10 +61,6 @@ pub left_is : (level : ℕ) (key : List ℕ) (p : Placed) → Left level key p.m
 left_is level key p (above lt) = or-left (ltb p.meta.level level) _ (lt-ltb p.meta.level level lt)
 left_is level key p (beside e k) = or-right (ltb p.meta.level level) _ (and-both (eqb p.meta.level level) _ (eq-eqb p.meta.level level e) (ap not k))
 
-pub not-false_is : (a : Bool) → not a ≡ false → a ≡ true
-not-false_is true h = refl
-not-false_is false h = absurd cc
-
 pub and-second : (a b : Bool) → a ≡ true → (a && b) ≡ false → b ≡ false
 and-second true b h k = k
 and-second false b h k = absurd cc
@@ -73,7 +69,7 @@ and-second false b h k = absurd cc
 pub not_left : (level : ℕ) (key : List ℕ) (p : Placed) → comes_left level key p ≡ false → (level ≤ p.meta.level) × (p.meta.level ≡ level → key_le key p.meta.largest ≡ true)
 not_left level key p h =
     let parts = or_parts (ltb p.meta.level level) _ h in
-    (ltb-false p.meta.level level parts.0, λ e. not-false_is (key_le key p.meta.largest) (and-second (eqb p.meta.level level) (not (key_le key p.meta.largest)) (eq-eqb p.meta.level level e) parts.1))
+    (ltb-false p.meta.level level parts.0, λ e. not-false (key_le key p.meta.largest) (and-second (eqb p.meta.level level) (not (key_le key p.meta.largest)) (eq-eqb p.meta.level level e) parts.1))
 
 left_before : (level : ℕ) (key : List ℕ) (f g : FileMeta) → 1 ≤ level → key_le g.smallest g.largest ≡ true → Before f g → Left level key g → Left level key f
 left_before level key f g some whole (upper a) (above b) = above (omega arith)

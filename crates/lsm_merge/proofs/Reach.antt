@@ -6,7 +6,7 @@ use Rattle.std.specs.Cmp.{IsStrictWeakOrder, both_ways}
 use Rattle.std.specs.Cmp.Lexicographic.{slice_cmp}
 use Rattle.std.specs.List.Sorted.{IsPermutation, IsPartitionedBy, IsPartitionPoint, IsSortedBy}
 use Rattle.std.specs.Ordering.{nat_cmp, is_lt, is_le, is_gt, ordering_reverse}
-use Rattle.std.proofs.lemmas.Bool.{false≢true, true≢false, cases_lt, and_parts, and_from}
+use Rattle.std.proofs.lemmas.Bool.{false≢true, true≢false, cases_lt, and_parts, and_from, not-false}
 use Rattle.std.proofs.lemmas.Cmp.{nat_list_cmp_total}
 use Rattle.std.proofs.lemmas.List.{get_or_default}
 use Rattle.std.proofs.lemmas.List.MinMax.{IsStrictWeakOrder-from_at_least}
@@ -59,12 +59,8 @@ less_is o Greater e = ap is_lt e
 pub compares : (a b : List ℕ) → is_lt (slice_cmp nat_cmp a b) ≡ not (key_le b a)
 compares a b = less_is (slice_cmp nat_cmp a b) (slice_cmp nat_cmp b a) (nat_list_cmp_total.antisymm a b)
 
-le_from : (b : Bool) → not b ≡ false → b ≡ true
-le_from true h = refl
-le_from false h = absurd (true≢false h)
-
 pub sorted_least : (ranges : List KeyRange) → IsSortedBy begins_lower ranges → IsByLeast ranges
-sorted_least ranges sorted i j d le lt = le_from (key_le (get_or ranges i d).lo (get_or ranges j d).lo) (sorted_far begins_lower weak ranges sorted i j d le lt)
+sorted_least ranges sorted i j d le lt = not-false (key_le (get_or ranges i d).lo (get_or ranges j d).lo) (sorted_far begins_lower weak ranges sorted i j d le lt)
 
 -- ---- widened
 

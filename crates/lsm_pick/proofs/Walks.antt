@@ -6,13 +6,14 @@ use Rattle.lsm_key.specs.Sets.{IsIn}
 use Rattle.lsm_key.specs.Order.{key_le}
 use Rattle.lsm_key.proofs.Sets.{IsIn-append_cases, IsIn-append_left, IsIn-append_right, IsIn-at, IsIn-place}
 use Rattle.lsm_key.proofs.Falls.{IsIn-filter}
+use Rattle.lsm_key.proofs.Lists.{IsIn-kept}
 use Rattle.lsm_key.proofs.KeyRanges.{key_le_refl, key_le_trans, key_le_total}
 use Rattle.lsm_edit.specs.declared.file.FileMeta.{FileMeta}
 use Rattle.lsm_edit.specs.declared.served.Placed.{Placed}
 use Rattle.lsm_edit.specs.Served.{AllRecorded, AreInSearchOrder, IsAsRecorded, comes_left}
 use Rattle.lsm_edit.proofs.SearchOrder.{Before, upper, newer, lesser, before_of}
 use Rattle.lsm_edit.proofs.Levels.{Left, above, beside, left_of, level_up, not_left, whole_of}
-use Rattle.lsm_edit.proofs.AfterEdit.{keeps, ordered-filter}
+use Rattle.lsm_edit.proofs.AfterEdit.{ordered-filter}
 use Rattle.lsm_edit.proofs.LevelRanges.{order_left}
 use Rattle.lsm_pick.specs.Closure.{Candidate}
 use Rattle.lsm_key.specs.KeyRanges.{lower, higher}
@@ -139,7 +140,7 @@ module _ (places rest : List Placed) (level : ℕ) (lo hi : List ℕ) (some : 1 
     where
       by : (b : Bool) → comes_left level lo p ≡ b → IsIn p rest
       by true left = absurd (left_missed level lo hi p left (joins_level t level p.meta j) met)
-      by false right = subst (IsIn p) (sym rest_is_from) (keeps (λ p. not (comes_left level lo p)) p places m (ap not right))
+      by false right = subst (IsIn p) (sym rest_is_from) (IsIn-kept (λ p. not (comes_left level lo p)) p places m (ap not right))
 
   pub all_walked : (i : ℕ) → length rest ≤ i → (p : Placed) → IsIn p places → joins_at t level p.meta ≡ true → is_met lo hi p.meta ≡ true → IsIn p (take i rest)
   all_walked i le p m j met = elim (in_parts rest i p (in_rest p m j met)) [
