@@ -9,7 +9,7 @@ use Rattle.lsm_msg.specs.declared.job.JobResult.{JobResult}
 use Rattle.lsm_coord.specs.declared.coord.install.InstallError.{InstallError}
 use Rattle.lsm_coord.specs.declared.coord.install.InstallError.TheVariants.{WrongJob, BadResult, NumbersExhausted, OutOfMemory}
 use Rattle.lsm_coord.specs.Model.Event as say
-use Rattle.lsm_coord.specs.Contract.Installing.{AreOutputTables, Explains, HasNumbers, number_fault}
+use Rattle.lsm_coord.specs.Contract.Installing.{AreOutputTables, HasNumbers, Rejects, number_fault}
 use Rattle.lsm_coord.specs.Contract.Replies.{error_of, refusal_of}
 use Rattle.lsm_coord.specs.Model.Rules.{CannotNumber, IsAllowed}
 use Rattle.lsm_coord.specs.Contract.Shows.{Follows, Shows}
@@ -42,10 +42,10 @@ pub has_numbers : (v : VersionValue) (ts : List Opened) → number_fault v (leng
 has_numbers v ts none = elim (fault_is v (length ts)) [ inl fits ↦ record { number = fits.1.0; next_file = fits.1.1 } | inr lacks ↦ let no = sym none ∙ lacks.0 in absurd cc ]
 
 -- a fault: there are none
-pub lacks_numbers : (v : VersionValue) (live : LiveJob) (made : JobResult) (ts : List Opened) (why : InstallError) → made.job ≡ live.id → AreOutputTables live.want.hull made.tables ts → number_fault v (length ts) ≡ Some why → Explains v live made why
+pub lacks_numbers : (v : VersionValue) (live : LiveJob) (made : JobResult) (ts : List Opened) (why : InstallError) → made.job ≡ live.id → AreOutputTables live.want.hull made.tables ts → number_fault v (length ts) ≡ Some why → Rejects v live made why
 lacks_numbers v live made ts why named outputs some = elim (fault_is v (length ts)) [
   | inl fits ↦ let no = sym some ∙ fits.0 in absurd cc
-  | inr lacks ↦ subst (Explains v live made) (ap (λ (o : Option InstallError). unwrap_or o NumbersExhausted) (sym lacks.0 ∙ some)) (named, ts, outputs, λ has. lacks.1 (has.number, has.next_file))
+  | inr lacks ↦ subst (Rejects v live made) (ap (λ (o : Option InstallError). unwrap_or o NumbersExhausted) (sym lacks.0 ∙ some)) (named, ts, outputs, λ has. lacks.1 (has.number, has.next_file))
 ]
 
 leaves : (why : InstallError) (s : State) (message : ℕ) → Leaves s (say.Deliver message) (refusal_of (error_of why)) s
@@ -55,7 +55,7 @@ leaves NumbersExhausted s message = refl
 leaves OutOfMemory s message = refl
 
 module _ (old : CoordValue) (s : State) (h : Shows old s) (live : LiveJob) (made : JobResult) where
-  cannot_number : Explains old.served.version live made NumbersExhausted → CannotNumber s
+  cannot_number : Rejects old.served.version live made NumbersExhausted → CannotNumber s
   cannot_number x =
       let few = tables_length made.tables x.1 x.2.tables in
       elim (one_is_over (old.served.version.number + 1) (old.served.version.next_file + length x.1) MAX_NUMBER (λ fits. x.3 (record { number = fits.0; next_file = fits.1 }))) [
@@ -63,7 +63,7 @@ module _ (old : CoordValue) (s : State) (h : Shows old s) (live : LiveJob) (made
         | inr over ↦ inr (length x.1, rw few x.2.few, subst (λ (n : ℕ). MAX_NUMBER < n + length x.1) (sym h.tables.next_file) over)
       ]
 
-  is_allowed : (message : ℕ) (why : InstallError) → Explains old.served.version live made why → IsAllowed s (say.Deliver message) (refusal_of (error_of why))
+  is_allowed : (message : ℕ) (why : InstallError) → Rejects old.served.version live made why → IsAllowed s (say.Deliver message) (refusal_of (error_of why))
   is_allowed message WrongJob x = inr (refl, h.up)
   is_allowed message BadResult x = inr (refl, h.up)
   is_allowed message NumbersExhausted x = inr (refl, (h.up, cannot_number x))
@@ -72,6 +72,6 @@ module _ (old : CoordValue) (s : State) (h : Shows old s) (live : LiveJob) (made
 pub stale_steps : (old new : CoordValue) → new ≡ old → (message : ℕ) → Follows old (say.Deliver message) (say.Refused say.OldEpoch) new
 stale_steps old new same message s h = (s, (inr (refl, h.up), refl), subst (λ (c : CoordValue). Shows c s) (sym same) h)
 
-pub kept_steps : (old new : CoordValue) (live : LiveJob) (made : JobResult) (why : InstallError) → Explains old.served.version live made why → new ≡ old
+pub kept_steps : (old new : CoordValue) (live : LiveJob) (made : JobResult) (why : InstallError) → Rejects old.served.version live made why → new ≡ old
     → (message : ℕ) → Follows old (say.Deliver message) (say.Refused (refusal_of (error_of why))) new
 kept_steps old new live made why x same message s h = (s, (is_allowed old s h live made message why x, leaves why s message), subst (λ (c : CoordValue). Shows c s) (sym same) h)

@@ -12,7 +12,6 @@ use Rattle.lsm_table.specs.Tables.{Opened}
 use Rattle.lsm_edit.specs.Served.{IsServed}
 use Rattle.lsm_edit.specs.Version.{IsVersion}
 use Rattle.lsm_edit.proofs.Rebase.{placed_meta}
-use Rattle.lsm_msg.specs.declared.job.JobParts.{JobParts}
 use Rattle.lsm_msg.specs.declared.job.JobResult.{JobResult}
 use Rattle.lsm_msg.specs.Installs.{entries_of}
 use Rattle.lsm_msg.specs.Merge.{HoldsKept}
@@ -20,30 +19,34 @@ use Rattle.lsm_msg.proofs.Installed.{new_number, place_cases}
 use Rattle.lsm_msg.proofs.InstallReads.{kept_adds_no_entry}
 use Rattle.lsm_msg.proofs.OtherJobs.{installs_keep_jobs}
 use Rattle.lsm_coord.specs.declared.coord.install.Install.TheVariants as became
-use Rattle.lsm_coord.specs.Contract.Installing.{Became, IsInstallDone, HoldsMergeOf, install_edit_of, next_served}
+use Rattle.lsm_coord.specs.Contract.Installing.{Became, HoldsSoundMerge, IsInstallDone, install_edit_of}
 use Rattle.lsm_coord.specs.Contract.Memory.{AreLegal}
 use Rattle.lsm_coord.specs.Contract.Sound.{AreWrittenBy, IsSound, KeepsSound}
 use Rattle.lsm_coord.specs.Contract.Value.{CoordValue}
-use Rattle.lsm_coord.proofs.Installing.{held_by, installs_of, live_is, stays_apart}
+use Rattle.lsm_coord.proofs.Installing.{done_applies, done_is, done_spelled, held_by, installs_of, live_is, next_served, stays_apart}
 use Rattle.lsm_coord.proofs.InstallStep.{inputs_by_want, job_of_live, one_live}
 use Rattle.lsm_coord.proofs.Outputs.{tables_one}
 use Rattle.lsm_coord.proofs.Returning.{live_before, same_name}
 
-pub install_keeps : (old new : CoordValue) (claim : LiveJob) (made : JobResult) (number : ℕ) (files : List ℕ) (job : JobParts) → IsBook old.book → IsServed old.served → IsVersion old.served.version → AreLegal old.served.version.files old.book.live
-    → Became old claim made (became.Done number files) new → job.id ≡ claim.id → IsSound old job → HoldsMergeOf old.served job made → KeepsSound old new
-install_keeps old new claim made number files job book served version all_legal b named fit merge other sound held =
+pub install_keeps : (old new : CoordValue) (claim : LiveJob) (made : JobResult) (number : ℕ) (files : List ℕ) → IsBook old.book → IsServed old.served → IsVersion old.served.version → AreLegal old.served.version.files old.book.live
+    → Became old claim made (became.Done number files) new → HoldsSoundMerge old claim.id made → KeepsSound old new
+install_keeps old new claim made number files book served version all_legal b holds_merge other sound held =
+    let job = holds_merge.0 in
+    let merge = holds_merge.3 in
     let live = b.0 in
     let found = live_is old claim.id live b.1 in
-    let ts = b.3 in
-    let install : IsInstallDone old live ts new = b.6 in
+    let ts = b.2 in
+    let outputs = (b.3).outputs in
+    let install : IsInstallDone old live ts new = b.4 in
+    let new_is = done_is old live ts new install in
     let edit = install_edit_of old.served.version live.want ts in
     let legal = all_legal live found.0 in
-    let installs = installs_of old.served live.want made.tables install.text ts legal b.4 install.spelled install.applies in
-    let tables : merge.tables ≡ ts = tables_one made.tables merge.tables ts merge.opened (b.4).tables in
+    let installs = installs_of old.served live.want made.tables install.text ts legal outputs (done_spelled old live ts new install) (done_applies old live ts new install) in
+    let tables : merge.tables ≡ ts = tables_one made.tables merge.tables ts merge.opened outputs.tables in
     let kept = subst (λ (us : List Opened). HoldsKept merge.inputs job.points job.deeper (entries_of us)) tables merge.kept in
-    let none_added = kept_adds_no_entry old.served.places live.want ts merge.inputs job.points job.deeper (inputs_by_want old.served live.want job merge.inputs served (job_of_live old claim.id live job book b.1 named fit) merge.are) kept in
+    let none_added = kept_adds_no_entry old.served.places live.want ts merge.inputs job.points job.deeper (inputs_by_want old.served live.want job merge.inputs served (job_of_live old claim.id live job book b.1 holds_merge.1 holds_merge.2) merge.are) kept in
     let after = after_settling old.book live.id ending.Installed in
-    let held_now : holds after other.id ≡ true = subst (λ (c : CoordValue). holds c.book other.id ≡ true) install.new_is held in
+    let held_now : holds after other.id ≡ true = subst (λ (c : CoordValue). holds c.book other.id ≡ true) new_is held in
     let own = sound.claimed.live in
     let k = any_is (λ j. same_job_id j.id other.id) after.live held_now in
     let k_is : k.0 ≡ own = one_live old.book.live book.rising k.0 own (live_before old.book live.id ending.Installed k.0 k.1) sound.claimed.member (same_name (k.0).id other.id k.2 ∙ sym sound.claimed.named) in
@@ -59,7 +62,7 @@ install_keeps old new claim made number files job book served version all_legal 
           absurd (new_number old.served live.want edit ts version served legal installs p.meta p.meta (placed_meta edit.added ts p output) there refl)
       | inr before ↦ by p before.0 input e n
     ] in
-    subst (λ (c : CoordValue). IsSound c other) (sym install.new_is) (record {
+    subst (λ (c : CoordValue). IsSound c other) (sym new_is) (record {
       claimed = record { live = own; member = stays; named = sound.claimed.named; of_want = of_want.0 };
       points = λ x m. elim (sound.points x m) [ inl point ↦ inl point | inr by ↦ inr (written x.at by) ];
       deeper = of_want.1 none_added sound.deeper;

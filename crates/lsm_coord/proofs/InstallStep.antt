@@ -25,7 +25,7 @@ use Rattle.lsm_edit.specs.Edit.{IsSpelled}
 use Rattle.lsm_edit.specs.Next.{number_after}
 use Rattle.lsm_edit.specs.declared.served.Placed.{Placed}
 use Rattle.lsm_edit.specs.Served.{IsServed, ServedValue}
-use Rattle.lsm_edit.specs.Version.{IsVersion, VersionValue, after_apply, apply_fault, has_number}
+use Rattle.lsm_edit.specs.Version.{IsVersion, after_apply, has_number}
 use Rattle.lsm_edit.specs.Version as edit
 use Rattle.lsm_edit.proofs.Places.{file_of, tables_in}
 use Rattle.lsm_msg.specs.declared.job.JobParts.{JobParts}
@@ -41,15 +41,16 @@ use Rattle.lsm_coord.specs.declared.snapshot.Snapshot.{Snapshot}
 use Rattle.lsm_coord.specs.Model.State.{State, Version, Place, active_start, current_files, last_flushed}
 use Rattle.lsm_coord.specs.Model.Changes.{IsInstalled, at_level, same_place, with_version}
 use Rattle.lsm_coord.specs.Model.Changes as change
+use Rattle.lsm_coord.specs.Model.Event as say
 use Rattle.lsm_coord.specs.declared.coord.install.Install.TheVariants as became
-use Rattle.lsm_coord.specs.Contract.Installing.{AreEntriesOf, AreOutputTables, Became, HasNumbers, IsInstallDone, IsLive, HoldsMergeOf, StepsTo, install_edit_of, next_served, numbers_of, records}
+use Rattle.lsm_coord.specs.Contract.Installing.{AreEntriesOf, Became, HasNumbers, HoldsSoundMerge, IsInstallDone, IsLive, install_edit_of, numbers_of, records}
 use Rattle.lsm_coord.specs.Contract.Manifest.{listing_of, place_of, versions_of}
 use Rattle.lsm_coord.specs.Contract.Memory.{AreLegal, AreJobWants, IsJobWant}
-use Rattle.lsm_coord.specs.Contract.Shows.{Shows, ShowsStored}
+use Rattle.lsm_coord.specs.Contract.Shows.{Follows, Shows, ShowsStored}
 use Rattle.lsm_coord.specs.Contract.Sound.{AreWrittenBy, IsSound}
 use Rattle.lsm_coord.specs.Contract.Value.{CoordValue, frozen_entries, stored_entries}
 use Rattle.lsm_coord.proofs.Editing.{records_end, records_length}
-use Rattle.lsm_coord.proofs.Installing.{installs_of, live_is}
+use Rattle.lsm_coord.proofs.Installing.{done_applies, done_is, done_spelled, installs_of, live_is, next_served}
 use Rattle.lsm_coord.proofs.Outputs.{tables_one}
 use Rattle.lsm_coord.proofs.Manifests.{Folds-push, files_are, flushed_is, listed-push, version_count}
 use Rattle.lsm_coord.proofs.Versions.{tip-grown}
@@ -252,25 +253,30 @@ job_of_live c id live job book is_live named sound =
     subst (λ (k : LiveJob). IsJobOf c.served.version.files k.want job) own sound.claimed.of_want
 
 -- AN INSTALL STEPS, where a job of the claim's name is sound and the outputs hold what is kept.
-pub install_steps : (old new : CoordValue) (claim : LiveJob) (made : JobResult) (number : ℕ) (files : List ℕ) (job : JobParts) → IsBook old.book → IsServed old.served → IsVersion old.served.version → AreLegal old.served.version.files old.book.live → AreJobWants old.book.live
-    → Became old claim made (became.Done number files) new → job.id ≡ claim.id → IsSound old job → HoldsMergeOf old.served job made → StepsTo old (became.Done number files) new
-install_steps old new claim made number files job book served version all_legal all_orderly b named sound merge message s h =
+pub install_steps : (old new : CoordValue) (claim : LiveJob) (made : JobResult) (number : ℕ) (files : List ℕ) → IsBook old.book → IsServed old.served → IsVersion old.served.version → AreLegal old.served.version.files old.book.live → AreJobWants old.book.live
+    → Became old claim made (became.Done number files) new → HoldsSoundMerge old claim.id made → (message : ℕ) → Follows old (say.Deliver message) (say.Installed number files) new
+install_steps old new claim made number files book served version all_legal all_orderly b holds message s h =
+    let job = holds.0 in
+    let sound = holds.2 in
+    let merge = holds.3 in
     let live = b.0 in
     let found = live_is old claim.id live b.1 in
-    let of_want = job_of_live old claim.id live job book b.1 named sound in
-    let ts = b.3 in
-    let install : IsInstallDone old live ts new = b.6 in
+    let of_want = job_of_live old claim.id live job book b.1 holds.1 sound in
+    let ts = b.2 in
+    let accepted = b.3 in
+    let install : IsInstallDone old live ts new = b.4 in
+    let spelled = done_spelled old live ts new install in
     let legal = all_legal live found.0 in
     let orderly = all_orderly live found.0 in
-    let installs = installs_of old.served live.want made.tables install.text ts legal b.4 install.spelled install.applies in
-    let tables : merge.tables ≡ ts = tables_one made.tables merge.tables ts merge.opened (b.4).tables in
+    let installs = installs_of old.served live.want made.tables install.text ts legal accepted.outputs spelled (done_applies old live ts new install) in
+    let tables : merge.tables ≡ ts = tables_one made.tables merge.tables ts merge.opened accepted.outputs.tables in
     let kept = subst (λ (us : List Opened). HoldsKept merge.inputs job.points job.deeper (entries_of us)) tables merge.kept in
     let are = inputs_by_want old.served live.want job merge.inputs served of_want merge.are in
-    let step = is_installed old live ts install.text s h version served legal orderly installs install.spelled b.5 job of_want sound.points sound.deeper merge.inputs are kept in
-    let shown = shows_install old live ts install.text s h version served legal orderly installs install.spelled b.5 job of_want sound.points sound.deeper merge.inputs are kept in
-    let then = after old live ts install.text s h version served legal orderly installs install.spelled b.5 job of_want sound.points sound.deeper merge.inputs are kept in
+    let step = is_installed old live ts install.text s h version served legal orderly installs spelled accepted.numbers job of_want sound.points sound.deeper merge.inputs are kept in
+    let shown = shows_install old live ts install.text s h version served legal orderly installs spelled accepted.numbers job of_want sound.points sound.deeper merge.inputs are kept in
+    let then = after old live ts install.text s h version served legal orderly installs spelled accepted.numbers job of_want sound.points sound.deeper merge.inputs are kept in
     let made_now : CoordValue = record old { served = next_served old.served live.want ts; edits = old.edits ++ install.text ∷ []; book = after_settling old.book live.id ending.Installed } in (
       then,
-      (refl, subst (λ (n : ℕ). IsInstalled s n files then) (sym b.7) (subst (λ (ns : List ℕ). IsInstalled s (old.served.version.number + 1) ns then) (sym b.8) step)),
-      subst (λ (x : CoordValue). Shows x then) (sym install.new_is) (shown made_now refl refl refl refl refl refl refl refl),
+      (refl, subst (λ (n : ℕ). IsInstalled s n files then) (sym b.5) (subst (λ (ns : List ℕ). IsInstalled s (old.served.version.number + 1) ns then) (sym b.6) step)),
+      subst (λ (x : CoordValue). Shows x then) (sym (done_is old live ts new install)) (shown made_now refl refl refl refl refl refl refl refl),
     )

@@ -1,5 +1,5 @@
 -- What becomes of a claim, and what an install keeps.
-use Rattle.std.proofs.Common.{◌≡◌, ℕ, Bool, true, false, not, cond, ◌||◌, List, [], ◌∷◌, inl, inr, Option, None, Some, refl, sym, ap, subst, ◌∙◌, unwrap_or}
+use Rattle.std.proofs.Common.{◌≡◌, ℕ, Bool, true, false, not, cond, ◌||◌, List, [], ◌∷◌, ◌++◌, inl, inr, Option, None, Some, refl, sym, ap, subst, ◌∙◌, unwrap_or}
 use Rattle.std.specs.List.{find, list_any}
 use Rattle.std.proofs.lemmas.Bool.{true≢false, false_from_ne_true, eq-eqb}
 use Rattle.lsm_key.specs.declared.entry.Entry.{Entry}
@@ -14,8 +14,9 @@ use Rattle.lsm_claim.specs.Book.{BookValue, IsBook, after_settling, holds, with_
 use Rattle.lsm_claim.specs.Conflicts.{conflicts}
 use Rattle.lsm_claim.specs.Jobs.{same_job_id, without_job}
 use Rattle.lsm_table.specs.Tables.{Opened}
+use Rattle.lsm_edit.specs.declared.edit.Edit.{Edit}
 use Rattle.lsm_edit.specs.Edit.{IsSpelled, edit as spelling}
-use Rattle.lsm_edit.specs.Served.{IsServed, ServedValue}
+use Rattle.lsm_edit.specs.Served.{IsServed, ServedValue, after_advance}
 use Rattle.lsm_edit.specs.Version.{IsVersion, apply_fault}
 use Rattle.lsm_msg.specs.declared.job.JobResult.{JobResult}
 use Rattle.lsm_msg.specs.Installs.{Installs}
@@ -24,10 +25,11 @@ use Rattle.lsm_msg.proofs.OtherJobs.{installs_keep_jobs}
 use Rattle.lsm_coord.specs.declared.coord.install.Install.TheVariants as became
 use Rattle.lsm_coord.specs.declared.frozen.Frozen.{Frozen}
 use Rattle.lsm_coord.specs.declared.snapshot.Snapshot.{Snapshot}
-use Rattle.lsm_coord.specs.Contract.Installing.{AreOutputTables, Became, IsLive, Puts, install_edit_of}
-use Rattle.lsm_coord.specs.Contract.Manifest.{VersionSetValue}
+use Rattle.lsm_coord.specs.Contract.Installing.{AreOutputTables, Became, IsInstallDone, IsLive, install_edit_of}
+use Rattle.lsm_coord.specs.Contract.Manifest.{VersionSetValue, after_logging}
 use Rattle.lsm_coord.specs.Contract.Memory.{IsCoord}
 use Rattle.lsm_coord.specs.Contract.Value.{CoordValue}
+use Rattle.lsm_coord.specs.Inner.Putting.{PutsOutputs}
 use Rattle.lsm_coord.proofs.Editing.{recorded_of, records_inside, records_recorded}
 use Rattle.lsm_coord.proofs.Outputs.{tables_each}
 use Rattle.lsm_coord.proofs.Returning.{epoch_after, live_before, orderly_after, same_name}
@@ -64,25 +66,41 @@ pub with_book : (c : CoordValue) (b : BookValue) → b ≡ c.book → record c {
 with_book c b e = ap (λ (x : BookValue). record c { book = x }) e
 
 pub became_done : (old : CoordValue) (claim live : LiveJob) (made : JobResult) (number : ℕ) (files : List ℕ) (new : VersionSetValue) → IsLive old claim.id live
-    → Puts (record { served = old.served; edits = old.edits }) live made number files new → Became old claim made (became.Done number files) (record old { served = new.served; edits = new.edits; book = after_settling old.book claim.id ending.Installed })
+    → PutsOutputs (record { served = old.served; edits = old.edits }) live made (number, files) new → Became old claim made (became.Done number files) (record old { served = new.served; edits = new.edits; book = after_settling old.book claim.id ending.Installed })
 became_done old claim live made number files new h p =
     let named = (live_is old claim.id live h).1 in
-    let e = install_edit_of old.served.version live.want p.tables in (
+    (
       live,
       h,
-      p.named ∙ named,
       p.tables,
-      p.outputs,
-      p.fit,
+      p.accepted,
       record {
-        text = spelling e;
-        spelled = record { sound = p.valid; spelled = refl };
+        edit = p.edit;
+        edit_is = p.edit_is;
         applies = p.applies;
+        text = spelling p.edit;
+        spelled = record { sound = p.valid; spelled = refl };
         new_is = λ i. record old { served = (p.new_is i).served; edits = (p.new_is i).edits; book = after_settling old.book (sym named i) ending.Installed };
       },
       p.number_is,
       p.files_are,
     )
+
+-- ---- an install, by its edit
+
+-- the next version with its tables
+abbrev pub next_served : ServedValue → Want → List Opened → ServedValue
+next_served s want ts = after_advance s (install_edit_of s.version want ts) ts
+
+module _ (old : CoordValue) (live : LiveJob) (ts : List Opened) (new : CoordValue) (done : IsInstallDone old live ts new) where
+  pub done_spelled : IsSpelled done.text (install_edit_of old.served.version live.want ts)
+  done_spelled = subst (IsSpelled done.text) done.edit_is done.spelled
+
+  pub done_applies : apply_fault old.served.version (install_edit_of old.served.version live.want ts) ≡ None
+  done_applies = subst (λ (e : Edit). apply_fault old.served.version e ≡ None) done.edit_is done.applies
+
+  pub done_is : new ≡ record old { served = next_served old.served live.want ts; edits = old.edits ++ done.text ∷ []; book = after_settling old.book live.id ending.Installed }
+  done_is = done.new_is ∙ (λ i. record old { served = after_advance old.served (done.edit_is i) ts; edits = old.edits ++ done.text ∷ []; book = after_settling old.book live.id ending.Installed })
 
 -- ---- what an install keeps
 
@@ -118,14 +136,17 @@ pub held_by : (b : BookValue) (live : LiveJob) (id : JobId) → find (λ j. same
 held_by b live id h = let r = found_some (λ j. same_job_id j.id id) b.live live h in any_from (λ j. same_job_id j.id id) b.live live r.0 r.1
 
 pub after_install : (active : List Entry) (frozen : Option Frozen) (last : ℕ) (old new : VersionSetValue) (book : BookValue) (id : JobId) (live : LiveJob) (made : JobResult) (number : ℕ) (files : List ℕ) (snapshots : List Snapshot)
-    → IsCoord active frozen last old.served book snapshots → IsBook book → IsServed old.served → IsVersion old.served.version → find (λ j. same_job_id j.id id) book.live ≡ Some live → Puts old live made number files new
+    → IsCoord active frozen last old.served book snapshots → IsBook book → IsServed old.served → IsVersion old.served.version → find (λ j. same_job_id j.id id) book.live ≡ Some live → PutsOutputs old live made (number, files) new
     → IsCoord active frozen last new.served (after_settling book id ending.Installed) snapshots
 after_install active frozen last old new book id live made number files snapshots is book_is served_is version_is h p =
     let served = old.served in
     let e = install_edit_of served.version live.want p.tables in
     let r = found_some (λ j. same_job_id j.id id) book.live live h in
-    let installs = installs_of served live.want made.tables (spelling e) p.tables (is.legal live r.0) p.outputs (record { sound = p.valid; spelled = refl }) p.applies in
-    subst (λ (v : VersionSetValue). IsCoord active frozen last v.served (after_settling book id ending.Installed) snapshots) (sym p.new_is) (record {
+    let spelled : IsSpelled (spelling p.edit) e = subst (IsSpelled (spelling p.edit)) p.edit_is (record { sound = p.valid; spelled = refl }) in
+    let applies : apply_fault served.version e ≡ None = subst (λ (x : Edit). apply_fault served.version x ≡ None) p.edit_is p.applies in
+    let installs = installs_of served live.want made.tables (spelling p.edit) p.tables (is.legal live r.0) p.accepted.outputs spelled applies in
+    let new_is : new ≡ after_logging old e p.tables = p.new_is ∙ ap (λ (x : Edit). after_logging old x p.tables) p.edit_is in
+    subst (λ (v : VersionSetValue). IsCoord active frozen last v.served (after_settling book id ending.Installed) snapshots) (sym new_is) (record {
       recent = is.recent;
       begun = is.begun;
       waiting = is.waiting;

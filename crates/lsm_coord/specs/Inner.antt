@@ -1,2 +1,3 @@
 -- What only contracts of private functions cite: nothing that a reader has to believe.
 pub mod Scan
+pub mod Putting

@@ -19,10 +19,10 @@ use Rattle.lsm_coord.specs.declared.error.CoordError.{CoordError}
 use Rattle.lsm_coord.specs.Contract.Calls.{after_give_back}
 use Rattle.lsm_coord.specs.Model.Changes.{IsIndex}
 use Rattle.lsm_coord.specs.Model.Event as say
-use Rattle.lsm_coord.specs.Contract.Installing.{AreOutputTables, Became, Explains, HasNumbers, StepsTo}
+use Rattle.lsm_coord.specs.Contract.Installing.{AreOutputTables, Became, HasNumbers, Rejects}
 use Rattle.lsm_coord.specs.Contract.Picking.{IsPicked}
 use Rattle.lsm_coord.specs.Contract.Replies.{error_of}
-use Rattle.lsm_coord.specs.Contract.Shows.{Shows}
+use Rattle.lsm_coord.specs.Contract.Shows.{Follows, Shows}
 use Rattle.lsm_coord.specs.Contract.Sound.{KeepsSound}
 use Rattle.lsm_coord.specs.Model.State.{State}
 use Rattle.lsm_coord.specs.Model.Step.{Step}
@@ -63,9 +63,9 @@ module _ (old mid new : CoordValue) (claim : LiveJob) (job : JobParts) (ver : Is
     -- ---- why it is kept back
 
     module _ (live : LiveJob) (one : live ≡ claim) where
-      refused_by : (why : InstallError) → Explains mid.served.version live made why → CompactionRefuses old (error_of why)
+      refused_by : (why : InstallError) → Rejects mid.served.version live made why → CompactionRefuses old (error_of why)
       refused_by WrongJob x = absurd (x (same_job ∙ named old mid claim job ver is book picked ∙ ap (λ (l : LiveJob). l.id) (sym one)))
-      refused_by BadResult x = absurd (x.1 (opened_as made.tables m.entries) (subst (λ (l : LiveJob). AreOutputTables l.want.hull made.tables (opened_as made.tables m.entries)) (sym one) (made_outputs old mid claim job ver is book picked made m)))
+      refused_by BadResult x = absurd (x.1 (opened_as made.tables m.entries, subst (λ (l : LiveJob). AreOutputTables l.want.hull made.tables (opened_as made.tables m.entries)) (sym one) (made_outputs old mid claim job ver is book picked made m)))
       refused_by NumbersExhausted x = inr (record {
         claim = claim;
         job = job;
@@ -83,7 +83,7 @@ module _ (old mid new : CoordValue) (claim : LiveJob) (job : JobParts) (ver : Is
     answers_refused (Ok a) k = tt
     answers_refused (Err e) k =
         let one : k.live ≡ claim = same_Some k.live claim (sym k.is_live ∙ claim_live old mid claim job ver is book picked) in
-        subst (CompactionRefuses old) (sym k.told) (refused_by k.live one k.why k.explained)
+        subst (CompactionRefuses old) (sym k.told) (refused_by k.live one k.why k.rejects)
 
     -- ---- jobs that stay sound
 
@@ -91,16 +91,16 @@ module _ (old mid new : CoordValue) (claim : LiveJob) (job : JobParts) (ver : Is
         → OnErr r (new ≡ after_give_back mid claim.id) → KeepsSound old new
     answers_sound (Ok None) first second done stale back = absurd (never_stale (stale refl))
     answers_sound (Ok (Some v)) first second done stale back =
-        keeps_then old mid new first second (λ j n. live_before mid.book (done.0).id ending.Installed j (subst (λ (c : CoordValue). IsIn j c.book.live) (done.6).new_is n))
+        keeps_then old mid new first second (λ j n. live_before mid.book (done.0).id ending.Installed j (subst (λ (c : CoordValue). IsIn j c.book.live) (done.4).new_is n))
     answers_sound (Err e) first second done stale back = back_keeps old mid claim job ver is book picked new first second back
 
     -- ---- the steps
 
-    pub answers_reached : {Z : Type 0} (r : Answer Z) (dispatcher message : ℕ) → IsIndex dispatcher → (s : State) → (t : State) × Step s (say.Pick dispatcher) say.Other t × Shows mid t → IfOk r (λ a. IfSome a (λ v. StepsTo mid (became.Done v.0 v.1.items) new))
+    pub answers_reached : {Z : Type 0} (r : Answer Z) (dispatcher message : ℕ) → IsIndex dispatcher → (s : State) → (t : State) × Step s (say.Pick dispatcher) say.Other t × Shows mid t → IfOk r (λ a. IfSome a (λ v. Follows mid (say.Deliver message) (say.Installed v.0 v.1.items) new))
         → IfOk r (λ a. a ≡ None → holds mid.book claim.id ≡ false) → OnErr r (new ≡ after_give_back mid claim.id) → IsReached dispatcher message s r new
     answers_reached (Ok None) dispatcher message index s pick steps stale back = absurd (never_stale (stale refl))
     answers_reached (Ok (Some v)) dispatcher message index s pick steps stale back =
-        let u = steps message pick.0 pick.2 in
+        let u = steps pick.0 pick.2 in
         let same : pick.0 ≡ s = ((pick.1).1).1 in
         let after = (u.1).1.new_is in
         record {

@@ -16,7 +16,7 @@ use Rattle.lsm_coord.specs.declared.coord.install.InstallError.{InstallError}
 use Rattle.lsm_coord.specs.declared.error.CoordError.{CoordError}
 use Rattle.lsm_coord.specs.declared.error.CoordError.TheVariants.{NumbersExhausted}
 use Rattle.lsm_coord.specs.Model.Event as say
-use Rattle.lsm_coord.specs.Contract.Installing.{AreOutputTables, Became, Explains, HasNumbers, IsLive, HoldsMergeOf}
+use Rattle.lsm_coord.specs.Contract.Installing.{AreOutputTables, Became, HasNumbers, HoldsMergeOf, IsLive, Rejects}
 use Rattle.lsm_coord.specs.Contract.Picking.{RulePicksNone, HasRoom, IsPicked, PickRefuses}
 use Rattle.lsm_coord.specs.Contract.Replies.{error_of, refusal_of}
 use Rattle.lsm_coord.specs.Model.Run.{Run}
@@ -55,7 +55,7 @@ pub record KeptBack (c : CoordValue) (claim : LiveJob) (made : JobResult) (e : C
   pub is_live : IsLive c claim.id live
   pub why : InstallError
   pub told : e ≡ error_of why
-  pub explained : Explains c.served.version live made why
+  pub rejects : Rejects c.served.version live made why
 
 -- ---- a compaction
 

@@ -7,13 +7,13 @@ ghost use Rattle.lsm_table.specs.Tables.{IsTable, Opened};
 ghost use Rattle.lsm_edit.specs.declared.file.FileMeta.{FileMeta};
 ghost use Rattle.lsm_edit.specs.Served.{AllRecorded, IsServed, table_at};
 ghost use Rattle.lsm_edit.specs.Version.{IsVersion};
-ghost use Rattle.lsm_msg.specs.declared.job.JobParts.{JobParts};
 ghost use Rattle.lsm_coord.specs.declared.coord.install.Install.TheVariants as became;
 ghost use Rattle.lsm_coord.specs.Contract.Calls.{after_give_back};
 ghost use Rattle.lsm_coord.specs.Model.Changes.{IsIndex};
-ghost use Rattle.lsm_coord.specs.Contract.Installing.{Became, HoldsMergeOf, StepsTo};
-ghost use Rattle.lsm_coord.specs.Contract.Shows.{Shows};
-ghost use Rattle.lsm_coord.specs.Contract.Sound.{IsSound, KeepsSound};
+ghost use Rattle.lsm_coord.specs.Contract.Installing.{Became, HoldsSoundMerge};
+ghost use Rattle.lsm_coord.specs.Contract.Shows.{Follows, Shows};
+ghost use Rattle.lsm_coord.specs.Contract.Sound.{KeepsSound};
+ghost use Rattle.lsm_coord.specs.Model.Event.{Deliver, Installed};
 ghost use Rattle.lsm_coord.specs.Model.State.{State};
 ghost use Rattle.lsm_sim.specs.Compacting.{Brings, Compacts, CompactionRefuses, IsLeft, IsReached, KeptBack, Merges, tables_at};
 
@@ -64,11 +64,11 @@ fn install(
     made: &JobResult,
 ) -> Result<Option<(u64, Vec<u64>)>, CoordError>
     ensures done { IfOk result (λ answer. IfSome answer (λ r. Became coord.old claim made.now (became.Done r.0 r.1.items) coord.new)) }
-    ensures step { (job : JobParts) → job.id ≡ claim.id → IsSound coord.old job → HoldsMergeOf coord.old.served job made.now → IfOk result (λ answer. IfSome answer (λ r. StepsTo coord.old (became.Done r.0 r.1.items) coord.new)) }
+    ensures step { (message : ℕ) → HoldsSoundMerge coord.old claim.id made.now → IfOk result (λ answer. IfSome answer (λ r. Follows coord.old (Deliver message) (Installed r.0 r.1.items) coord.new)) }
     ensures stale { IfOk result (λ answer. answer ≡ None → holds coord.old.book claim.id ≡ false) }
     ensures err { OnErr result (coord.new ≡ after_give_back coord.old claim.id) }
     ensures refused { IfErr result (KeptBack coord.old claim made.now) }
-    ensures sound { (job : JobParts) → job.id ≡ claim.id → IsSound coord.old job → HoldsMergeOf coord.old.served job made.now → KeepsSound coord.old coord.new }
+    ensures sound { HoldsSoundMerge coord.old claim.id made.now → KeepsSound coord.old coord.new }
 {
     match coord.install(claim, made) {
         Install::Done(number, files) => Ok(Some((number, files.into_vec()))),

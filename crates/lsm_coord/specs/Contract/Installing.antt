@@ -15,7 +15,7 @@ use Rattle.lsm_claim.specs.Book.{after_settling, holds}
 use Rattle.lsm_table.specs.Tables.{Opened, IsTable, smallest_key, largest_key}
 use Rattle.lsm_edit.specs.declared.file.FileMeta.{FileMeta}
 use Rattle.lsm_edit.specs.declared.edit.Edit.{Edit}
-use Rattle.lsm_edit.specs.Edit.{IsEdit, IsSpelled}
+use Rattle.lsm_edit.specs.Edit.{IsSpelled}
 use Rattle.lsm_edit.specs.Next.{install_edit}
 use Rattle.lsm_edit.specs.declared.served.Placed.{Placed}
 use Rattle.lsm_edit.specs.Served.{ServedValue, after_advance}
@@ -28,10 +28,7 @@ use Rattle.lsm_coord.specs.declared.coord.install.Install.{Install}
 use Rattle.lsm_coord.specs.declared.coord.install.Install.TheVariants as became
 use Rattle.lsm_coord.specs.declared.coord.install.InstallError.{InstallError}
 use Rattle.lsm_coord.specs.declared.coord.install.InstallError.TheVariants.{WrongJob, BadResult, NumbersExhausted, OutOfMemory}
-use Rattle.lsm_coord.specs.Model.Event.{Deliver, Installed, OldEpoch, Refused}
-use Rattle.lsm_coord.specs.Contract.Manifest.{VersionSetValue, after_logging}
-use Rattle.lsm_coord.specs.Contract.Replies.{error_of, refusal_of}
-use Rattle.lsm_coord.specs.Contract.Shows.{Follows}
+use Rattle.lsm_coord.specs.Contract.Sound.{IsSound}
 use Rattle.lsm_coord.specs.Contract.Value.{CoordValue}
 
 -- ---- outputs
@@ -95,28 +92,35 @@ pub record HasNumbers (v : VersionValue) (ts : List Opened) : Type 0 where
 abbrev pub number_fault : VersionValue → ℕ → Option InstallError
 number_fault v files = if nat_le (v.number + 1) MAX_NUMBER && nat_le (v.next_file + files) MAX_NUMBER then None else Some NumbersExhausted
 
--- the next version with its tables
-abbrev pub next_served : ServedValue → Want → List Opened → ServedValue
-next_served s want ts = after_advance s (install_edit_of s.version want ts) ts
+-- ---- what is accepted
 
--- the next version is current, its edit is the last of the list, and the claim is settled
+-- the texts of a result are tables that the job may have as outputs
+abbrev pub HasOutputs : Hull → List (List ℕ) → Type 0
+HasOutputs hull texts = (ts : List Opened) × AreOutputTables hull texts ts
+
+-- A result that may be installed for a running job: it is of that job, its texts are tables with only keys of the job's hull, in
+-- ascending order, and there are numbers left for the version and the files.
+pub record IsAcceptable (v : VersionValue) (live : LiveJob) (made : JobResult) (ts : List Opened) : Type 0 where
+  pub same_job : made.job ≡ live.id
+  pub outputs : AreOutputTables live.want.hull made.tables ts
+  pub numbers : HasNumbers v ts
+
+-- The version after an install: the outputs replace the inputs, one level deeper; the edit is the last of the manifest, and the
+-- claim is settled.
 pub record IsInstallDone (old : CoordValue) (live : LiveJob) (ts : List Opened) (new : CoordValue) : Type 0 where
+  pub edit : Edit
+  pub edit_is : edit ≡ install_edit_of old.served.version live.want ts
+  pub applies : apply_fault old.served.version edit ≡ None
   pub text : List ℕ
-  pub spelled : IsSpelled text (install_edit_of old.served.version live.want ts)
-  pub applies : apply_fault old.served.version (install_edit_of old.served.version live.want ts) ≡ None
-  pub new_is : new ≡ record old { served = next_served old.served live.want ts; edits = old.edits ++ text ∷ []; book = after_settling old.book live.id ending.Installed }
+  pub spelled : IsSpelled text edit
+  pub new_is : new ≡ record old { served = after_advance old.served edit ts; edits = old.edits ++ text ∷ []; book = after_settling old.book live.id ending.Installed }
 
--- the same of a version set, by the outputs of a result
-pub record Puts (old : VersionSetValue) (live : LiveJob) (made : JobResult) (number : ℕ) (files : List ℕ) (new : VersionSetValue) : Type 0 where
-  pub named : made.job ≡ live.id
-  pub tables : List Opened
-  pub outputs : AreOutputTables live.want.hull made.tables tables
-  pub fit : HasNumbers old.served.version tables
-  pub valid : IsEdit (install_edit_of old.served.version live.want tables)
-  pub applies : apply_fault old.served.version (install_edit_of old.served.version live.want tables) ≡ None
-  pub new_is : new ≡ after_logging old (install_edit_of old.served.version live.want tables) tables
-  pub number_is : number ≡ old.served.version.number + 1
-  pub files_are : files ≡ numbers_of old.served.version live.want tables
+-- why a result is rejected: the first reason that holds, unless memory runs out
+abbrev pub Rejects : VersionValue → LiveJob → JobResult → InstallError → Type 0
+Rejects v live made WrongJob = made.job ≡ live.id → ⊥
+Rejects v live made BadResult = (made.job ≡ live.id) × (HasOutputs live.want.hull made.tables → ⊥)
+Rejects v live made NumbersExhausted = (made.job ≡ live.id) × (ts : List Opened) × AreOutputTables live.want.hull made.tables ts × (HasNumbers v ts → ⊥)
+Rejects v live made OutOfMemory = made.job ≡ live.id
 
 -- ---- what becomes of a claim
 
@@ -124,34 +128,21 @@ pub record Puts (old : VersionSetValue) (live : LiveJob) (made : JobResult) (num
 abbrev pub IsLive : CoordValue → JobId → LiveJob → Type 0
 IsLive c id live = find (λ j. same_job_id j.id id) c.book.live ≡ Some live
 
--- why a result is not installed: the first reason that holds, unless memory runs out
-abbrev pub Explains : VersionValue → LiveJob → JobResult → InstallError → Type 0
-Explains v live made WrongJob = made.job ≡ live.id → ⊥
-Explains v live made BadResult = (made.job ≡ live.id) × ((ts : List Opened) → AreOutputTables live.want.hull made.tables ts → ⊥)
-Explains v live made NumbersExhausted = (made.job ≡ live.id) × (ts : List Opened) × AreOutputTables live.want.hull made.tables ts × (HasNumbers v ts → ⊥)
-Explains v live made OutOfMemory = made.job ≡ live.id
-
--- A claim that the book does not have is stale, and the epoch is reported; a refused result leaves the claim; otherwise the
--- outputs are installed, and their files reported.
+-- A claim that the book does not have is stale, and the epoch is reported; a rejected result leaves the claim; an acceptable one
+-- is installed, and the version's number and its new files are reported.
 abbrev pub Became : CoordValue → LiveJob → JobResult → Install → CoordValue → Type 0
 Became old claim made (became.Done number files) new =
-    (live : LiveJob) × IsLive old claim.id live × (made.job ≡ claim.id)
-    × (ts : List Opened) × AreOutputTables live.want.hull made.tables ts × HasNumbers old.served.version ts
+    (live : LiveJob) × IsLive old claim.id live
+    × (ts : List Opened) × IsAcceptable old.served.version live made ts
     × IsInstallDone old live ts new × (number ≡ old.served.version.number + 1) × (files ≡ numbers_of old.served.version live.want ts)
 Became old claim made (became.Stale job epoch) new = (holds old.book claim.id ≡ false) × (job ≡ claim.id) × (epoch ≡ old.book.epoch) × (new ≡ old)
-Became old claim made (became.Kept back why) new = (live : LiveJob) × IsLive old claim.id live × (back ≡ claim) × Explains old.served.version live made why × (new ≡ old)
+Became old claim made (became.Kept back why) new = (live : LiveJob) × IsLive old claim.id live × (back ≡ claim) × Rejects old.served.version live made why × (new ≡ old)
 
--- an install that is done is a step, whatever message brought the result
-abbrev pub StepsTo : CoordValue → Install → CoordValue → Type 0
-StepsTo old (became.Done number files) new = (message : ℕ) → Follows old (Deliver message) (Installed number files) new
-StepsTo old (became.Stale job epoch) new = Unit {0}
-StepsTo old (became.Kept back why) new = Unit {0}
-
--- a stale claim and a refused result are refusals that every state allows, whatever message brought the result
-abbrev pub RefusalsStep : CoordValue → Install → CoordValue → Type 0
-RefusalsStep old (became.Done number files) new = Unit {0}
-RefusalsStep old (became.Stale job epoch) new = (message : ℕ) → Follows old (Deliver message) (Refused OldEpoch) new
-RefusalsStep old (became.Kept back why) new = (message : ℕ) → Follows old (Deliver message) (Refused (refusal_of (error_of why))) new
+-- the result was installed
+abbrev pub IsDone : Install → Type 0
+IsDone (became.Done number files) = Unit {0}
+IsDone (became.Stale job epoch) = ⊥
+IsDone (became.Kept back why) = ⊥
 
 -- ---- the promise of a sound job
 
@@ -166,3 +157,7 @@ pub record HoldsMergeOf (served : ServedValue) (job : JobParts) (made : JobResul
   pub tables : List Opened
   pub opened : DecodeTo made.tables tables
   pub kept : HoldsKept inputs job.points job.deeper (entries_of tables)
+
+-- a sound job has this name, and the result's tables hold what a merge keeps of its inputs
+abbrev pub HoldsSoundMerge : CoordValue → JobId → JobResult → Type 0
+HoldsSoundMerge c id made = (job : JobParts) × (job.id ≡ id) × IsSound c job × HoldsMergeOf c.served job made

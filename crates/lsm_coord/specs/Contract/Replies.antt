@@ -6,6 +6,8 @@ use Rattle.lsm_edit.specs.declared.served.Listing.{Listing}
 use Rattle.lsm_coord.specs.declared.error.CoordError.{CoordError}
 use Rattle.lsm_coord.specs.declared.error.CoordError.TheVariants as error
 use Rattle.lsm_coord.specs.declared.coord.flush.Flushed.{Flushed}
+use Rattle.lsm_coord.specs.declared.coord.install.Install.{Install}
+use Rattle.lsm_coord.specs.declared.coord.install.Install.TheVariants as became
 use Rattle.lsm_coord.specs.declared.coord.install.InstallError.{InstallError}
 use Rattle.lsm_coord.specs.declared.coord.install.InstallError.TheVariants as kept
 use Rattle.lsm_coord.specs.declared.snapshot.SnapId.{SnapId}
@@ -63,6 +65,11 @@ release_reply id (Err e) = say.Refused (refusal_of e)
 abbrev pub pick_reply : Result (Option (LiveJob × JobParts)) CoordError → Reply
 pick_reply (Ok picked) = say.Other
 pick_reply (Err e) = say.Refused (refusal_of e)
+
+abbrev pub install_reply : Install → Reply
+install_reply (became.Done number files) = say.Installed number files
+install_reply (became.Stale job epoch) = say.Refused say.OldEpoch
+install_reply (became.Kept claim why) = say.Refused (refusal_of (error_of why))
 
 abbrev pub get_reply : Result (Option (List ℕ)) CoordError → Reply
 get_reply (Ok value) = say.Got value

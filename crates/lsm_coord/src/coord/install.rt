@@ -1,6 +1,6 @@
 //! Installs: the result of a job replaces its inputs.
 
-ghost use Rattle.std.specs.Prelude.{◌≡◌, ◌↔◌, ◌<◌, ◌≤◌, ◌^◌, IfErr, IsTrue, IfOk, None, OnErr, OnOk, find, length, map, true};
+ghost use Rattle.std.specs.Prelude.{◌≡◌, ◌↔◌, ℕ, ◌<◌, ◌≤◌, ◌^◌, IfErr, IsTrue, IfOk, None, OnErr, find, length, map, true};
 ghost use Rattle.std.specs.Option.{option_copied};
 ghost use Rattle.lsm_key.specs.Sets.{IsIn};
 ghost use Rattle.lsm_claim.specs.declared.job.LiveJob.{LiveJob};
@@ -8,11 +8,14 @@ ghost use Rattle.lsm_claim.specs.Jobs.{same_job_id};
 ghost use Rattle.lsm_table.specs.Tables.{IsTable, Opened};
 ghost use Rattle.lsm_edit.specs.Edit.{IsEdit};
 ghost use Rattle.lsm_edit.specs.Version.{apply_fault};
-ghost use Rattle.lsm_msg.specs.declared.job.JobParts.{JobParts};
 ghost use Rattle.lsm_msg.specs.Legal.{IsLegal};
-ghost use Rattle.lsm_coord.specs.Contract.Installing.{AreAscending, Became, Explains, HasNumbers, HoldsMergeOf, Puts, RefusalsStep, StepsTo, install_edit_of, is_table_inside, number_fault};
+ghost use Rattle.lsm_coord.specs.Contract.Installing.{AreAscending, Became, HasNumbers, HoldsSoundMerge, IsDone, Rejects, install_edit_of, is_table_inside, number_fault};
 ghost use Rattle.lsm_coord.specs.Contract.Memory.{IsJobWant};
-ghost use Rattle.lsm_coord.specs.Contract.Sound.{IsSound, KeepsSound};
+ghost use Rattle.lsm_coord.specs.Contract.Replies.{install_reply};
+ghost use Rattle.lsm_coord.specs.Contract.Shows.{Follows};
+ghost use Rattle.lsm_coord.specs.Contract.Sound.{KeepsSound};
+ghost use Rattle.lsm_coord.specs.Inner.Putting.{PutsOutputs};
+ghost use Rattle.lsm_coord.specs.Model.Event.{Deliver};
 
 use super::Coord;
 use super::outputs::{open_outputs, records_of};
@@ -80,9 +83,8 @@ impl Coord {
     /// responsibility.
     pub fn install(&mut self, claim: Claim, made: &JobResult) -> Install
         ensures became { Became self.old claim made.now result self.new }
-        ensures refused { RefusalsStep self.old result self.new }
-        ensures step { (job : JobParts) → job.id ≡ claim.id → IsSound self.old job → HoldsMergeOf self.old.served job made.now → StepsTo self.old result self.new }
-        ensures sound { (job : JobParts) → job.id ≡ claim.id → IsSound self.old job → HoldsMergeOf self.old.served job made.now → KeepsSound self.old self.new }
+        ensures step { (message : ℕ) → (IsDone result → HoldsSoundMerge self.old claim.id made.now) → Follows self.old (Deliver message) (install_reply result) self.new }
+        ensures sound { HoldsSoundMerge self.old claim.id made.now → KeepsSound self.old self.new }
     {
         let id = claim.id();
         // Proof hint: the version and its places are sound.
@@ -121,9 +123,9 @@ fn put_outputs(
     requires epoch { 1 ≤ versions.old.served.version.epoch }
     requires legal { IsLegal versions.old.served.version.files job.now.want }
     requires orderly { IsJobWant job.now.want }
-    ensures ok { IfOk result (λ put. Puts versions.old job.now made.now put.0 put.1 versions.new) }
+    ensures ok { IfOk result (λ put. PutsOutputs versions.old job.now made.now put versions.new) }
     ensures err { OnErr result (versions.new ≡ versions.old) }
-    ensures why { IfErr result (Explains versions.old.served.version job.now made.now) }
+    ensures why { IfErr result (Rejects versions.old.served.version job.now made.now) }
 {
     let want = &job.want;
     if !are_same(made.job, job.id) {

@@ -57,7 +57,7 @@ returns-in-Ok-Some-clause-sound c =
     let merge = merges_by _ _ _ _ c.in-Ok-Some.field-0-is c.in-Ok-Some.ensures in
     let picked = picked_by _ _ _ _ _ c.in-Some.is c.in_ok-claim.ensures.ok in
     let sound = sound_by _ _ _ _ c.in-Some.is c.in_ok-claim.ensures.job in
-    let second = c.install.ensures.sound c.in-Some.job (named _ _ _ _ know.version know.served know.book picked) sound (made_of_inputs _ _ _ _ know.version know.served know.book picked _ merge.1) in
+    let second = c.install.ensures.sound (c.in-Some.job, named _ _ _ _ know.version know.served know.book picked, sound, made_of_inputs _ _ _ _ know.version know.served know.book picked _ merge.1) in
     answers_sound _ _ _ c.in-Some.claim c.in-Some.job know.version know.served know.book picked _ merge.0 merge.1 c.install.result c.pick.ensures.sound second c.install.ensures.done c.install.ensures.stale c.install.ensures.err
 
 pub returns-in-Ok-Some-clause-step : goal.returns-in-Ok-Some-clause-step
@@ -66,5 +66,5 @@ returns-in-Ok-Some-clause-step c = λ dispatcher message index s h.
     let merge = merges_by _ _ _ _ c.in-Ok-Some.field-0-is c.in-Ok-Some.ensures in
     let picked = picked_by _ _ _ _ _ c.in-Some.is c.in_ok-claim.ensures.ok in
     let sound = sound_by _ _ _ _ c.in-Some.is c.in_ok-claim.ensures.job in
-    let steps = c.install.ensures.step c.in-Some.job (named _ _ _ _ know.version know.served know.book picked) sound (made_of_inputs _ _ _ _ know.version know.served know.book picked _ merge.1) in
+    let steps = c.install.ensures.step message (c.in-Some.job, named _ _ _ _ know.version know.served know.book picked, sound, made_of_inputs _ _ _ _ know.version know.served know.book picked _ merge.1) in
     answers_reached _ _ _ c.in-Some.claim c.in-Some.job know.version know.served know.book picked _ merge.0 merge.1 c.install.result dispatcher message index s (c.in_ok-claim.ensures.step dispatcher index s h) steps c.install.ensures.stale c.install.ensures.err

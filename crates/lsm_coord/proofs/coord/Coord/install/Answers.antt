@@ -71,15 +71,15 @@ returns-in-Ok-clause-became c =
     (became_done _ c.args.claim c.in-Some.job.now c.args.made.now c.in-Ok.number c.in-Ok.files c.put_outputs.new.versions live c.in-Ok.ensures.ok)
 
 pub returns-in-Ok-clause-step : goal.returns-in-Ok-clause-step
-returns-in-Ok-clause-step c = λ job named sound merge.
+returns-in-Ok-clause-step c = λ message holds.
     let view = c.self.view_is in
-    install_steps c.args.self.now _ c.args.claim c.args.made.now c.in-Ok.number c.in-Ok.files job
+    install_steps c.args.self.now _ c.args.claim c.args.made.now c.in-Ok.number c.in-Ok.files
     (subst (λ (v : CoordValue). IsBook v.book) view c.live.ensures.sound)
     (subst (λ (v : CoordValue). IsServed v.served) view (subst IsServed c.served.ensures.served c.listing-listing.ensures.sound.0))
     (subst (λ (v : CoordValue). IsVersion v.served.version) view (subst (λ (s : ServedValue). IsVersion s.version) c.served.ensures.served c.listing-listing.ensures.sound.1))
     (subst (λ (v : CoordValue). AreLegal v.served.version.files v.book.live) view c.self.invariant.legal)
     (subst (λ (v : CoordValue). AreJobWants v.book.live) view c.self.invariant.orderly)
-    (returns-in-Ok-clause-became c) named sound merge
+    (returns-in-Ok-clause-became c) (holds tt) message
 
 pub returns-in-Err-clause-became : goal.returns-in-Err-clause-became
 returns-in-Err-clause-became c =
@@ -91,25 +91,25 @@ returns-in-Err-clause-became c =
     (c.in-Some.job.now, live, refl, c.in-Err.ensures.why, λ i. record { limits = m.limits; active = m.active; frozen = m.frozen; served = (same i).served; edits = (same i).edits; last = m.newest; snapshots = m.live.items; made = m.made; floor = 1; book = m.book })
 
 pub returns-in-None-clause-sound : goal.returns-in-None-clause-sound
-returns-in-None-clause-sound c = λ job named sound merge. nothing_keeps c.args.self.now _ (returns-in-None-clause-became c).3
+returns-in-None-clause-sound c = λ holds. nothing_keeps c.args.self.now _ (returns-in-None-clause-became c).3
 
 pub returns-in-Err-clause-sound : goal.returns-in-Err-clause-sound
-returns-in-Err-clause-sound c = λ job named sound merge. nothing_keeps c.args.self.now _ (returns-in-Err-clause-became c).4
+returns-in-Err-clause-sound c = λ holds. nothing_keeps c.args.self.now _ (returns-in-Err-clause-became c).4
 
 pub returns-in-Ok-clause-sound : goal.returns-in-Ok-clause-sound
-returns-in-Ok-clause-sound c = λ job named sound merge.
+returns-in-Ok-clause-sound c = λ merge.
     let view = c.self.view_is in
-    install_keeps c.args.self.now _ c.args.claim c.args.made.now c.in-Ok.number c.in-Ok.files job
+    install_keeps c.args.self.now _ c.args.claim c.args.made.now c.in-Ok.number c.in-Ok.files
     (subst (λ (v : CoordValue). IsBook v.book) view c.live.ensures.sound)
     (subst (λ (v : CoordValue). IsServed v.served) view (subst IsServed c.served.ensures.served c.listing-listing.ensures.sound.0))
     (subst (λ (v : CoordValue). IsVersion v.served.version) view (subst (λ (s : ServedValue). IsVersion s.version) c.served.ensures.served c.listing-listing.ensures.sound.1))
     (subst (λ (v : CoordValue). AreLegal v.served.version.files v.book.live) view c.self.invariant.legal)
-    (returns-in-Ok-clause-became c) named sound merge
+    (returns-in-Ok-clause-became c) merge
 
-pub returns-in-None-clause-refused : goal.returns-in-None-clause-refused
-returns-in-None-clause-refused c = stale_steps c.args.self.now _ (returns-in-None-clause-became c).3
+pub returns-in-None-clause-step : goal.returns-in-None-clause-step
+returns-in-None-clause-step c = λ message holds. stale_steps c.args.self.now _ (returns-in-None-clause-became c).3 message
 
-pub returns-in-Err-clause-refused : goal.returns-in-Err-clause-refused
-returns-in-Err-clause-refused c =
+pub returns-in-Err-clause-step : goal.returns-in-Err-clause-step
+returns-in-Err-clause-step c = λ message holds.
     let b = returns-in-Err-clause-became c in
-    kept_steps c.args.self.now _ b.0 c.args.made.now c.in-Err.why b.3 b.4
+    kept_steps c.args.self.now _ b.0 c.args.made.now c.in-Err.why b.3 b.4 message

@@ -1,13 +1,11 @@
-use Rattle.std.proofs.Common.{◌≡◌, ◌+◌, ◌∙◌, None, Some, ◌++◌, ◌∷◌, [], List, ℕ, refl, sym, ap, subst, arith, length, map}
+use Rattle.std.proofs.Common.{◌≡◌, ◌+◌, ◌∙◌, None, Some, List, ℕ, sym, ap, subst, arith, length, map}
 use Rattle.std.proofs.lemmas.Grind.{common_steps}
 use Rattle.lsm_key.specs.Sets.{IsIn}
 use Rattle.lsm_edit.specs.declared.edit.Edit.{Edit}
 use Rattle.lsm_edit.specs.declared.file.FileMeta.{FileMeta}
-use Rattle.lsm_edit.specs.Edit.{IsEdit}
 use Rattle.lsm_edit.specs.Served.{AreAsRecorded}
 use Rattle.lsm_edit.specs.Version.{VersionValue, apply_fault}
 use Rattle.lsm_coord.specs.Contract.Installing.{AreOutputTables, install_edit_of, number_fault}
-use Rattle.lsm_coord.specs.Contract.Manifest.{after_logging}
 use Rattle.lsm_coord.proofs.Editing.{records_recorded}
 use Rattle.lsm_coord.proofs.InstallRefusals.{has_numbers, lacks_numbers}
 use Rattle.lsm_coord.proofs.Outputs.{tables_each, tables_length}
@@ -42,13 +40,17 @@ returns-clause-ok c =
     c.in_ok-edit.ensures.edit ∙ (λ i. install_edit_of (c.version-version.ensures i) want (c.deref.ensures.value i)) in
     let len : c.len.result ≡ length ts = grind (arith, common_steps) in
     record {
-      named = (c.are_same.ensures).0 c.if-not-are_same.false;
       tables = ts;
-      outputs = subst (λ (texts : List (List ℕ)). AreOutputTables want.hull texts ts) c.as_slice.ensures c.in_ok-tables.ensures.ok;
-      fit = has_numbers s.version ts ((λ i. number_fault (sym c.version-version.ensures i) (sym len i)) ∙ sym c.number_fault.ensures ∙ c.in-None.is);
-      valid = subst IsEdit is c.in_ok-edit.ensures.sound;
-      applies = subst (λ (e : Edit). apply_fault s.version e ≡ None) is (subst (λ (v : VersionValue). apply_fault v c.in_ok-edit.edit ≡ None) c.version-version.ensures c.in_ok-edit.ensures.applies);
-      new_is = c.in_ok-log_and_apply.ensures.ok ∙ ap (λ (e : Edit). after_logging c.args.versions.now e ts) is;
+      accepted = record {
+        same_job = (c.are_same.ensures).0 c.if-not-are_same.false;
+        outputs = subst (λ (texts : List (List ℕ)). AreOutputTables want.hull texts ts) c.as_slice.ensures c.in_ok-tables.ensures.ok;
+        numbers = has_numbers s.version ts ((λ i. number_fault (sym c.version-version.ensures i) (sym len i)) ∙ sym c.number_fault.ensures ∙ c.in-None.is);
+      };
+      edit = c.in_ok-edit.edit;
+      edit_is = is;
+      valid = c.in_ok-edit.ensures.sound;
+      applies = subst (λ (v : VersionValue). apply_fault v c.in_ok-edit.edit ≡ None) c.version-version.ensures c.in_ok-edit.ensures.applies;
+      new_is = c.in_ok-log_and_apply.ensures.ok;
       number_is = ap (λ (n : ℕ). n + 1) (c.number-number.ensures.value ∙ ap (λ (v : VersionValue). v.number) c.version-version.ensures);
       files_are = c.from_vec.ensures ∙ c.in_ok-files.ensures ∙ ap (map (λ (f : FileMeta). f.number)) (c.as_slice-2.ensures ∙ ap (λ (e : Edit). e.added) is);
     }
