@@ -77,19 +77,24 @@ abbrev pub active_after : List Entry → Option Frozen → List Entry
 active_after active None = []
 active_after active (Some f) = active
 
--- the edit of a flush to this file
-abbrev pub flush_edit_of : CoordValue → FileMeta → Edit
-flush_edit_of c file = flush_edit c.served.version (flush_source c).end file
+-- the memtable that a flush takes is gone
+abbrev pub without_flush_source : CoordValue → CoordValue
+without_flush_source c = record c { active = active_after c.active c.frozen; frozen = None }
 
--- The edit applies and is the last of the manifest, the version after it has the table's file, which is searched first, and the
--- memtable that was taken is gone.
+-- The edit of the flush applies and is the last of the manifest, the version after it has the table's file, which is searched
+-- first, and the memtable that was taken is gone.
 pub record AddsTable (old : CoordValue) (file : FileMeta) (table : Opened) (new : CoordValue) : Type 0 where
-  pub applies : apply_fault old.served.version (flush_edit_of old file) ≡ None
+  pub edit : Edit
+  pub edit_is : edit ≡ flush_edit old.served.version (flush_source old).end file
+  pub applies : apply_fault old.served.version edit ≡ None
   pub text : List ℕ
-  pub spelled : IsSpelled text (flush_edit_of old file)
-  pub new_is : new ≡ record old { active = active_after old.active old.frozen; frozen = None; served = with_flushed old.served (flush_source old).end file table; edits = old.edits ++ text ∷ [] }
+  pub spelled : IsSpelled text edit
+  pub new_is : new ≡ record (without_flush_source old) {
+    served = with_flushed old.served (flush_source old).end file table;
+    edits = old.edits ++ text ∷ [];
+  }
 
--- one file more, of a table with just the entries of the memtable that was taken
+-- one file more, of a table with exactly the entries of the memtable that was taken
 abbrev pub Adds : CoordValue → CoordValue → Type 0
 Adds old new = (file : FileMeta) × (table : Opened) × (table.entries ≡ (flush_source old).memtable) × AddsTable old file table new
 

@@ -1,11 +1,11 @@
 use Rattle.std.proofs.Common.{◌≡◌, ◌∙◌, ◌++◌, ℕ, List, ◌∷◌, [], None, refl, ap, sym, subst, arith}
 use Rattle.lsm_key.specs.declared.entry.Entry.{Entry}
-use Rattle.lsm_edit.specs.Edit.{IsSpelled, edit as spelling}
+use Rattle.lsm_edit.specs.Edit.{edit as spelling}
 use Rattle.lsm_edit.specs.Next.{flush_edit}
-use Rattle.lsm_edit.specs.Version.{IsVersion, apply_fault}
+use Rattle.lsm_edit.specs.Version.{IsVersion}
 use Rattle.lsm_msg.specs.Installs.{with_flushed}
 use Rattle.lsm_msg.proofs.Flushed.{legal_flushed}
-use Rattle.lsm_coord.specs.Contract.Calls.{AddsTable, flush_source, flush_source_of, active_after}
+use Rattle.lsm_coord.specs.Contract.Calls.{flush_source, flush_source_of, active_after}
 use Rattle.lsm_coord.specs.Contract.Manifest.{AddsFile, VersionSetValue}
 use Rattle.lsm_coord.specs.Contract.Memory.{AreLegal, IsCoord}
 use Rattle.lsm_coord.specs.Contract.Value.{CoordValue}
@@ -52,9 +52,11 @@ returns-then-is_some-clause-ok c =
     let some = frozen_from m.frozen (sym c.is_some.ensures ∙ c.if-is_some.true) in
     let active : m.active ≡ active_after m.active m.frozen = ap (active_after m.active) (sym some.1) in
     rw (← c.self.view_is, adds.new_is) (record {
-      applies = subst (λ (n : ℕ). apply_fault s.version (flush_edit s.version n c.args.meta) ≡ None) end adds.applies;
+      edit = flush_edit s.version c.args.end c.args.meta;
+      edit_is = ap (λ (n : ℕ). flush_edit s.version n c.args.meta) end;
+      applies = adds.applies;
       text = spelling (flush_edit s.version c.args.end c.args.meta);
-      spelled = subst (λ (n : ℕ). IsSpelled (spelling (flush_edit s.version c.args.end c.args.meta)) (flush_edit s.version n c.args.meta)) end (record { sound = adds.valid; spelled = refl });
+      spelled = record { sound = adds.valid; spelled = refl };
       new_is = λ i. record { limits = m.limits; active = active i; frozen = None; served = with_flushed s (end i) c.args.meta c.args.table; edits = m.versions.edits ++ spelling (flush_edit s.version c.args.end c.args.meta) ∷ []; last = m.newest; snapshots = m.live.items; made = m.made; floor = 1; book = m.book };
     })
 
@@ -68,9 +70,11 @@ returns-clause-ok c =
     let none : m.frozen ≡ None = none_from m.frozen (sym c.is_some.ensures ∙ c.if-is_some.false) in
     let active : c.new.result ≡ active_after m.active m.frozen = c.new.ensures ∙ ap (active_after m.active) (sym none) in
     rw (← c.self.view_is, adds.new_is) (record {
-      applies = subst (λ (n : ℕ). apply_fault s.version (flush_edit s.version n c.args.meta) ≡ None) end adds.applies;
+      edit = flush_edit s.version c.args.end c.args.meta;
+      edit_is = ap (λ (n : ℕ). flush_edit s.version n c.args.meta) end;
+      applies = adds.applies;
       text = spelling (flush_edit s.version c.args.end c.args.meta);
-      spelled = subst (λ (n : ℕ). IsSpelled (spelling (flush_edit s.version c.args.end c.args.meta)) (flush_edit s.version n c.args.meta)) end (record { sound = adds.valid; spelled = refl });
+      spelled = record { sound = adds.valid; spelled = refl };
       new_is = λ i. record { limits = m.limits; active = active i; frozen = none i; served = with_flushed s (end i) c.args.meta c.args.table; edits = m.versions.edits ++ spelling (flush_edit s.version c.args.end c.args.meta) ∷ []; last = m.newest; snapshots = m.live.items; made = m.made; floor = 1; book = m.book };
     })
 
