@@ -142,7 +142,7 @@ deeper_are v want is few = record {
 pub within_rules : (c : CoordValue) (want : Want) (job : JobParts) → IsVersion c.served.version → 1 ≤ c.served.version.epoch → c.book.epoch ≡ c.served.version.epoch → MayClaim c want → IsJobFor c want job → length job.points ≤ MAX_POINTS → IsJob job
 within_rules c want job is opened epoch may of few =
     let v : VersionValue = c.served.version in
-    let limits = and_parts (nat_le (length (inputs_of v.files want)) MAX_INPUTS) _ may.given.taken.within in
+    let limits = and_parts (nat_le (length (inputs_of v.files want)) MAX_INPUTS) _ may.next.taken.within in
     let others = and_parts (nat_le (sum_by (λ f. f.bytes) (inputs_of v.files want)) MAX_INPUT_BYTES) _ limits.1 in
     let fits = may.fits in
     record {
@@ -237,4 +237,4 @@ claimed_or_not (Err e) old new want ok err = inr err
 
 -- the reason why memory may run out
 pub wants_memory : (c : CoordValue) (want : Want) → MayClaim c want → PickRefuses c OutOfMemory
-wants_memory c want may = (may.room, (want, may.given), may.fits)
+wants_memory c want may = (may.free, (want, may.next), may.fits)

@@ -142,7 +142,7 @@ module _ (old mid : CoordValue) (claim : LiveJob) (job : JobParts) (ver : IsVers
 
   inputs_few : sum_by (λ f. f.bytes) job.inputs ≤ 268435456
   inputs_few =
-      let limits = and_parts _ _ picked.may.given.taken.within in
+      let limits = and_parts _ _ picked.may.next.taken.within in
       let others = and_parts _ _ limits.1 in
       subst (λ (fs : List FileMeta). sum_by (λ f. f.bytes) fs ≤ 268435456) (sym picked.job_is.inputs) (leb-true _ _ others.0)
 

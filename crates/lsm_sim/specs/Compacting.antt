@@ -17,7 +17,7 @@ use Rattle.lsm_coord.specs.declared.error.CoordError.{CoordError}
 use Rattle.lsm_coord.specs.declared.error.CoordError.TheVariants.{NumbersExhausted}
 use Rattle.lsm_coord.specs.Model.Event as say
 use Rattle.lsm_coord.specs.Contract.Installing.{AreOutputTables, Became, HasNumbers, HoldsMergeOf, IsLive, Rejects}
-use Rattle.lsm_coord.specs.Contract.Picking.{RulePicksNone, HasRoom, IsPicked, PickRefuses}
+use Rattle.lsm_coord.specs.Contract.Picking.{HasFreeClaim, IsPicked, NothingToCompact, PickRefuses}
 use Rattle.lsm_coord.specs.Contract.Replies.{error_of, refusal_of}
 use Rattle.lsm_coord.specs.Model.Run.{Run}
 use Rattle.lsm_coord.specs.Contract.Shows.{Shows}
@@ -74,9 +74,9 @@ pub record IsLeft (old new : CoordValue) : Type 0 where
   pub rest : new ≡ record old { book = new.book }
   pub book : (new.book ≡ old.book) ⊎ (new.book ≡ record old.book { made = old.book.made + 1; returned = old.book.returned + 1 })
 
--- None is returned if the rule of a pick gives nothing: if a state is shown there is no other cause
+-- None is returned if there is nothing to compact: if a state is shown there is no other cause
 abbrev pub Compacts : {Z : Type 0} → CoordValue → CoordValue → Option (ℕ × Vec ℕ Z) → Type 0
-Compacts old new None = IsLeft old new × ((s : State) → Shows old s → HasRoom old × RulePicksNone old × (new ≡ old))
+Compacts old new None = IsLeft old new × ((s : State) → Shows old s → HasFreeClaim old × NothingToCompact old × (new ≡ old))
 Compacts old new (Some made) = IsCompaction old made.0 made.1.items new
 
 -- the numbers are exhausted by the outputs of the merge

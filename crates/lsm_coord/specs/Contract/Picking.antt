@@ -11,6 +11,7 @@ use Rattle.lsm_edit.specs.declared.file.FileMeta.{FileMeta}
 use Rattle.lsm_msg.specs.declared.job.JobParts.{JobParts}
 use Rattle.lsm_key.specs.declared.range.KeyRange.{KeyRange}
 use Rattle.lsm_msg.specs.Legal.{IsLegal, touches}
+use Rattle.lsm_pick.specs.Closure.{Candidate}
 use Rattle.lsm_pick.specs.Rule.{IsFirst, AreBlocked, AreTooLarge, inputs_of, candidates}
 use Rattle.lsm_coord.specs.declared.error.CoordError.{CoordError}
 use Rattle.lsm_coord.specs.declared.error.CoordError.TheVariants.{BookFull, TooWide, NumbersExhausted, OutOfMemory}
@@ -51,26 +52,30 @@ pub record IsJobFor (c : CoordValue) (want : Want) (job : JobParts) : Type 0 whe
 -- ---- the answers
 
 -- one more claim may be live
-abbrev pub HasRoom : CoordValue → Type 0
-HasRoom c = length c.book.live < MAX_LIVE_CLAIMS
+abbrev pub HasFreeClaim : CoordValue → Type 0
+HasFreeClaim c = length c.book.live < MAX_LIVE_CLAIMS
 
--- the rule of a pick gives this compaction
-abbrev pub RulePicks : CoordValue → Want → Type 0
-RulePicks c want = IsFirst c.served.version.files c.book.live (candidates c.limits c.served.version.files) want
+-- what a pick tries, in this order; none if no level needs compaction
+abbrev pub candidates_of : CoordValue → List Candidate
+candidates_of c = candidates c.limits c.served.version.files
 
--- it gives none: no level needs compaction, or every candidate conflicts with a running job
-abbrev pub RulePicksNone : CoordValue → Type 0
-RulePicksNone c = AreBlocked c.served.version.files c.book.live (candidates c.limits c.served.version.files)
+-- the compaction of the first eligible candidate
+abbrev pub NextCompaction : CoordValue → Want → Type 0
+NextCompaction c want = IsFirst c.served.version.files c.book.live (candidates_of c) want
 
--- no candidate is eligible, and at least one failed only by size
-abbrev pub OnlySizeBlocks : CoordValue → Type 0
-OnlySizeBlocks c = AreTooLarge c.served.version.files c.book.live (candidates c.limits c.served.version.files)
+-- every candidate conflicts with a running job, or there is none
+abbrev pub NothingToCompact : CoordValue → Type 0
+NothingToCompact c = AreBlocked c.served.version.files c.book.live (candidates_of c)
 
--- the compaction is given, is one that a job may have, may be merged and can be claimed
+-- no candidate is eligible, and at least one fails by its size alone
+abbrev pub OnlyTooLarge : CoordValue → Type 0
+OnlyTooLarge c = AreTooLarge c.served.version.files c.book.live (candidates_of c)
+
+-- the compaction is the next one, is one that a job may have, may be merged and can be claimed
 pub record MayClaim (c : CoordValue) (want : Want) : Type 0 where
-  pub room : HasRoom c
+  pub free : HasFreeClaim c
   pub fits : c.book.made < MAX_NUMBER
-  pub given : RulePicks c want
+  pub next : NextCompaction c want
   pub orderly : IsJobWant want
   pub legal : IsLegal c.served.version.files want
 
@@ -82,15 +87,15 @@ pub record IsPicked (old : CoordValue) (claim : LiveJob) (job : JobParts) (new :
   pub job_is : IsJobFor old want job
   pub new_is : new ≡ record old { book = after_claim old.book want }
 
--- what is picked, or that the rule gives nothing
+-- what is picked, or that there is nothing to compact
 abbrev pub Picks : CoordValue → CoordValue → Option (LiveJob × JobParts) → Type 0
-Picks old new None = HasRoom old × RulePicksNone old × (new ≡ old)
+Picks old new None = HasFreeClaim old × NothingToCompact old × (new ≡ old)
 Picks old new (Some picked) = IsPicked old picked.0 picked.1 new
 
 -- why nothing is picked: the first reason that holds
 abbrev pub PickRefuses : CoordValue → CoordError → Type 0
 PickRefuses c BookFull = MAX_LIVE_CLAIMS ≤ length c.book.live
-PickRefuses c TooWide = HasRoom c × OnlySizeBlocks c
-PickRefuses c NumbersExhausted = HasRoom c × ((want : Want) × RulePicks c want) × (MAX_NUMBER ≤ c.book.made)
-PickRefuses c OutOfMemory = HasRoom c × ((want : Want) × RulePicks c want) × (c.book.made < MAX_NUMBER)
+PickRefuses c TooWide = HasFreeClaim c × OnlyTooLarge c
+PickRefuses c NumbersExhausted = HasFreeClaim c × ((want : Want) × NextCompaction c want) × (MAX_NUMBER ≤ c.book.made)
+PickRefuses c OutOfMemory = HasFreeClaim c × ((want : Want) × NextCompaction c want) × (c.book.made < MAX_NUMBER)
 PickRefuses c e = ⊥

@@ -10,7 +10,7 @@ ghost use Rattle.lsm_coord.specs.Contract.Shows.{Follows};
 ghost use Rattle.lsm_coord.specs.Contract.Sound.{IsSound, KeepsSound};
 ghost use Rattle.lsm_coord.specs.Contract.Calls.{after_give_back};
 ghost use Rattle.lsm_coord.specs.Contract.Replies.{pick_reply};
-ghost use Rattle.lsm_coord.specs.Contract.Picking.{RulePicksNone, HasRoom, IsJobFor, MayClaim, PickRefuses, Picks};
+ghost use Rattle.lsm_coord.specs.Contract.Picking.{HasFreeClaim, IsJobFor, MayClaim, NothingToCompact, PickRefuses, Picks};
 
 use super::Coord;
 use crate::CoordError;
@@ -43,7 +43,7 @@ impl Coord {
     // What the rule of a pick gives, if it can be claimed.
     fn wanted(&self) -> Result<Option<Want>, CoordError>
         ensures some { IfOk result (λ wanted. IfSome wanted (MayClaim self.now)) }
-        ensures none { IfOk result (λ wanted. wanted ≡ None → HasRoom self.now × RulePicksNone self.now) }
+        ensures none { IfOk result (λ wanted. wanted ≡ None → HasFreeClaim self.now × NothingToCompact self.now) }
         ensures refused { IfErr result (PickRefuses self.now) }
     {
         if self.book.live().len() >= MAX_LIVE_CLAIMS {
