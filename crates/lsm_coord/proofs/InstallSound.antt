@@ -64,6 +64,6 @@ install_keeps old new claim made number files book served version all_legal b ho
     ] in
     subst (λ (c : CoordValue). IsSound c other) (sym new_is) (record {
       claimed = record { live = own; member = stays; named = sound.claimed.named; of_want = of_want.0 };
-      points = λ x m. elim (sound.points x m) [ inl point ↦ inl point | inr by ↦ inr (written x.at by) ];
+      snapshots = λ x m. elim (sound.snapshots x m) [ inl point ↦ inl point | inr by ↦ inr (written x.at by) ];
       deeper = of_want.1 none_added sound.deeper;
     })

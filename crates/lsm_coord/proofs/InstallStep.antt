@@ -272,9 +272,9 @@ install_steps old new claim made number files book served version all_legal all_
     let tables : merge.tables ≡ ts = tables_one made.tables merge.tables ts merge.opened accepted.outputs.tables in
     let kept = subst (λ (us : List Opened). HoldsKept merge.inputs job.points job.deeper (entries_of us)) tables merge.kept in
     let are = inputs_by_want old.served live.want job merge.inputs served of_want merge.are in
-    let step = is_installed old live ts install.text s h version served legal orderly installs spelled accepted.numbers job of_want sound.points sound.deeper merge.inputs are kept in
-    let shown = shows_install old live ts install.text s h version served legal orderly installs spelled accepted.numbers job of_want sound.points sound.deeper merge.inputs are kept in
-    let then = after old live ts install.text s h version served legal orderly installs spelled accepted.numbers job of_want sound.points sound.deeper merge.inputs are kept in
+    let step = is_installed old live ts install.text s h version served legal orderly installs spelled accepted.numbers job of_want sound.snapshots sound.deeper merge.inputs are kept in
+    let shown = shows_install old live ts install.text s h version served legal orderly installs spelled accepted.numbers job of_want sound.snapshots sound.deeper merge.inputs are kept in
+    let then = after old live ts install.text s h version served legal orderly installs spelled accepted.numbers job of_want sound.snapshots sound.deeper merge.inputs are kept in
     let made_now : CoordValue = record old { served = next_served old.served live.want ts; edits = old.edits ++ install.text ∷ []; book = after_settling old.book live.id ending.Installed } in (
       then,
       (refl, subst (λ (n : ℕ). IsInstalled s n files then) (sym b.5) (subst (λ (ns : List ℕ). IsInstalled s (old.served.version.number + 1) ns then) (sym b.6) step)),

@@ -199,7 +199,7 @@ picked_sound old new claim job is version picked =
           inputs = inputs_taken files want job.inputs of.inputs;
         };
       };
-      points = λ x live. inl ((of.points.all x.at).1 (IsIn-map (λ (y : Snapshot). y.at) x old.snapshots live));
+      snapshots = λ x live. inl ((of.points.all x.at).1 (IsIn-map (λ (y : Snapshot). y.at) x old.snapshots live));
       deeper = deeper_known old.served want job is version may.legal of.level of.inputs of.deeper;
     })
 
@@ -214,7 +214,7 @@ claim_keeps c want job sound held =
         named = claimed_before.named;
         of_want = claimed_before.of_want;
       };
-      points = sound.points;
+      snapshots = sound.snapshots;
       deeper = sound.deeper;
     }
 

@@ -95,7 +95,7 @@ gives_back_keeps c id job sound held =
         named = claimed.named;
         of_want = claimed.of_want;
       };
-      points = sound.points;
+      snapshots = sound.snapshots;
       deeper = sound.deeper;
     }
 

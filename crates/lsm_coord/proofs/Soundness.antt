@@ -26,7 +26,7 @@ pub same_keeps : (old new : CoordValue) → new.served ≡ old.served → new.bo
 same_keeps old new served book snapshots job sound held =
     subst (λ (x : CoordValue). IsSound x job)
     (λ i. record new { served = sym served i; book = sym book i; snapshots = sym snapshots i })
-    (record { claimed = sound.claimed; points = sound.points; deeper = sound.deeper })
+    (record { claimed = sound.claimed; snapshots = sound.snapshots; deeper = sound.deeper })
 
 pub nothing_keeps : (old new : CoordValue) → new ≡ old → KeepsSound old new
 nothing_keeps old new same job sound held = subst (λ (x : CoordValue). IsSound x job) (sym same) sound
@@ -44,7 +44,7 @@ flush_keeps old new file table is number level all adds job sound held =
     let place : Placed = record { meta = file; table = table } in
     subst (λ (x : CoordValue). IsSound x job) (sym adds.new_is) (record {
       claimed = record { live = claimed.live; member = claimed.member; named = claimed.named; of_want = job_flushed old.served end file is level fresh want legal job claimed.of_want };
-      points = λ x live. elim (sound.points x live) [
+      snapshots = λ x live. elim (sound.snapshots x live) [
         | inl point ↦ inl point
         | inr written ↦ inr (λ p m input. elim m [
           | inr before ↦ written p before input
@@ -64,8 +64,8 @@ flush_keeps old new file table is number level all adds job sound held =
 pub snapshot_keeps : (c : CoordValue) (s : State) → Shows c s → KeepsSound c (after_snapshot c)
 snapshot_keeps c s h job sound held = record {
   claimed = sound.claimed;
-  points = λ x live. elim (IsIn-append_cases x c.snapshots _ live) [
-    | inl old ↦ sound.points x old
+  snapshots = λ x live. elim (IsIn-append_cases x c.snapshots _ live) [
+    | inl old ↦ sound.snapshots x old
     | inr new ↦ inr (λ p mp input e me.
         let low = h.tables.old e (in_stored c.served.places p mp e me) in
         let flushed = h.memtables.flushed in
@@ -87,6 +87,6 @@ snapshot_keeps c s h job sound held = record {
 pub release_keeps : (c : CoordValue) (id : SnapId) → KeepsSound c (after_release c id)
 release_keeps c id job sound held = record {
   claimed = sound.claimed;
-  points = λ x live. sound.points x (IsIn-filter (λ other. not (same_snapshot_id other.id id)) x c.snapshots live).0;
+  snapshots = λ x live. sound.snapshots x (IsIn-filter (λ other. not (same_snapshot_id other.id id)) x c.snapshots live).0;
   deeper = sound.deeper;
 }

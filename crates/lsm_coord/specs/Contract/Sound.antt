@@ -24,12 +24,13 @@ pub record HasClaim (files : List FileMeta) (b : BookValue) (job : JobParts) : T
 abbrev pub AreWrittenBy : ServedValue → JobParts → ℕ → Type 0
 AreWrittenBy served job at = (p : Placed) → IsIn p served.places → IsIn p.meta job.inputs → (e : Entry) → IsIn e p.table.entries → e.ikey.seq ≤ at
 
--- The job is claimed, each live snapshot is one of its points or sees all its inputs, and it knows the deeper ranges.
+-- The result of the job may be installed: its claim is live and names exactly the job's input files; every live snapshot is one of
+-- the job's, or was taken after all input entries were written; the job lists every deeper range that may hold an input key.
 pub record IsSound (c : CoordValue) (job : JobParts) : Type 0 where
   pub claimed : HasClaim c.served.version.files c.book job
-  pub points : (x : Snapshot) → IsIn x c.snapshots → IsIn x.at job.points ⊎ AreWrittenBy c.served job x.at
+  pub snapshots : (x : Snapshot) → IsIn x c.snapshots → IsIn x.at job.points ⊎ AreWrittenBy c.served job x.at
   pub deeper : KnowsDeeper c.served.places job
 
--- what was sound before, and is still claimed, is sound
+-- a call keeps every job sound whose claim it leaves live
 abbrev pub KeepsSound : CoordValue → CoordValue → Type 0
 KeepsSound old new = (job : JobParts) → IsSound old job → holds new.book job.id ≡ true → IsSound new job
