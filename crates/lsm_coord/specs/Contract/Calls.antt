@@ -1,5 +1,5 @@
 -- What each call of the coordinator refuses and does, on the value that contracts see (LevelDB, db_impl.cc: Write, CompactMemTable, Get, GetSnapshot).
-use Rattle.std.specs.Prelude.{◌≡◌, ℕ, ◌+◌, ◌≤◌, not, List, ◌++◌, [], ◌∷◌, Option, None, Some, IsSome, MatchOption, length, filter, sum_by, is_none, is_some, nat_eq, nat_lt, nat_le, ◌&&◌, ◌||◌, ◌⊎◌, if◌then◌else◌}
+use Rattle.std.specs.Prelude.{◌≡◌, ℕ, ◌+◌, not, List, ◌++◌, [], ◌∷◌, Option, None, Some, IsSome, MatchOption, length, filter, sum_by, is_none, is_some, nat_eq, nat_lt, nat_le, ◌&&◌, ◌||◌, ◌⊎◌, if◌then◌else◌}
 use Rattle.std.specs.List.Sorted.{IsPermutation}
 use Rattle.lsm_key.specs.declared.entry.Entry.{Entry}
 use Rattle.lsm_key.specs.declared.op.Op.{Op}

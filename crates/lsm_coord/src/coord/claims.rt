@@ -1,7 +1,7 @@
 //! Claims of jobs: how they are picked, and how they are given back.
 
 ghost use Rattle.std.specs.Prelude.{◌≡◌, ℕ, None, IfOk, IfErr, IfSome, OnOk, OnErr};
-ghost use Rattle.lsm_claim.specs.Book.{settle_answer, claim_fault, after_claim, next_job};
+ghost use Rattle.lsm_claim.specs.Book.{settle_answer, after_claim, next_job};
 ghost use Rattle.lsm_edit.specs.Served.{IsServed};
 ghost use Rattle.lsm_edit.specs.Version.{IsVersion};
 ghost use Rattle.lsm_coord.specs.Model.Changes.{IsIndex};
