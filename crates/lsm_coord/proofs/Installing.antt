@@ -68,8 +68,7 @@ with_book c b e = ap (λ (x : BookValue). record c { book = x }) e
 pub became_done : (old : CoordValue) (claim live : LiveJob) (made : JobResult) (number : ℕ) (files : List ℕ) (new : VersionSetValue) → IsLive old claim.id live
     → PutsOutputs (record { served = old.served; edits = old.edits }) live made (number, files) new → Became old claim made (became.Done number files) (record old { served = new.served; edits = new.edits; book = after_settling old.book claim.id ending.Installed })
 became_done old claim live made number files new h p =
-    let named = (live_is old claim.id live h).1 in
-    (
+    let named = (live_is old claim.id live h).1 in (
       live,
       h,
       p.tables,

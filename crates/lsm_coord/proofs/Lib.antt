@@ -19,7 +19,6 @@ pub mod Snapping
 pub mod Reading
 pub mod Faults
 pub mod Windows
-pub mod Building
 pub mod Memories
 pub mod Soundness
 pub mod Outputs

@@ -21,7 +21,6 @@ mod frozen;
 mod job;
 mod laws;
 mod snapshot;
-mod table;
 #[cfg(test)]
 mod tests;
 mod version_set;

@@ -13,7 +13,6 @@ ghost use Rattle.lsm_coord.specs.Contract.Replies.{flush_reply};
 
 use super::Coord;
 use crate::CoordError;
-use crate::table::table_of;
 use lsm_edit::FileMeta;
 use lsm_key::{MAX_NUMBER, Seq};
 use lsm_mem::Memtable;
@@ -48,7 +47,8 @@ impl Coord {
         let number = self.versions.version().number() + 1;
         let file = self.versions.version().next_file();
         let seq = self.flush_end();
-        let table = table_of(self.alloc, self.flushable())?;
+        let entries = self.flushable().entries()?;
+        let table = Table::from_entries(self.alloc, entries)?;
         let meta = FileMeta::of_table(file, 0, &table)?;
         self.add_table(meta, table, seq)?;
         Ok(Flushed { number, seq, file })

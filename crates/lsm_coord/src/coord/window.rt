@@ -83,12 +83,7 @@ fn key_in<'a>(entries: &'a [Entry], from: &[u8], count: usize) -> Option<&'a [u8
 }
 
 // The same over the tables of a deeper level.
-fn key_in_level<'a>(
-    served: &'a Served,
-    level: u8,
-    from: &[u8],
-    count: usize,
-) -> Option<&'a [u8]>
+fn key_in_level<'a>(served: &'a Served, level: u8, from: &[u8], count: usize) -> Option<&'a [u8]>
     requires { 1 ≤ level }
 {
     let mut left = count;

@@ -1,5 +1,11 @@
-use Rattle.std.proofs.Common.{◌≡◌, None, Some, sym, ap, subst, ◌∙◌, refl, arith}
+use Rattle.std.proofs.Common.{◌≡◌, ◌<◌, ◌≤◌, None, Some, List, length, sym, ap, subst, ◌∙◌, refl, arith, rules}
+use Rattle.std.specs.Prelude.{sum_by}
 use Rattle.std.specs.Option.{option_map}
+use Rattle.lsm_key.specs.declared.entry.Entry.{Entry}
+use Rattle.lsm_key.specs.declared.limits.TheConstants.{MAX_MEMTABLE_WEIGHT}
+use Rattle.lsm_key.specs.Entries.{AreSound}
+use Rattle.lsm_key.specs.Limits.{entry_weight}
+use Rattle.lsm_table.proofs.Weights.{light_fits}
 use Rattle.lsm_edit.specs.declared.edit.Edit.{Edit}
 use Rattle.lsm_edit.specs.Edit.{IsSpelled}
 use Rattle.lsm_edit.specs.Version.{VersionValue, apply_fault}
@@ -21,6 +27,15 @@ returns-in-Some-clause-step c = λ s h.
     let forced : refusal s say.Flush ≡ Some (refusal_of c.in-Some.why) = flush_forced c.args.self.now s h ∙ ap (option_map refusal_of) (sym c.flush_fault.ensures ∙ c.in-Some.is) in
     (s, flush_refused s (refusal_of c.in-Some.why) forced, h)
 
+pub from_entries-requires-clause-each : goal.from_entries-requires-clause-each
+from_entries-requires-clause-each c = subst AreSound (sym c.in_ok-entries.ensures.all) c.in_ok-entries.ensures.sound.sound
+
+pub from_entries-requires-clause-small : goal.from_entries-requires-clause-small
+from_entries-requires-clause-small c =
+    let es = c.in_ok-entries.entries.items in
+    let some : 0 < length es = search rules in
+    light_fits es some (subst (λ (entries : List Entry). sum_by entry_weight entries ≤ MAX_MEMTABLE_WEIGHT) (sym c.in_ok-entries.ensures.all) c.in_ok-entries.ensures.sound.light)
+
 pub add_table-requires-clause-newer : goal.add_table-requires-clause-newer
 add_table-requires-clause-newer c =
     let none : flush_fault c.args.self.now ≡ None = sym c.flush_fault.ensures ∙ c.in-None.is in
@@ -36,11 +51,11 @@ returns-clause-step c = λ s h.
     let number : c.number-number.result ≡ v.served.version.number = c.number-number.ensures.value ∙ ap (λ (x : VersionValue). x.number) c.version.ensures ∙ ap (λ (x : CoordValue). x.served.version.number) c.self.view_is in
     let file : c.next_file-file.result ≡ v.served.version.next_file = c.next_file-file.ensures.value ∙ ap (λ (x : VersionValue). x.next_file) c.version-2.ensures ∙ ap (λ (x : CoordValue). x.served.version.next_file) c.self.view_is in
     let adds : AddsTable v c.in_ok-meta.meta c.in_ok-table.table c.add_table.new.self = c.in_ok-add_table.ensures.ok in
-    let whole : c.in_ok-table.table.entries ≡ (flush_source v).memtable = c.in_ok-table.ensures ∙ c.flushable.ensures in
+    let whole : c.in_ok-table.table.entries ≡ (flush_source v).memtable = c.in_ok-table.ensures ∙ c.in_ok-entries.ensures.all ∙ c.flushable.ensures in
     let spelled = subst (IsSpelled adds.text) adds.edit_is adds.spelled in
     let applies = subst (λ (e : Edit). apply_fault v.served.version e ≡ None) adds.edit_is adds.applies in
     let shows = shows_after v v.frozen s c.in_ok-meta.meta c.in_ok-table.table adds.text h refl whole (c.in_ok-meta.ensures.place.0 ∙ file) c.in_ok-meta.ensures.place.1 spelled applies in
     (after_flush s, (may, (omega (arith, versions, number), c.flush_end-seq.ensures ∙ sym (end_of v v.frozen s h refl), file ∙ sym h.tables.next_file, refl)), subst (λ (x : CoordValue). Shows x (after_flush s)) (sym adds.new_is) shows)
 
 pub returns-clause-ok : goal.returns-clause-ok
-returns-clause-ok c = (sym c.flush_fault.ensures ∙ c.in-None.is, (c.in_ok-meta.meta, c.in_ok-table.table, c.in_ok-table.ensures ∙ c.flushable.ensures, c.in_ok-add_table.ensures.ok))
+returns-clause-ok c = (sym c.flush_fault.ensures ∙ c.in-None.is, (c.in_ok-meta.meta, c.in_ok-table.table, c.in_ok-table.ensures ∙ c.in_ok-entries.ensures.all ∙ c.flushable.ensures, c.in_ok-add_table.ensures.ok))
