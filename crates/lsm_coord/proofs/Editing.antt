@@ -13,11 +13,13 @@ use Rattle.lsm_table.proofs.Contents.{table_small, table_ends, smallest_fits, la
 use Rattle.lsm_table.proofs.TableSizes.{few_entries}
 use Rattle.lsm_edit.specs.declared.edit.EditKind.TheVariants.{Install}
 use Rattle.lsm_edit.specs.declared.file.FileMeta.{FileMeta}
-use Rattle.lsm_edit.specs.Edit.{AreAdded, AreInTurn, IsFileFrom, after_file}
+use Rattle.lsm_edit.specs.Edit.{AreAdded, after_file}
 use Rattle.lsm_edit.specs.File.{IsFile}
 use Rattle.lsm_edit.specs.Next.{number_after}
 use Rattle.lsm_edit.specs.Served.{AreAsRecorded}
 use Rattle.lsm_edit.specs.Version.{VersionValue, IsVersion, clashes, has_number, has_overlap, files_meet, files_without}
+use Rattle.lsm_edit.proofs.Ascending.{IsFileFrom, added_of_turn}
+use Rattle.lsm_edit.proofs.InTurn.{AreInTurn}
 use Rattle.lsm_edit.proofs.VersionLaws.{overlap-after, stays}
 use Rattle.lsm_msg.specs.Legal.{IsLegal, encloses}
 use Rattle.lsm_msg.proofs.Inputs.{is_listed}
@@ -73,7 +75,9 @@ in_turn level number least low high (t ∷ ts) deep some room le a b each = (
 )
 
 pub records_added : (level number : ℕ) (ts : List Opened) → 1 ≤ level → level ≤ 6 → 1 ≤ number → number + length ts ≤ MAX_NUMBER → length ts < 2 ^ 32 → ((t : Opened) → IsIn t ts → IsTable t.bytes t.entries) → AreAdded Install (records level number ts)
-records_added level number ts upper deep some room few each = (omega arith, (let e = records_length level number ts in omega (arith, e, few)), in_turn level number 1 1 6 ts deep some room some upper deep each)
+records_added level number ts upper deep some room few each =
+    let e = records_length level number ts in
+    added_of_turn Install (records level number ts) (omega arith) (omega (arith, e, few)) (in_turn level number 1 1 6 ts deep some room some upper deep each)
 
 -- ---- no overlap
 

@@ -62,7 +62,7 @@ adds Epoch [] (t ∷ tables) plain is rec = absurd rec
 adds Epoch (f ∷ files) tables plain is rec = absurd (let most = is.1 in omega arith)
 adds Flush [] tables plain is rec = absurd (let least = is.0 in omega arith)
 adds Flush (f ∷ []) [] plain is rec = absurd rec
-adds Flush (f ∷ []) (t ∷ []) plain is rec = newest (record { meta = f; table = t }) refl (let level = is.2.0.3 in omega arith)
+adds Flush (f ∷ []) (t ∷ []) plain is rec = newest (record { meta = f; table = t }) refl (let level = (is.3 0 f (omega arith)).1 in omega arith)
 adds Flush (f ∷ []) (t ∷ u ∷ tables) plain is rec = absurd rec.1
 adds Flush (f ∷ g ∷ files) tables plain is rec = absurd (let most = is.1 in omega arith)
 

@@ -1,8 +1,7 @@
 -- A decoded edit encodes to the bytes, and what encodes to the bytes is decoded.
-use Rattle.std.proofs.Common.{◌≡◌, ℕ, ◌-◌, ◌^◌, ◌<◌, ◌≤◌, false, not, cond, eqb, List, [], ◌∷◌, ◌++◌, length, Result, Ok, Err, refl, sym, ap, subst, ◌∙◌, append_assoc, arith, inl, inr}
+use Rattle.std.proofs.Common.{◌≡◌, ℕ, ◌-◌, ◌^◌, ◌<◌, ◌≤◌, false, not, cond, eqb, List, [], ◌++◌, length, Result, Ok, Err, refl, sym, ap, subst, ◌∙◌, append_assoc, arith, inl, inr}
 use Rattle.std.specs.Int.{w8, w32, w64, to_be_bytes}
-use Rattle.std.specs.List.{All, AllByRecursion}
-use Rattle.std.proofs.lemmas.List.Elements.{All-from_recursion}
+use Rattle.std.specs.List.{All}
 use Rattle.std.proofs.lemmas.List.{append-nil, nil_from_length}
 use Rattle.std.proofs.lemmas.Bool.{not-false, cases_Bool, eqb-true}
 use Rattle.lsm_key.specs.declared.limits.TheConstants.{MAX_KEY_BYTES, MAX_NUMBER, MAX_TABLE_BYTES}
@@ -20,7 +19,8 @@ use Rattle.lsm_edit.specs.declared.edit.EditKind.TheVariants.{Flush, Install, Ep
 use Rattle.lsm_edit.specs.declared.format.FormatFault.{FormatFault}
 use Rattle.lsm_edit.specs.declared.format.FormatFault.TheVariants.{Truncated, BadField, TrailingBytes}
 use Rattle.lsm_edit.specs.File.{IsFile, file, file_at}
-use Rattle.lsm_edit.specs.Edit.{IsEdit, IsSpelled, AreInTurn, IsNumberFrom, IsFileFrom, AreRemoved, AreAdded, after_number, after_file, added_bytes, removed_bytes, edit, kind_code, shape, kind_from, kind_at, removed_at, added_at, fields_at, read_edit}
+use Rattle.lsm_edit.specs.Edit.{IsEdit, IsSpelled, AreRemoved, AreAdded, after_number, after_file, added_bytes, removed_bytes, edit, kind_code, shape, kind_from, kind_at, removed_at, added_at, fields_at, read_edit}
+use Rattle.lsm_edit.proofs.Ascending.{IsFileFrom, IsNumberFrom, added_of_turn, removed_of_turn, turn_of_added, turn_of_removed}
 use Rattle.lsm_edit.proofs.InTurn.{counted_reads}
 
 -- ---- file records
@@ -139,24 +139,27 @@ removed_small kind numbers is = let small = (counts_small kind).0 in let most = 
 pub added_small : (kind : EditKind) (files : List FileMeta) → AreAdded kind files → length files < 2 ^ 32
 added_small kind files is = let small = (counts_small kind).1 in let most = is.1 in omega (arith, small, most)
 
+-- the same reader, by an equivalent property of what it reads
+reads_as : {Z F : Type 0} {read : List ℕ → Result (Z × List ℕ) F} {spell : Z → List ℕ} {IsZ AsZ : Z → Type 0} → ((z : Z) → IsZ z → AsZ z) → ((z : Z) → AsZ z → IsZ z) → Reads read spell IsZ → Reads read spell AsZ
+reads_as to from reads = record {
+  takes = λ bytes z fits e. let t = reads.takes bytes z fits e in (t.0, to z.0 t.1);
+  again = λ z rest is. reads.again z rest (from z is);
+}
+
 removed_reads : (kind : EditKind) → Reads (removed_at kind) removed_bytes (AreRemoved kind)
 unfolding removed_at
-removed_reads kind =
-    counted_reads (λ (from : ℕ). Unit {0}) IsNumberFrom (λ from. ranged_number_at Truncated BadField w64 from MAX_NUMBER) after_number (to_be_bytes w64) (λ from good. within_reads Truncated BadField w64 (2 ^ 64) wide64 from MAX_NUMBER (omega arith)) (λ from n good is. tt)
-    Truncated BadField (shape kind).least_removed (shape kind).most_removed 1 (counts_small kind).0 tt
+removed_reads kind = reads_as (λ ns is. removed_of_turn kind ns is.0 is.1 is.2) (λ ns is. (is.0, is.1, turn_of_removed kind ns is))
+    (counted_reads (λ (from : ℕ). Unit {0}) IsNumberFrom (λ from. ranged_number_at Truncated BadField w64 from MAX_NUMBER) after_number (to_be_bytes w64) (λ from good. within_reads Truncated BadField w64 (2 ^ 64) wide64 from MAX_NUMBER (omega arith)) (λ from n good is. tt)
+    Truncated BadField (shape kind).least_removed (shape kind).most_removed 1 (counts_small kind).0 tt)
 
 added_reads : (kind : EditKind) → Reads (added_at kind) added_bytes (AreAdded kind)
 unfolding added_at
-added_reads kind =
-    counted_reads (λ (from : ℕ × ℕ × ℕ). (1 ≤ from.0) × (from.2 ≤ 6)) IsFileFrom (λ from. file_at from.0 from.1 from.2) after_file file (λ from good. file_reads from good.0 good.1) (λ from f good is. (omega arith, is.0.level))
-    Truncated BadField (shape kind).least_added (shape kind).most_added (1, (shape kind).lowest, (shape kind).deepest) (counts_small kind).1 (omega arith, levels_small kind)
-
-files_each : (from : ℕ × ℕ × ℕ) (files : List FileMeta) → AreInTurn IsFileFrom after_file from files → AllByRecursion IsFile files
-files_each from [] is = tt
-files_each from (f ∷ files) is = (is.0.0, files_each (after_file f) files is.1)
+added_reads kind = reads_as (λ files is. added_of_turn kind files is.0 is.1 is.2) (λ files is. (is.0, is.1, turn_of_added kind files is))
+    (counted_reads (λ (from : ℕ × ℕ × ℕ). (1 ≤ from.0) × (from.2 ≤ 6)) IsFileFrom (λ from. file_at from.0 from.1 from.2) after_file file (λ from good. file_reads from good.0 good.1) (λ from f good is. (omega arith, is.0.level))
+    Truncated BadField (shape kind).least_added (shape kind).most_added (1, (shape kind).lowest, (shape kind).deepest) (counts_small kind).1 (omega arith, levels_small kind))
 
 pub added_files : (kind : EditKind) (files : List FileMeta) → AreAdded kind files → All IsFile files
-added_files kind files is = All-from_recursion IsFile files (files_each (1, (shape kind).lowest, (shape kind).deepest) files is.2)
+added_files kind files is = is.2
 
 -- ---- edits
 

@@ -8,7 +8,12 @@ use Rattle.lsm_key.specs.declared.refused.Refused.TheVariants.{OutOfMemory, Faul
 use Rattle.lsm_key.specs.Reading.{◌>>=◌, ranged_number_at, Fails}
 use Rattle.lsm_key.proofs.FieldLaws.{IsBytes, Takes, Takes-then, bind_ok, ok_is, wide32}
 use Rattle.lsm_key.proofs.Readers.{Reads, within_reads}
-use Rattle.lsm_edit.specs.Edit.{AreInTurn, items_at}
+use Rattle.lsm_edit.specs.Edit.{items_at}
+
+-- each item is as the one before it requires
+abbrev pub AreInTurn : {S X : Type 0} → (S → X → Type 0) → (X → S) → S → List X → Type 0
+AreInTurn Is next s [] = Unit {0}
+AreInTurn Is next s (x ∷ xs) = Is s x × AreInTurn Is next (next x) xs
 
 module _ {S X F : Type 0} (Good : S → Type 0) (Is : S → X → Type 0) (read : S → List ℕ → Result (X × List ℕ) F) (next : X → S) (spell : X → List ℕ)
     (each : (s : S) → Good s → Reads (read s) spell (Is s)) (on : (s : S) (x : X) → Good s → Is s x → Good (next x)) where

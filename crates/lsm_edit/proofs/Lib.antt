@@ -1,4 +1,5 @@
 pub mod InTurn
+pub mod Ascending
 pub mod EditLaws
 pub mod Joins
 pub mod VersionLaws

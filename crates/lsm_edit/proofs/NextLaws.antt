@@ -4,8 +4,8 @@ use Rattle.std.specs.Prelude.{slice_get}
 use Rattle.std.specs.List.{list_any}
 use Rattle.lsm_key.specs.Sets.{IsIn}
 use Rattle.lsm_key.proofs.Lists.{none_from}
-use Rattle.lsm_edit.specs.declared.edit.EditKind.TheVariants.{Install}
-use Rattle.std.proofs.lemmas.Bool.{eq-eqb, le-ltb, lt-leb}
+use Rattle.lsm_edit.specs.declared.edit.EditKind.TheVariants.{Flush, Install, Epoch}
+use Rattle.std.proofs.lemmas.Bool.{eq-eqb, le-ltb, lt-leb, or_from}
 use Rattle.lsm_key.specs.declared.limits.TheConstants.{MAX_NUMBER}
 use Rattle.lsm_edit.specs.declared.file.FileMeta.{FileMeta}
 use Rattle.lsm_edit.specs.File.{IsFile}
@@ -13,6 +13,7 @@ use Rattle.lsm_edit.specs.Edit.{IsEdit, AreRemoved, AreAdded}
 use Rattle.lsm_edit.specs.Version.{VersionValue, IsVersion, FileNumbersRise, apply_fault, files_after, has_number, has_overlap, files_without}
 use Rattle.lsm_edit.specs.Next.{flush_edit, epoch_edit, install_edit, number_after}
 use Rattle.std.proofs.lemmas.List.{append-nil}
+use Rattle.lsm_edit.proofs.Ascending.{added_of_turn, removed_of_turn, turn_of_added}
 use Rattle.lsm_edit.proofs.VersionLaws.{files_after-is, overlap-push, added_rise}
 
 pub flush_sound : (v : VersionValue) (flushed : ℕ) (f : FileMeta) → IsVersion v → v.number + 1 ≤ MAX_NUMBER → v.next_file + 1 ≤ MAX_NUMBER → v.flushed < flushed → flushed < 2 ^ 56 → IsFile f → f.level ≡ 0 → 1 ≤ v.epoch → IsEdit (flush_edit v flushed f)
@@ -24,8 +25,8 @@ flush_sound v flushed f is number next newer fits file level epoch = record {
   epoch = is.epoch;
   some_file = omega arith;
   next_file = next;
-  removed = (omega arith, omega arith, tt);
-  added = (omega arith, omega arith, ((file, omega arith, omega arith, omega arith), tt));
+  removed = removed_of_turn Flush [] (omega arith) (omega arith) tt;
+  added = added_of_turn Flush (f ∷ []) (omega arith) (omega arith) ((file, omega arith, omega arith, omega arith), tt);
 }
 
 pub flush_applies : (v : VersionValue) (flushed : ℕ) (f : FileMeta) → IsVersion v → v.flushed < flushed → f.number ≡ v.next_file → f.level ≡ 0 → apply_fault v (flush_edit v flushed f) ≡ None
@@ -42,8 +43,8 @@ epoch_sound v is number epoch = record {
   epoch = epoch;
   some_file = is.some_file;
   next_file = is.next_file;
-  removed = (omega arith, omega arith, tt);
-  added = (omega arith, omega arith, tt);
+  removed = removed_of_turn Epoch [] (omega arith) (omega arith) tt;
+  added = added_of_turn Epoch [] (omega arith) (omega arith) tt;
 }
 
 pub epoch_applies : (v : VersionValue) → IsVersion v → apply_fault v (epoch_edit v) ≡ None
@@ -93,7 +94,7 @@ after_none n (x ∷ files) h =
 
 module _ (v : VersionValue) (removed : List ℕ) (added : List FileMeta) (is : IsVersion v) (old : AreRemoved Install removed) (new : AreAdded Install added) (fresh : (f : FileMeta) → IsIn f added → v.next_file ≤ f.number) where
   rise : FileNumbersRise added
-  rise = added_rise (1, 1, 6) added new.2
+  rise = added_rise (1, 1, 6) added (turn_of_added Install added new)
 
   pub install_sound : v.number + 1 ≤ MAX_NUMBER → 1 ≤ v.epoch → number_after v.next_file added ≤ MAX_NUMBER → IsEdit (install_edit v removed added)
   install_sound number epoch room = record {

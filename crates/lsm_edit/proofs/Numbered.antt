@@ -9,8 +9,10 @@ use Rattle.std.proofs.lemmas.Cmp.{ranked}
 use Rattle.std.proofs.lemmas.List.Folds.{list_any_at, list_any_none}
 use Rattle.lsm_key.proofs.Sets.{IsIn-at}
 use Rattle.lsm_edit.specs.declared.file.FileMeta.{FileMeta}
-use Rattle.lsm_edit.specs.Edit.{AreInTurn, IsNumberFrom, after_number}
+use Rattle.lsm_edit.specs.Edit.{after_number}
 use Rattle.lsm_edit.specs.Version.{FileNumbersRise}
+use Rattle.lsm_edit.proofs.Ascending.{IsNumberFrom}
+use Rattle.lsm_edit.proofs.InTurn.{AreInTurn}
 
 module _ {X : Type 0} (number : X → ℕ) (n : ℕ) (test : X → Bool) (yes : (x : X) → number x ≡ n → test x ≡ true) (no : (x : X) → (number x ≡ n → ⊥) → test x ≡ false) where
   comparisons_rise : (xs : List X) → IsNonDecreasingBy number xs → IsNonDecreasingBy (λ x. ordering_index (nat_cmp (number x) n)) xs

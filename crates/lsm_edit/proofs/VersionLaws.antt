@@ -10,8 +10,10 @@ use Rattle.lsm_edit.specs.declared.file.FileMeta.{FileMeta}
 use Rattle.lsm_edit.specs.declared.edit.Edit.{Edit}
 use Rattle.lsm_edit.specs.declared.version.ApplyError.{ApplyError}
 use Rattle.lsm_edit.specs.File.{IsFile}
-use Rattle.lsm_edit.specs.Edit.{IsEdit, AreInTurn, IsFileFrom, after_file, shape}
+use Rattle.lsm_edit.specs.Edit.{IsEdit, after_file, shape}
 use Rattle.lsm_edit.specs.Version.{VersionValue, IsVersion, FileNumbersRise, files_without, has_number, files_after, clashes, files_meet, has_overlap, apply_fault, after_apply, goes_back, miscounts, is_low}
+use Rattle.lsm_edit.proofs.Ascending.{IsFileFrom, turn_of_added}
+use Rattle.lsm_edit.proofs.InTurn.{AreInTurn}
 
 -- ---- the files after an edit that removes none
 
@@ -92,10 +94,10 @@ added_rise from [] is = tt
 added_rise from (f ∷ files) is = (λ g m. let later = added_each (after_file f) files is.1 g m in (let a = later.1 in omega arith), added_rise (after_file f) files is.1)
 
 pub added_is : (edit : Edit) → IsEdit edit → (f : FileMeta) → IsIn f edit.added → IsFile f
-added_is edit ok f m = (added_each (1, (shape edit.kind).lowest, (shape edit.kind).deepest) edit.added ok.added.2 f m).0
+added_is edit ok f m = (added_each (1, (shape edit.kind).lowest, (shape edit.kind).deepest) edit.added (turn_of_added edit.kind edit.added ok.added) f m).0
 
 pub added_rises : (edit : Edit) → IsEdit edit → FileNumbersRise edit.added
-added_rises edit ok = added_rise (1, (shape edit.kind).lowest, (shape edit.kind).deepest) edit.added ok.added.2
+added_rises edit ok = added_rise (1, (shape edit.kind).lowest, (shape edit.kind).deepest) edit.added (turn_of_added edit.kind edit.added ok.added)
 
 -- some of the files stand by number, as all do
 rise-if : (b : Bool) (f : FileMeta) (kept : List FileMeta) → ((g : FileMeta) → IsIn g kept → f.number < g.number) → FileNumbersRise kept → FileNumbersRise (cond b (f ∷ kept) kept)

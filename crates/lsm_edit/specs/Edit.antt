@@ -1,5 +1,5 @@
 -- Edits: what they may say, and how they are encoded (LevelDB, version edits).
-use Rattle.std.specs.Prelude.{◌≡◌, ℕ, zero, suc, ◌+◌, ◌<◌, ◌≤◌, ◌-◌, ◌^◌, List, [], ◌∷◌, ◌++◌, length, Result, Ok, Err, ◌==◌, if◌then◌else◌}
+use Rattle.std.specs.Prelude.{◌≡◌, ℕ, zero, suc, ◌+◌, ◌<◌, ◌≤◌, ◌-◌, ◌^◌, List, [], ◌∷◌, ◌++◌, length, Result, Ok, Err, ◌==◌, All, AllPairs, if◌then◌else◌}
 use Rattle.std.specs.Int.{w8, w32, w64, to_be_bytes}
 use Rattle.std.specs.List.{flat_map}
 use Rattle.lsm_key.specs.declared.limits.TheConstants.{MAX_NUMBER}
@@ -24,33 +24,18 @@ shape Flush = record { least_removed = 0; most_removed = 0; least_added = 1; mos
 shape Install = record { least_removed = 1; most_removed = 4294967295; least_added = 0; most_added = 4294967295; lowest = 1; deepest = 6 }
 shape Epoch = record { least_removed = 0; most_removed = 0; least_added = 0; most_added = 0; lowest = 0; deepest = 0 }
 
--- each item is as the one before it requires
-abbrev pub AreInTurn : {S X : Type 0} → (S → X → Type 0) → (X → S) → S → List X → Type 0
-AreInTurn Is next s [] = Unit {0}
-AreInTurn Is next s (x ∷ xs) = Is s x × AreInTurn Is next (next x) xs
-
--- a file's number, of at least another
-abbrev pub IsNumberFrom : ℕ → ℕ → Type 0
-IsNumberFrom least n = (least ≤ n) × (n ≤ MAX_NUMBER)
-
-abbrev pub after_number : ℕ → ℕ
-after_number n = n + 1
-
 -- numbers of files, ascending
 abbrev pub AreRemoved : EditKind → List ℕ → Type 0
-AreRemoved kind numbers = ((shape kind).least_removed ≤ length numbers) × (length numbers ≤ (shape kind).most_removed) × AreInTurn IsNumberFrom after_number 1 numbers
-
--- a file of at least a number, and of a level within two
-abbrev pub IsFileFrom : ℕ × ℕ × ℕ → FileMeta → Type 0
-IsFileFrom from f = IsFile f × (from.0 ≤ f.number) × (from.1 ≤ f.level) × (f.level ≤ from.2)
-
--- a greater number, at the same level
-abbrev pub after_file : FileMeta → ℕ × ℕ × ℕ
-after_file f = (f.number + 1, f.level, f.level)
+AreRemoved kind numbers =
+    ((shape kind).least_removed ≤ length numbers) × (length numbers ≤ (shape kind).most_removed)
+    × All (λ n. (1 ≤ n) × (n ≤ MAX_NUMBER)) numbers × AllPairs (λ m n. m < n) numbers
 
 -- files of one level, with ascending numbers
 abbrev pub AreAdded : EditKind → List FileMeta → Type 0
-AreAdded kind files = ((shape kind).least_added ≤ length files) × (length files ≤ (shape kind).most_added) × AreInTurn IsFileFrom after_file (1, (shape kind).lowest, (shape kind).deepest) files
+AreAdded kind files =
+    ((shape kind).least_added ≤ length files) × (length files ≤ (shape kind).most_added)
+    × All IsFile files × All (λ f. ((shape kind).lowest ≤ f.level) × (f.level ≤ (shape kind).deepest)) files
+    × AllPairs (λ f g. f.number < g.number) files × AllPairs (λ f g. f.level ≡ g.level) files
 
 pub record IsEdit (e : Edit) : Type 0 where
   pub first : 1 ≤ e.number
@@ -100,9 +85,17 @@ items_at read next (suc n) s bytes = do
   xs ← items_at read next n (next x.0) x.1
   Ok (x.0 ∷ xs.0, xs.1)
 
+-- the least number that may follow a number
+abbrev pub after_number : ℕ → ℕ
+after_number n = n + 1
+
 -- count numbers of files, ascending
 abbrev pub numbers_at : ℕ → ℕ → List ℕ → Result (List ℕ × List ℕ) FormatFault
 numbers_at count least bytes = items_at (λ from. ranged_number_at Truncated BadField w64 from MAX_NUMBER) after_number count least bytes
+
+-- the least number that may follow a file, and the least and the deepest level: its own
+abbrev pub after_file : FileMeta → ℕ × ℕ × ℕ
+after_file f = (f.number + 1, f.level, f.level)
 
 -- count files of one level, with ascending numbers
 abbrev pub files_at : ℕ → ℕ × ℕ × ℕ → List ℕ → Result (List FileMeta × List ℕ) FormatFault

@@ -10,9 +10,11 @@ use Rattle.lsm_claim.specs.declared.job.LiveJob.{LiveJob}
 use Rattle.lsm_claim.specs.declared.job.Want.{Want}
 use Rattle.lsm_edit.specs.declared.edit.EditKind.TheVariants.{Install}
 use Rattle.lsm_edit.specs.declared.file.FileMeta.{FileMeta}
-use Rattle.lsm_edit.specs.Edit.{AreInTurn, AreRemoved, IsNumberFrom, after_number}
+use Rattle.lsm_edit.specs.Edit.{AreRemoved, after_number}
 use Rattle.lsm_edit.specs.File.{IsFile}
 use Rattle.lsm_edit.specs.Version.{FileNumbersRise}
+use Rattle.lsm_edit.proofs.Ascending.{IsNumberFrom, removed_of_turn}
+use Rattle.lsm_edit.proofs.InTurn.{AreInTurn}
 use Rattle.lsm_edit.proofs.VersionLaws.{rise-filter}
 use Rattle.lsm_key.specs.declared.limits.TheConstants.{MAX_INPUTS}
 use Rattle.lsm_pick.specs.Closure.{Candidate}
@@ -30,8 +32,6 @@ removable files rise each live t want taken =
     let test = λ (f : FileMeta). list_any (eqb f.number) want.files in
     let count = ap length is ∙ length-map inputs (λ (f : FileMeta). f.number) in
     let few = leb-true (length inputs) MAX_INPUTS (and_parts _ _ taken.within).0 in
-    let some = some_in t.first inputs ((taken.asks).closure).has in (
-      omega (arith, some, count),
-      omega (arith, few, count),
-      subst (AreInTurn IsNumberFrom after_number 1) (sym is) (in_turn 1 inputs (rise-filter test files rise) (λ f m. each f (IsIn-filter test f files m).0) (λ f m. (each f (IsIn-filter test f files m).0).first)),
-    )
+    let some = some_in t.first inputs ((taken.asks).closure).has in
+    removed_of_turn Install want.files (omega (arith, some, count)) (omega (arith, few, count))
+    (subst (AreInTurn IsNumberFrom after_number 1) (sym is) (in_turn 1 inputs (rise-filter test files rise) (λ f m. each f (IsIn-filter test f files m).0) (λ f m. (each f (IsIn-filter test f files m).0).first)))
