@@ -5,7 +5,8 @@ ghost use Rattle.lsm_edit.specs.File.{IsFile};
 ghost use Rattle.lsm_edit.specs.Edit.{IsEdit};
 ghost use Rattle.lsm_edit.specs.Served.{AreAsRecorded, IsAsRecorded};
 ghost use Rattle.lsm_edit.specs.Version.{apply_fault};
-ghost use Rattle.lsm_coord.specs.Contract.Manifest.{AddsFile, CanNumber, Folds, after_logging, first_version_set};
+ghost use Rattle.lsm_coord.specs.Contract.Manifest.{CanNumber, Folds, after_logging, first_version_set};
+ghost use Rattle.lsm_coord.specs.Inner.Putting.{AddsFile};
 
 use bytes::Bytes;
 use lsm_edit::{Edit, FileMeta, Served, Version, encode_edit};

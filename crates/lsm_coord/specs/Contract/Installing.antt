@@ -113,13 +113,18 @@ pub record IsInstallDone (old : CoordValue) (live : LiveJob) (ts : List Opened) 
   pub applies : apply_fault old.served.version edit ≡ None
   pub text : List ℕ
   pub spelled : IsSpelled text edit
-  pub new_is : new ≡ record old { served = after_advance old.served edit ts; edits = old.edits ++ text ∷ []; book = after_settling old.book live.id ending.Installed }
+  pub new_is : new ≡ record old {
+    served = after_advance old.served edit ts;
+    edits = old.edits ++ text ∷ [];
+    book = after_settling old.book live.id ending.Installed;
+  }
 
 -- why a result is rejected: the first reason that holds, unless memory runs out
 abbrev pub Rejects : VersionValue → LiveJob → JobResult → InstallError → Type 0
 Rejects v live made WrongJob = made.job ≡ live.id → ⊥
 Rejects v live made BadResult = (made.job ≡ live.id) × (HasOutputs live.want.hull made.tables → ⊥)
-Rejects v live made NumbersExhausted = (made.job ≡ live.id) × (ts : List Opened) × AreOutputTables live.want.hull made.tables ts × (HasNumbers v ts → ⊥)
+Rejects v live made NumbersExhausted =
+    (made.job ≡ live.id) × (ts : List Opened) × AreOutputTables live.want.hull made.tables ts × (HasNumbers v ts → ⊥)
 Rejects v live made OutOfMemory = made.job ≡ live.id
 
 -- ---- what becomes of a claim
@@ -135,8 +140,10 @@ Became old claim made (became.Done number files) new =
     (live : LiveJob) × IsLive old claim.id live
     × (ts : List Opened) × IsAcceptable old.served.version live made ts
     × IsInstallDone old live ts new × (number ≡ old.served.version.number + 1) × (files ≡ numbers_of old.served.version live.want ts)
-Became old claim made (became.Stale job epoch) new = (holds old.book claim.id ≡ false) × (job ≡ claim.id) × (epoch ≡ old.book.epoch) × (new ≡ old)
-Became old claim made (became.Kept back why) new = (live : LiveJob) × IsLive old claim.id live × (back ≡ claim) × Rejects old.served.version live made why × (new ≡ old)
+Became old claim made (became.Stale job epoch) new =
+    (holds old.book claim.id ≡ false) × (job ≡ claim.id) × (epoch ≡ old.book.epoch) × (new ≡ old)
+Became old claim made (became.Kept back why) new =
+    (live : LiveJob) × IsLive old claim.id live × (back ≡ claim) × Rejects old.served.version live made why × (new ≡ old)
 
 -- the result was installed
 abbrev pub IsDone : Install → Type 0

@@ -1,17 +1,15 @@
 -- The list of edits, and the versions that it replays to (LevelDB, implementation notes: manifest).
-use Rattle.std.specs.Prelude.{◌≡◌, ℕ, ◌+◌, ◌≤◌, List, [], ◌∷◌, ◌++◌, None, Result, Ok, Err, map}
+use Rattle.std.specs.Prelude.{◌≡◌, ℕ, ◌+◌, ◌≤◌, List, [], ◌∷◌, ◌++◌, Result, Ok, Err, map}
 use Rattle.std.specs.List.{flat_map}
 use Rattle.lsm_key.specs.declared.limits.TheConstants.{MAX_NUMBER}
 use Rattle.lsm_key.specs.Sets.{IsIn}
 use Rattle.lsm_table.specs.Tables.{Opened}
 use Rattle.lsm_edit.specs.declared.file.FileMeta.{FileMeta}
 use Rattle.lsm_edit.specs.declared.edit.Edit.{Edit}
-use Rattle.lsm_edit.specs.Edit.{IsEdit, IsSpelled, edit, read_edit}
+use Rattle.lsm_edit.specs.Edit.{IsSpelled, edit, read_edit}
 use Rattle.lsm_edit.specs.Edits.{Apply, after_edits, versions_from}
-use Rattle.lsm_edit.specs.Next.{flush_edit}
-use Rattle.lsm_edit.specs.Version.{VersionValue, first_version, apply_fault}
+use Rattle.lsm_edit.specs.Version.{VersionValue, first_version}
 use Rattle.lsm_edit.specs.Served.{ServedValue, after_advance, first_served}
-use Rattle.lsm_msg.specs.Installs.{with_flushed}
 use Rattle.lsm_coord.specs.Model.State.{Version, Place}
 
 -- the edit that bytes spell, or none
@@ -52,12 +50,6 @@ first_version_set = record { served = first_served; edits = [] }
 -- the edit is the last of the manifest, and the version after it stands with the tables of the files that it adds
 abbrev pub after_logging : VersionSetValue → Edit → List Opened → VersionSetValue
 after_logging v e tables = record { served = after_advance v.served e tables; edits = v.edits ++ edit e ∷ [] }
-
--- the edit of a flush to a file is logged, and the file is searched first
-pub record AddsFile (old : VersionSetValue) (end : ℕ) (file : FileMeta) (table : Opened) (new : VersionSetValue) : Type 0 where
-  pub valid : IsEdit (flush_edit old.served.version end file)
-  pub applies : apply_fault old.served.version (flush_edit old.served.version end file) ≡ None
-  pub new_is : new ≡ record { served = with_flushed old.served end file table; edits = old.edits ++ edit (flush_edit old.served.version end file) ∷ [] }
 
 -- the version's number and the next file number fit
 pub record CanNumber (v : VersionValue) : Type 0 where

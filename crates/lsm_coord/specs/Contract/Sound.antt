@@ -22,7 +22,8 @@ pub record HasClaim (files : List FileMeta) (b : BookValue) (job : JobParts) : T
 
 -- the entries of the job's inputs were all written by then
 abbrev pub AreWrittenBy : ServedValue → JobParts → ℕ → Type 0
-AreWrittenBy served job at = (p : Placed) → IsIn p served.places → IsIn p.meta job.inputs → (e : Entry) → IsIn e p.table.entries → e.ikey.seq ≤ at
+AreWrittenBy served job at =
+    (p : Placed) → IsIn p served.places → IsIn p.meta job.inputs → (e : Entry) → IsIn e p.table.entries → e.ikey.seq ≤ at
 
 -- The result of the job may be installed: its claim is live and names exactly the job's input files; every live snapshot is one of
 -- the job's, or was taken after all input entries were written; the job lists every deeper range that may hold an input key.

@@ -1,11 +1,14 @@
--- What becomes of a version set when a result is installed.
-use Rattle.std.specs.Prelude.{◌≡◌, ℕ, ◌+◌, List, None}
+-- What becomes of a version set at an install and at a flush.
+use Rattle.std.specs.Prelude.{◌≡◌, ℕ, ◌+◌, List, [], ◌∷◌, ◌++◌, None}
 use Rattle.lsm_claim.specs.declared.job.LiveJob.{LiveJob}
 use Rattle.lsm_table.specs.Tables.{Opened}
 use Rattle.lsm_edit.specs.declared.edit.Edit.{Edit}
-use Rattle.lsm_edit.specs.Edit.{IsEdit}
+use Rattle.lsm_edit.specs.declared.file.FileMeta.{FileMeta}
+use Rattle.lsm_edit.specs.Edit.{IsEdit, edit as edit_bytes}
+use Rattle.lsm_edit.specs.Next.{flush_edit}
 use Rattle.lsm_edit.specs.Version.{apply_fault}
 use Rattle.lsm_msg.specs.declared.job.JobResult.{JobResult}
+use Rattle.lsm_msg.specs.Installs.{with_flushed}
 use Rattle.lsm_coord.specs.Contract.Installing.{IsAcceptable, install_edit_of, numbers_of}
 use Rattle.lsm_coord.specs.Contract.Manifest.{VersionSetValue, after_logging}
 
@@ -20,3 +23,11 @@ pub record PutsOutputs (old : VersionSetValue) (live : LiveJob) (made : JobResul
   pub new_is : new ≡ after_logging old edit tables
   pub number_is : put.0 ≡ old.served.version.number + 1
   pub files_are : put.1 ≡ numbers_of old.served.version live.want tables
+
+-- the edit of a flush to a file is logged and applied, and the file is searched first
+pub record AddsFile (old : VersionSetValue) (end : ℕ) (file : FileMeta) (table : Opened) (new : VersionSetValue) : Type 0 where
+  pub edit : Edit
+  pub edit_is : edit ≡ flush_edit old.served.version end file
+  pub valid : IsEdit edit
+  pub applies : apply_fault old.served.version edit ≡ None
+  pub new_is : new ≡ record { served = with_flushed old.served end file table; edits = old.edits ++ edit_bytes edit ∷ [] }

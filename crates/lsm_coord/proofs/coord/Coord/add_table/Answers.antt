@@ -6,9 +6,10 @@ use Rattle.lsm_edit.specs.Version.{IsVersion}
 use Rattle.lsm_msg.specs.Installs.{with_flushed}
 use Rattle.lsm_msg.proofs.Flushed.{legal_flushed}
 use Rattle.lsm_coord.specs.Contract.Calls.{flush_source, flush_source_of, active_after}
-use Rattle.lsm_coord.specs.Contract.Manifest.{AddsFile, VersionSetValue}
+use Rattle.lsm_coord.specs.Contract.Manifest.{VersionSetValue}
 use Rattle.lsm_coord.specs.Contract.Memory.{AreLegal, IsCoord}
 use Rattle.lsm_coord.specs.Contract.Value.{CoordValue}
+use Rattle.lsm_coord.specs.Inner.Putting.{AddsFile}
 use Rattle.lsm_coord.proofs.Memories.{after_flush, frozen_from, none_from}
 use Rattle.lsm_coord.proofs.Soundness.{flush_keeps}
 use Rattle.lsm_coord.proofs.coord.Coord.add_table.Goals as goal
@@ -52,12 +53,12 @@ returns-then-is_some-clause-ok c =
     let some = frozen_from m.frozen (sym c.is_some.ensures ∙ c.if-is_some.true) in
     let active : m.active ≡ active_after m.active m.frozen = ap (active_after m.active) (sym some.1) in
     rw (← c.self.view_is, adds.new_is) (record {
-      edit = flush_edit s.version c.args.end c.args.meta;
-      edit_is = ap (λ (n : ℕ). flush_edit s.version n c.args.meta) end;
+      edit = adds.edit;
+      edit_is = adds.edit_is ∙ ap (λ (n : ℕ). flush_edit s.version n c.args.meta) end;
       applies = adds.applies;
-      text = spelling (flush_edit s.version c.args.end c.args.meta);
+      text = spelling adds.edit;
       spelled = record { sound = adds.valid; spelled = refl };
-      new_is = λ i. record { limits = m.limits; active = active i; frozen = None; served = with_flushed s (end i) c.args.meta c.args.table; edits = m.versions.edits ++ spelling (flush_edit s.version c.args.end c.args.meta) ∷ []; last = m.newest; snapshots = m.live.items; made = m.made; floor = 1; book = m.book };
+      new_is = λ i. record { limits = m.limits; active = active i; frozen = None; served = with_flushed s (end i) c.args.meta c.args.table; edits = m.versions.edits ++ spelling adds.edit ∷ []; last = m.newest; snapshots = m.live.items; made = m.made; floor = 1; book = m.book };
     })
 
 pub returns-clause-ok : goal.returns-clause-ok
@@ -70,12 +71,12 @@ returns-clause-ok c =
     let none : m.frozen ≡ None = none_from m.frozen (sym c.is_some.ensures ∙ c.if-is_some.false) in
     let active : c.new.result ≡ active_after m.active m.frozen = c.new.ensures ∙ ap (active_after m.active) (sym none) in
     rw (← c.self.view_is, adds.new_is) (record {
-      edit = flush_edit s.version c.args.end c.args.meta;
-      edit_is = ap (λ (n : ℕ). flush_edit s.version n c.args.meta) end;
+      edit = adds.edit;
+      edit_is = adds.edit_is ∙ ap (λ (n : ℕ). flush_edit s.version n c.args.meta) end;
       applies = adds.applies;
-      text = spelling (flush_edit s.version c.args.end c.args.meta);
+      text = spelling adds.edit;
       spelled = record { sound = adds.valid; spelled = refl };
-      new_is = λ i. record { limits = m.limits; active = active i; frozen = none i; served = with_flushed s (end i) c.args.meta c.args.table; edits = m.versions.edits ++ spelling (flush_edit s.version c.args.end c.args.meta) ∷ []; last = m.newest; snapshots = m.live.items; made = m.made; floor = 1; book = m.book };
+      new_is = λ i. record { limits = m.limits; active = active i; frozen = none i; served = with_flushed s (end i) c.args.meta c.args.table; edits = m.versions.edits ++ spelling adds.edit ∷ []; last = m.newest; snapshots = m.live.items; made = m.made; floor = 1; book = m.book };
     })
 
 pub returns-then-is_some-clause-sound : goal.returns-then-is_some-clause-sound

@@ -1,8 +1,6 @@
-use Rattle.std.proofs.Common.{◌≡◌, ◌∙◌, ◌∷◌, ◌++◌, [], List, None, ap, sym, subst}
+use Rattle.std.proofs.Common.{◌≡◌, ◌∙◌, ◌∷◌, ◌++◌, [], List, None, ap, subst}
 use Rattle.lsm_table.specs.Tables.{Opened}
 use Rattle.lsm_edit.specs.declared.edit.Edit.{Edit}
-use Rattle.lsm_edit.specs.declared.file.FileMeta.{FileMeta}
-use Rattle.lsm_edit.specs.Edit.{IsEdit}
 use Rattle.lsm_edit.specs.Next.{flush_edit}
 use Rattle.lsm_edit.specs.Served.{AreAsRecorded, IsServed, ServedValue}
 use Rattle.lsm_edit.specs.Version.{VersionValue, IsVersion, apply_fault}
@@ -31,7 +29,9 @@ returns-clause-ok c =
     let version : IsVersion s.version = subst (λ (v : ServedValue). IsVersion v.version) c.served.ensures.served sound.1 in
     let applies : apply_fault s.version e ≡ None = subst (λ (v : VersionValue). apply_fault v e ≡ None) version_is c.in_ok-edit.ensures.applies in
     record {
-      valid = subst IsEdit is c.in_ok-edit.ensures.sound;
-      applies = subst (λ (x : Edit). apply_fault s.version x ≡ None) is applies;
+      edit = e;
+      edit_is = is;
+      valid = c.in_ok-edit.ensures.sound;
+      applies = applies;
       new_is = c.in_ok-log_and_apply.ensures.ok ∙ logged_is old c.args.end c.args.meta c.args.table _ e version served c.in_ok-edit.ensures.sound recorded applies is tables;
     }
