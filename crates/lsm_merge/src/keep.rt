@@ -47,7 +47,10 @@ fn kept_beside(
 //     at or after it.
 // A deletion that survives (A) is dropped if also
 // (B) no snapshot is older than it, so that no read needs it to hide an entry of the inputs: by (A) those are dropped; and
-// (C) no file below the output level may have the key, so that it hides nothing there. Newer levels have newer entries only.
+// (C) no file below the output level may have the key, so that it hides nothing there: `KnowsDeeper`, which stays true while
+//     the job runs (`installs_keep_jobs`).
+// It hides nothing elsewhere: older entries of the key at the two levels of the job are inputs too (`IsLegal`: `next`, `older`),
+// and upper levels and memtables have newer entries only.
 fn stays(points: &[Seq], deeper: &DeeperKeys, before: Option<&Entry>, entry: &Entry) -> bool
     ensures { result ≡ stays points.now deeper.now (option_map (λ (b : Bor Entry). b.now) before.entry) entry.now }
 {

@@ -61,7 +61,7 @@ snapshot_refusal s =
 abbrev pub release_refusal : State → SnapId → Option Refusal
 release_refusal s id = if is_none (snapshot_at s.snapshots id) then Some say.NoSnapshot else None
 
--- a latest read is never refused
+-- a read of the latest names no snapshot that may be missing
 abbrev pub read_refusal : State → Option SnapId → Option Refusal
 read_refusal s None = None
 read_refusal s (Some id) = release_refusal s id

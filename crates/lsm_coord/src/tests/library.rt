@@ -18,7 +18,7 @@ fn a_store_as_a_library(rt: HostRuntime) -> Result<(), Fail> {
 
     let (snapshot, _seq) = store.snapshot()?;
     store.flush()?; // the memtable becomes a table of level 0
-    let value = store.get(b"a", Some(snapshot))?; // None for now
+    let value = store.get(b"a", Some(snapshot))?; // with None: the latest
     assert!(rt; value == Some(Bytes::from_static(b"1")));
     let pairs = store.scan(b"a", b"z", None, 100)?; // the first 100 keys from a up to z
     assert!(rt; pairs.len() == 1);
