@@ -3,8 +3,8 @@
 ghost use Rattle.std.specs.Prelude.{◌≡◌, ◌<◌, ◌≤◌, None, OnOk, OnErr};
 ghost use Rattle.lsm_edit.specs.File.{IsFile};
 ghost use Rattle.lsm_edit.specs.Edit.{IsEdit};
-ghost use Rattle.lsm_edit.specs.Served.{AreAsRecorded, IsAsRecorded};
-ghost use Rattle.lsm_edit.specs.Version.{apply_fault};
+ghost use Rattle.lsm_edit.specs.Served.{AreAsRecorded, IsAsRecorded, IsServed};
+ghost use Rattle.lsm_edit.specs.Version.{IsVersion, apply_fault};
 ghost use Rattle.lsm_coord.specs.Contract.Manifest.{CanNumber, Folds, after_logging, first_version_set};
 ghost use Rattle.lsm_coord.specs.Inner.Putting.{AddsFile};
 
@@ -50,7 +50,10 @@ impl VersionSet {
     pub(crate) fn served(&self) -> &Served
         ensures served { result.now ≡ self.now.served }
         ensures folds { Folds self.now.edits self.now.served.version }
+        ensures sound { IsServed self.now.served × IsVersion self.now.served.version }
     {
+        // Proof hint: the invariants of the version and of its places.
+        let _places = self.current.places();
         &self.current
     }
 
@@ -78,9 +81,7 @@ impl VersionSet {
         ensures ok { OnOk result (AddsFile self.old end meta table self.new) }
         ensures err { OnErr result (self.new ≡ self.old) }
     {
-        // Proof hint: the version and its places are sound.
-        let _listing = self.served().listing();
-        let edit = Edit::flush(alloc, self.version(), end, meta)?;
+        let edit = Edit::flush(alloc, self.served().version(), end, meta)?;
         let mut tables = Vec::with_capacity(alloc, 1)?;
         tables.push(table)?;
         self.log_and_apply(&edit, tables)?;

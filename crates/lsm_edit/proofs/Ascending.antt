@@ -33,8 +33,8 @@ numbers_in_turn least [] each ascend = tt
 numbers_in_turn least (n ∷ ns) each ascend = (
   each zero n (omega arith),
   numbers_in_turn (n + 1) ns
-  (λ k d lt. ((let more = ascend zero (suc k) d (omega arith) (omega (arith, lt)) in omega (arith, more)), (each (suc k) d (omega (arith, lt))).1))
-  (λ i j d lt within. ascend (suc i) (suc j) d (omega (arith, lt)) (omega (arith, within))),
+      (λ k d lt. ((let more = ascend zero (suc k) d (omega arith) (omega (arith, lt)) in omega (arith, more)), (each (suc k) d (omega (arith, lt))).1))
+      (λ i j d lt within. ascend (suc i) (suc j) d (omega (arith, lt)) (omega (arith, within))),
 )
 
 pub removed_of_turn : (kind : EditKind) (ns : List ℕ) → (shape kind).least_removed ≤ length ns → length ns ≤ (shape kind).most_removed → AreInTurn IsNumberFrom after_number 1 ns → AreRemoved kind ns
@@ -73,10 +73,10 @@ files_in_turn from [] each ascend = tt
 files_in_turn from (f ∷ files) each ascend = (
   each zero f (omega arith),
   files_in_turn (after_file f) files
-  (λ k d lt.
-  let next = ascend zero (suc k) d (omega arith) (omega (arith, lt)) in
-  ((each (suc k) d (omega (arith, lt))).0, (let a = next.0 in omega (arith, a)), (let b = next.1 in omega (arith, b)), (let b = next.1 in omega (arith, b))))
-  (λ i j d lt within. ascend (suc i) (suc j) d (omega (arith, lt)) (omega (arith, within))),
+      (λ k d lt.
+      let next = ascend zero (suc k) d (omega arith) (omega (arith, lt)) in
+      ((each (suc k) d (omega (arith, lt))).0, (let a = next.0 in omega (arith, a)), (let b = next.1 in omega (arith, b)), (let b = next.1 in omega (arith, b))))
+      (λ i j d lt within. ascend (suc i) (suc j) d (omega (arith, lt)) (omega (arith, within))),
 )
 
 pub added_of_turn : (kind : EditKind) (files : List FileMeta) → (shape kind).least_added ≤ length files → length files ≤ (shape kind).most_added

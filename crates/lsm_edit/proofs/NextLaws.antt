@@ -5,7 +5,7 @@ use Rattle.std.specs.List.{list_any}
 use Rattle.lsm_key.specs.Sets.{IsIn}
 use Rattle.lsm_key.proofs.Lists.{none_from}
 use Rattle.lsm_edit.specs.declared.edit.EditKind.TheVariants.{Flush, Install, Epoch}
-use Rattle.std.proofs.lemmas.Bool.{eq-eqb, le-ltb, lt-leb, or_from}
+use Rattle.std.proofs.lemmas.Bool.{eq-eqb, le-ltb, lt-leb}
 use Rattle.lsm_key.specs.declared.limits.TheConstants.{MAX_NUMBER}
 use Rattle.lsm_edit.specs.declared.file.FileMeta.{FileMeta}
 use Rattle.lsm_edit.specs.File.{IsFile}

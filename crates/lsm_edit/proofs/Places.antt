@@ -1,8 +1,9 @@
 -- What the places of a served version keep: a file has one place, files of a deeper level have no key in common, and of two
 -- places the one that is searched first has the newer entries.
-use Rattle.std.proofs.Common.{◌≡◌, ℕ, ◌<◌, true, false, ◌⊎◌, List, [], ◌∷◌, refl, sym, ap, subst, ◌∙◌, arith, inl, inr}
+use Rattle.std.proofs.Common.{◌≡◌, ℕ, ◌<◌, ◌≤◌, true, false, ◌⊎◌, List, [], ◌∷◌, refl, sym, ap, subst, ◌∙◌, arith, inl, inr}
 use Rattle.std.proofs.lemmas.Bool.{true≢false, and_parts}
 use Rattle.lsm_key.specs.declared.entry.Entry.{Entry}
+use Rattle.lsm_key.specs.declared.limits.TheConstants.{MAX_LEVEL}
 use Rattle.lsm_key.specs.Sets.{IsIn}
 use Rattle.lsm_key.specs.Order.{key_le}
 use Rattle.lsm_key.specs.Visible.{IsUnique}
@@ -31,6 +32,10 @@ tables_in (q ∷ ps) p e m n = elim m [
 pub stored_unique : (ps : List Placed) → AllRecorded ps → AreOrdered (tables_of ps) → IsUnique (all_entries (tables_of ps))
 stored_unique [] rec up = λ e f me mf keys seqs. absurd me
 stored_unique (p ∷ ps) rec up = IsUnique-above p.table.entries (all_entries (tables_of ps)) (table_unique p.table.bytes p.table.entries (rec p (inl refl)).table) (stored_unique ps (λ q m. rec q (inr m)) up.1) up.0
+
+-- a file's level is in range
+pub levels_in_range : (s : ServedValue) (ps : List Placed) → ps ≡ s.places → IsServed s → IsVersion s.version → (p : Placed) → IsIn p ps → p.meta.level ≤ MAX_LEVEL
+levels_in_range s ps is served version p m = (version.files p.meta ((served.listed p.meta).0 (IsIn-map (λ (q : Placed). q.meta) p s.places (subst (IsIn p) is m)))).level
 
 -- ---- the order of two places
 

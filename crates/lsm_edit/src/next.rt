@@ -72,9 +72,8 @@ impl Edit {
     {
         let number = version.number() + 1;
         let next_file = version.next_file() + 1;
-        // Proof hint: the sequence fits, and the version's invariant.
+        // Proof hint: the sequence fits.
         let _written = flushed.number();
-        let _files = version.files();
         let mut added = Items::new(alloc);
         added.push(file)?;
         Ok(Edit {
@@ -104,8 +103,6 @@ impl Edit {
         ensures sound { IsEdit result }
         ensures applies { apply_fault version.now result ≡ None }
     {
-        // Proof hint: the version's invariant.
-        let _files = version.files();
         let next_file = number_past(added.as_slice(), version.next_file());
         Edit {
             number: version.number() + 1,
@@ -126,8 +123,6 @@ impl Edit {
         ensures sound { IsEdit result }
         ensures applies { apply_fault version.now result ≡ None }
     {
-        // Proof hint: the version's invariant.
-        let _files = version.files();
         Edit {
             number: version.number() + 1,
             kind: EditKind::Epoch,

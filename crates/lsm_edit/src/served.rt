@@ -78,8 +78,10 @@ impl Served {
     /// The files with their tables, in search order.
     pub fn places(&self) -> &[Placed]
         ensures all { result.now ≡ self.now.places }
-        ensures sound { IsServed self.now }
+        ensures sound { IsServed self.now × IsVersion self.now.version }
     {
+        // Proof hint: the version's invariant.
+        let _number = self.current.number();
         self.placed.as_slice()
     }
 
@@ -150,9 +152,7 @@ impl Served {
         ensures first { option_map lent_entry result ≡ first_visible (tables_of self.now.places) key.now at }
         ensures found { AreOrdered (tables_of self.now.places) → option_map lent_entry result ≡ visible (all_entries (tables_of self.now.places)) key.now at }
     {
-        // Proof hint: their levels are in range.
-        let _files = self.current.files();
-        first_in(&self.placed, key, at)
+        first_in(self.places(), key, at)
     }
 
     /// The same at the version's flushed sequence, above which it has no entry.

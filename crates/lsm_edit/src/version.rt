@@ -98,6 +98,7 @@ impl Version {
     pub fn number(&self) -> u64
         ensures value { result ≡ self.now.number }
         ensures bound { result ≤ MAX_NUMBER }
+        ensures sound { IsVersion self.now }
     {
         self.number
     }
@@ -121,6 +122,7 @@ impl Version {
     pub fn next_file(&self) -> u64
         ensures value { result ≡ self.now.next_file }
         ensures bound { (1 ≤ result) × (result ≤ MAX_NUMBER) }
+        ensures sound { IsVersion self.now }
     {
         self.next_file
     }

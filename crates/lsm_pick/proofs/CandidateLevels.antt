@@ -12,7 +12,7 @@ use Rattle.lsm_edit.specs.declared.file.FileMeta.{FileMeta}
 use Rattle.lsm_key.specs.declared.limits.TheConstants.{MAX_JOB_LEVEL}
 use Rattle.lsm_pick.specs.Closure.{Candidate}
 use Rattle.lsm_pick.specs.Due.{is_due, levels, of_level}
-use Rattle.lsm_pick.specs.Rule.{IsFirst, level_candidates, candidates, candidates_of}
+use Rattle.lsm_pick.specs.Rule.{IsFirst, level_candidates, candidates, file_candidates}
 
 in_part : {X Y : Type 0} (f : X → List Y) (xs : List X) (y : Y) → IsIn y (flat_map f xs) → (x : X) × IsIn x xs × IsIn y (f x)
 in_part f [] y m = absurd m
@@ -50,7 +50,7 @@ candidate_level : (limits : Limits) (files : List FileMeta) (t : Candidate) → 
 candidate_level limits files t m =
     let at = in_part (level_candidates files) (filter (is_due limits files) levels) t m in
     let due = IsIn-filter (is_due limits files) at.0 levels at.1 in
-    let file = in_part candidates_of (of_level at.0 files) t at.2 in
+    let file = in_part file_candidates (of_level at.0 files) t at.2 in
     let own = IsIn-filter (λ (f : FileMeta). eqb f.level at.0) file.0 files file.1 in
     let is = ap (λ (f : FileMeta). f.level) (first_by file.0 t (eqb file.0.level 0) file.2) ∙ eqb-true file.0.level at.0 own.1 in
     let le = low at.0 due.0 in

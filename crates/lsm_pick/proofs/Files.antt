@@ -4,12 +4,12 @@ use Rattle.std.proofs.lemmas.Bool.{eq-eqb, eqb-true}
 use Rattle.lsm_edit.specs.declared.file.FileMeta.{FileMeta}
 use Rattle.lsm_pick.specs.Closure.{Candidate}
 use Rattle.lsm_pick.specs.Reach.{candidate_of}
-use Rattle.lsm_pick.specs.Rule.{candidates_of}
+use Rattle.lsm_pick.specs.Rule.{file_candidates}
 
-pub candidates_zero : (f : FileMeta) → f.level ≡ 0 → candidates_of f ≡ candidate_of f false ∷ candidate_of f true ∷ []
+pub candidates_zero : (f : FileMeta) → f.level ≡ 0 → file_candidates f ≡ candidate_of f false ∷ candidate_of f true ∷ []
 candidates_zero f e = ap (λ (b : Bool). cond b (candidate_of f false ∷ candidate_of f true ∷ []) (candidate_of f false ∷ [])) (eq-eqb f.level 0 e)
 
-pub candidates_deep : (f : FileMeta) → (f.level ≡ 0 → ⊥) → candidates_of f ≡ candidate_of f false ∷ []
+pub candidates_deep : (f : FileMeta) → (f.level ≡ 0 → ⊥) → file_candidates f ≡ candidate_of f false ∷ []
 candidates_deep f deep = by (eqb f.level 0) refl
   where
     by : (b : Bool) → eqb f.level 0 ≡ b → cond b (candidate_of f false ∷ candidate_of f true ∷ []) (candidate_of f false ∷ []) ≡ candidate_of f false ∷ []
@@ -17,7 +17,7 @@ candidates_deep f deep = by (eqb f.level 0) refl
     by false e = refl
 
 -- the wide one comes first
-pub wide_first : (f : FileMeta) → (more : List Candidate) × (candidates_of f ≡ (candidate_of f false ∷ []) ++ more)
+pub wide_first : (f : FileMeta) → (more : List Candidate) × (file_candidates f ≡ (candidate_of f false ∷ []) ++ more)
 wide_first f = by (eqb f.level 0)
   where
     by : (b : Bool) → (more : List Candidate) × (cond b (candidate_of f false ∷ candidate_of f true ∷ []) (candidate_of f false ∷ []) ≡ (candidate_of f false ∷ []) ++ more)

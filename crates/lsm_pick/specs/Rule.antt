@@ -15,13 +15,13 @@ use Rattle.lsm_pick.specs.Due.{of_level, due_levels}
 -- ---- the candidates, in their order
 
 -- a file of level 0 is tried with all that overlap it, and then with older ones only
-abbrev pub candidates_of : FileMeta → List Candidate
-candidates_of f =
+abbrev pub file_candidates : FileMeta → List Candidate
+file_candidates f =
     if nat_eq f.level 0 then record { first = f; older_only = false } ∷ record { first = f; older_only = true } ∷ []
     else record { first = f; older_only = false } ∷ []
 
 abbrev pub level_candidates : List FileMeta → ℕ → List Candidate
-level_candidates files level = flat_map candidates_of (of_level level files)
+level_candidates files level = flat_map file_candidates (of_level level files)
 
 -- due levels from the lowest number up, in each the files by number
 abbrev pub candidates : Limits → List FileMeta → List Candidate

@@ -12,7 +12,7 @@ ghost use Rattle.lsm_pick.specs.declared.error.PickError.TheVariants.{OutOfMemor
 ghost use Rattle.lsm_pick.specs.Closure.{Candidate};
 ghost use Rattle.lsm_pick.specs.Due.{due_levels};
 ghost use Rattle.lsm_pick.specs.Reach.{IsFull, is_taken, candidate_of};
-ghost use Rattle.lsm_pick.specs.Rule.{AreBlocked, AreTooLarge, IsFirst, level_candidates, candidates, candidates_of};
+ghost use Rattle.lsm_pick.specs.Rule.{AreBlocked, AreTooLarge, IsFirst, level_candidates, candidates, file_candidates};
 ghost use Rattle.lsm_pick.specs.Outcome.{HasOutcome, CanPick};
 
 use crate::PickError;
@@ -112,8 +112,8 @@ fn try_file(
 ) -> Result<Outcome, AllocError>
     requires level { first.now.level ≤ MAX_JOB_LEVEL }
     requires listed { IsIn first.now served.now.version.files }
-    ensures ok { IfOk result (HasOutcome served.now.version.files live.now (candidates_of first.now)) }
-    ensures err { OnErr result (CanPick served.now.version.files live.now (candidates_of first.now)) }
+    ensures ok { IfOk result (HasOutcome served.now.version.files live.now (file_candidates first.now)) }
+    ensures err { OnErr result (CanPick served.now.version.files live.now (file_candidates first.now)) }
 {
     let wide = try_closure(alloc, served, live, first, false)?;
     if first.level > 0 || wide.is_picked() {

@@ -77,7 +77,7 @@ impl Coord {
     /// Replaces the inputs of a job by its outputs, one level deeper, and settles its claim. Level, inputs and keys are
     /// those that the book has under the claim's name. A claim whose job is not live is consumed and nothing else
     /// changes. If the result is of another job or invalid, if file numbers are exhausted or memory runs out, nothing
-    /// changes.
+    /// changes and the claim is handed back: its job is still live, and it still has to be settled.
     ///
     /// Of the outputs' contents it tests only the keys: that they are what a merge keeps of the inputs is the worker's
     /// responsibility.
@@ -92,6 +92,7 @@ impl Coord {
         match job_named(self.book.live(), id) {
             None => {
                 let epoch = self.book.epoch();
+                // A stale claim counts as neither ending.
                 self.book.settle(claim, Ending::Installed);
                 Install::Stale(id, epoch)
             }
@@ -179,8 +180,6 @@ fn edit_of(
     ensures sound { IfOk result IsEdit }
     ensures applies { IfOk result (λ edit. apply_fault version.now edit ≡ None) }
 {
-    // Proof hint: the version is sound.
-    let _files = version.files();
     let files = records_of(alloc, want.level + 1, version.next_file(), tables)?;
     let removed = copy_of(alloc, &want.files)?;
     Ok(Edit::install(version, removed, Items::from_vec(files)))

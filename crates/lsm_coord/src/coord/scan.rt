@@ -99,8 +99,6 @@ impl Coord {
         ensures sound { IsServed self.now.served }
     {
         let served = self.versions.served();
-        // Proof hint: the tables are as recorded.
-        let _listing = served.listing();
         let active = self.active.range(from, to)?;
         let frozen = self.frozen_between(from, to)?;
         let stored = served.range(from, to)?;

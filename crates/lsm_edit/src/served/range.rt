@@ -21,10 +21,8 @@ impl Served {
         ensures all { IfOk result (λ entries. IsPermutation (filter (is_between lo.now hi.now) (all_entries (tables_of self.now.places))) entries.items) }
         ensures order { IfOk result (λ entries. IsInOrder entries.items) }
     {
-        // Proof hint: their levels are in range.
-        let _files = self.current.files();
         let alloc = self.current.alloc();
-        let lists = lists_of(alloc, &self.placed, lo, hi)?;
+        let lists = lists_of(alloc, self.places(), lo, hi)?;
         let entries = merge_lists(alloc, lists)?;
         Ok(entries)
     }

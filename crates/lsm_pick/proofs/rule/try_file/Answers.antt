@@ -1,7 +1,7 @@
 use Rattle.std.proofs.Common.{◌∙◌, ◌∷◌, [], true, false, List, sym, subst, arith}
 use Rattle.lsm_pick.specs.Closure.{Candidate}
 use Rattle.lsm_pick.specs.Reach.{candidate_of}
-use Rattle.lsm_pick.specs.Rule.{candidates_of}
+use Rattle.lsm_pick.specs.Rule.{file_candidates}
 use Rattle.lsm_pick.specs.Outcome.{HasOutcome, CanPick, or_later}
 use Rattle.lsm_pick.proofs.Trying.{outcome_or, outcome_picked, told, can_pick_later, can_pick_more}
 use Rattle.lsm_pick.proofs.Files.{candidates_deep, candidates_zero, wide_first}
@@ -40,6 +40,6 @@ returns-clause-ok c =
     let first = c.args.first.now in
     let files = c.args.served.now.version.files in
     let live = c.args.live.now in
-    subst (HasOutcome files live (candidates_of first)) (sym c.or.ensures)
+    subst (HasOutcome files live (file_candidates first)) (sym c.or.ensures)
     (subst (λ (ts : List Candidate). HasOutcome files live ts (or_later c.in_ok-wide.wide c.in_ok-older_only.older_only)) (sym (candidates_zero first (omega (arith, c.if-first-gt0.false))))
     (outcome_or files live (candidate_of first false ∷ []) (candidate_of first true ∷ []) c.in_ok-wide.wide c.in_ok-older_only.older_only c.in_ok-wide.ensures.ok c.in_ok-older_only.ensures.ok))

@@ -1,4 +1,4 @@
-use Rattle.std.proofs.Common.{◌≡◌, ◌∙◌, [], refl, ap, subst}
+use Rattle.std.proofs.Common.{◌≡◌, ◌∙◌, refl, ap, subst}
 use Rattle.lsm_edit.specs.Edit.{IsEdit, IsSpelled, edit as spelling}
 use Rattle.lsm_edit.specs.Next.{epoch_edit}
 use Rattle.lsm_edit.specs.Version.{first_version}

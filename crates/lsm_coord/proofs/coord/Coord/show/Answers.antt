@@ -1,10 +1,8 @@
 use Rattle.std.proofs.Common.{◌≡◌, ap, sym, subst, ◌∙◌, refl, arith, map, Some, List}
 use Rattle.lsm_edit.specs.declared.file.FileMeta.{FileMeta}
-use Rattle.lsm_claim.specs.Book.{IsBook}
 use Rattle.lsm_edit.specs.Served.{IsServed, ServedValue}
 use Rattle.lsm_edit.specs.Version.{IsVersion}
 use Rattle.lsm_coord.specs.Contract.Memory.{IsFit}
-use Rattle.lsm_coord.specs.Contract.Value.{CoordValue}
 use Rattle.lsm_coord.specs.Model.State.{current, last_flushed, current_files}
 use Rattle.lsm_coord.specs.Model.Step.{Lists}
 use Rattle.lsm_coord.specs.Contract.Manifest.{place_of}

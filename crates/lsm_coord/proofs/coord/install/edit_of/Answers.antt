@@ -43,6 +43,6 @@ install-requires-clause-disjoint c =
     let v = c.args.version.now in
     let want = c.args.want.now in
     let is = c.from_vec.ensures ∙ c.in_ok-files.ensures ∙ ap (λ (n : ℕ). records (want.level + 1) n c.args.tables.now) c.next_file.ensures.value in
-    let none = none_overlaps v want c.requires.legal c.args.tables.now c.requires.inside c.files-files.ensures.sound c.requires.ascending in
+    let none = none_overlaps v want c.requires.legal c.args.tables.now c.requires.inside c.next_file.ensures.sound c.requires.ascending in
     subst (λ (fs : List FileMeta). has_overlap (files_without c.in_ok-removed.removed v.files ++ fs) ≡ false) (sym is)
     (subst (λ (ns : List ℕ). has_overlap (files_without ns v.files ++ records (want.level + 1) v.next_file c.args.tables.now) ≡ false) (sym c.in_ok-removed.ensures) none)

@@ -19,14 +19,13 @@ returns-clause-ok c =
     let old : VersionSetValue = c.args.self.now in
     let s = old.served in
     let e = c.in_ok-edit.edit in
-    let version_is : c.version.result.now ≡ s.version = c.version.ensures in
+    let version_is : c.version.result.now ≡ s.version = c.version.ensures ∙ ap (λ (v : ServedValue). v.version) c.served.ensures.served in
     let is : e ≡ flush_edit s.version c.args.end c.args.meta = c.in_ok-edit.ensures.edit ∙ ap (λ (v : VersionValue). flush_edit v c.args.end c.args.meta) version_is in
     let tables : c.push.new.self.items ≡ c.args.table ∷ [] = c.in_ok-push.ensures.items ∙ ap (λ (ts : List Opened). ts ++ c.args.table ∷ []) c.in_ok-tables.ensures.items in
     let added : e.added ≡ c.args.meta ∷ [] = ap (λ (x : Edit). x.added) c.in_ok-edit.ensures.edit in
     let recorded : AreAsRecorded e.added c.push.new.self.items = rw (added, tables) (c.requires.recorded, tt) in
-    let sound = c.listing-listing.ensures.sound in
-    let served : IsServed s = subst IsServed c.served.ensures.served sound.0 in
-    let version : IsVersion s.version = subst (λ (v : ServedValue). IsVersion v.version) c.served.ensures.served sound.1 in
+    let served : IsServed s = c.served.ensures.sound.0 in
+    let version : IsVersion s.version = c.served.ensures.sound.1 in
     let applies : apply_fault s.version e ≡ None = subst (λ (v : VersionValue). apply_fault v e ≡ None) version_is c.in_ok-edit.ensures.applies in
     record {
       edit = e;

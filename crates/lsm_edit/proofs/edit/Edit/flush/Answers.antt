@@ -9,11 +9,11 @@ returns-clause-sound c =
     let fits : c.args.flushed < 2 ^ 56 = omega (arith, c.number-written.ensures.value, c.number-written.ensures.bound) in
     let added : c.push.new.self ≡ c.args.file ∷ [] = c.in_ok-push.ensures.ok ∙ ap (λ (fs : List FileMeta). fs ++ c.args.file ∷ []) c.new-added.ensures in
     rw (c.number-number.ensures.value, c.epoch.ensures.value, c.next_file-next_file.ensures.value, c.new.ensures, added)
-    (flush_sound v c.args.flushed c.args.file c.files-files.ensures.sound c.requires.number c.requires.next_file c.requires.newer fits c.requires.sound c.requires.place.1 c.requires.epoch)
+    (flush_sound v c.args.flushed c.args.file c.number-number.ensures.sound c.requires.number c.requires.next_file c.requires.newer fits c.requires.sound c.requires.place.1 c.requires.epoch)
 
 pub returns-clause-applies : goal.returns-clause-applies
 returns-clause-applies c =
     let v = c.args.version.now in
     let added : c.push.new.self ≡ c.args.file ∷ [] = c.in_ok-push.ensures.ok ∙ ap (λ (fs : List FileMeta). fs ++ c.args.file ∷ []) c.new-added.ensures in
     rw (c.number-number.ensures.value, c.epoch.ensures.value, c.next_file-next_file.ensures.value, c.new.ensures, added)
-    (flush_applies v c.args.flushed c.args.file c.files-files.ensures.sound c.requires.newer c.requires.place.0 c.requires.place.1)
+    (flush_applies v c.args.flushed c.args.file c.number-number.ensures.sound c.requires.newer c.requires.place.0 c.requires.place.1)
