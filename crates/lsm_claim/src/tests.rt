@@ -2,7 +2,7 @@
 
 use crate::{Claim, ClaimBook, ClaimError, Ending, Hull, JobId, Settled, Want, shares_level};
 use bytes::Bytes;
-use lsm_key::Items;
+use lsm_key::{Items, KeyRangeRef};
 use std::alloc::Global;
 use std::process::Abort;
 use std::test::Fail;
@@ -157,7 +157,11 @@ fn hulls_meet_at_their_ends(rt: HostRuntime) {
         ("d", "e", true),
         ("d\0", "e", false),
     ] {
-        let found = hull.meets(lo.as_bytes(), hi.as_bytes());
+        let keys = KeyRangeRef {
+            lo: lo.as_bytes(),
+            hi: hi.as_bytes(),
+        };
+        let found = hull.range().overlaps(keys);
         assert!(rt; found == want, "from {lo} to {hi}");
     }
 }

@@ -6,7 +6,7 @@ use Rattle.lsm_edit.specs.declared.edit.EditKind.{EditKind}
 use Rattle.lsm_edit.specs.declared.file.FileMeta.{FileMeta}
 use Rattle.lsm_edit.specs.Edit.{AreAdded, AreRemoved, after_file, after_number, shape}
 use Rattle.lsm_edit.specs.File.{IsFile}
-use Rattle.lsm_edit.proofs.InTurn.{AreInTurn}
+use Rattle.lsm_edit.proofs.ItemsInTurn.{AreInTurn}
 
 -- ---- numbers
 

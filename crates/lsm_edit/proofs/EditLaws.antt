@@ -11,7 +11,7 @@ use Rattle.lsm_key.specs.Order.{key_le}
 use Rattle.lsm_key.specs.Spelling.{key, IsKey}
 use Rattle.lsm_key.specs.Reading.{◌>>=◌, number_at, ranged_number_at, key_at, Gives}
 use Rattle.lsm_key.proofs.FieldLaws.{IsBytes, Takes, bind_ok, guard_ok, guard_held, within_range, ok_is, wide8, wide32, wide64, number_takes, number_again}
-use Rattle.lsm_key.proofs.Readers.{Reads, Goes, field, field_as, unless, done, whole, within_reads, key_reads}
+use Rattle.lsm_key.proofs.ReaderLaws.{Reads, Goes, field, field_as, unless, done, whole, within_reads, key_reads}
 use Rattle.lsm_edit.specs.declared.file.FileMeta.{FileMeta}
 use Rattle.lsm_edit.specs.declared.edit.Edit.{Edit}
 use Rattle.lsm_edit.specs.declared.edit.EditKind.{EditKind}
@@ -21,7 +21,7 @@ use Rattle.lsm_edit.specs.declared.format.FormatFault.TheVariants.{Truncated, Ba
 use Rattle.lsm_edit.specs.File.{IsFile, file, file_at}
 use Rattle.lsm_edit.specs.Edit.{IsEdit, IsSpelled, AreRemoved, AreAdded, after_number, after_file, added_bytes, removed_bytes, edit, kind_code, shape, kind_from, kind_at, removed_at, added_at, fields_at, read_edit}
 use Rattle.lsm_edit.proofs.Ascending.{IsFileFrom, IsNumberFrom, added_of_turn, removed_of_turn, turn_of_added, turn_of_removed}
-use Rattle.lsm_edit.proofs.InTurn.{counted_reads}
+use Rattle.lsm_edit.proofs.ItemsInTurn.{counted_reads}
 
 -- ---- file records
 

@@ -10,17 +10,17 @@ use Rattle.lsm_key.specs.declared.entry.Entry.{Entry}
 use Rattle.lsm_key.specs.Sets.{IsIn}
 use Rattle.lsm_key.specs.Order.{Precedes, IsInOrder, key_le, key_lt, is_between}
 use Rattle.lsm_key.specs.Places.{all_entries}
-use Rattle.lsm_key.proofs.Sets.{IsIn-append_cases, IsIn-at}
+use Rattle.lsm_key.proofs.Membership.{IsIn-append_cases, IsIn-at}
 use Rattle.lsm_key.proofs.KeyRanges.{key_le_or, key_le_trans}
-use Rattle.lsm_key.proofs.Ranges.{not_before}
-use Rattle.lsm_key.proofs.Falls.{Falls, falls-append, falls-filter, ascending_falls, falls_in_order, IsIn-filter}
-use Rattle.lsm_table.proofs.Contents.{table_ascending, table_range}
+use Rattle.lsm_key.proofs.RangeSlices.{not_before}
+use Rattle.lsm_key.proofs.AscendingEntries.{Falls, falls-append, falls-filter, ascending_falls, falls_in_order, IsIn-filter}
+use Rattle.lsm_table.proofs.TableContents.{table_ascending, table_range}
 use Rattle.lsm_edit.specs.declared.file.FileMeta.{FileMeta}
 use Rattle.lsm_edit.specs.declared.served.Placed.{Placed}
 use Rattle.lsm_edit.specs.Served.{IsAsRecorded, AllRecorded, AreInSearchOrder, tables_of, comes_left}
 use Rattle.lsm_edit.proofs.SearchOrder.{Before, upper, newer, lesser, before_of, above_le, turned}
-use Rattle.lsm_edit.proofs.Levels.{Left, above, beside, left_of, not_left, and-second, whole_of, level_up}
-use Rattle.lsm_edit.proofs.Ranges.{within, within-cons, all_entries-append}
+use Rattle.lsm_edit.proofs.LevelSearch.{Left, above, beside, left_of, not_left, and-second, whole_of, level_up}
+use Rattle.lsm_edit.proofs.RangeEntries.{within, within-cons, all_entries-append}
 
 -- a place of the level, and one of a level above it
 abbrev pub is_of : ℕ → Placed → Bool

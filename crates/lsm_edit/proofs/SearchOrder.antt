@@ -7,11 +7,11 @@ use Rattle.std.specs.Cmp.Lexicographic.{slice_cmp}
 use Rattle.std.proofs.lemmas.Bool.{lt-ltb, ltb-true, ltb-false, eq-eqb, eqb-true, eqb-false, cases_order, cases_eq, or_cases, and_cases, and_parts, not-true}
 use Rattle.std.proofs.lemmas.Cmp.{nat_list_cmp_total}
 use Rattle.lsm_key.specs.Order.{key_le}
-use Rattle.lsm_key.proofs.Order.{keys_equal}
+use Rattle.lsm_key.proofs.EntryOrder.{keys_equal}
 use Rattle.lsm_edit.specs.declared.file.FileMeta.{FileMeta}
 use Rattle.lsm_edit.specs.Version.{clashes, files_meet}
 use Rattle.lsm_edit.specs.Served.{is_before}
-use Rattle.lsm_edit.proofs.Advance.{or-left, or-right, and-both}
+use Rattle.lsm_edit.proofs.AdvancedPlaces.{or-left, or-right, and-both}
 
 -- ---- keys
 

@@ -3,8 +3,8 @@ use Rattle.std.proofs.Common.{◌≡◌, ℕ, ◌+◌, ◌<◌, ◌≤◌, Bool,
 use Rattle.std.specs.List.{filter, list_any}
 use Rattle.std.proofs.lemmas.Bool.{and_right, or_from, or_parts, ltb-false, leb-false, not-false, eqb-true, cases_Bool}
 use Rattle.lsm_key.specs.Sets.{IsIn}
-use Rattle.lsm_key.proofs.Falls.{IsIn-filter}
-use Rattle.lsm_key.proofs.Sets.{IsIn-append_cases}
+use Rattle.lsm_key.proofs.AscendingEntries.{IsIn-filter}
+use Rattle.lsm_key.proofs.Membership.{IsIn-append_cases}
 use Rattle.std.proofs.lemmas.List.Folds.{list_any-append}
 use Rattle.lsm_edit.specs.declared.file.FileMeta.{FileMeta}
 use Rattle.lsm_edit.specs.declared.edit.Edit.{Edit}
@@ -13,7 +13,7 @@ use Rattle.lsm_edit.specs.File.{IsFile}
 use Rattle.lsm_edit.specs.Edit.{IsEdit, after_file, shape}
 use Rattle.lsm_edit.specs.Version.{VersionValue, IsVersion, FileNumbersRise, files_without, has_number, files_after, clashes, files_meet, has_overlap, apply_fault, after_apply, goes_back, miscounts, is_low}
 use Rattle.lsm_edit.proofs.Ascending.{IsFileFrom, turn_of_added}
-use Rattle.lsm_edit.proofs.InTurn.{AreInTurn}
+use Rattle.lsm_edit.proofs.ItemsInTurn.{AreInTurn}
 
 -- ---- the files after an edit that removes none
 

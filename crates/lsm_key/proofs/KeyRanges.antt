@@ -8,7 +8,7 @@ use Rattle.std.proofs.lemmas.Bool.{true≢false, and_parts, and_from, not-true}
 use Rattle.std.proofs.lemmas.Cmp.{nat_list_cmp_total, tied_itself, upto}
 use Rattle.lsm_key.specs.Order.{key_le}
 use Rattle.lsm_key.specs.KeyRanges.{in_closed_range, ranges_meet}
-use Rattle.lsm_key.proofs.Order.{keys_equal}
+use Rattle.lsm_key.proofs.EntryOrder.{keys_equal}
 
 -- ---- keys
 

@@ -1,8 +1,8 @@
-pub mod Pairs
-pub mod Chained
-pub mod Rising
-pub mod Growing
-pub mod Taken
-pub mod Noted
-pub mod Between
-pub mod Keys
+pub mod ChainsOfMap
+pub mod ChainOrder
+pub mod VersionOrder
+pub mod ChainsGrow
+pub mod BatchEntries
+pub mod MemtableTotals
+pub mod EntriesBetween
+pub mod ChainKeys

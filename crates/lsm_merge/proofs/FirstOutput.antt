@@ -11,14 +11,14 @@ use Rattle.lsm_key.specs.Limits.{entry_weight}
 use Rattle.lsm_key.specs.Order.{Precedes}
 use Rattle.lsm_key.specs.Sets.{IsIn}
 use Rattle.lsm_key.specs.Visible.{has_key}
-use Rattle.lsm_key.proofs.Falls.{Falls}
-use Rattle.lsm_key.proofs.Sets.{IsIn-append_left, IsIn-append_right, IsIn-append_cases, IsIn-one, IsIn-place, IsIn-at}
-use Rattle.lsm_key.proofs.Visible.{has_key-at}
+use Rattle.lsm_key.proofs.AscendingEntries.{Falls}
+use Rattle.lsm_key.proofs.Membership.{IsIn-append_left, IsIn-append_right, IsIn-append_cases, IsIn-one, IsIn-place, IsIn-at}
+use Rattle.lsm_key.proofs.LatestOfList.{has_key-at}
 use Rattle.lsm_table.specs.Tables.{largest_key, key_of_entry}
 use Rattle.lsm_merge.specs.declared.cut.TheConstants.{OUTPUT_TARGET}
 use Rattle.lsm_merge.specs.Outputs.{weight_of, before_last_key, HasLowerKeys}
 use Rattle.lsm_merge.specs.Cutting.{IsFirstOutput, IsKeyEnd}
-use Rattle.lsm_merge.proofs.Pass.{KeyLess, less-trans, by_key}
+use Rattle.lsm_merge.proofs.KeptInOnePass.{KeyLess, less-trans, by_key}
 
 -- ---- parts of entries in order
 

@@ -7,8 +7,8 @@ use Rattle.lsm_key.specs.declared.entry.Entry.{Entry}
 use Rattle.lsm_key.specs.Sets.{IsIn, SameMembers}
 use Rattle.lsm_key.specs.Places.{IsAbove, AreOrdered, all_entries}
 use Rattle.lsm_key.specs.Visible.{IsUnique}
-use Rattle.lsm_key.proofs.Places.{IsUnique-above}
-use Rattle.lsm_key.proofs.Sets.{IsIn-append_left, IsIn-append_right, IsIn-append_cases}
+use Rattle.lsm_key.proofs.FirstVisible.{IsUnique-above}
+use Rattle.lsm_key.proofs.Membership.{IsIn-append_left, IsIn-append_right, IsIn-append_cases}
 use Rattle.lsm_table.specs.Tables.{Opened}
 use Rattle.lsm_claim.specs.declared.job.Want.{Want}
 use Rattle.lsm_edit.specs.declared.edit.Edit.{Edit}
@@ -16,7 +16,7 @@ use Rattle.lsm_edit.specs.declared.served.Placed.{Placed}
 use Rattle.lsm_edit.specs.Version.{IsVersion, has_number}
 use Rattle.lsm_edit.specs.Served.{ServedValue, IsServed, tables_of}
 use Rattle.lsm_edit.proofs.LevelRanges.{in_tables}
-use Rattle.lsm_edit.proofs.Places.{newer_places, stored_unique, tables_in}
+use Rattle.lsm_edit.proofs.ServedPlaces.{newer_places, stored_unique, tables_in}
 use Rattle.lsm_msg.specs.declared.job.JobParts.{JobParts}
 use Rattle.lsm_key.specs.declared.range.KeyRange.{KeyRange}
 use Rattle.lsm_msg.specs.Merge.{HoldsKept}
@@ -24,10 +24,10 @@ use Rattle.lsm_msg.specs.Laws.{ReadAlike}
 use Rattle.lsm_msg.specs.Legal.{IsLegal, KnowsDeeper}
 use Rattle.lsm_msg.specs.Installs.{IsJobOf, AreInputsOf, AddNoEntry, Installs, entries_of}
 use Rattle.lsm_msg.specs.InstallLaws.{InstallsKeepReads}
-use Rattle.lsm_msg.proofs.Kept.{kept_input}
-use Rattle.lsm_msg.proofs.Showing.{NoneOlder, alike, gone_parts}
-use Rattle.lsm_msg.proofs.Inputs.{is_listed, listed_is, stays_newer}
-use Rattle.lsm_msg.proofs.Installed.{after, kept, kept_cases, kept_in, next_parts, next_stored, rest_stored}
+use Rattle.lsm_msg.proofs.KeptEntries.{kept_input}
+use Rattle.lsm_msg.proofs.VisibleAfterMerge.{NoneOlder, alike, gone_parts}
+use Rattle.lsm_msg.proofs.LegalInputs.{is_listed, listed_is, stays_newer}
+use Rattle.lsm_msg.proofs.PlacesAfterInstall.{after, kept, kept_cases, kept_in, next_parts, next_stored, rest_stored}
 
 -- a whole that has two parts, below another list
 beside_above : (above xs a b : List Entry) → ((x : Entry) → IsIn x xs ↔ (IsIn x a ⊎ IsIn x b)) → SameMembers (above ++ xs) (a ++ (above ++ b))

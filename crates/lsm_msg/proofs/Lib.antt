@@ -1,8 +1,8 @@
-pub mod Rising
-pub mod Kept
-pub mod Showing
-pub mod Inputs
-pub mod Installed
+pub mod NumbersRise
+pub mod KeptEntries
+pub mod VisibleAfterMerge
+pub mod LegalInputs
+pub mod PlacesAfterInstall
 pub mod OtherJobs
-pub mod Flushed
+pub mod FlushKeepsJobs
 pub mod InstallReads

@@ -7,23 +7,23 @@ use Rattle.lsm_table.specs.Tables.{Opened}
 use Rattle.lsm_claim.specs.declared.job.Want.{Want}
 use Rattle.lsm_claim.specs.Levels.{uses_level, shares_level}
 use Rattle.lsm_claim.specs.Conflicts.{conflicts, covers, hulls_meet}
-use Rattle.lsm_claim.proofs.Books.{both_use}
+use Rattle.lsm_claim.proofs.BookChanges.{both_use}
 use Rattle.lsm_key.proofs.KeyRanges.{common_key, ranges_meet_from}
 use Rattle.lsm_edit.specs.declared.file.FileMeta.{FileMeta}
 use Rattle.lsm_edit.specs.declared.edit.Edit.{Edit}
 use Rattle.lsm_edit.specs.declared.served.Placed.{Placed}
 use Rattle.lsm_edit.specs.Version.{IsVersion, files_after}
 use Rattle.lsm_edit.specs.Served.{ServedValue, IsServed}
-use Rattle.lsm_edit.proofs.Places.{file_of, whole_file}
-use Rattle.lsm_edit.proofs.Rebase.{placed_meta}
+use Rattle.lsm_edit.proofs.ServedPlaces.{file_of, whole_file}
+use Rattle.lsm_edit.proofs.PlacesInOrder.{placed_meta}
 use Rattle.lsm_edit.proofs.VersionLaws.{added_is}
 use Rattle.lsm_msg.specs.declared.job.JobParts.{JobParts}
 use Rattle.lsm_msg.specs.Legal.{IsLegal, KnowsDeeper, Takes, touches}
 use Rattle.lsm_msg.specs.Merge.{is_in_ranges}
 use Rattle.lsm_msg.specs.Installs.{IsJobOf, AddNoEntry, Installs}
 use Rattle.lsm_msg.specs.InstallLaws.{InstallsKeepJobs}
-use Rattle.lsm_msg.proofs.Inputs.{input_key, level_cases, own_key, uses_next, uses_own, within_hull}
-use Rattle.lsm_msg.proofs.Installed.{after, added, file_cases, file_stays, new_number, output_level, place_cases, placed_entry}
+use Rattle.lsm_msg.proofs.LegalInputs.{input_key, level_cases, own_key, uses_next, uses_own, within_hull}
+use Rattle.lsm_msg.proofs.PlacesAfterInstall.{after, added, file_cases, file_stays, new_number, output_level, place_cases, placed_entry}
 
 module _ (s : ServedValue) (want : Want) (edit : Edit) (tables : List Opened) (ver : IsVersion s.version) (is : IsServed s) (legal : IsLegal s.version.files want) (inst : Installs s want edit tables) where
   module _ (other : Want) (apart : conflicts want other ≡ false) (legal2 : IsLegal s.version.files other) where

@@ -4,8 +4,8 @@ use Rattle.std.specs.List.{filter, flat_map}
 use Rattle.std.proofs.lemmas.Bool.{eqb-true}
 use Rattle.lsm_key.specs.Sets.{IsIn}
 use Rattle.lsm_key.specs.declared.limits.Limits.{Limits}
-use Rattle.lsm_key.proofs.Falls.{IsIn-filter}
-use Rattle.lsm_key.proofs.Sets.{IsIn-append_cases, IsIn-append_right}
+use Rattle.lsm_key.proofs.AscendingEntries.{IsIn-filter}
+use Rattle.lsm_key.proofs.Membership.{IsIn-append_cases, IsIn-append_right}
 use Rattle.lsm_claim.specs.declared.job.LiveJob.{LiveJob}
 use Rattle.lsm_claim.specs.declared.job.Want.{Want}
 use Rattle.lsm_edit.specs.declared.file.FileMeta.{FileMeta}

@@ -6,7 +6,7 @@ use Rattle.std.specs.Cmp.{both_ways}
 use Rattle.std.specs.List.{list_any}
 use Rattle.lsm_key.specs.Sets.{IsIn}
 use Rattle.lsm_key.specs.Order.{key_le}
-use Rattle.lsm_key.proofs.Falls.{IsIn-filter}
+use Rattle.lsm_key.proofs.AscendingEntries.{IsIn-filter}
 use Rattle.lsm_key.proofs.KeyRanges.{key_le_antisymm}
 use Rattle.lsm_key.proofs.Lists.{IsIn-kept}
 use Rattle.lsm_claim.specs.declared.hull.Hull.{Hull}
@@ -15,8 +15,8 @@ use Rattle.lsm_edit.specs.declared.file.FileMeta.{FileMeta}
 use Rattle.lsm_pick.specs.Closure.{Candidate}
 use Rattle.lsm_pick.specs.Rule.{Proposes, inputs_of}
 use Rattle.lsm_pick.specs.Laws.{ACandidateProposesOneWant}
-use Rattle.lsm_pick.proofs.Asking.{filter_same}
-use Rattle.lsm_pick.proofs.Growing.{inside_parts}
+use Rattle.lsm_pick.proofs.ProposedWant.{filter_same}
+use Rattle.lsm_pick.proofs.ReachGrows.{inside_parts}
 
 -- ---- hulls
 

@@ -30,12 +30,12 @@ use Rattle.lsm_coord.specs.Contract.Shows.{Shows}
 use Rattle.lsm_coord.specs.Contract.Sound.{IsSound, KeepsSound}
 use Rattle.lsm_coord.specs.Model.State.{State}
 use Rattle.lsm_coord.specs.Contract.Value.{CoordValue}
-use Rattle.lsm_coord.proofs.Installing.{held_by}
-use Rattle.lsm_coord.proofs.Jobs.{inputs_taken}
-use Rattle.lsm_coord.proofs.Returning.{live_before, same_name}
+use Rattle.lsm_coord.proofs.InstallOutcomes.{held_by}
+use Rattle.lsm_coord.proofs.PickedJobs.{inputs_taken}
+use Rattle.lsm_coord.proofs.GiveBackSteps.{live_before, same_name}
 use Rattle.lsm_sim.specs.Compacting.{IsLeft, Merges, tables_at}
-use Rattle.lsm_sim.proofs.Inputs.{fetched, fetched_in, in_fetched, none_shared}
-use Rattle.lsm_sim.proofs.Made.{opened_as, opened_entries, opened_tables, outputs_are}
+use Rattle.lsm_sim.proofs.JobEntries.{fetched, fetched_in, in_fetched, none_shared}
+use Rattle.lsm_sim.proofs.MergedOutputs.{opened_as, opened_entries, opened_tables, outputs_are}
 
 -- ---- the last job of a list, whose name no other has
 

@@ -82,7 +82,7 @@ fn install(
 }
 
 /// The result of a job's merge, or `None` if the merge refuses the tables.
-#[tactic(auto, using(crate::proofs::Fetching::are_recorded))]
+#[tactic(auto, using(crate::proofs::FetchedTables::are_recorded))]
 fn result_of(alloc: Global, coord: &Coord, job: &Job) -> Result<Option<JobResult>, AllocError>
     requires version { IsVersion coord.now.served.version }
     requires served { IsServed coord.now.served }

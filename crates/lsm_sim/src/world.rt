@@ -39,7 +39,7 @@ fn shown(alloc: Global, listing: Listing<'_>) -> Result<Shown, AllocError>
 }
 
 /// What the coordinator answers to a write: a batch's refusal, or its own.
-#[tactic(auto, using(crate::proofs::Telling::batch_told, crate::proofs::Telling::write_told, crate::proofs::Telling::none_told))]
+#[tactic(auto, using(crate::proofs::ToldRefusals::batch_told, crate::proofs::ToldRefusals::write_told, crate::proofs::ToldRefusals::none_told))]
 fn write(coord: &mut Coord, ops: Vec<Op>) -> Reply
     ensures follows { Follows coord.old (Write ops.items) (reply_of result) coord.new }
     ensures told { (s : State) → Shows coord.old s → Tells s (Write ops.items) (reply_of result) }
@@ -55,7 +55,7 @@ fn write(coord: &mut Coord, ops: Vec<Op>) -> Reply
 
 /// What the coordinator answers to a command: the refusal that its state forces, if it forces one. If an event runs out of
 /// memory, that is its refusal, and nothing changes.
-#[tactic(auto, using(crate::proofs::Telling::freeze_told, crate::proofs::Telling::flush_told, crate::proofs::Telling::snapshot_told, crate::proofs::Telling::release_told, crate::proofs::Telling::get_told, crate::proofs::Telling::scan_told, crate::proofs::Telling::show_told, crate::proofs::Telling::none_told))]
+#[tactic(auto, using(crate::proofs::ToldRefusals::freeze_told, crate::proofs::ToldRefusals::flush_told, crate::proofs::ToldRefusals::snapshot_told, crate::proofs::ToldRefusals::release_told, crate::proofs::ToldRefusals::get_told, crate::proofs::ToldRefusals::scan_told, crate::proofs::ToldRefusals::show_told, crate::proofs::ToldRefusals::none_told))]
 pub fn step(alloc: Global, coord: &mut Coord, event: Event) -> Reply
     ensures follows { Follows coord.old (event_of event) (reply_of result) coord.new }
     ensures told { (s : State) → Shows coord.old s → Tells s (event_of event) (reply_of result) }

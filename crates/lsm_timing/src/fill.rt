@@ -6,7 +6,7 @@ use crate::keys::{ENTRY_BYTES, batch_count, batch_number, or_one};
 use bytes::Bytes;
 use lsm_claim::Claim;
 use lsm_coord::{Coord, CoordError, Install};
-use lsm_key::{Batch, DEFAULT_BASE, DEFAULT_L0, Items, Limits};
+use lsm_key::{Batch, DEFAULT_BASE, DEFAULT_L0, Items, Limits, NUM_LEVELS};
 use lsm_merge::merge;
 use lsm_msg::{Body, Job, JobResult, Message, Node, NodeIndex};
 use lsm_table::Table;
@@ -14,7 +14,7 @@ use std::alloc::Global;
 use std::io;
 
 /// The number of levels.
-const LEVELS: usize = 7;
+const LEVELS: usize = NUM_LEVELS as usize;
 
 /// A store, and how many bytes of tables it wrote to each level.
 #[derive(Drop)]

@@ -2,7 +2,7 @@ use Rattle.std.proofs.Common.{◌++◌, List, filter, map, arith, ap, ◌∙◌,
 use Rattle.std.specs.List.{range_with_len}
 use Rattle.lsm_key.specs.declared.range.KeyRange.{KeyRange}
 use Rattle.lsm_coord.specs.Contract.Picking.{range_of, touches_at}
-use Rattle.lsm_coord.proofs.Parts.{next_level_of}
+use Rattle.lsm_coord.proofs.GatheredParts.{next_level_of}
 use Rattle.lsm_coord.proofs.job.deeper_of.Goals as goal
 
 pub loop-level-preserved : goal.loop-level-preserved

@@ -2,7 +2,7 @@ use Rattle.std.proofs.Common.{◌≡◌, ◌+◌, ◌++◌, ◌∷◌, [], Bool,
 use Rattle.std.proofs.lemmas.List.{drop_more, append_assoc}
 use Rattle.lsm_edit.specs.declared.file.FileMeta.{FileMeta}
 use Rattle.lsm_pick.specs.Rule.{inputs_of}
-use Rattle.lsm_coord.proofs.Parts.{input_is_next, input_is_not_next}
+use Rattle.lsm_coord.proofs.GatheredParts.{input_is_next, input_is_not_next}
 use Rattle.lsm_coord.proofs.job.inputs_of.Goals as goal
 
 not_both : (b : Bool) → b ≡ true → b ≡ false → ⊥

@@ -5,7 +5,7 @@ use Rattle.std.proofs.lemmas.List.Kept.{AllPairs-from_increasing, Contains-dedup
 use Rattle.std.proofs.lemmas.List.Sorted.{Contains-permutation, IsPermutation-sym}
 use Rattle.std.proofs.lemmas.Map.Keys.{IsStrictlyIncreasing-dedup}
 use Rattle.lsm_key.specs.Sets.{SameMembers}
-use Rattle.lsm_key.proofs.Sets.{IsIn-place, IsIn-contained}
+use Rattle.lsm_key.proofs.Membership.{IsIn-place, IsIn-contained}
 use Rattle.lsm_coord.proofs.job.points_of.Goals as goal
 
 pub returns-clause-all : goal.returns-clause-all

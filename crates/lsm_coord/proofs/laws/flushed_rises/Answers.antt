@@ -1,4 +1,4 @@
-use Rattle.lsm_coord.proofs.Runs.{flushed_rises}
+use Rattle.lsm_coord.proofs.RunInvariants.{flushed_rises}
 use Rattle.lsm_coord.proofs.laws.flushed_rises.Goals as goal
 
 pub returns : goal.returns

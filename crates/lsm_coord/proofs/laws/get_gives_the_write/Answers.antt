@@ -1,4 +1,4 @@
-use Rattle.lsm_coord.proofs.Runs.{get_gives_the_write}
+use Rattle.lsm_coord.proofs.RunInvariants.{get_gives_the_write}
 use Rattle.lsm_coord.proofs.laws.get_gives_the_write.Goals as goal
 
 pub returns : goal.returns

@@ -1,4 +1,4 @@
-use Rattle.lsm_coord.proofs.Snapshots.{snapshots_agree}
+use Rattle.lsm_coord.proofs.SnapshotReads.{snapshots_agree}
 use Rattle.lsm_coord.proofs.laws.snapshots_agree.Goals as goal
 
 pub returns : goal.returns

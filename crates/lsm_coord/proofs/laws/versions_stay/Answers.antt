@@ -1,4 +1,4 @@
-use Rattle.lsm_coord.proofs.Runs.{versions_stay}
+use Rattle.lsm_coord.proofs.RunInvariants.{versions_stay}
 use Rattle.lsm_coord.proofs.laws.versions_stay.Goals as goal
 
 pub returns : goal.returns

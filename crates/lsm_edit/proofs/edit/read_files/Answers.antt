@@ -3,7 +3,7 @@ use Rattle.std.proofs.lemmas.Result.{err_from_is_err_and}
 use Rattle.lsm_edit.specs.File.{file_at}
 use Rattle.lsm_edit.specs.Edit.{files_at, after_file}
 use Rattle.lsm_edit.proofs.EditLaws.{read_number}
-use Rattle.lsm_edit.proofs.InTurn.{begun, one_read, none_read, all_read}
+use Rattle.lsm_edit.proofs.ItemsInTurn.{begun, one_read, none_read, all_read}
 use Rattle.lsm_edit.proofs.edit.read_files.Goals as goal
 
 pub loop-place-init : goal.loop-place-init

@@ -5,7 +5,7 @@ use Rattle.lsm_key.specs.declared.limits.TheConstants.{MAX_NUMBER}
 use Rattle.lsm_key.specs.Reading.{ranged_number_at}
 use Rattle.lsm_edit.specs.declared.format.FormatFault.TheVariants.{Truncated, BadField}
 use Rattle.lsm_edit.specs.Edit.{numbers_at, after_number}
-use Rattle.lsm_edit.proofs.InTurn.{begun, one_read, none_read, all_read}
+use Rattle.lsm_edit.proofs.ItemsInTurn.{begun, one_read, none_read, all_read}
 use Rattle.lsm_edit.proofs.edit.read_numbers.Goals as goal
 
 pub loop-place-init : goal.loop-place-init

@@ -1,6 +1,6 @@
 use Rattle.std.proofs.Common.{◌≡◌, ◌-◌}
 use Rattle.lsm_edit.specs.Edit.{numbers_at}
-use Rattle.lsm_edit.proofs.InTurn.{after_these}
+use Rattle.lsm_edit.proofs.ItemsInTurn.{after_these}
 use Rattle.lsm_edit.proofs.edit.read_numbers.Given as goal
 
 abbrev pub invariant-loop-place : goal.invariant-loop-place

@@ -1,5 +1,5 @@
 use Rattle.lsm_edit.specs.File.{file}
-use Rattle.lsm_edit.proofs.Joins.{one_more}
+use Rattle.lsm_edit.proofs.JoinedBytes.{one_more}
 use Rattle.lsm_edit.proofs.edit.write_files.Goals as goal
 
 pub loop-file-preserved : goal.loop-file-preserved

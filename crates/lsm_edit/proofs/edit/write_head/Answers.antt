@@ -2,7 +2,7 @@ use Rattle.std.proofs.Common.{rules, ◌++◌, ◌^◌, ◌<◌, length, ap, Lis
 use Rattle.std.specs.Int.{w8, w64, to_be_bytes}
 use Rattle.lsm_edit.specs.Edit.{kind_code, removed_bytes}
 use Rattle.lsm_edit.proofs.EditLaws.{removed_small}
-use Rattle.lsm_edit.proofs.Joins.{six}
+use Rattle.lsm_edit.proofs.JoinedBytes.{six}
 use Rattle.lsm_edit.proofs.edit.write_head.Goals as goal
 
 pub write_numbers-requires : goal.write_numbers-requires

@@ -1,5 +1,5 @@
 use Rattle.std.proofs.lemmas.Slice.Eq.{slice_eq-Decides}
-use Rattle.lsm_edit.proofs.Files.{file_eq, file_Decides}
+use Rattle.lsm_edit.proofs.SameFiles.{file_eq, file_Decides}
 use Rattle.lsm_edit.proofs.file.same_files.Goals as goal
 
 pub returns : goal.returns

@@ -1,7 +1,7 @@
 use Rattle.std.proofs.Common.{rules}
 use Rattle.std.specs.Int.{w8, w32, w64, to_be_bytes}
 use Rattle.lsm_key.specs.Spelling.{key}
-use Rattle.lsm_edit.proofs.Joins.{six}
+use Rattle.lsm_edit.proofs.JoinedBytes.{six}
 use Rattle.lsm_edit.proofs.file.write_file.Goals as goal
 
 pub returns : goal.returns

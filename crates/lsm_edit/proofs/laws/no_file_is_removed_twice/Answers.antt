@@ -1,4 +1,4 @@
-use Rattle.lsm_edit.proofs.EditsLemmas.{removed_once}
+use Rattle.lsm_edit.proofs.NumbersNeverReturn.{removed_once}
 use Rattle.lsm_edit.proofs.laws.no_file_is_removed_twice.Goals as goal
 
 pub returns : goal.returns

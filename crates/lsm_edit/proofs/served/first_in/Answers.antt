@@ -1,5 +1,5 @@
 use Rattle.std.proofs.Common.{sym, arith}
-use Rattle.lsm_edit.proofs.Levels.{none_at_all}
+use Rattle.lsm_edit.proofs.LevelSearch.{none_at_all}
 use Rattle.lsm_edit.proofs.served.first_in.Goals as goal
 
 pub returns : goal.returns

@@ -1,11 +1,11 @@
 use Rattle.std.proofs.Common.{◌≡◌, ◌+◌, subst, sym, arith, false}
 use Rattle.lsm_key.specs.Sets.{IsIn}
-use Rattle.lsm_key.proofs.Sets.{IsIn-at}
+use Rattle.lsm_key.proofs.Membership.{IsIn-at}
 use Rattle.lsm_key.specs.Visible.{visible}
 use Rattle.lsm_key.specs.Places.{first_visible}
 use Rattle.lsm_edit.specs.declared.served.Placed.{Placed}
 use Rattle.lsm_edit.specs.Served.{tables_of, UpperShowNone, comes_left}
-use Rattle.lsm_edit.proofs.Levels.{past_end, past_place, left_none, first_at, found_by, none_by}
+use Rattle.lsm_edit.proofs.LevelSearch.{past_end, past_place, left_none, first_at, found_by, none_by}
 use Rattle.lsm_edit.proofs.served.in_level.Goals as goal
 
 pub returns-then-place-places-clause-none : goal.returns-then-place-places-clause-none

@@ -1,9 +1,9 @@
 use Rattle.std.proofs.Common.{subst, sym, arith}
 use Rattle.lsm_key.specs.Sets.{IsIn}
-use Rattle.lsm_key.proofs.Sets.{IsIn-at}
+use Rattle.lsm_key.proofs.Membership.{IsIn-at}
 use Rattle.lsm_key.specs.Visible.{lent_entry}
 use Rattle.lsm_edit.specs.declared.served.Placed.{Placed}
-use Rattle.lsm_edit.proofs.Levels.{zero_done, first_at, all_done}
+use Rattle.lsm_edit.proofs.LevelSearch.{zero_done, first_at, all_done}
 use Rattle.lsm_edit.proofs.served.in_level_zero.Goals as goal
 
 pub returns-then-placed-gt0-clause-none : goal.returns-then-placed-gt0-clause-none

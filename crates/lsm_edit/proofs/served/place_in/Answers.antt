@@ -1,7 +1,7 @@
 use Rattle.std.proofs.Common.{rules}
 use Rattle.std.proofs.lemmas.List.Sorted.{IsPartitionPoint-from_clause}
 use Rattle.lsm_edit.specs.Served.{comes_left}
-use Rattle.lsm_edit.proofs.Levels.{partitioned}
+use Rattle.lsm_edit.proofs.LevelSearch.{partitioned}
 use Rattle.lsm_edit.proofs.served.place_in.Goals as goal
 
 pub returns-clause-point : goal.returns-clause-point

@@ -3,7 +3,7 @@ use Rattle.std.proofs.lemmas.Grind.{common_steps}
 use Rattle.std.proofs.lemmas.List.{append-nil, reverse-reverse}
 use Rattle.lsm_table.specs.Tables.{Opened}
 use Rattle.lsm_edit.specs.Served.{placed_of}
-use Rattle.lsm_edit.proofs.Rebase.{is_shorter, split_there, place_more, none_left}
+use Rattle.lsm_edit.proofs.PlacesInOrder.{is_shorter, split_there, place_more, none_left}
 use Rattle.lsm_edit.proofs.served.placed_for.Goals as goal
 
 pub loop-table-init : goal.loop-table-init

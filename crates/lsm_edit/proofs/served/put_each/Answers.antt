@@ -1,8 +1,8 @@
 use Rattle.std.proofs.Common.{arith, ◌∷◌, [], List, ap, sym, subst, ◌∙◌, length, length-append}
 use Rattle.lsm_edit.specs.declared.served.Placed.{Placed}
 use Rattle.lsm_edit.specs.Served.{AreInSearchOrder, put_all, put_in_order}
-use Rattle.lsm_edit.proofs.Rebase.{put_all-last, put_length}
-use Rattle.lsm_edit.proofs.Spots.{rest_of_all}
+use Rattle.lsm_edit.proofs.PlacesInOrder.{put_all-last, put_length}
+use Rattle.lsm_edit.proofs.PlaceSpots.{rest_of_all}
 use Rattle.lsm_edit.proofs.served.put_each.Goals as goal
 
 pub loop-placed-preserved : goal.loop-placed-preserved

@@ -1,5 +1,5 @@
 use Rattle.std.proofs.Common.{sym, ◌∙◌}
-use Rattle.lsm_edit.proofs.Search.{missed}
+use Rattle.lsm_edit.proofs.KeysOutOfRange.{missed}
 use Rattle.lsm_edit.proofs.served.shown_by.Goals as goal
 
 pub returns-then-not-covers : goal.returns-then-not-covers

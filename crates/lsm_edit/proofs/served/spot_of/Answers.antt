@@ -1,6 +1,6 @@
 use Rattle.std.proofs.Common.{rules}
 use Rattle.std.proofs.lemmas.List.Sorted.{IsPartitionPoint-from_clause}
-use Rattle.lsm_edit.proofs.Spots.{parted, put_there, stays_left}
+use Rattle.lsm_edit.proofs.PlaceSpots.{parted, put_there, stays_left}
 use Rattle.lsm_edit.proofs.served.spot_of.Goals as goal
 
 pub returns-clause-spot : goal.returns-clause-spot

@@ -3,7 +3,7 @@ use Rattle.std.proofs.lemmas.Bool.{eq-eqb, eqb-true, false_from_ne_true}
 use Rattle.std.proofs.lemmas.List.Sorted.{answers_always}
 use Rattle.std.specs.Prelude.{nat_eq}
 use Rattle.lsm_edit.specs.declared.file.FileMeta.{FileMeta}
-use Rattle.lsm_edit.proofs.Numbered.{searched, files_rise}
+use Rattle.lsm_edit.proofs.NumberSearch.{searched, files_rise}
 use Rattle.lsm_edit.proofs.version.has_file.Goals as goal
 
 pub returns : goal.returns

@@ -1,7 +1,7 @@
 use Rattle.std.proofs.Common.{sym, subst, List, ℕ}
 use Rattle.std.specs.List.Sorted.{IsNonDecreasing}
 use Rattle.lsm_edit.proofs.Ascending.{turn_of_removed}
-use Rattle.lsm_edit.proofs.Numbered.{numbers_rise}
+use Rattle.lsm_edit.proofs.NumberSearch.{numbers_rise}
 use Rattle.lsm_edit.proofs.version.removed_by.Goals as goal
 
 pub returns-clause-ascending : goal.returns-clause-ascending

@@ -2,7 +2,7 @@ use Rattle.std.proofs.Common.{◌≡◌, true, false, ℕ, ◌<◌, sym, arith, 
 use Rattle.std.specs.List.Sorted.{IsPartitionPoint}
 use Rattle.std.proofs.lemmas.List.Sorted.{IsPartitionPoint-from_clause}
 use Rattle.lsm_mem.specs.Chains.{is_written}
-use Rattle.lsm_mem.proofs.Rising.{latest_none, latest_at, written_first}
+use Rattle.lsm_mem.proofs.VersionOrder.{latest_none, latest_at, written_first}
 use Rattle.lsm_mem.proofs.chains.newest_at.Goals as goal
 
 pub returns-then-place-eq0 : goal.returns-then-place-eq0

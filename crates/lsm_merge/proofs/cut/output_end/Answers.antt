@@ -1,4 +1,4 @@
-use Rattle.lsm_key.proofs.Falls.{ascending_falls}
+use Rattle.lsm_key.proofs.AscendingEntries.{ascending_falls}
 use Rattle.lsm_merge.proofs.FirstOutput.{first_output}
 use Rattle.lsm_merge.proofs.cut.output_end.Goals as goal
 

@@ -1,8 +1,8 @@
 use Rattle.std.proofs.Common.{◌≡◌, ◌+◌, ◌-◌, List, length, take, drop, sym, subst, arith}
 use Rattle.std.proofs.lemmas.List.{take_rest, length-drop}
 use Rattle.lsm_key.specs.declared.entry.Entry.{Entry}
-use Rattle.lsm_merge.proofs.Cuts.{IsMade, made_more, made_all}
-use Rattle.lsm_merge.proofs.Parts.{cut_fits}
+use Rattle.lsm_merge.proofs.OutputCuts.{IsMade, made_more, made_all}
+use Rattle.lsm_merge.proofs.OutputFits.{cut_fits}
 use Rattle.lsm_merge.proofs.cut.outputs_of.Goals as goal
 
 pub encode_table-requires-clause-small : goal.encode_table-requires-clause-small

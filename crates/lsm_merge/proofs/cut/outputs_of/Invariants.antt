@@ -1,5 +1,5 @@
 use Rattle.std.proofs.Common.{◌≤◌, ◌-◌, length}
-use Rattle.lsm_merge.proofs.Cuts.{IsMade}
+use Rattle.lsm_merge.proofs.OutputCuts.{IsMade}
 use Rattle.lsm_merge.proofs.cut.outputs_of.Given as goal
 
 abbrev pub invariant-loop-start : goal.invariant-loop-start

@@ -1,7 +1,7 @@
 use Rattle.std.proofs.Common.{rules}
 use Rattle.std.proofs.lemmas.List.Sorted.{IsPartitionPoint-from_clause}
 use Rattle.lsm_key.specs.Order.{key_le}
-use Rattle.lsm_merge.proofs.Reach.{begun}
+use Rattle.lsm_merge.proofs.DeeperKeys.{begun}
 use Rattle.lsm_merge.proofs.deeper.begun_at.Goals as goal
 
 pub returns-clause-point : goal.returns-clause-point

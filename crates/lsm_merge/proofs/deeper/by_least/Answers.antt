@@ -2,7 +2,7 @@ use Rattle.std.proofs.Common.{◌≡◌, ap, ◌∙◌, rules}
 use Rattle.std.specs.Cmp.Lexicographic.{slice_cmp}
 use Rattle.std.specs.Ordering.{nat_cmp, is_lt}
 use Rattle.std.proofs.lemmas.List.Sorted.{answers_always}
-use Rattle.lsm_merge.proofs.Reach.{begins_lower, weak, compares, sorted_least}
+use Rattle.lsm_merge.proofs.DeeperKeys.{begins_lower, weak, compares, sorted_least}
 use Rattle.lsm_merge.proofs.deeper.by_least.Goals as goal
 
 pub returns-clause-order : goal.returns-clause-order

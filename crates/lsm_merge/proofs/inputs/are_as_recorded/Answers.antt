@@ -3,8 +3,8 @@ use Rattle.std.proofs.lemmas.Bool.{false≢true}
 use Rattle.lsm_table.specs.Tables.{Opened}
 use Rattle.lsm_edit.specs.declared.file.FileMeta.{FileMeta}
 use Rattle.lsm_edit.specs.Served.{IsAsRecorded}
-use Rattle.lsm_edit.proofs.Rebase.{as_many}
-use Rattle.lsm_merge.proofs.Comparing.{recorded_from, recorded_more, recorded_at}
+use Rattle.lsm_edit.proofs.PlacesInOrder.{as_many}
+use Rattle.lsm_merge.proofs.InputTests.{recorded_from, recorded_more, recorded_at}
 use Rattle.lsm_merge.proofs.inputs.are_as_recorded.Goals as goal
 
 pub returns-then-files-tables : goal.returns-then-files-tables

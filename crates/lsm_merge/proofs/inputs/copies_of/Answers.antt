@@ -3,7 +3,7 @@ use Rattle.std.proofs.lemmas.List.{take_all}
 use Rattle.lsm_key.specs.declared.entry.Entry.{Entry}
 use Rattle.lsm_key.specs.Order.{IsInOrder}
 use Rattle.lsm_merge.specs.Inputs.{lists_of}
-use Rattle.lsm_merge.proofs.Comparing.{tables_in_order}
+use Rattle.lsm_merge.proofs.InputTests.{tables_in_order}
 use Rattle.lsm_merge.proofs.inputs.copies_of.Goals as goal
 
 pub returns-clause-order : goal.returns-clause-order

@@ -1,7 +1,7 @@
 use Rattle.std.proofs.Common.{ℕ, List, sym, ap, ◌∙◌}
 use Rattle.std.specs.Option.{option_map}
 use Rattle.lsm_key.specs.Visible.{lent_entry, visible}
-use Rattle.lsm_merge.proofs.Comparing.{place_visible, place_hidden}
+use Rattle.lsm_merge.proofs.InputTests.{place_visible, place_hidden}
 use Rattle.lsm_merge.proofs.inputs.has_place.Goals as goal
 
 pub returns-in-Some : goal.returns-in-Some

@@ -3,7 +3,7 @@ use Rattle.std.specs.List.{list_any}
 use Rattle.std.proofs.lemmas.Bool.{true≢false}
 use Rattle.std.proofs.lemmas.List.{take_rest}
 use Rattle.lsm_table.specs.Tables.{Opened}
-use Rattle.lsm_merge.proofs.Comparing.{in_one, share_is, share_from, same_at, same_after}
+use Rattle.lsm_merge.proofs.InputTests.{in_one, share_is, share_from, same_at, same_after}
 use Rattle.lsm_merge.proofs.inputs.have_same_entry.Goals as goal
 
 pub returns-then-shares_entry : goal.returns-then-shares_entry

@@ -6,8 +6,8 @@ use Rattle.lsm_edit.specs.declared.file.FileMeta.{FileMeta}
 use Rattle.lsm_edit.specs.Served.{AreAsRecorded}
 use Rattle.lsm_merge.specs.Cutting.{AreFew, IsSplitInto}
 use Rattle.lsm_merge.specs.Keeping.{kept_list}
-use Rattle.lsm_merge.proofs.Comparing.{recorded_tables}
-use Rattle.lsm_merge.proofs.Merged.{can_merge, kept_sound, kept_few, is_merge}
+use Rattle.lsm_merge.proofs.InputTests.{recorded_tables}
+use Rattle.lsm_merge.proofs.MergeOfJob.{can_merge, kept_sound, kept_few, is_merge}
 use Rattle.lsm_merge.proofs.merging.merge.Goals as goal
 
 pub merged_of-requires : goal.merged_of-requires

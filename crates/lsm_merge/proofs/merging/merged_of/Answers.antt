@@ -1,7 +1,7 @@
 use Rattle.std.proofs.Common.{sym, ◌∙◌, subst}
 use Rattle.std.proofs.lemmas.Bool.{false≢true}
 use Rattle.lsm_key.specs.Order.{IsAscending}
-use Rattle.lsm_merge.proofs.Merged.{is_shared}
+use Rattle.lsm_merge.proofs.MergeOfJob.{is_shared}
 use Rattle.lsm_merge.proofs.merging.merged_of.Goals as goal
 
 pub returns-else-is_ascending-clause-refused : goal.returns-else-is_ascending-clause-refused

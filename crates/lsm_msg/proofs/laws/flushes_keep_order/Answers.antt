@@ -1,4 +1,4 @@
-use Rattle.lsm_msg.proofs.Flushed.{flushes_keep_order}
+use Rattle.lsm_msg.proofs.FlushKeepsJobs.{flushes_keep_order}
 use Rattle.lsm_msg.proofs.laws.flushes_keep_order.Goals as goal
 
 pub returns : goal.returns

@@ -1,4 +1,4 @@
-use Rattle.lsm_msg.proofs.Installed.{installs_add_no_entry, installs_keep_order}
+use Rattle.lsm_msg.proofs.PlacesAfterInstall.{installs_add_no_entry, installs_keep_order}
 use Rattle.lsm_msg.proofs.laws.installs_keep_order.Goals as goal
 
 pub returns : goal.returns

@@ -1,4 +1,4 @@
-use Rattle.lsm_msg.proofs.Kept.{kept_input}
+use Rattle.lsm_msg.proofs.KeptEntries.{kept_input}
 use Rattle.lsm_msg.proofs.laws.kept_are_inputs.Goals as goal
 
 pub returns : goal.returns

@@ -1,4 +1,4 @@
-use Rattle.lsm_msg.proofs.Showing.{reads_stay}
+use Rattle.lsm_msg.proofs.VisibleAfterMerge.{reads_stay}
 use Rattle.lsm_msg.proofs.laws.reads_stay.Goals as goal
 
 pub returns : goal.returns

@@ -1,4 +1,4 @@
-use Rattle.lsm_msg.proofs.Kept.{snapshot_keeps, both_go, deletion_stays}
+use Rattle.lsm_msg.proofs.KeptEntries.{snapshot_keeps, both_go, deletion_stays}
 use Rattle.lsm_msg.proofs.laws.worked_merges.Goals as goal
 
 pub returns : goal.returns

@@ -1,6 +1,6 @@
 use Rattle.std.proofs.Common.{refl, arith}
 use Rattle.lsm_edit.specs.declared.file.FileMeta.{FileMeta}
-use Rattle.lsm_msg.proofs.Rising.{from_adjacent}
+use Rattle.lsm_msg.proofs.NumbersRise.{from_adjacent}
 use Rattle.lsm_msg.proofs.rules.numbers_rise.Goals as goal
 
 pub returns : goal.returns

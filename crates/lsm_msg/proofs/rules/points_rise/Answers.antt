@@ -1,5 +1,5 @@
 use Rattle.std.proofs.Common.{ℕ, refl, arith}
-use Rattle.lsm_msg.proofs.Rising.{from_adjacent}
+use Rattle.lsm_msg.proofs.NumbersRise.{from_adjacent}
 use Rattle.lsm_msg.proofs.rules.points_rise.Goals as goal
 
 pub returns : goal.returns

@@ -3,7 +3,7 @@ use Rattle.std.specs.List.{sum_by}
 use Rattle.std.proofs.lemmas.Bool.{eq-eqb, lt-ltb}
 use Rattle.std.proofs.lemmas.List.Sums.{sum_by-append}
 use Rattle.lsm_edit.specs.declared.file.FileMeta.{FileMeta}
-use Rattle.lsm_pick.proofs.Counts.{passed, sum_within}
+use Rattle.lsm_pick.proofs.CountedInLists.{passed, sum_within}
 use Rattle.lsm_pick.specs.Due.{of_level}
 use Rattle.lsm_pick.proofs.due.exceeds.Goals as goal
 

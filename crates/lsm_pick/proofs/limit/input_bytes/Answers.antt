@@ -3,7 +3,7 @@ use Rattle.std.specs.List.{sum_by, filter}
 use Rattle.std.proofs.lemmas.Bool.{lt-leb}
 use Rattle.lsm_edit.specs.declared.file.FileMeta.{FileMeta}
 use Rattle.lsm_key.specs.declared.limits.TheConstants.{MAX_INPUTS}
-use Rattle.lsm_pick.proofs.Counts.{passed, length_within}
+use Rattle.lsm_pick.proofs.CountedInLists.{passed, length_within}
 use Rattle.lsm_pick.specs.Reach.{is_taken, candidate_of}
 use Rattle.lsm_pick.proofs.limit.input_bytes.Goals as goal
 

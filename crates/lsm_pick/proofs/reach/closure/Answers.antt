@@ -1,11 +1,11 @@
 use Rattle.std.proofs.Common.{◌≡◌, ◌∙◌, true, List, ℕ, subst, sym}
 use Rattle.std.proofs.lemmas.Bool.{true≢false}
-use Rattle.lsm_key.proofs.Sets.{IsIn-map, IsIn-mapped}
+use Rattle.lsm_key.proofs.Membership.{IsIn-map, IsIn-mapped}
 use Rattle.lsm_edit.specs.declared.file.FileMeta.{FileMeta}
 use Rattle.lsm_edit.specs.declared.served.Placed.{Placed}
 use Rattle.lsm_pick.specs.Reach.{IsReach, is_inside, is_met, may_join, candidate_of}
-use Rattle.lsm_pick.proofs.Growing.{reach_first}
-use Rattle.lsm_pick.proofs.Outside.{fewer_outside}
+use Rattle.lsm_pick.proofs.ReachGrows.{reach_first}
+use Rattle.lsm_pick.proofs.ClosureEnds.{fewer_outside}
 use Rattle.lsm_pick.proofs.reach.closure.Goals as goal
 
 pub loop-reach-init : goal.loop-reach-init

@@ -1,5 +1,5 @@
 use Rattle.lsm_pick.specs.Reach.{Grows, IsReach, may_join, candidate_of}
-use Rattle.lsm_pick.proofs.Outside.{outside}
+use Rattle.lsm_pick.proofs.ClosureEnds.{outside}
 use Rattle.lsm_pick.proofs.reach.closure.Given as goal
 
 abbrev pub invariant-loop-reach : goal.invariant-loop-reach

@@ -1,7 +1,7 @@
 use Rattle.std.proofs.Common.{List, arith, subst}
 use Rattle.lsm_edit.specs.declared.served.Placed.{Placed}
 use Rattle.lsm_pick.specs.Reach.{Grows, candidate_of, joins_at}
-use Rattle.lsm_pick.proofs.Growing.{grows_deep, grows_both}
+use Rattle.lsm_pick.proofs.ReachGrows.{grows_deep, grows_both}
 use Rattle.lsm_pick.proofs.reach.widened.Goals as goal
 
 pub returns-then-first-gt0-clause-grows : goal.returns-then-first-gt0-clause-grows

@@ -1,10 +1,10 @@
 use Rattle.std.proofs.Common.{◌+◌, ◌&&◌, List, ℕ, subst, sym, arith, refl, cond}
 use Rattle.lsm_key.specs.Sets.{IsIn}
-use Rattle.lsm_key.proofs.Sets.{IsIn-at}
+use Rattle.lsm_key.proofs.Membership.{IsIn-at}
 use Rattle.lsm_edit.specs.declared.served.Placed.{Placed}
 use Rattle.lsm_key.specs.KeyRanges.{lower}
 use Rattle.lsm_pick.specs.Reach.{is_met, may_join, candidate_of}
-use Rattle.lsm_pick.proofs.Walks.{Walk, walk_none, walk_by, walk_done, zero_walked, zero_all}
+use Rattle.lsm_pick.proofs.ReachWalks.{Walk, walk_none, walk_by, walk_done, zero_walked, zero_all}
 use Rattle.lsm_pick.proofs.reach.with_level_zero.Goals as goal
 
 pub loop-placed-init : goal.loop-placed-init

@@ -1,5 +1,5 @@
 use Rattle.lsm_pick.specs.Reach.{candidate_of}
-use Rattle.lsm_pick.proofs.Walks.{Walk}
+use Rattle.lsm_pick.proofs.ReachWalks.{Walk}
 use Rattle.lsm_pick.proofs.reach.with_level_zero.Given as goal
 
 abbrev pub invariant-loop-placed : goal.invariant-loop-placed

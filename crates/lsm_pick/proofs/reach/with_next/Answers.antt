@@ -2,12 +2,12 @@ use Rattle.std.proofs.Common.{◌∙◌, ◌+◌, List, ℕ, ap, subst, sym, ari
 use Rattle.std.proofs.lemmas.Bool.{and_parts, or_left}
 use Rattle.lsm_key.specs.Order.{key_le}
 use Rattle.lsm_key.specs.Sets.{IsIn}
-use Rattle.lsm_key.proofs.Sets.{IsIn-at}
+use Rattle.lsm_key.proofs.Membership.{IsIn-at}
 use Rattle.lsm_edit.specs.declared.served.Placed.{Placed}
 use Rattle.lsm_key.specs.KeyRanges.{higher, lower}
 use Rattle.lsm_pick.specs.Reach.{candidate_of}
-use Rattle.lsm_pick.proofs.Growing.{met_more}
-use Rattle.lsm_pick.proofs.Walks.{Walk, walk_none, walk_more, walk_done, rest_in, all_walked, stopped_at, begun_met}
+use Rattle.lsm_pick.proofs.ReachGrows.{met_more}
+use Rattle.lsm_pick.proofs.ReachWalks.{Walk, walk_none, walk_more, walk_done, rest_in, all_walked, stopped_at, begun_met}
 use Rattle.lsm_pick.proofs.reach.with_next.Goals as goal
 
 pub loop-placed-init : goal.loop-placed-init

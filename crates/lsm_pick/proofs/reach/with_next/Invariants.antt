@@ -1,6 +1,6 @@
 use Rattle.std.proofs.Common.{◌+◌}
 use Rattle.lsm_pick.specs.Reach.{candidate_of}
-use Rattle.lsm_pick.proofs.Walks.{Walk}
+use Rattle.lsm_pick.proofs.ReachWalks.{Walk}
 use Rattle.lsm_pick.proofs.reach.with_next.Given as goal
 
 abbrev pub invariant-loop-placed : goal.invariant-loop-placed

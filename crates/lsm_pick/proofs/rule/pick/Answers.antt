@@ -5,10 +5,10 @@ use Rattle.lsm_pick.specs.declared.error.PickError.TheVariants.{OutOfMemory}
 use Rattle.lsm_pick.specs.declared.outcome.Outcome.TheVariants as outcome
 use Rattle.lsm_pick.specs.Rule.{candidates}
 use Rattle.lsm_pick.specs.Outcome.{HasOutcome, CanPick}
-use Rattle.lsm_pick.proofs.Legal.{legal}
-use Rattle.lsm_pick.proofs.Removable.{removable}
+use Rattle.lsm_pick.proofs.ProposedIsLegal.{legal}
+use Rattle.lsm_pick.proofs.ProposedIsRemovable.{removable}
 use Rattle.lsm_pick.proofs.CandidateLevels.{picked_level}
-use Rattle.lsm_pick.proofs.Trying.{told_each}
+use Rattle.lsm_pick.proofs.Outcomes.{told_each}
 use Rattle.lsm_pick.proofs.rule.pick.Goals as goal
 
 pub returns-in_err-want-clause-memory : goal.returns-in_err-want-clause-memory

@@ -5,7 +5,7 @@ use Rattle.lsm_pick.specs.Closure.{Candidate}
 use Rattle.lsm_pick.specs.Due.{is_due, levels}
 use Rattle.lsm_pick.specs.Rule.{level_candidates}
 use Rattle.lsm_pick.specs.Outcome.{HasOutcome}
-use Rattle.lsm_pick.proofs.Trying.{all_outcomes, level_at, next_or, next_same, next_can_pick, taken_whole, told}
+use Rattle.lsm_pick.proofs.Outcomes.{all_outcomes, level_at, next_or, next_same, next_can_pick, taken_whole, told}
 use Rattle.lsm_pick.proofs.rule.try_all.Goals as goal
 use Rattle.lsm_pick.proofs.rule.try_all.Goals.{then-is_due+in_ok-here+else-is_picked, else-is_due}
 

@@ -4,8 +4,8 @@ use Rattle.lsm_edit.specs.declared.file.FileMeta.{FileMeta}
 use Rattle.lsm_pick.specs.Rule.{IsBlocked, IsTooLarge}
 use Rattle.lsm_pick.specs.Counted.{fits_job}
 use Rattle.lsm_pick.specs.Reach.{is_taken, candidate_of}
-use Rattle.lsm_pick.proofs.Asking.{asks, free_is, ghost_want, proper, within_is}
-use Rattle.lsm_pick.proofs.Trying.{first_alone, told}
+use Rattle.lsm_pick.proofs.ProposedWant.{asks, free_is, ghost_want, proper, within_is}
+use Rattle.lsm_pick.proofs.Outcomes.{first_alone, told}
 use Rattle.lsm_pick.proofs.rule.try_closure.Goals as goal
 
 pub want_of-requires-clause-proper : goal.want_of-requires-clause-proper

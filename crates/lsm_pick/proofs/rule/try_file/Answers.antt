@@ -3,8 +3,8 @@ use Rattle.lsm_pick.specs.Closure.{Candidate}
 use Rattle.lsm_pick.specs.Reach.{candidate_of}
 use Rattle.lsm_pick.specs.Rule.{file_candidates}
 use Rattle.lsm_pick.specs.Outcome.{HasOutcome, CanPick, or_later}
-use Rattle.lsm_pick.proofs.Trying.{outcome_or, outcome_picked, told, can_pick_later, can_pick_more}
-use Rattle.lsm_pick.proofs.Files.{candidates_deep, candidates_zero, wide_first}
+use Rattle.lsm_pick.proofs.Outcomes.{outcome_or, outcome_picked, told, can_pick_later, can_pick_more}
+use Rattle.lsm_pick.proofs.FileCandidates.{candidates_deep, candidates_zero, wide_first}
 use Rattle.lsm_pick.proofs.rule.try_file.Goals as goal
 use Rattle.lsm_pick.proofs.rule.try_file.Goals.{then-first-gt0-via-then-first-gt0, then-first-gt0-via-else-first-gt0+then-is_picked}
 

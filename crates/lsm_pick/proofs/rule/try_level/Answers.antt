@@ -1,12 +1,12 @@
 use Rattle.std.proofs.Common.{◌≡◌, ◌∙◌, ◌+◌, Bool, true, false, List, ℕ, sym, subst, arith, take, eqb, refl}
 use Rattle.std.proofs.lemmas.Bool.{eq-eqb, eqb-true}
 use Rattle.lsm_key.specs.Sets.{IsIn}
-use Rattle.lsm_key.proofs.Sets.{IsIn-at}
+use Rattle.lsm_key.proofs.Membership.{IsIn-at}
 use Rattle.lsm_edit.specs.declared.file.FileMeta.{FileMeta}
 use Rattle.lsm_pick.specs.Closure.{Candidate}
 use Rattle.lsm_pick.specs.Rule.{level_candidates, file_candidates}
 use Rattle.lsm_pick.specs.Outcome.{HasOutcome, CanPick}
-use Rattle.lsm_pick.proofs.Trying.{all_outcomes, next_or, next_same, next_can_pick, taken_whole, told}
+use Rattle.lsm_pick.proofs.Outcomes.{all_outcomes, next_or, next_same, next_can_pick, taken_whole, told}
 use Rattle.lsm_pick.proofs.rule.try_level.Goals as goal
 use Rattle.lsm_pick.proofs.rule.try_level.Goals.{then-file-level+in_ok-here+else-is_picked, else-file-level}
 

@@ -2,7 +2,7 @@ use Rattle.std.proofs.Common.{◌≡◌, ◌∙◌, ◌∷◌, [], List, ℕ, ap
 use Rattle.lsm_key.specs.Reading.{Fails}
 use Rattle.lsm_sim.specs.Text.{words}
 use Rattle.lsm_sim.specs.Script.{operations}
-use Rattle.lsm_sim.proofs.Steps.{after, after_none, one_operation, batch_fails, batch_ends}
+use Rattle.lsm_sim.proofs.ScriptSteps.{after, after_none, one_operation, batch_fails, batch_ends}
 use Rattle.lsm_sim.proofs.batch.batch.Goals as goal
 
 pub loop-name-init : goal.loop-name-init

@@ -2,7 +2,7 @@
 use Rattle.std.proofs.Common.{◌≡◌}
 use Rattle.lsm_sim.specs.Text.{words}
 use Rattle.lsm_sim.specs.Script.{operations}
-use Rattle.lsm_sim.proofs.Steps.{after}
+use Rattle.lsm_sim.proofs.ScriptSteps.{after}
 use Rattle.lsm_sim.proofs.batch.batch.Given as goal
 
 abbrev pub invariant-loop-name : goal.invariant-loop-name

@@ -1,5 +1,5 @@
-use Rattle.lsm_coord.proofs.Jobs.{wants_memory}
-use Rattle.lsm_sim.proofs.Answered.{answers_left, answers_made, answers_reached, answers_refused, answers_sound}
+use Rattle.lsm_coord.proofs.PickedJobs.{wants_memory}
+use Rattle.lsm_sim.proofs.CompactionAnswers.{answers_left, answers_made, answers_reached, answers_refused, answers_sound}
 use Rattle.lsm_sim.proofs.Compactions.{back_keeps, inputs_of_version, left_again, made_of_inputs, merges_by, named, none_same, picked_by, sound_by}
 use Rattle.lsm_sim.proofs.compact.compact_once.Goals as goal
 

@@ -3,7 +3,7 @@ use Rattle.lsm_edit.specs.Served.{table_at}
 use Rattle.lsm_msg.specs.declared.message.Body.{Body}
 use Rattle.lsm_msg.specs.declared.message.Message.{Message}
 use Rattle.lsm_sim.specs.Compacting.{Brings}
-use Rattle.lsm_sim.proofs.Fetching.{brings_sent}
+use Rattle.lsm_sim.proofs.FetchedTables.{brings_sent}
 use Rattle.lsm_sim.proofs.compact.fetched.Goals as goal
 
 pub returns-in-Some : goal.returns-in-Some

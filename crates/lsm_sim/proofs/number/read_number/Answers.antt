@@ -1,5 +1,5 @@
 use Rattle.std.proofs.Common.{◌∙◌, sym, arith, rules}
-use Rattle.lsm_sim.proofs.Digits.{number_over, number_some}
+use Rattle.lsm_sim.proofs.NumberWords.{number_over, number_some}
 use Rattle.lsm_sim.proofs.number.read_number.Goals as goal
 
 pub returns-in_err-checked_mul : goal.returns-in_err-checked_mul

@@ -1,9 +1,9 @@
 use Rattle.std.proofs.Common.{◌++◌, [], refl, sym, ◌∙◌, rules}
 use Rattle.std.proofs.lemmas.List.{nil_from_length}
 use Rattle.lsm_sim.specs.Replies.{line}
-use Rattle.lsm_sim.proofs.Known.{Appends-none}
-use Rattle.lsm_sim.proofs.Runs.{RunsTo-none, IsSoFar-step, IsSoFar-written, IsSoFar-end, done_more, on_ok}
-use Rattle.lsm_sim.proofs.Stops.{on_err, Keeps-same, IsSoFar-stops, IsSoFar-halts}
+use Rattle.lsm_sim.proofs.KnownStreams.{Appends-none}
+use Rattle.lsm_sim.proofs.RunSteps.{RunsTo-none, IsSoFar-step, IsSoFar-written, IsSoFar-end, done_more, on_ok}
+use Rattle.lsm_sim.proofs.StoppedRuns.{on_err, Keeps-same, IsSoFar-stops, IsSoFar-halts}
 use Rattle.lsm_sim.proofs.run.run.Goals as goal
 
 pub loop-event-init : goal.loop-event-init

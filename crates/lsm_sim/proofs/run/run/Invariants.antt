@@ -1,6 +1,6 @@
 -- the events so far ran, and their lines are written or wait to be
 use Rattle.std.proofs.Common.{◌≡◌, ◌++◌}
-use Rattle.lsm_sim.proofs.Runs.{IsSoFar}
+use Rattle.lsm_sim.proofs.RunSteps.{IsSoFar}
 use Rattle.lsm_sim.proofs.run.run.Given as goal
 
 abbrev pub invariant-loop-event : goal.invariant-loop-event

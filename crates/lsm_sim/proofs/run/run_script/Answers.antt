@@ -1,6 +1,6 @@
 use Rattle.std.proofs.Common.{rules}
-use Rattle.lsm_sim.proofs.Runs.{prints_script, OnOk-weaker}
-use Rattle.lsm_sim.proofs.Stops.{stops_in_run}
+use Rattle.lsm_sim.proofs.RunSteps.{prints_script, OnOk-weaker}
+use Rattle.lsm_sim.proofs.StoppedRuns.{stops_in_run}
 use Rattle.lsm_sim.proofs.run.run_script.Goals as goal
 
 pub returns-clause-ok : goal.returns-clause-ok

@@ -3,7 +3,7 @@ use Rattle.lsm_sim.specs.Text.{words, lines, lines_left}
 use Rattle.lsm_sim.specs.Events.{event_of}
 use Rattle.lsm_coord.specs.Model.Event as say
 use Rattle.lsm_sim.specs.Script.{event, events_from}
-use Rattle.lsm_sim.proofs.Steps.{after, after_none, skipped, one_more, at_fault, at_end, events-push, lines-few}
+use Rattle.lsm_sim.proofs.ScriptSteps.{after, after_none, skipped, one_more, at_fault, at_end, events-push, lines-few}
 use Rattle.lsm_sim.proofs.script.parse.Goals as goal
 
 pub loop-line-init : goal.loop-line-init

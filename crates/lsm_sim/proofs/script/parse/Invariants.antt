@@ -3,7 +3,7 @@ use Rattle.std.proofs.Common.{◌≡◌, ◌+◌, ◌≤◌, map, length}
 use Rattle.lsm_sim.specs.Text.{lines_left}
 use Rattle.lsm_sim.specs.Events.{event_of}
 use Rattle.lsm_sim.specs.Script.{script, events_from}
-use Rattle.lsm_sim.proofs.Steps.{after}
+use Rattle.lsm_sim.proofs.ScriptSteps.{after}
 use Rattle.lsm_sim.proofs.script.parse.Given as goal
 
 abbrev pub invariant-loop-line : goal.invariant-loop-line

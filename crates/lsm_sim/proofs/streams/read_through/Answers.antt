@@ -1,5 +1,5 @@
 use Rattle.std.proofs.Common.{◌≡◌, ◌<◌, ◌++◌, take, length, rules}
-use Rattle.lsm_sim.proofs.Known.{Consumes-none, read_end, read_more, read_none}
+use Rattle.lsm_sim.proofs.KnownStreams.{Consumes-none, read_end, read_more, read_none}
 use Rattle.lsm_sim.proofs.streams.read_through.Goals as goal
 use Rattle.lsm_sim.proofs.streams.read_through.Goals.{in-Ok+in_ok-extend_from_slice-in-Ok, in-Err+else-ne}
 

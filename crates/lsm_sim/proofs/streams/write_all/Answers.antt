@@ -1,7 +1,7 @@
 use Rattle.std.proofs.Common.{◌≡◌, ◌≤◌, ℕ, drop, length, List, ap, ◌∙◌, rules}
 use Rattle.std.specs.Borrow.{Bor}
-use Rattle.lsm_sim.proofs.Cuts.{take_rest}
-use Rattle.lsm_sim.proofs.Known.{IsWritten-more, IsWritten-keep, IsWritten-same}
+use Rattle.lsm_sim.proofs.LinesAndWords.{take_rest}
+use Rattle.lsm_sim.proofs.KnownStreams.{IsWritten-more, IsWritten-keep, IsWritten-same}
 use Rattle.lsm_sim.proofs.streams.write_all.Goals as goal
 use Rattle.lsm_sim.proofs.streams.write_all.Goals.{in-Ok, in-Err+else-ne}
 

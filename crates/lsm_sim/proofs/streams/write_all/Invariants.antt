@@ -1,5 +1,5 @@
 -- a beginning is written, and the rest is left
-use Rattle.lsm_sim.proofs.Known.{IsWritten}
+use Rattle.lsm_sim.proofs.KnownStreams.{IsWritten}
 use Rattle.lsm_sim.proofs.streams.write_all.Given as goal
 
 abbrev pub invariant-loop : goal.invariant-loop

@@ -1,7 +1,7 @@
 use Rattle.std.proofs.Common.{◌≡◌, ◌∙◌, ◌++◌, ◌∷◌, List, ℕ, ap, sym, append_assoc, map}
 use Rattle.std.specs.List.{flat_map, join_with_byte}
 use Rattle.std.specs.Fmt.{decimal}
-use Rattle.lsm_sim.proofs.Joins.{after_comma, join-cons, flat_map-end}
+use Rattle.lsm_sim.proofs.JoinedText.{after_comma, join-cons, flat_map-end}
 use Rattle.lsm_sim.proofs.text.write_numbers.Goals as goal
 
 pub returns : goal.returns

@@ -1,6 +1,6 @@
 use Rattle.std.proofs.Common.{◌∙◌, ap, Option, ℕ}
 use Rattle.lsm_sim.specs.Tokens.{onto, read_bytes}
-use Rattle.lsm_sim.proofs.Spelled.{spelled-more}
+use Rattle.lsm_sim.proofs.SpelledWords.{spelled-more}
 use Rattle.lsm_sim.proofs.token.read_token.Goals as goal
 
 pub loop-rest-preserved : goal.loop-rest-preserved

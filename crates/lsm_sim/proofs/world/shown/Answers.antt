@@ -2,7 +2,7 @@ use Rattle.std.proofs.Common.{map, refl}
 use Rattle.lsm_coord.specs.Contract.Manifest.{place_of}
 use Rattle.lsm_sim.specs.declared.reply.Place.{Place}
 use Rattle.lsm_sim.specs.Replies.{place_at}
-use Rattle.lsm_sim.proofs.Joins.{map-turn}
+use Rattle.lsm_sim.proofs.JoinedText.{map-turn}
 use Rattle.lsm_sim.proofs.world.shown.Goals as goal
 
 pub loop-file-preserved : goal.loop-file-preserved

@@ -1,6 +1,6 @@
 use Rattle.std.proofs.Common.{◌≡◌, ◌∙◌, None, Some, sym, ap, subst}
 use Rattle.lsm_claim.specs.Book.{BookValue, NamesLeast, claim_fault}
-use Rattle.lsm_claim.proofs.Books.{IsBook-claimed, names_least}
+use Rattle.lsm_claim.proofs.BookChanges.{IsBook-claimed, names_least}
 use Rattle.lsm_claim.proofs.book.ClaimBook.claim.Goals as goal
 
 pub invariant_of-self-2 : goal.invariant_of-self-2

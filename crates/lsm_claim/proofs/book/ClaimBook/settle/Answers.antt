@@ -1,7 +1,7 @@
 use Rattle.std.proofs.Common.{◌≡◌, ◌∙◌, true, sym, ap}
 use Rattle.lsm_claim.specs.declared.ending.Ending.TheVariants.{Installed, Returned}
 use Rattle.lsm_claim.specs.Book.{BookValue, holds}
-use Rattle.lsm_claim.proofs.Books.{IsBook-settled}
+use Rattle.lsm_claim.proofs.BookChanges.{IsBook-settled}
 use Rattle.lsm_claim.proofs.book.ClaimBook.settle.Goals as goal
 
 pub invariant_of-self : goal.invariant_of-self

@@ -4,14 +4,14 @@ use Rattle.lsm_edit.specs.Edit.{edit as spelling}
 use Rattle.lsm_edit.specs.Next.{flush_edit}
 use Rattle.lsm_edit.specs.Version.{IsVersion}
 use Rattle.lsm_msg.specs.Installs.{with_flushed}
-use Rattle.lsm_msg.proofs.Flushed.{legal_flushed}
+use Rattle.lsm_msg.proofs.FlushKeepsJobs.{legal_flushed}
 use Rattle.lsm_coord.specs.Contract.Calls.{flush_source, flush_source_of, active_after}
 use Rattle.lsm_coord.specs.Contract.Manifest.{VersionSetValue}
 use Rattle.lsm_coord.specs.Contract.Memory.{AreLegal, IsCoord}
 use Rattle.lsm_coord.specs.Contract.Value.{CoordValue}
 use Rattle.lsm_coord.specs.Inner.Putting.{AddsFile}
-use Rattle.lsm_coord.proofs.Memories.{after_flush, frozen_from, none_from}
-use Rattle.lsm_coord.proofs.Soundness.{flush_keeps}
+use Rattle.lsm_coord.proofs.CoordInvariant.{after_flush, frozen_from, none_from}
+use Rattle.lsm_coord.proofs.JobsStaySound.{flush_keeps}
 use Rattle.lsm_coord.proofs.coord.Coord.add_table.Goals as goal
 
 pub invariant_of-self-then-is_some : goal.invariant_of-self-then-is_some

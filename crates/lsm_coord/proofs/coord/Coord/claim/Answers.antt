@@ -3,7 +3,7 @@ use Rattle.lsm_claim.specs.Book.{BookValue}
 use Rattle.lsm_msg.specs.Legal.{IsLegal}
 use Rattle.lsm_coord.specs.Contract.Memory.{AreLegal, AreJobWants}
 use Rattle.lsm_coord.specs.Contract.Value.{CoordValue}
-use Rattle.lsm_coord.proofs.Jobs.{claimed_or_not, legal_claimed, orderly_claimed}
+use Rattle.lsm_coord.proofs.PickedJobs.{claimed_or_not, legal_claimed, orderly_claimed}
 use Rattle.lsm_coord.proofs.coord.Coord.claim.Goals as goal
 
 pub invariant_of-self : goal.invariant_of-self

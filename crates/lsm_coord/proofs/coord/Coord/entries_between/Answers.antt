@@ -5,7 +5,7 @@ use Rattle.std.proofs.lemmas.Result.{IfOk-weaker}
 use Rattle.lsm_key.specs.Order.{is_between}
 use Rattle.lsm_edit.specs.Served.{ServedValue}
 use Rattle.lsm_coord.specs.Contract.Value.{CoordValue, frozen_entries, stored_entries}
-use Rattle.lsm_coord.proofs.Windows.{part_in_order, parts_together}
+use Rattle.lsm_coord.proofs.ShownWindows.{part_in_order, parts_together}
 use Rattle.lsm_coord.proofs.coord.Coord.entries_between.Goals as goal
 
 pub merged-requires : goal.merged-requires

@@ -5,7 +5,7 @@ use Rattle.lsm_key.specs.declared.entry.Entry.{Entry}
 use Rattle.lsm_key.specs.declared.limits.TheConstants.{MAX_MEMTABLE_WEIGHT}
 use Rattle.lsm_key.specs.Entries.{AreSound}
 use Rattle.lsm_key.specs.Limits.{entry_weight}
-use Rattle.lsm_table.proofs.Weights.{light_fits}
+use Rattle.lsm_table.proofs.TableWeights.{light_fits}
 use Rattle.lsm_edit.specs.declared.edit.Edit.{Edit}
 use Rattle.lsm_edit.specs.Edit.{IsSpelled}
 use Rattle.lsm_edit.specs.Version.{VersionValue, apply_fault}
@@ -16,10 +16,10 @@ use Rattle.lsm_coord.specs.Contract.Calls.{AddsTable, flush_fault, flush_source}
 use Rattle.lsm_coord.specs.Contract.Replies.{refusal_of}
 use Rattle.lsm_coord.specs.Model.Rules.{refusal}
 use Rattle.lsm_coord.specs.Model.Event as say
-use Rattle.lsm_coord.proofs.Faults.{flush_forced, flush_refused}
-use Rattle.lsm_coord.proofs.Flushing.{end_of, shows_after}
-use Rattle.lsm_coord.proofs.Manifests.{version_count}
-use Rattle.lsm_coord.proofs.Memories.{flush_free, taken_newer}
+use Rattle.lsm_coord.proofs.ForcedRefusals.{flush_forced, flush_refused}
+use Rattle.lsm_coord.proofs.FlushSteps.{end_of, shows_after}
+use Rattle.lsm_coord.proofs.ManifestReplay.{version_count}
+use Rattle.lsm_coord.proofs.CoordInvariant.{flush_free, taken_newer}
 use Rattle.lsm_coord.proofs.coord.Coord.flush.Goals as goal
 
 pub returns-in-Some-clause-step : goal.returns-in-Some-clause-step

@@ -5,7 +5,7 @@ use Rattle.lsm_key.specs.Places.{first_visible}
 use Rattle.lsm_edit.specs.Served.{ServedValue, tables_of}
 use Rattle.lsm_coord.specs.Contract.Value.{CoordValue, frozen_entries}
 use Rattle.lsm_coord.specs.Contract.Calls.{IsPoint}
-use Rattle.lsm_coord.proofs.Reading.{searched_first, searched_second, searched_last}
+use Rattle.lsm_coord.proofs.SearchAnswers.{searched_first, searched_second, searched_last}
 use Rattle.lsm_coord.proofs.coord.Coord.found.Goals as goal
 
 pub returns-in-Some : goal.returns-in-Some

@@ -6,10 +6,10 @@ use Rattle.lsm_coord.specs.Contract.Calls.{freeze_fault}
 use Rattle.lsm_coord.specs.Contract.Replies.{refusal_of}
 use Rattle.lsm_coord.specs.Model.Rules.{refusal}
 use Rattle.lsm_coord.specs.Model.Event as say
-use Rattle.lsm_coord.proofs.Faults.{freeze_forced, freeze_refused}
-use Rattle.lsm_coord.proofs.Memories.{after_freeze, freezable}
-use Rattle.lsm_coord.proofs.Freezing.{Shows-froze}
-use Rattle.lsm_coord.proofs.Soundness.{same_keeps}
+use Rattle.lsm_coord.proofs.ForcedRefusals.{freeze_forced, freeze_refused}
+use Rattle.lsm_coord.proofs.CoordInvariant.{after_freeze, freezable}
+use Rattle.lsm_coord.proofs.FreezeSteps.{Shows-froze}
+use Rattle.lsm_coord.proofs.JobsStaySound.{same_keeps}
 use Rattle.lsm_coord.proofs.coord.Coord.freeze.Goals as goal
 
 pub returns-in-Some-clause-step : goal.returns-in-Some-clause-step

@@ -1,5 +1,5 @@
 use Rattle.std.proofs.Common.{◌∙◌, sym}
-use Rattle.lsm_coord.proofs.Snapping.{is_point}
+use Rattle.lsm_coord.proofs.SnapshotSteps.{is_point}
 use Rattle.lsm_coord.proofs.coord.Coord.get.Goals as goal
 
 pub value_of-requires : goal.value_of-requires

@@ -1,7 +1,7 @@
 use Rattle.std.proofs.Common.{◌∙◌, refl}
 use Rattle.lsm_claim.specs.declared.ending.Ending.TheVariants.{Returned}
-use Rattle.lsm_coord.proofs.Refusals.{give_up_may}
-use Rattle.lsm_coord.proofs.Returning.{epoch_after, legal_after, orderly_after, Shows-with_book, gives_back_keeps}
+use Rattle.lsm_coord.proofs.StateRefusals.{give_up_may}
+use Rattle.lsm_coord.proofs.GiveBackSteps.{epoch_after, legal_after, orderly_after, Shows-with_book, gives_back_keeps}
 use Rattle.lsm_coord.proofs.coord.Coord.give_back.Goals as goal
 
 pub invariant_of-self : goal.invariant_of-self

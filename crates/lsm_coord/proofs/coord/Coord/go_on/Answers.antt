@@ -3,8 +3,8 @@ use Rattle.std.proofs.lemmas.List.{length-take}
 use Rattle.std.proofs.lemmas.Result.{on_ok_weaker}
 use Rattle.lsm_coord.specs.Contract.Calls.{Scans}
 use Rattle.lsm_coord.specs.Inner.Scan.{shown_pairs}
-use Rattle.lsm_coord.proofs.Ranges.{Pair}
-use Rattle.lsm_coord.proofs.Windows.{scans_on}
+use Rattle.lsm_coord.proofs.ScansAgree.{Pair}
+use Rattle.lsm_coord.proofs.ShownWindows.{scans_on}
 use Rattle.lsm_coord.proofs.coord.Coord.go_on.Goals as goal
 
 pub returns-clause-more : goal.returns-clause-more

@@ -7,16 +7,16 @@ use Rattle.lsm_claim.specs.declared.job.JobId.{JobId}
 use Rattle.lsm_claim.specs.Jobs.{same_job_id}
 use Rattle.lsm_claim.specs.Book.{IsBook, holds}
 use Rattle.lsm_key.specs.Sets.{IsIn}
-use Rattle.lsm_coord.proofs.Installing.{after_install, became_done, found_none, found_some, unheld_after, with_book}
+use Rattle.lsm_coord.proofs.InstallOutcomes.{after_install, became_done, found_none, found_some, unheld_after, with_book}
 use Rattle.lsm_edit.specs.Served.{IsServed, ServedValue}
 use Rattle.lsm_edit.specs.Version.{IsVersion}
 use Rattle.lsm_coord.specs.Contract.Memory.{AreLegal, AreJobWants}
 use Rattle.lsm_coord.specs.Contract.Value.{CoordValue}
 use Rattle.lsm_coord.proofs.InstallRefusals.{kept_steps, stale_steps}
-use Rattle.lsm_coord.proofs.InstallSound.{install_keeps}
-use Rattle.lsm_coord.proofs.InstallStep.{install_steps}
-use Rattle.lsm_coord.proofs.Soundness.{nothing_keeps}
-use Rattle.lsm_coord.proofs.Returning.{epoch_after, legal_after, orderly_after}
+use Rattle.lsm_coord.proofs.InstallKeepsJobs.{install_keeps}
+use Rattle.lsm_coord.proofs.InstallSteps.{install_steps}
+use Rattle.lsm_coord.proofs.JobsStaySound.{nothing_keeps}
+use Rattle.lsm_coord.proofs.GiveBackSteps.{epoch_after, legal_after, orderly_after}
 use Rattle.lsm_coord.proofs.coord.Coord.install.Goals as goal
 
 pub invariant_of-self : goal.invariant_of-self

@@ -8,7 +8,7 @@ use Rattle.lsm_pick.specs.Rule.{inputs_of}
 use Rattle.lsm_coord.specs.declared.snapshot.Snapshot.{Snapshot}
 use Rattle.lsm_coord.specs.Contract.Value.{CoordValue}
 use Rattle.lsm_coord.specs.Contract.Picking.{ArePointsOf, IsJobFor, deeper_files, range_of}
-use Rattle.lsm_coord.proofs.Jobs.{within_rules}
+use Rattle.lsm_coord.proofs.PickedJobs.{within_rules}
 use Rattle.lsm_coord.proofs.coord.Coord.job_of.Goals as goal
 
 pub unwrap-requires : goal.unwrap-requires

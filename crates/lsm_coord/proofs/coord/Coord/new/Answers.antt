@@ -3,7 +3,7 @@ use Rattle.lsm_edit.specs.Edit.{IsEdit, IsSpelled, edit as spelling}
 use Rattle.lsm_edit.specs.Next.{epoch_edit}
 use Rattle.lsm_edit.specs.Version.{first_version}
 use Rattle.lsm_coord.specs.Contract.Manifest.{VersionSetValue, first_version_set}
-use Rattle.lsm_coord.proofs.Opening.{Shows-new}
+use Rattle.lsm_coord.proofs.NewCoordinator.{Shows-new}
 use Rattle.lsm_coord.proofs.coord.Coord.new.Goals as goal
 
 pub returns-clause-shown : goal.returns-clause-shown

@@ -4,8 +4,8 @@ use Rattle.std.specs.Option.{IfSome}
 use Rattle.lsm_key.specs.Order.{key_le, key_lt}
 use Rattle.lsm_key.proofs.KeyRanges.{key_le_refl, key_le_trans}
 use Rattle.lsm_coord.specs.Contract.Calls.{Scans}
-use Rattle.lsm_coord.proofs.Keys.{below_is_upto, upto_back, upto_on}
-use Rattle.lsm_coord.proofs.Windows.{scans_nothing, scans_full}
+use Rattle.lsm_coord.proofs.KeyIntervals.{below_is_upto, upto_back, upto_on}
+use Rattle.lsm_coord.proofs.ShownWindows.{scans_nothing, scans_full}
 use Rattle.lsm_coord.proofs.coord.Coord.pairs_between.Goals as goal
 
 pub returns-then-is_ge : goal.returns-then-is_ge

@@ -4,7 +4,7 @@ use Rattle.lsm_claim.specs.declared.job.Want.{Want}
 use Rattle.lsm_coord.specs.Contract.Value.{CoordValue}
 use Rattle.lsm_coord.specs.Contract.Sound.{KeepsSound}
 use Rattle.lsm_coord.specs.Contract.Picking.{MayClaim}
-use Rattle.lsm_coord.proofs.Jobs.{claim_keeps, picked_sound, wants_memory}
+use Rattle.lsm_coord.proofs.PickedJobs.{claim_keeps, picked_sound, wants_memory}
 use Rattle.lsm_coord.proofs.coord.Coord.pick.Goals as goal
 
 pub returns-in_err-job-clause-refused : goal.returns-in_err-job-clause-refused

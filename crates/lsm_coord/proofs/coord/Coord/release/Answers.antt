@@ -9,10 +9,10 @@ use Rattle.lsm_coord.specs.Contract.Calls.{release_fault, after_release}
 use Rattle.lsm_coord.specs.Contract.Replies.{refusal_of}
 use Rattle.lsm_coord.specs.Model.Rules.{refusal}
 use Rattle.lsm_coord.specs.Model.Event as say
-use Rattle.lsm_coord.proofs.Faults.{release_forced}
+use Rattle.lsm_coord.proofs.ForcedRefusals.{release_forced}
 use Rattle.lsm_coord.specs.Contract.Sound.{KeepsSound}
-use Rattle.lsm_coord.proofs.Soundness.{release_keeps}
-use Rattle.lsm_coord.proofs.Snapping.{releasable, Shows-released}
+use Rattle.lsm_coord.proofs.JobsStaySound.{release_keeps}
+use Rattle.lsm_coord.proofs.SnapshotSteps.{releasable, Shows-released}
 use Rattle.lsm_coord.proofs.coord.Coord.release.Goals as goal
 
 pub returns-clause-step : goal.returns-clause-step

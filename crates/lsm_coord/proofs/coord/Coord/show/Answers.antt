@@ -6,9 +6,9 @@ use Rattle.lsm_coord.specs.Contract.Memory.{IsFit}
 use Rattle.lsm_coord.specs.Model.State.{current, last_flushed, current_files}
 use Rattle.lsm_coord.specs.Model.Step.{Lists}
 use Rattle.lsm_coord.specs.Contract.Manifest.{place_of}
-use Rattle.lsm_coord.proofs.Refusals.{show_may}
-use Rattle.lsm_coord.proofs.States.{lists_current}
-use Rattle.lsm_coord.proofs.Manifests.{version_count, flushed_is, files_are, removed_by_one}
+use Rattle.lsm_coord.proofs.StateRefusals.{show_may}
+use Rattle.lsm_coord.proofs.CurrentVersion.{lists_current}
+use Rattle.lsm_coord.proofs.ManifestReplay.{version_count, flushed_is, files_are, removed_by_one}
 use Rattle.lsm_coord.proofs.coord.Coord.show.Goals as goal
 
 pub returns-clause-step : goal.returns-clause-step

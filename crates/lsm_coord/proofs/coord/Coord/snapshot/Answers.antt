@@ -6,9 +6,9 @@ use Rattle.lsm_coord.specs.Model.Changes.{with_snapshot, next_snapshot}
 use Rattle.lsm_coord.specs.Contract.Replies.{refusal_of}
 use Rattle.lsm_coord.specs.Model.Rules.{refusal}
 use Rattle.lsm_coord.specs.Model.Event as say
-use Rattle.lsm_coord.proofs.Faults.{snapshot_forced, snapshot_refused}
-use Rattle.lsm_coord.proofs.Snapping.{Shows-snapped}
-use Rattle.lsm_coord.proofs.Soundness.{snapshot_keeps}
+use Rattle.lsm_coord.proofs.ForcedRefusals.{snapshot_forced, snapshot_refused}
+use Rattle.lsm_coord.proofs.SnapshotSteps.{Shows-snapped}
+use Rattle.lsm_coord.proofs.JobsStaySound.{snapshot_keeps}
 use Rattle.lsm_coord.proofs.coord.Coord.snapshot.Goals as goal
 
 pub returns-in-Some-clause-step : goal.returns-in-Some-clause-step

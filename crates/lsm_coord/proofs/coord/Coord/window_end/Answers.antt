@@ -1,6 +1,6 @@
 use Rattle.std.proofs.Common.{sym, ap, ◌∙◌}
 use Rattle.std.specs.Ordering.{is_ge, is_gt}
-use Rattle.lsm_coord.proofs.Keys.{below_after, upto_on}
+use Rattle.lsm_coord.proofs.KeyIntervals.{below_after, upto_on}
 use Rattle.lsm_coord.proofs.coord.Coord.window_end.Goals as goal
 
 pub returns-then-is_gt-clause-onward : goal.returns-then-is_gt-clause-onward

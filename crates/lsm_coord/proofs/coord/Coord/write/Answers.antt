@@ -8,10 +8,10 @@ use Rattle.lsm_coord.specs.Contract.Calls.{write_fault}
 use Rattle.lsm_coord.specs.Contract.Replies.{refusal_of}
 use Rattle.lsm_coord.specs.Model.Rules.{refusal}
 use Rattle.lsm_coord.specs.Model.Event as say
-use Rattle.lsm_coord.proofs.Faults.{write_forced, write_refused}
-use Rattle.lsm_coord.proofs.Memories.{last_below, after_write}
-use Rattle.lsm_coord.proofs.Writing.{Shows-written}
-use Rattle.lsm_coord.proofs.Soundness.{same_keeps}
+use Rattle.lsm_coord.proofs.ForcedRefusals.{write_forced, write_refused}
+use Rattle.lsm_coord.proofs.CoordInvariant.{last_below, after_write}
+use Rattle.lsm_coord.proofs.WriteSteps.{Shows-written}
+use Rattle.lsm_coord.proofs.JobsStaySound.{same_keeps}
 use Rattle.lsm_coord.proofs.coord.Coord.write.Goals as goal
 
 pub returns-in-Some-clause-step : goal.returns-in-Some-clause-step

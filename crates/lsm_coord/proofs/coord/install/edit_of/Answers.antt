@@ -6,7 +6,7 @@ use Rattle.lsm_edit.specs.Edit.{AreAdded}
 use Rattle.lsm_edit.specs.Next.{number_after}
 use Rattle.lsm_edit.specs.Version.{has_overlap, files_without}
 use Rattle.lsm_coord.specs.Contract.Installing.{records}
-use Rattle.lsm_coord.proofs.Editing.{inputs_there, none_overlaps, records_added, records_end, recorded_of}
+use Rattle.lsm_coord.proofs.InstallEdits.{inputs_there, none_overlaps, records_added, records_end, recorded_of}
 use Rattle.lsm_coord.proofs.coord.install.edit_of.Goals as goal
 
 pub install-requires-clause-present : goal.install-requires-clause-present

@@ -6,9 +6,9 @@ use Rattle.lsm_edit.specs.declared.file.FileMeta.{FileMeta}
 use Rattle.lsm_edit.specs.Served.{AreAsRecorded}
 use Rattle.lsm_edit.specs.Version.{VersionValue, apply_fault}
 use Rattle.lsm_coord.specs.Contract.Installing.{AreOutputTables, install_edit_of, number_fault}
-use Rattle.lsm_coord.proofs.Editing.{records_recorded}
+use Rattle.lsm_coord.proofs.InstallEdits.{records_recorded}
 use Rattle.lsm_coord.proofs.InstallRefusals.{has_numbers, lacks_numbers}
-use Rattle.lsm_coord.proofs.Outputs.{tables_each, tables_length}
+use Rattle.lsm_coord.proofs.OpenedOutputs.{tables_each, tables_length}
 use Rattle.lsm_coord.proofs.coord.install.put_outputs.Goals as goal
 
 pub edit_of-requires-clause-few : goal.edit_of-requires-clause-few

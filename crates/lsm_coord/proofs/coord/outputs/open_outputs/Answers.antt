@@ -3,7 +3,7 @@ use Rattle.std.specs.List.{slice_get}
 use Rattle.std.proofs.lemmas.Result.{err_from_is_err_and}
 use Rattle.lsm_table.specs.Tables.{Opened}
 use Rattle.lsm_coord.specs.Contract.Installing.{comes_next}
-use Rattle.lsm_coord.proofs.Outputs.{AreOpened, none_next, none_opens, opened_more}
+use Rattle.lsm_coord.proofs.OpenedOutputs.{AreOpened, none_next, none_opens, opened_more}
 use Rattle.lsm_coord.proofs.coord.outputs.open_outputs.Goals as goal
 
 pub returns-then-not-comes_next-clause-bad : goal.returns-then-not-comes_next-clause-bad

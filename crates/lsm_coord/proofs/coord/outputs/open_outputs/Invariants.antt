@@ -1,5 +1,5 @@
 use Rattle.std.proofs.Common.{take}
-use Rattle.lsm_coord.proofs.Outputs.{AreOpened}
+use Rattle.lsm_coord.proofs.OpenedOutputs.{AreOpened}
 use Rattle.lsm_coord.proofs.coord.outputs.open_outputs.Given as goal
 
 abbrev pub invariant-loop-text : goal.invariant-loop-text

@@ -4,7 +4,7 @@ use Rattle.std.proofs.lemmas.List.Elements.{All-cons}
 use Rattle.lsm_key.specs.declared.entry.Entry.{Entry}
 use Rattle.lsm_key.specs.Order.{IsInOrder}
 use Rattle.lsm_key.specs.Places.{all_entries}
-use Rattle.lsm_edit.proofs.Ranges.{items_of}
+use Rattle.lsm_edit.proofs.RangeEntries.{items_of}
 use Rattle.lsm_coord.proofs.coord.scan.merged.Goals as goal
 
 -- what was pushed

@@ -4,8 +4,8 @@ use Rattle.std.specs.Option.{option_map}
 use Rattle.std.proofs.lemmas.List.{drop_more, drop_all, take_all, append_assoc, append-nil, length-append}
 use Rattle.lsm_key.specs.declared.entry.Entry.{Entry}
 use Rattle.lsm_coord.specs.Inner.Scan.{is_hidden, pair_of, shown_pairs}
-use Rattle.lsm_coord.proofs.Ranges.{Pair}
-use Rattle.lsm_coord.proofs.Scanning.{pass_hidden, pass_seen, one_pair, full_front}
+use Rattle.lsm_coord.proofs.ScansAgree.{Pair}
+use Rattle.lsm_coord.proofs.ScanWindows.{pass_hidden, pass_seen, one_pair, full_front}
 use Rattle.lsm_coord.proofs.coord.scan.push_shown.Goals as goal
 
 pub loop-entry-init : goal.loop-entry-init

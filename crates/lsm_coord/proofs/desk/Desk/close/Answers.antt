@@ -4,7 +4,7 @@ use Rattle.lsm_coord.specs.Contract.Value.{CoordValue}
 use Rattle.lsm_coord.specs.Contract.Shows.{Shows}
 use Rattle.lsm_coord.specs.Contract.Sound.{KeepsSound}
 use Rattle.lsm_coord.specs.Contract.Desks.{claim_of}
-use Rattle.lsm_coord.proofs.Returning.{four_in_turn, shown_after_all, all_given_back_keep}
+use Rattle.lsm_coord.proofs.GiveBackSteps.{four_in_turn, shown_after_all, all_given_back_keep}
 use Rattle.lsm_coord.proofs.desk.Desk.close.Goals as goal
 
 pub returns-clause-shown : goal.returns-clause-shown

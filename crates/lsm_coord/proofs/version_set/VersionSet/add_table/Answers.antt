@@ -5,7 +5,7 @@ use Rattle.lsm_edit.specs.Next.{flush_edit}
 use Rattle.lsm_edit.specs.Served.{AreAsRecorded, IsServed, ServedValue}
 use Rattle.lsm_edit.specs.Version.{VersionValue, IsVersion, apply_fault}
 use Rattle.lsm_coord.specs.Contract.Manifest.{VersionSetValue}
-use Rattle.lsm_coord.proofs.Flushing.{logged_is}
+use Rattle.lsm_coord.proofs.FlushSteps.{logged_is}
 use Rattle.lsm_coord.proofs.version_set.VersionSet.add_table.Goals as goal
 
 pub log_and_apply-requires-clause-recorded : goal.log_and_apply-requires-clause-recorded

@@ -2,7 +2,7 @@ use Rattle.std.proofs.Common.{◌≡◌, ◌∙◌, ℕ, List, ◌∷◌, [], �
 use Rattle.lsm_edit.specs.Edit.{edit as spelling}
 use Rattle.lsm_edit.specs.Version.{apply_fault}
 use Rattle.lsm_coord.specs.Contract.Manifest.{VersionSetValue}
-use Rattle.lsm_coord.proofs.Manifests.{Folds-push}
+use Rattle.lsm_coord.proofs.ManifestReplay.{Folds-push}
 use Rattle.lsm_coord.proofs.version_set.VersionSet.log_and_apply.Goals as goal
 
 pub invariant_of-self-2 : goal.invariant_of-self-2

@@ -1,6 +1,6 @@
 use Rattle.std.proofs.Common.{◌≡◌, not, ap, ◌∙◌, arith, List, ℕ, length}
 use Rattle.lsm_table.specs.Tables.{smallest_key, largest_key}
-use Rattle.lsm_table.proofs.Contents.{table_small, table_ends, smallest_fits, largest_fits}
+use Rattle.lsm_table.proofs.TableContents.{table_small, table_ends, smallest_fits, largest_fits}
 use Rattle.lsm_edit.proofs.file.FileMeta.of_table.Goals as goal
 
 pub returns-clause-sound : goal.returns-clause-sound

@@ -5,7 +5,7 @@ use Rattle.lsm_edit.specs.declared.served.Placed.{Placed}
 use Rattle.lsm_edit.specs.Version.{apply_fault}
 use Rattle.lsm_edit.specs.Served.{AreInSearchOrder, ServedValue, placed_of, put_all, places_without}
 use Rattle.lsm_edit.proofs.VersionLaws.{stays}
-use Rattle.lsm_edit.proofs.AfterEdit.{served_after}
+use Rattle.lsm_edit.proofs.ServedAfterEdit.{served_after}
 use Rattle.lsm_edit.proofs.served.Served.advance_valid.Goals as goal
 
 pub invariant_of-self-2 : goal.invariant_of-self-2

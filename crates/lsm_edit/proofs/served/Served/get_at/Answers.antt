@@ -1,9 +1,9 @@
 use Rattle.std.proofs.Common.{◌∙◌, ap, List}
 use Rattle.lsm_key.specs.Places.{first_visible}
-use Rattle.lsm_key.proofs.Places.{first_visible-is}
+use Rattle.lsm_key.proofs.FirstVisible.{first_visible-is}
 use Rattle.lsm_edit.specs.Served.{tables_of}
 use Rattle.lsm_edit.specs.declared.served.Placed.{Placed}
-use Rattle.lsm_edit.proofs.Places.{levels_in_range}
+use Rattle.lsm_edit.proofs.ServedPlaces.{levels_in_range}
 use Rattle.lsm_edit.proofs.served.Served.get_at.Goals as goal
 
 pub first_in-requires-clause-levels : goal.first_in-requires-clause-levels

@@ -1,6 +1,6 @@
 use Rattle.std.proofs.Common.{◌∙◌, List, filter, not, ap, sym}
 use Rattle.std.proofs.lemmas.List.{take_rest}
-use Rattle.lsm_key.proofs.Ranges.{filter_rest}
+use Rattle.lsm_key.proofs.RangeSlices.{filter_rest}
 use Rattle.lsm_edit.specs.declared.served.Placed.{Placed}
 use Rattle.lsm_edit.specs.Served.{comes_left}
 use Rattle.lsm_edit.proofs.served.Served.level_from.Goals as goal

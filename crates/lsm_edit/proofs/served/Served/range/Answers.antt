@@ -1,4 +1,4 @@
-use Rattle.lsm_edit.proofs.Places.{levels_in_range}
+use Rattle.lsm_edit.proofs.ServedPlaces.{levels_in_range}
 use Rattle.lsm_edit.proofs.served.Served.range.Goals as goal
 
 pub lists_of-requires-clause-levels : goal.lists_of-requires-clause-levels

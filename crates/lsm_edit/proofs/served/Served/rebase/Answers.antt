@@ -3,7 +3,7 @@ use Rattle.lsm_key.specs.Sets.{SameMembers}
 use Rattle.lsm_edit.specs.declared.file.FileMeta.{FileMeta}
 use Rattle.lsm_edit.specs.declared.served.Placed.{Placed}
 use Rattle.lsm_edit.specs.Served.{AreInSearchOrder, placed_of, in_order}
-use Rattle.lsm_edit.proofs.Rebase.{rebased, in_order-members}
+use Rattle.lsm_edit.proofs.PlacesInOrder.{rebased, in_order-members}
 use Rattle.lsm_edit.proofs.served.Served.rebase.Goals as goal
 
 pub invariant_of-self : goal.invariant_of-self

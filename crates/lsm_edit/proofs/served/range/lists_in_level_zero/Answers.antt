@@ -2,11 +2,11 @@ use Rattle.std.proofs.Common.{◌≡◌, ◌+◌, ◌++◌, ◌∷◌, [], filte
 use Rattle.std.proofs.lemmas.List.{drop_more, drop_all, map-append}
 use Rattle.lsm_key.specs.declared.entry.Entry.{Entry}
 use Rattle.lsm_key.specs.Sets.{IsIn}
-use Rattle.lsm_key.proofs.Sets.{IsIn-at}
-use Rattle.lsm_table.proofs.Contents.{table_ascending}
+use Rattle.lsm_key.proofs.Membership.{IsIn-at}
+use Rattle.lsm_table.proofs.TableContents.{table_ascending}
 use Rattle.lsm_edit.specs.declared.served.Placed.{Placed}
 use Rattle.lsm_edit.specs.Served.{AreInSearchOrder}
-use Rattle.lsm_edit.proofs.Ranges.{Gathers, gathers_none, gathers_more, gathers_all, items_of}
+use Rattle.lsm_edit.proofs.RangeEntries.{Gathers, gathers_none, gathers_more, gathers_all, items_of}
 use Rattle.lsm_edit.proofs.LevelRanges.{is_of, zero_here, zero_stopped, order_left}
 use Rattle.lsm_edit.proofs.served.range.lists_in_level_zero.Goals as goal
 

@@ -1,5 +1,5 @@
 use Rattle.std.proofs.Common.{map, drop, filter}
-use Rattle.lsm_edit.proofs.Ranges.{Gathers}
+use Rattle.lsm_edit.proofs.RangeEntries.{Gathers}
 use Rattle.lsm_edit.proofs.LevelRanges.{is_of}
 use Rattle.lsm_edit.proofs.served.range.lists_in_level_zero.Given as goal
 

@@ -3,7 +3,7 @@ use Rattle.std.proofs.lemmas.List.{map-append}
 use Rattle.std.proofs.lemmas.List.Elements.{All-push}
 use Rattle.lsm_key.specs.Order.{IsInOrder}
 use Rattle.lsm_key.specs.Places.{all_entries}
-use Rattle.lsm_edit.proofs.Ranges.{items_of, within}
+use Rattle.lsm_edit.proofs.RangeEntries.{items_of, within}
 use Rattle.lsm_edit.proofs.LevelRanges.{level_zero, all_levels, gathered_more}
 use Rattle.lsm_edit.proofs.served.range.lists_of.Goals as goal
 

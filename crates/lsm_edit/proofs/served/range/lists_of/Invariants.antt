@@ -1,7 +1,7 @@
 use Rattle.std.proofs.Common.{◌≡◌, All, map, filter}
 use Rattle.lsm_key.specs.Order.{IsInOrder}
 use Rattle.lsm_key.specs.Places.{all_entries}
-use Rattle.lsm_edit.proofs.Ranges.{within}
+use Rattle.lsm_edit.proofs.RangeEntries.{within}
 use Rattle.lsm_edit.proofs.LevelRanges.{is_over}
 use Rattle.lsm_edit.proofs.served.range.lists_of.Given as goal
 

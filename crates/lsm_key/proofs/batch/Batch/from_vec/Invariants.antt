@@ -1,5 +1,5 @@
 -- the operations so far are a batch, and those that are left decide
-use Rattle.std.proofs.Common.{◌≡◌, ◌≤◌, None, take, drop}
+use Rattle.std.proofs.Common.{◌≡◌, ◌≤◌, take, drop}
 use Rattle.lsm_key.specs.declared.limits.TheConstants.{MAX_BATCH_OPS, MAX_BATCH_WEIGHT}
 use Rattle.lsm_key.specs.Limits.{total_weight, batch_fault, batch_fault_after}
 use Rattle.lsm_key.proofs.batch.Batch.from_vec.Given as goal

@@ -4,8 +4,8 @@ use Rattle.std.specs.declared.ops.Bound.TheVariants.{Included, Excluded}
 use Rattle.std.specs.BTreeMap.Range.{entries_between}
 use Rattle.lsm_key.specs.declared.entry.Entry.{Entry}
 use Rattle.lsm_mem.specs.Chains.{chains_of, chains_between, entries_in}
-use Rattle.lsm_mem.proofs.Pairs.{key_cmp, vec_cmp}
-use Rattle.lsm_mem.proofs.Between.{range_between, none_between}
+use Rattle.lsm_mem.proofs.ChainsOfMap.{key_cmp, vec_cmp}
+use Rattle.lsm_mem.proofs.EntriesBetween.{range_between, none_between}
 use Rattle.lsm_mem.proofs.chains.Chains.entries_between.Goals as goal
 
 pub returns-then-is_ge : goal.returns-then-is_ge

@@ -3,7 +3,7 @@ use Rattle.std.specs.List.{filter}
 use Rattle.std.proofs.lemmas.Iterator.Consumers.{nth_from_yields_List, YieldsList-from_rest}
 use Rattle.lsm_key.specs.Order.{key_le}
 use Rattle.lsm_mem.specs.Chains.{keys_in}
-use Rattle.lsm_mem.proofs.Keys.{key_at}
+use Rattle.lsm_mem.proofs.ChainKeys.{key_at}
 use Rattle.lsm_mem.proofs.chains.Chains.key_after.Goals as goal
 
 pub returns-in_default : goal.returns-in_default

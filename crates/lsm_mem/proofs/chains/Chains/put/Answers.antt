@@ -3,9 +3,9 @@ use Rattle.std.proofs.lemmas.Result.{err_from_is_err_and}
 use Rattle.std.specs.BTreeMap.{insert_entry}
 use Rattle.lsm_key.specs.declared.entry.Entry.{Entry}
 use Rattle.lsm_key.specs.Places.{entry_of}
-use Rattle.lsm_key.proofs.Writes.{entry_key}
+use Rattle.lsm_key.proofs.WritesOverStored.{entry_key}
 use Rattle.lsm_mem.specs.Chains.{chains_of, with_entry}
-use Rattle.lsm_mem.proofs.Pairs.{set_value-same, vec_cmp, longer_is, first_is}
+use Rattle.lsm_mem.proofs.ChainsOfMap.{set_value-same, vec_cmp, longer_is, first_is}
 use Rattle.lsm_mem.proofs.chains.Chains.put.Goals as goal
 
 pub returns-in_err-push-clause-err : goal.returns-in_err-push-clause-err

@@ -3,7 +3,7 @@ use Rattle.std.proofs.lemmas.List.{take_more, length-take-le}
 use Rattle.lsm_key.specs.declared.op.Op.{Op}
 use Rattle.lsm_key.specs.Places.{entry_of, entries_after}
 use Rattle.lsm_mem.specs.Chains.{with_entry, with_entries}
-use Rattle.lsm_mem.proofs.Growing.{with_entries-push}
+use Rattle.lsm_mem.proofs.ChainsGrow.{with_entries-push}
 use Rattle.lsm_mem.proofs.chains.Chains.put_all.Goals as goal
 
 pub loop-done-preserved : goal.loop-done-preserved

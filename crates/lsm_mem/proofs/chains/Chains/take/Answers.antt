@@ -4,7 +4,7 @@ use Rattle.std.proofs.lemmas.Bool.{eqb-true, eqb-false}
 use Rattle.std.proofs.lemmas.List.{nil_from_length}
 use Rattle.lsm_key.specs.declared.entry.Entry.{Entry}
 use Rattle.lsm_mem.specs.Chains.{chains_of, without_newest, older}
-use Rattle.lsm_mem.proofs.Pairs.{is_key, without_newest-none, set_value-without_newest, remove_entry-without_newest, older_popped}
+use Rattle.lsm_mem.proofs.ChainsOfMap.{is_key, without_newest-none, set_value-without_newest, remove_entry-without_newest, older_popped}
 use Rattle.lsm_mem.proofs.chains.Chains.take.Goals as goal
 
 pub returns-in_default : goal.returns-in_default

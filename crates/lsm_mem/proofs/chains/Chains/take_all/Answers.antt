@@ -3,7 +3,7 @@ use Rattle.lsm_key.specs.declared.op.Op.{Op}
 use Rattle.lsm_key.specs.Writes.{key_of}
 use Rattle.lsm_key.specs.Places.{entries_after}
 use Rattle.lsm_mem.specs.Chains.{with_entries, without_newest}
-use Rattle.lsm_mem.proofs.Growing.{last_given_back}
+use Rattle.lsm_mem.proofs.ChainsGrow.{last_given_back}
 use Rattle.lsm_mem.proofs.chains.Chains.take_all.Goals as goal
 
 pub loop-op-preserved : goal.loop-op-preserved

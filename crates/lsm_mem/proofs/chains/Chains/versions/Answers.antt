@@ -1,5 +1,5 @@
 use Rattle.std.proofs.Common.{sym}
-use Rattle.lsm_mem.proofs.Pairs.{lookup_none, lookup_some}
+use Rattle.lsm_mem.proofs.ChainsOfMap.{lookup_none, lookup_some}
 use Rattle.lsm_mem.proofs.chains.Chains.versions.Goals as goal
 
 pub returns-in_err-get-clause-none : goal.returns-in_err-get-clause-none

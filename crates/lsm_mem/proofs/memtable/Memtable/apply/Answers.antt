@@ -7,8 +7,8 @@ use Rattle.lsm_key.specs.Limits.{entry_weight, total_weight, batch_fault}
 use Rattle.lsm_key.specs.Places.{entries_after}
 use Rattle.lsm_mem.specs.Chains.{Chain, entries_in}
 use Rattle.lsm_mem.specs.Memtable.{last_sequence}
-use Rattle.lsm_mem.proofs.Growing.{with_entries-permuted}
-use Rattle.lsm_mem.proofs.Noted.{noted_none, noted_some, length-le-weight}
+use Rattle.lsm_mem.proofs.ChainsGrow.{with_entries-permuted}
+use Rattle.lsm_mem.proofs.MemtableTotals.{noted_none, noted_some, length-le-weight}
 use Rattle.lsm_mem.proofs.memtable.Memtable.apply.Goals as goal
 
 pub overflow_add-self-2 : goal.overflow_add-self-2

@@ -1,4 +1,4 @@
-use Rattle.lsm_mem.proofs.Noted.{noted_sound}
+use Rattle.lsm_mem.proofs.MemtableTotals.{noted_sound}
 use Rattle.lsm_mem.proofs.memtable.Memtable.entries.Goals as goal
 
 pub returns-clause-sound : goal.returns-clause-sound

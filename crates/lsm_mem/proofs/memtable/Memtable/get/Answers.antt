@@ -1,6 +1,6 @@
 use Rattle.std.proofs.Common.{sym, ◌∙◌}
-use Rattle.lsm_mem.proofs.Chained.{is_chain, visible_none}
-use Rattle.lsm_mem.proofs.Rising.{visible_written}
+use Rattle.lsm_mem.proofs.ChainOrder.{is_chain, visible_none}
+use Rattle.lsm_mem.proofs.VersionOrder.{visible_written}
 use Rattle.lsm_mem.proofs.memtable.Memtable.get.Goals as goal
 
 pub returns-in_err-versions : goal.returns-in_err-versions

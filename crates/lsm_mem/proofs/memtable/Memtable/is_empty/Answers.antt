@@ -1,6 +1,6 @@
 use Rattle.std.proofs.Common.{sym, ap, ◌∙◌}
 use Rattle.lsm_mem.specs.Chains.{entries_in}
-use Rattle.lsm_mem.proofs.Chained.{none_from_empty}
+use Rattle.lsm_mem.proofs.ChainOrder.{none_from_empty}
 use Rattle.lsm_mem.proofs.memtable.Memtable.is_empty.Goals as goal
 
 pub returns : goal.returns

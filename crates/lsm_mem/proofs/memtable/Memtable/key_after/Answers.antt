@@ -3,7 +3,7 @@ use Rattle.std.specs.List.{filter}
 use Rattle.std.proofs.lemmas.Result.{IfOk-weaker}
 use Rattle.lsm_key.specs.Order.{key_le}
 use Rattle.lsm_mem.specs.Memtable.{keys_of}
-use Rattle.lsm_mem.proofs.Keys.{keys_of_chains}
+use Rattle.lsm_mem.proofs.ChainKeys.{keys_of_chains}
 use Rattle.lsm_mem.proofs.memtable.Memtable.key_after.Goals as goal
 
 pub returns : goal.returns

@@ -1,6 +1,6 @@
 use Rattle.std.proofs.Common.{ap, ◌∙◌}
 use Rattle.lsm_mem.specs.Memtable.{last_sequence}
-use Rattle.lsm_mem.proofs.Noted.{noted_sound, up_to_last}
+use Rattle.lsm_mem.proofs.MemtableTotals.{noted_sound, up_to_last}
 use Rattle.lsm_mem.proofs.memtable.Memtable.last_seq.Goals as goal
 
 pub returns-clause-early : goal.returns-clause-early

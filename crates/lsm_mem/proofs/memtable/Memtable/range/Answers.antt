@@ -2,8 +2,8 @@ use Rattle.std.proofs.Common.{sym, ap, ◌∙◌}
 use Rattle.std.specs.List.{filter}
 use Rattle.std.proofs.lemmas.Result.{IfOk-weaker}
 use Rattle.lsm_key.specs.Order.{is_between}
-use Rattle.lsm_mem.proofs.Noted.{noted_sound}
-use Rattle.lsm_mem.proofs.Between.{between_chains}
+use Rattle.lsm_mem.proofs.MemtableTotals.{noted_sound}
+use Rattle.lsm_mem.proofs.EntriesBetween.{between_chains}
 use Rattle.lsm_mem.proofs.memtable.Memtable.range.Goals as goal
 
 pub returns-clause-all : goal.returns-clause-all

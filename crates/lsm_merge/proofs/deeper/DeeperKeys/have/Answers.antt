@@ -6,7 +6,7 @@ use Rattle.std.proofs.lemmas.Bool.{le-ltb}
 use Rattle.lsm_key.specs.Order.{key_le}
 use Rattle.lsm_key.specs.declared.range.KeyRange.{KeyRange}
 use Rattle.lsm_msg.specs.Merge.{is_in_ranges}
-use Rattle.lsm_merge.proofs.Reach.{le_is, none_begun, last_tells}
+use Rattle.lsm_merge.proofs.DeeperKeys.{le_is, none_begun, last_tells}
 use Rattle.lsm_merge.proofs.deeper.DeeperKeys.have.Goals as goal
 
 pub index-requires : goal.index-requires

@@ -2,7 +2,7 @@ use Rattle.std.proofs.Common.{List, [], sym, ap, ◌∙◌, subst}
 use Rattle.lsm_key.specs.declared.range.KeyRange.{KeyRange}
 use Rattle.lsm_msg.specs.Merge.{is_in_ranges}
 use Rattle.lsm_merge.specs.Reaching.{AreReaching, with_raised_ends}
-use Rattle.lsm_merge.proofs.Reach.{moved_keys, widened_keys, reaching}
+use Rattle.lsm_merge.proofs.DeeperKeys.{moved_keys, widened_keys, reaching}
 use Rattle.lsm_merge.proofs.deeper.DeeperKeys.of.Goals as goal
 
 pub invariant_of-result : goal.invariant_of-result

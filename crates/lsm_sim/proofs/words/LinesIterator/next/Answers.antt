@@ -1,7 +1,7 @@
 use Rattle.std.proofs.Common.{◌≡◌, ◌∙◌, ℕ, List, ◌∷◌, ap, sym, Some, rules}
 use Rattle.lsm_sim.specs.Text.{is_line_feed, lines, lines_left}
 use Rattle.lsm_sim.specs.declared.words.Lines.{Lines}
-use Rattle.lsm_sim.proofs.Cuts.{lines-call, lines-more, lines-end, take_rest, pieces_after}
+use Rattle.lsm_sim.proofs.LinesAndWords.{lines-call, lines-more, lines-end, take_rest, pieces_after}
 use Rattle.lsm_sim.proofs.words.LinesIterator.next.Goals as goal
 use Rattle.lsm_sim.proofs.words.LinesIterator.next.Goals.{then-not-is_empty, else-not-is_empty}
 

@@ -1,5 +1,5 @@
 use Rattle.std.proofs.Common.{ℕ, ◌-◌, List, length, take, drop, rules}
-use Rattle.lsm_sim.proofs.Cuts.{words-call, words-last, take_rest}
+use Rattle.lsm_sim.proofs.LinesAndWords.{words-call, words-last, take_rest}
 use Rattle.lsm_sim.proofs.words.WordsIterator.next.Goals as goal
 
 pub returns-then-is_empty-clause-steps : goal.returns-then-is_empty-clause-steps

@@ -2,7 +2,7 @@ use Rattle.std.proofs.Common.{subst, sym}
 use Rattle.std.specs.List.{AllByRecursion}
 use Rattle.lsm_key.specs.Entries.{IsEntry}
 use Rattle.lsm_table.specs.Blocks.{HasSequence}
-use Rattle.lsm_table.proofs.Growing.{each_from}
+use Rattle.lsm_table.proofs.EntriesGrow.{each_from}
 use Rattle.lsm_table.proofs.table.Table.from_entries.Goals as goal
 
 pub bytes_of-requires-clause-each : goal.bytes_of-requires-clause-each

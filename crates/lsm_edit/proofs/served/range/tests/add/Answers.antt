@@ -1,6 +1,6 @@
 use Rattle.std.proofs.Common.{◌≡◌, ◌≤◌, ◌∷◌, ◌++◌, [], List, subst, sym, inl, inr}
 use Rattle.lsm_key.specs.Sets.{IsIn}
-use Rattle.lsm_key.proofs.Sets.{IsIn-append_cases, IsIn-one}
+use Rattle.lsm_key.proofs.Membership.{IsIn-append_cases, IsIn-one}
 use Rattle.lsm_key.specs.declared.limits.TheConstants.{MAX_LEVEL}
 use Rattle.lsm_edit.specs.declared.served.Placed.{Placed}
 use Rattle.lsm_edit.specs.Served.{IsAsRecorded}

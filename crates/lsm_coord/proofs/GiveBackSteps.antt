@@ -1,0 +1,137 @@
+-- What a claim that ends without a result leaves.
+use Rattle.std.proofs.Common.{◌≡◌, ℕ, Bool, true, false, not, cond, List, [], ◌∷◌, ◌++◌, refl, sym, ap, subst, ◌∙◌}
+use Rattle.std.proofs.lemmas.Bool.{and_parts, eqb-true}
+use Rattle.std.specs.Prelude.{nat_eq}
+use Rattle.std.specs.List.{list_any}
+use Rattle.lsm_key.specs.Sets.{IsIn}
+use Rattle.lsm_key.proofs.AscendingEntries.{IsIn-filter}
+use Rattle.lsm_key.proofs.Lists.{IsIn-kept, any_from, any_is}
+use Rattle.lsm_claim.specs.declared.ending.Ending.{Ending}
+use Rattle.lsm_claim.specs.declared.ending.Ending.TheVariants.{Installed, Returned}
+use Rattle.lsm_claim.specs.declared.job.JobId.{JobId}
+use Rattle.lsm_claim.specs.declared.job.LiveJob.{LiveJob}
+use Rattle.lsm_claim.specs.Jobs.{same_job_id, without_job}
+use Rattle.lsm_claim.specs.Book.{BookValue, holds, with_ending, after_settling}
+use Rattle.lsm_edit.specs.declared.file.FileMeta.{FileMeta}
+use Rattle.lsm_coord.specs.Model.State.{State}
+use Rattle.lsm_coord.specs.Contract.Memory.{AreLegal, IsJobWant}
+use Rattle.lsm_coord.specs.Contract.Value.{CoordValue}
+use Rattle.lsm_coord.specs.Contract.Calls.{after_give_back}
+use Rattle.lsm_coord.specs.Contract.Desks.{after_giving_back_all}
+use Rattle.lsm_coord.specs.Contract.Shows.{Shows}
+use Rattle.lsm_coord.specs.Contract.Sound.{KeepsSound}
+
+-- ---- the book
+
+either : (P : BookValue → Type 0) (held : Bool) (a b : BookValue) → P a → P b → P (cond held a b)
+either P true a b x y = x
+either P false a b x y = y
+
+-- an ending counts, and leaves the epoch and the live jobs
+counted : (P : ℕ → List LiveJob → Type 0) (ending : Ending) (b : BookValue) → P b.epoch b.live → P (with_ending ending b).epoch (with_ending ending b).live
+counted P Installed b h = h
+counted P Returned b h = h
+
+-- what holds of a book without the job, and with it, holds of the book after settling
+settled_has : (P : ℕ → List LiveJob → Type 0) (b : BookValue) (id : JobId) (ending : Ending) → P b.epoch (without_job id b.live) → P b.epoch b.live → P (after_settling b id ending).epoch (after_settling b id ending).live
+settled_has P b id ending gone same =
+    either (λ (x : BookValue). P x.epoch x.live) (holds b id) (with_ending ending (record b { live = without_job id b.live })) b (counted P ending (record b { live = without_job id b.live }) gone) same
+
+pub epoch_after : (b : BookValue) (id : JobId) (ending : Ending) → (after_settling b id ending).epoch ≡ b.epoch
+epoch_after b id ending = settled_has (λ epoch live. epoch ≡ b.epoch) b id ending refl refl
+
+-- no job comes
+pub live_before : (b : BookValue) (id : JobId) (ending : Ending) (j : LiveJob) → IsIn j (after_settling b id ending).live → IsIn j b.live
+live_before b id ending j =
+    settled_has (λ epoch live. IsIn j live → IsIn j b.live) b id ending (λ m. (IsIn-filter (λ k. not (same_job_id k.id id)) j b.live m).0) (λ m. m)
+
+pub same_name : (a b : JobId) → same_job_id a b ≡ true → a ≡ b
+same_name a b h =
+    let parts = and_parts (nat_eq a.epoch b.epoch) (nat_eq a.number b.number) h in
+    let epoch = eqb-true a.epoch b.epoch parts.0 in
+    let number = eqb-true a.number b.number parts.1 in
+    λ i. record { epoch = epoch i; number = number i }
+
+-- a job that was live under a name that still is, still is live
+pub still_live : (b : BookValue) (id : JobId) (ending : Ending) (j : LiveJob) (name : JobId) → IsIn j b.live → j.id ≡ name → holds (after_settling b id ending) name ≡ true → IsIn j (after_settling b id ending).live
+still_live b id ending j name m named =
+    settled_has (λ epoch live. list_any (λ k. same_job_id k.id name) live ≡ true → IsIn j live) b id ending
+    (λ h.
+    let found = any_is (λ k. same_job_id k.id name) (without_job id b.live) h in
+    let k = found.0 in
+    let same : k.id ≡ j.id = same_name k.id name found.2 ∙ sym named in
+    let other : not (same_job_id k.id id) ≡ true = (IsIn-filter (λ x. not (same_job_id x.id id)) k b.live found.1).1 in
+    IsIn-kept (λ x. not (same_job_id x.id id)) j b.live m (subst (λ (n : JobId). not (same_job_id n id) ≡ true) same other))
+    (λ h. m)
+
+pub legal_after : (files : List FileMeta) (b : BookValue) (id : JobId) (ending : Ending) → AreLegal files b.live → AreLegal files (after_settling b id ending).live
+legal_after files b id ending all j m = all j (live_before b id ending j m)
+
+pub orderly_after : (b : BookValue) (id : JobId) (ending : Ending) → ((j : LiveJob) → IsIn j b.live → IsJobWant j.want) → (j : LiveJob) → IsIn j (after_settling b id ending).live → IsJobWant j.want
+orderly_after b id ending all j m = all j (live_before b id ending j m)
+
+-- ---- the coordinator
+
+-- the states that it shows know no claims
+pub Shows-with_book : (c : CoordValue) (book : BookValue) (s : State) → Shows c s → Shows (record c { book = book }) s
+Shows-with_book c book s h = record {
+  up = h.up;
+  last = h.last;
+  frozen = h.frozen;
+  snapshots = h.snapshots;
+  made = h.made;
+  floor = h.floor;
+  tables = h.tables;
+  memtables = h.memtables;
+}
+
+pub gives_back_keeps : (c : CoordValue) (id : JobId) → KeepsSound c (after_give_back c id)
+gives_back_keeps c id job sound held =
+    let claimed = sound.claimed in
+    record {
+      claimed = record {
+        live = claimed.live;
+        member = still_live c.book id Returned claimed.live job.id claimed.member claimed.named held;
+        named = claimed.named;
+        of_want = claimed.of_want;
+      };
+      snapshots = sound.snapshots;
+      deeper = sound.deeper;
+    }
+
+-- ---- several claims, one after another
+
+pub gave_back_all-append : (c : CoordValue) (ids others : List JobId) → after_giving_back_all c (ids ++ others) ≡ after_giving_back_all (after_giving_back_all c ids) others
+gave_back_all-append c [] others = refl
+gave_back_all-append c (id ∷ ids) others = gave_back_all-append (after_give_back c id) ids others
+
+pub shown_after_all : (c : CoordValue) (ids : List JobId) (s : State) → Shows c s → Shows (after_giving_back_all c ids) s
+shown_after_all c [] s h = h
+shown_after_all c (id ∷ ids) s h = shown_after_all (after_give_back c id) ids s (Shows-with_book c (after_settling c.book id Returned) s h)
+
+-- a name that is live in the end was live all along
+held_before : (b : BookValue) (id name : JobId) → holds (after_settling b id Returned) name ≡ true → holds b name ≡ true
+held_before b id name h =
+    let found = any_is (λ k. same_job_id k.id name) (after_settling b id Returned).live h in
+    any_from (λ k. same_job_id k.id name) b.live found.0 (live_before b id Returned found.0 found.1) found.2
+
+held_first : (c : CoordValue) (ids : List JobId) (name : JobId) → holds (after_giving_back_all c ids).book name ≡ true → holds c.book name ≡ true
+held_first c [] name h = h
+held_first c (id ∷ ids) name h = held_before c.book id name (held_first (after_give_back c id) ids name h)
+
+pub all_given_back_keep : (c : CoordValue) (ids : List JobId) → KeepsSound c (after_giving_back_all c ids)
+all_given_back_keep c [] job sound held = sound
+all_given_back_keep c (id ∷ ids) job sound held =
+    all_given_back_keep (after_give_back c id) ids job (gives_back_keeps c id job sound (held_first (after_give_back c id) ids job.id held)) held
+
+-- four lists of claims
+pub four_in_turn : (c c1 c2 c3 c4 : CoordValue) (one two three four : List JobId) → c1 ≡ after_giving_back_all c one → c2 ≡ after_giving_back_all c1 two → c3 ≡ after_giving_back_all c2 three → c4 ≡ after_giving_back_all c3 four
+    → c4 ≡ after_giving_back_all c (one ++ (two ++ (three ++ four)))
+four_in_turn c c1 c2 c3 c4 one two three four h1 h2 h3 h4 =
+    h4
+    ∙ ap (λ (x : CoordValue). after_giving_back_all x four) h3
+    ∙ sym (gave_back_all-append c2 three four)
+    ∙ ap (λ (x : CoordValue). after_giving_back_all x (three ++ four)) h2
+    ∙ sym (gave_back_all-append c1 two (three ++ four))
+    ∙ ap (λ (x : CoordValue). after_giving_back_all x (two ++ (three ++ four))) h1
+    ∙ sym (gave_back_all-append c one (two ++ (three ++ four)))

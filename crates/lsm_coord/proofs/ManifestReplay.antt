@@ -1,0 +1,106 @@
+-- The versions that a list of edits folds to, and one edit more.
+use Rattle.std.proofs.Common.{◌≡◌, ℕ, ◌+◌, List, [], ◌∷◌, ◌++◌, None, length, map, get_or, refl, sym, ap, subst, ◌∙◌, arith, eqb, inl, inr}
+use Rattle.std.proofs.lemmas.Bool.{not-false, eqb-true}
+use Rattle.std.proofs.lemmas.List.{map-append, length-map}
+use Rattle.std.proofs.lemmas.Grind.{flat_map-append}
+use Rattle.std.proofs.Math.ListN.{get_or-map}
+use Rattle.lsm_edit.specs.declared.edit.Edit.{Edit}
+use Rattle.lsm_key.proofs.Membership.{IsIn-append_cases}
+use Rattle.lsm_edit.specs.Edit.{IsSpelled, read_edit}
+use Rattle.lsm_edit.specs.Version.{IsVersion, VersionValue, first_version, apply_fault, after_apply}
+use Rattle.lsm_edit.specs.Served.{ServedValue}
+use Rattle.lsm_edit.proofs.EditLaws.{edit_again}
+use Rattle.lsm_edit.proofs.NumbersNeverReturn.{removed_once}
+use Rattle.lsm_edit.proofs.VersionLaws.{none_passed}
+use Rattle.lsm_coord.specs.Model.State.{State, Version, current, current_version, current_files, last_flushed, empty_version}
+use Rattle.lsm_edit.specs.Edits.{Apply, RemovedOnce, after_edits, versions_from}
+use Rattle.lsm_coord.specs.Contract.Manifest.{ok_items, read_edits, versions_of, listing_of, place_of, Folds}
+use Rattle.lsm_coord.specs.Contract.Shows.{ShowsStored}
+
+-- ---- one edit more
+
+spells_one : (text : List ℕ) (e : Edit) → IsSpelled text e → ok_items (read_edit text) ≡ e ∷ []
+spells_one text e one = ap ok_items (edit_again text e one)
+
+-- the edits that are read are those and one more
+pub read_edits-push : (texts : List (List ℕ)) (text : List ℕ) (e : Edit) → IsSpelled text e → read_edits (texts ++ text ∷ []) ≡ read_edits texts ++ e ∷ []
+read_edits-push texts text e one =
+    flat_map-append (λ (t : List ℕ). ok_items (read_edit t)) texts (text ∷ [])
+    ∙ ap (λ (es : List Edit). read_edits texts ++ (es ++ [])) (spells_one text e one)
+
+pub Apply-push : (v : VersionValue) (edits : List Edit) (e : Edit) → Apply v edits → apply_fault (after_edits v edits) e ≡ None → Apply v (edits ++ e ∷ [])
+Apply-push v [] e h one = (one, tt)
+Apply-push v (x ∷ edits) e h one = (h.0, Apply-push (after_apply v x) edits e h.1 one)
+
+pub folded-push : (v : VersionValue) (edits : List Edit) (e : Edit) → after_edits v (edits ++ e ∷ []) ≡ after_apply (after_edits v edits) e
+folded-push v [] e = refl
+folded-push v (x ∷ edits) e = folded-push (after_apply v x) edits e
+
+versions_from-push : (v : VersionValue) (edits : List Edit) (e : Edit) → versions_from v (edits ++ e ∷ []) ≡ versions_from v edits ++ after_apply (after_edits v edits) e ∷ []
+versions_from-push v [] e = refl
+versions_from-push v (x ∷ edits) e = ap (λ (vs : List VersionValue). v ∷ vs) (versions_from-push (after_apply v x) edits e)
+
+pub first_is : IsVersion first_version
+first_is = record { number = omega arith; flushed = omega arith; epoch = omega arith; some_file = omega arith; next_file = omega arith; files = λ f m. absurd m; below = λ f m. absurd m; rising = tt; disjoint = refl }
+
+-- no file is removed by two edits of a manifest that replays
+pub removed_by_one : (texts : List (List ℕ)) (v : VersionValue) → Folds texts v → RemovedOnce (read_edits texts)
+removed_by_one texts v h = removed_once first_version (read_edits texts) first_is h.apply
+
+pub Folds-none : Folds [] first_version
+Folds-none = record { spelled = λ text m. absurd m; apply = tt; makes = refl }
+
+pub Folds-push : (texts : List (List ℕ)) (v : VersionValue) (text : List ℕ) (e : Edit) → Folds texts v → IsSpelled text e → apply_fault v e ≡ None → Folds (texts ++ text ∷ []) (after_apply v e)
+Folds-push texts v text e h one fits = record {
+  spelled = λ t m. elim (IsIn-append_cases t texts (text ∷ []) m) [
+    | inl before ↦ h.spelled t before
+    | inr last ↦ elim last [ inl same ↦ (e, subst (λ (x : List ℕ). IsSpelled x e) (sym same) one) | inr none ↦ absurd none ]
+  ];
+  apply = rw (read_edits-push texts text e one) (Apply-push first_version (read_edits texts) e h.apply (subst (λ (w : VersionValue). apply_fault w e ≡ None) (sym h.makes) fits));
+  makes = ap (after_edits first_version) (read_edits-push texts text e one) ∙ folded-push first_version (read_edits texts) e ∙ ap (λ (w : VersionValue). after_apply w e) h.makes;
+}
+
+pub listed-push : (texts : List (List ℕ)) (v : VersionValue) (text : List ℕ) (e : Edit) → Folds texts v → IsSpelled text e → map listing_of (versions_of (texts ++ text ∷ [])) ≡ map listing_of (versions_of texts) ++ listing_of (after_apply v e) ∷ []
+listed-push texts v text e h one =
+    ap (λ (es : List Edit). map listing_of (versions_from first_version es)) (read_edits-push texts text e one)
+    ∙ ap (map listing_of) (versions_from-push first_version (read_edits texts) e) ∙ map-append listing_of (versions_of texts) (after_apply (after_edits first_version (read_edits texts)) e ∷ [])
+    ∙ ap (λ (w : VersionValue). map listing_of (versions_of texts) ++ listing_of (after_apply w e) ∷ []) h.makes
+
+-- ---- the current version
+
+length-versions_from : (v : VersionValue) (edits : List Edit) → length (versions_from v edits) ≡ length edits + 1
+length-versions_from v [] = refl
+length-versions_from v (e ∷ edits) = let n = length-versions_from (after_apply v e) edits in omega (arith, n)
+
+last_version : (v d : VersionValue) (edits : List Edit) → get_or (versions_from v edits) (length edits) d ≡ after_edits v edits
+last_version v d [] = refl
+last_version v d (e ∷ edits) = last_version (after_apply v e) d edits
+
+next_number : (v : VersionValue) (e : Edit) → apply_fault v e ≡ None → e.number ≡ v.number + 1
+next_number v e h = let a = none_passed _ _ _ h in eqb-true e.number (v.number + 1) (not-false (eqb e.number (v.number + 1)) a.0)
+
+folded_number : (v : VersionValue) (edits : List Edit) → Apply v edits → (after_edits v edits).number ≡ v.number + length edits
+folded_number v [] h = omega arith
+folded_number v (e ∷ edits) h = let one = next_number v e h.0 in let rest = folded_number (after_apply v e) edits h.1 in omega (arith, one, rest)
+
+module _ (texts : List (List ℕ)) (served : ServedValue) (s : State) (h : ShowsStored texts served s) where
+  count : length s.versions ≡ length (read_edits texts) + 1
+  count = ap length h.versions ∙ length-map (versions_of texts) listing_of ∙ length-versions_from first_version (read_edits texts)
+
+  pub version_count : length s.versions ≡ served.version.number + 1
+  version_count = let n = folded_number first_version (read_edits texts) h.manifest.apply in let m = ap (λ (v : VersionValue). v.number) h.manifest.makes in omega (arith, count, n, m)
+
+  pub current_is : current_version s ≡ listing_of served.version
+  current_is =
+      let at : current s ≡ length (read_edits texts) = omega (arith, count) in
+      ap (λ (i : ℕ). get_or s.versions i empty_version) at
+      ∙ ap (λ (vs : List Version). get_or vs (length (read_edits texts)) empty_version) h.versions
+      ∙ get_or-map listing_of (versions_from first_version (read_edits texts)) (length (read_edits texts)) first_version
+      ∙ ap listing_of (last_version first_version first_version (read_edits texts))
+      ∙ ap listing_of h.manifest.makes
+
+  pub flushed_is : last_flushed s ≡ served.version.flushed
+  flushed_is = ap (λ (v : Version). v.flushed) current_is
+
+  pub files_are : current_files s ≡ map place_of served.version.files
+  files_are = ap (λ (v : Version). v.files) current_is
