@@ -66,7 +66,7 @@ pub with_book : (c : CoordValue) (b : BookValue) → b ≡ c.book → record c {
 with_book c b e = ap (λ (x : BookValue). record c { book = x }) e
 
 pub became_done : (old : CoordValue) (claim live : LiveJob) (made : JobResult) (number : ℕ) (files : List ℕ) (new : VersionSetValue) → IsLive old claim.id live
-    → PutsOutputs (record { served = old.served; edits = old.edits }) live made (number, files) new → Became old claim made (became.Done number files) (record old { served = new.served; edits = new.edits; book = after_settling old.book claim.id ending.Installed })
+    → PutsOutputs (record { served = old.served; edits = old.edits }) live made (record { number = number; files = files }) new → Became old claim made (became.Done number files) (record old { served = new.served; edits = new.edits; book = after_settling old.book claim.id ending.Installed })
 became_done old claim live made number files new h p =
     let named = (live_is old claim.id live h).1 in (
       live,
@@ -135,7 +135,7 @@ pub held_by : (b : BookValue) (live : LiveJob) (id : JobId) → find (λ j. same
 held_by b live id h = let r = found_some (λ j. same_job_id j.id id) b.live live h in any_from (λ j. same_job_id j.id id) b.live live r.0 r.1
 
 pub after_install : (active : List Entry) (frozen : Option Frozen) (last : ℕ) (old new : VersionSetValue) (book : BookValue) (id : JobId) (live : LiveJob) (made : JobResult) (number : ℕ) (files : List ℕ) (snapshots : List Snapshot)
-    → IsCoord active frozen last old.served book snapshots → IsBook book → IsServed old.served → IsVersion old.served.version → find (λ j. same_job_id j.id id) book.live ≡ Some live → PutsOutputs old live made (number, files) new
+    → IsCoord active frozen last old.served book snapshots → IsBook book → IsServed old.served → IsVersion old.served.version → find (λ j. same_job_id j.id id) book.live ≡ Some live → PutsOutputs old live made (record { number = number; files = files }) new
     → IsCoord active frozen last new.served (after_settling book id ending.Installed) snapshots
 after_install active frozen last old new book id live made number files snapshots is book_is served_is version_is h p =
     let served = old.served in

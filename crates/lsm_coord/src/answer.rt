@@ -5,15 +5,15 @@ ghost use Rattle.std.specs.Prelude.{◌≡◌, ◌↔◌, IfOk, IsTrue};
 use crate::{CoordError, Flushed, SnapId};
 use bytes::Bytes;
 use lsm_claim::JobId;
-use lsm_edit::{FileMeta, Listing, same_files, same_numbers};
-use lsm_key::{Items, Seq};
+use lsm_edit::{FileMeta, Listing, same_files};
+use lsm_key::{FileNumber, Items, Seq, VersionNumber};
 use lsm_msg::Job;
 use std::alloc::{AllocError, Global};
 
 /// A listing of the coordinator's current version.
 #[derive(Debug, Drop)]
 pub struct ShownVersion {
-    pub number: u64,
+    pub number: VersionNumber,
     /// Every write up to it is in the files.
     pub flushed: Seq,
     /// By number.
@@ -43,7 +43,7 @@ pub enum Answer {
     /// No job was picked.
     Idle,
     /// The version that an install made, and the numbers of the files that it added.
-    Installed(u64, Items<u64>),
+    Installed(VersionNumber, Items<FileNumber>),
     /// The claim of this name has no live job; carries the current epoch.
     Stale(JobId, u64),
 }
@@ -125,7 +125,7 @@ impl Answer {
             (Answer::Picked(a), Answer::Picked(b)) => a.same(b),
             (Answer::Idle, Answer::Idle) => true,
             (Answer::Installed(a, f), Answer::Installed(b, g)) => {
-                a == b && same_numbers(f.as_slice(), g.as_slice())
+                a == b && same_file_numbers(f.as_slice(), g.as_slice())
             }
             (Answer::Stale(a, p), Answer::Stale(b, q)) => a == b && p == q,
             _ => false,
@@ -148,10 +148,19 @@ fn copied_pairs(
     Ok(Items::from_vec(pairs.as_slice().to_vec(alloc)?))
 }
 
-fn copied_numbers(numbers: &Items<u64>, alloc: Global) -> Result<Items<u64>, AllocError>
+fn copied_numbers(
+    numbers: &Items<FileNumber>,
+    alloc: Global,
+) -> Result<Items<FileNumber>, AllocError>
     ensures { IfOk result (λ copy. copy ≡ numbers.now) }
 {
     Ok(Items::from_vec(numbers.as_slice().to_vec(alloc)?))
+}
+
+fn same_file_numbers(numbers: &[FileNumber], others: &[FileNumber]) -> bool
+    ensures { IsTrue result ↔ numbers.now ≡ others.now }
+{
+    numbers == others
 }
 
 fn same_pairs(pairs: &[(Bytes, Bytes)], others: &[(Bytes, Bytes)]) -> bool

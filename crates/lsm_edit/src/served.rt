@@ -16,7 +16,7 @@ ghost use Rattle.lsm_edit.specs.Served.{AllRecorded, AreAsRecorded, AreInSearchO
 
 use crate::version::{is_among, removed_by};
 use crate::{ApplyError, Edit, FileMeta, Version};
-use lsm_key::{EntryRef, MAX_LEVEL, Seq};
+use lsm_key::{EntryRef, MAX_LEVEL, Seq, VersionNumber};
 use lsm_table::Table;
 use std::alloc::{AllocError, Global};
 use std::marker::Model;
@@ -31,7 +31,7 @@ pub struct Placed {
 /// What a version lists: its number, its flushed sequence, and its files by number.
 #[derive(Clone, Copy, Debug)]
 pub struct Listing<'a> {
-    pub number: u64,
+    pub number: VersionNumber,
     pub flushed: Seq,
     pub files: &'a [FileMeta],
 }
@@ -93,7 +93,7 @@ impl Served {
         ensures sound { IsServed self.now × IsVersion self.now.version }
     {
         Listing {
-            number: self.current.number(),
+            number: VersionNumber::new(self.current.number()),
             flushed: self.current.flushed(),
             files: self.current.files(),
         }

@@ -13,6 +13,7 @@ mod laws;
 mod limits;
 mod lookup;
 mod merge;
+mod number;
 mod op;
 mod range;
 mod refused;
@@ -39,6 +40,7 @@ pub use limits::{
 };
 pub use lookup::{compare_place, range_in, seek_in};
 pub use merge::merge_lists;
+pub use number::{FileNumber, VersionNumber};
 pub use op::Op;
 pub use range::{KeyRange, KeyRangeRef};
 pub use refused::Refused;

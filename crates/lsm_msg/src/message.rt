@@ -5,6 +5,7 @@ ghost use Rattle.std.specs.Prelude.{◌≡◌, ◌↔◌, IfOk, IsTrue};
 use crate::{Job, JobResult, Node};
 use bytes::Bytes;
 use lsm_edit::{Edit, Version};
+use lsm_key::{FileNumber, VersionNumber};
 use std::alloc::{AllocError, Global};
 
 /// The body of a message.
@@ -13,21 +14,21 @@ pub enum Body {
     /// Asks for this merge.
     Job(Job),
     /// Asks for the table of this file.
-    Fetch(u64),
+    Fetch(FileNumber),
     /// The table of a file.
-    Table(u64, Bytes),
+    Table(FileNumber, Bytes),
     /// This file's table is no longer served.
-    Gone(u64),
+    Gone(FileNumber),
     /// The result of a merge.
     Result(JobResult),
     /// Asks what comes after this version.
-    Ask(u64),
+    Ask(VersionNumber),
     /// The next edit.
     Edit(Edit),
     /// A full version, for a follower too far behind to catch up by edits.
     Base(Version),
     /// You are up to date: this is the latest version.
-    Current(u64),
+    Current(VersionNumber),
 }
 
 /// A message in transit.

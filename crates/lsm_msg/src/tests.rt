@@ -4,7 +4,7 @@ use crate::{Body, Job, JobParts, JobResult, Message, Node, NodeIndex};
 use bytes::Bytes;
 use lsm_claim::JobId;
 use lsm_edit::{Edit, EditKind, FileMeta, Version};
-use lsm_key::{Items, KeyRange, MAX_NODES, Seq};
+use lsm_key::{FileNumber, Items, KeyRange, MAX_NODES, Seq, VersionNumber};
 use std::alloc::{AllocError, Global};
 use std::process::Abort;
 use std::test::Fail;
@@ -308,14 +308,14 @@ fn first_version(alloc: Global) -> Result<Version, Fail> {
 fn body_of(alloc: Global, place: u32) -> Result<Body, Fail> {
     Ok(match place {
         0 => Body::Job(job(alloc)?),
-        1 => Body::Fetch(3),
-        2 => Body::Table(3, Bytes::from_static(b"table")),
-        3 => Body::Gone(3),
+        1 => Body::Fetch(FileNumber::new(3)),
+        2 => Body::Table(FileNumber::new(3), Bytes::from_static(b"table")),
+        3 => Body::Gone(FileNumber::new(3)),
         4 => Body::Result(result_of(alloc, true)?),
-        5 => Body::Ask(3),
+        5 => Body::Ask(VersionNumber::new(3)),
         6 => Body::Edit(first_edit(alloc)),
         7 => Body::Base(first_version(alloc)?),
-        _ => Body::Current(3),
+        _ => Body::Current(VersionNumber::new(3)),
     })
 }
 

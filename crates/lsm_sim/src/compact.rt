@@ -21,7 +21,7 @@ use bytes::Bytes;
 use lsm_claim::Claim;
 use lsm_coord::{Coord, CoordError, Install};
 use lsm_edit::FileMeta;
-use lsm_key::{Items, Refused};
+use lsm_key::{FileNumber, Items, Refused, VersionNumber};
 use lsm_merge::{MergeError, merge};
 use lsm_msg::{Body, Job, JobResult, Message, Node};
 use lsm_table::Table;
@@ -31,7 +31,10 @@ use std::alloc::{AllocError, Global};
 /// installs the outputs. Returns the number of the new version and its new files, or `None` if nothing is picked.
 /// `None` also if two inputs share an internal key; that cannot happen in a coordinator that represents a valid state.
 /// A refusal leaves the version as it was, and no claim behind.
-pub fn compact_once(alloc: Global, coord: &mut Coord) -> Result<Option<(u64, Vec<u64>)>, CoordError>
+pub fn compact_once(
+    alloc: Global,
+    coord: &mut Coord,
+) -> Result<Option<(VersionNumber, Vec<FileNumber>)>, CoordError>
     ensures ok { IfOk result (Compacts coord.old coord.new) }
     ensures err { OnErr result (IsLeft coord.old coord.new) }
     ensures refused { IfErr result (CompactionRefuses coord.old) }
@@ -62,7 +65,7 @@ fn install(
     coord: &mut Coord,
     claim: Claim,
     made: &JobResult,
-) -> Result<Option<(u64, Vec<u64>)>, CoordError>
+) -> Result<Option<(VersionNumber, Vec<FileNumber>)>, CoordError>
     ensures done { IfOk result (λ answer. IfSome answer (λ r. Became coord.old claim made.now (became.Done r.0 r.1.items) coord.new)) }
     ensures step { (message : ℕ) → HoldsSoundMerge coord.old claim.id made.now → IfOk result (λ answer. IfSome answer (λ r. Follows coord.old (Deliver message) (Installed r.0 r.1.items) coord.new)) }
     ensures stale { IfOk result (λ answer. answer ≡ None → holds coord.old.book claim.id ≡ false) }
@@ -109,7 +112,7 @@ fn tables_of(alloc: Global, coord: &Coord, files: &[FileMeta]) -> Result<Vec<Tab
 {
     let mut tables = Vec::with_capacity(alloc, files.len())?;
     for file in files {
-        if let Some(table) = fetched(alloc, coord, file.number)? {
+        if let Some(table) = fetched(alloc, coord, FileNumber::new(file.number))? {
             tables.push(table)?;
         }
     }
@@ -117,7 +120,7 @@ fn tables_of(alloc: Global, coord: &Coord, files: &[FileMeta]) -> Result<Vec<Tab
 }
 
 /// The table of a file, as a worker would fetch it.
-fn fetched(alloc: Global, coord: &Coord, file: u64) -> Result<Option<Table>, AllocError>
+fn fetched(alloc: Global, coord: &Coord, file: FileNumber) -> Result<Option<Table>, AllocError>
     requires { AllRecorded coord.now.served.places }
     ensures { IfOk result (λ table. table ≡ table_at coord.now.served.places file) }
 {

@@ -11,7 +11,7 @@ use crate::reply::{Place, Refusal, Reply, Shown};
 use crate::text::{write_bytes, write_line_end, write_number, write_numbers, write_text};
 use bytes::Bytes;
 use lsm_coord::{CoordError, Flushed, SnapId};
-use lsm_key::{KeyError, Seq};
+use lsm_key::{FileNumber, KeyError, Seq, VersionNumber};
 use std::alloc::{AllocError, Global};
 
 /// `seq F`, or `seq F-L` if F and L differ
@@ -28,15 +28,20 @@ pub fn write_wrote(out: &mut Vec<u8>, first: Seq, last: Seq) -> Result<(), Alloc
 }
 
 /// `version N flushed S file F`
-pub fn write_flushed(out: &mut Vec<u8>, number: u64, seq: Seq, file: u64) -> Result<(), AllocError>
+pub fn write_flushed(
+    out: &mut Vec<u8>,
+    number: VersionNumber,
+    seq: Seq,
+    file: FileNumber,
+) -> Result<(), AllocError>
     ensures { OnOk result (out.new.items ≡ out.old.items ++ flushed_text number seq file) }
 {
     write_text(out, "version ")?;
-    write_number(out, number)?;
+    write_number(out, number.number())?;
     write_text(out, " flushed ")?;
     write_number(out, seq.number())?;
     write_text(out, " file ")?;
-    write_number(out, file)
+    write_number(out, file.number())
 }
 
 /// `frozen S`
@@ -129,7 +134,7 @@ fn files_of(alloc: Global, level: u8, files: &[Place]) -> Result<Vec<u64>, Alloc
     let mut numbers = Vec::new(alloc);
     for place in files {
         if place.level == level {
-            numbers.push(place.file)?;
+            numbers.push(place.file.number())?;
         }
     }
     Ok(numbers)
@@ -156,7 +161,7 @@ pub fn write_shown(alloc: Global, out: &mut Vec<u8>, shown: &Shown) -> Result<()
     ensures { OnOk result (out.new.items ≡ out.old.items ++ shown_text shown.now.number shown.now.flushed (map place_at shown.now.files.items)) }
 {
     write_text(out, "show ")?;
-    write_number(out, shown.number)?;
+    write_number(out, shown.number.number())?;
     write_text(out, " flushed ")?;
     write_number(out, shown.flushed.number())?;
     write_levels(alloc, out, &[0, 1, 2, 3, 4, 5, 6], &shown.files)

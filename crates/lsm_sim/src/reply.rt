@@ -2,7 +2,7 @@
 
 use bytes::Bytes;
 use lsm_coord::{CoordError, Flushed, SnapId};
-use lsm_key::{KeyError, Seq};
+use lsm_key::{FileNumber, KeyError, Seq, VersionNumber};
 
 /// Why a command is refused.
 #[derive(Clone, Copy, Debug, PartialEq, Eq)]
@@ -17,13 +17,13 @@ pub enum Refusal {
 #[derive(Clone, Copy, Debug, PartialEq, Eq)]
 pub struct Place {
     pub level: u8,
-    pub file: u64,
+    pub file: FileNumber,
 }
 
 /// A version: its number, its flushed sequence, and its files by number.
 #[derive(Debug, Drop)]
 pub struct Shown {
-    pub number: u64,
+    pub number: VersionNumber,
     pub flushed: Seq,
     pub files: Vec<Place>,
 }

@@ -13,7 +13,7 @@ use crate::event::Event;
 use crate::reply::{Place, Refusal, Reply, Shown};
 use lsm_coord::{Coord, CoordError};
 use lsm_edit::Listing;
-use lsm_key::{Batch, Op};
+use lsm_key::{Batch, FileNumber, Op};
 use std::alloc::{AllocError, Global};
 
 /// A copy of a listing.
@@ -27,7 +27,7 @@ fn shown(alloc: Global, listing: Listing<'_>) -> Result<Shown, AllocError>
     for file in records {
         let place = Place {
             level: file.level,
-            file: file.number,
+            file: FileNumber::new(file.number),
         };
         files.push(place)?;
     }

@@ -6,7 +6,7 @@ use crate::keys::{ENTRY_BYTES, batch_count, batch_number, or_one};
 use bytes::Bytes;
 use lsm_claim::Claim;
 use lsm_coord::{Coord, CoordError, Install};
-use lsm_key::{Batch, DEFAULT_BASE, DEFAULT_L0, Items, Limits, NUM_LEVELS};
+use lsm_key::{Batch, DEFAULT_BASE, DEFAULT_L0, FileNumber, Items, Limits, NUM_LEVELS};
 use lsm_merge::merge;
 use lsm_msg::{Body, Job, JobResult, Message, Node, NodeIndex};
 use lsm_table::Table;
@@ -69,7 +69,7 @@ impl Store {
             let bytes = file.bytes as u64;
             self.count(0, bytes);
         }
-        Ok(flushed.file)
+        Ok(flushed.file.number())
     }
 
     // Counts bytes that were written to a level.
@@ -158,7 +158,7 @@ impl Store {
             Some(worker) => self.answer(&Message {
                 src: Node::Worker(worker),
                 dst: Node::Coordinator,
-                body: Body::Fetch(file),
+                body: Body::Fetch(FileNumber::new(file)),
             }),
         }
     }

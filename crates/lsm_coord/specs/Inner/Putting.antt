@@ -9,11 +9,12 @@ use Rattle.lsm_edit.specs.Next.{flush_edit}
 use Rattle.lsm_edit.specs.Version.{apply_fault}
 use Rattle.lsm_msg.specs.declared.job.JobResult.{JobResult}
 use Rattle.lsm_msg.specs.Installs.{with_flushed}
+use Rattle.lsm_coord.specs.declared.coord.install.Put.{Put}
 use Rattle.lsm_coord.specs.Contract.Installing.{IsAcceptable, install_edit_of, numbers_of}
 use Rattle.lsm_coord.specs.Contract.Manifest.{VersionSetValue, after_logging}
 
 -- the result is acceptable, the edit of its install is logged and applied, and the version's number and its new files are reported
-pub record PutsOutputs (old : VersionSetValue) (live : LiveJob) (made : JobResult) (put : ℕ × List ℕ) (new : VersionSetValue) : Type 0 where
+pub record PutsOutputs (old : VersionSetValue) (live : LiveJob) (made : JobResult) (put : Put) (new : VersionSetValue) : Type 0 where
   pub tables : List Opened
   pub accepted : IsAcceptable old.served.version live made tables
   pub edit : Edit
@@ -21,8 +22,8 @@ pub record PutsOutputs (old : VersionSetValue) (live : LiveJob) (made : JobResul
   pub valid : IsEdit edit
   pub applies : apply_fault old.served.version edit ≡ None
   pub new_is : new ≡ after_logging old edit tables
-  pub number_is : put.0 ≡ old.served.version.number + 1
-  pub files_are : put.1 ≡ numbers_of old.served.version live.want tables
+  pub number_is : put.number ≡ old.served.version.number + 1
+  pub files_are : put.files ≡ numbers_of old.served.version live.want tables
 
 -- the edit of a flush to a file is logged and applied, and the file is searched first
 pub record AddsFile (old : VersionSetValue) (end : ℕ) (file : FileMeta) (table : Opened) (new : VersionSetValue) : Type 0 where

@@ -14,7 +14,7 @@ ghost use Rattle.lsm_coord.specs.Contract.Replies.{flush_reply};
 use super::Coord;
 use crate::CoordError;
 use lsm_edit::FileMeta;
-use lsm_key::{MAX_NUMBER, Seq};
+use lsm_key::{FileNumber, MAX_NUMBER, Seq, VersionNumber};
 use lsm_mem::Memtable;
 use lsm_table::Table;
 use std::alloc::AllocError;
@@ -23,11 +23,11 @@ use std::alloc::AllocError;
 #[derive(Clone, Copy, Debug, PartialEq, Eq)]
 pub struct Flushed {
     /// The version that it made.
-    pub number: u64,
+    pub number: VersionNumber,
     /// Every write up to this sequence is in the version's tables.
     pub seq: Seq,
     /// The new table's file number.
-    pub file: u64,
+    pub file: FileNumber,
 }
 
 impl Coord {
@@ -51,7 +51,11 @@ impl Coord {
         let table = Table::from_entries(self.alloc, entries)?;
         let meta = FileMeta::of_table(file, 0, &table)?;
         self.add_table(meta, table, seq)?;
-        Ok(Flushed { number, seq, file })
+        Ok(Flushed {
+            number: VersionNumber::new(number),
+            seq,
+            file: FileNumber::new(file),
+        })
     }
 
     // Why nothing can be flushed, if nothing can.

@@ -22,7 +22,7 @@ use super::outputs::{open_outputs, records_of};
 use crate::version_set::VersionSet;
 use lsm_claim::{Claim, Ending, JobId, LiveJob, Want};
 use lsm_edit::{Edit, FileMeta, Version};
-use lsm_key::{Items, MAX_NUMBER};
+use lsm_key::{FileNumber, Items, MAX_NUMBER, VersionNumber};
 use lsm_msg::JobResult;
 use lsm_table::Table;
 use std::alloc::{AllocError, AllocFailed, Global};
@@ -44,11 +44,18 @@ pub enum InstallError {
 /// What became of a claim and its result.
 pub enum Install {
     /// The outputs are in the version of this number, under these file numbers, and the claim is settled.
-    Done(u64, Items<u64>),
+    Done(VersionNumber, Items<FileNumber>),
     /// The claim's job is no longer running. The claim is consumed; carries the current epoch.
     Stale(JobId, u64),
     /// The result is not installed, nothing changed, and the claim is handed back.
     Kept(Claim, InstallError),
+}
+
+// The version that an install made, and the files that it added.
+#[derive(Drop)]
+struct Put {
+    number: VersionNumber,
+    files: Items<FileNumber>,
 }
 
 impl From<AllocError> for InstallError {
@@ -97,9 +104,9 @@ impl Coord {
                 Install::Stale(id, epoch)
             }
             Some(job) => match put_outputs(self.alloc, &mut self.versions, job, made) {
-                Ok((number, files)) => {
+                Ok(put) => {
                     self.book.settle(claim, Ending::Installed);
-                    Install::Done(number, files)
+                    Install::Done(put.number, put.files)
                 }
                 Err(why) => Install::Kept(claim, why),
             },
@@ -120,7 +127,7 @@ fn put_outputs(
     versions: &mut VersionSet,
     job: &LiveJob,
     made: &JobResult,
-) -> Result<(u64, Items<u64>), InstallError>
+) -> Result<Put, InstallError>
     requires epoch { 1 ≤ versions.old.served.version.epoch }
     requires legal { IsLegal versions.old.served.version.files job.now.want }
     requires orderly { IsJobWant job.now.want }
@@ -138,11 +145,14 @@ fn put_outputs(
         Some(why) => return Err(why),
         None => {}
     }
-    let number = version.number() + 1;
+    let number = VersionNumber::new(version.number() + 1);
     let edit = edit_of(alloc, version, want, &tables)?;
     let files = numbers_of(alloc, edit.added.as_slice())?;
     versions.log_and_apply(&edit, tables)?;
-    Ok((number, Items::from_vec(files)))
+    Ok(Put {
+        number,
+        files: Items::from_vec(files),
+    })
 }
 
 // Why the next version, with this many new files, has no numbers, if it has none.
@@ -194,8 +204,11 @@ fn copy_of(alloc: Global, numbers: &Items<u64>) -> Result<Items<u64>, AllocError
 }
 
 // The numbers of files.
-fn numbers_of(alloc: Global, files: &[FileMeta]) -> Result<Vec<u64>, AllocError>
+fn numbers_of(alloc: Global, files: &[FileMeta]) -> Result<Vec<FileNumber>, AllocError>
     ensures { IfOk result (λ numbers. numbers.items ≡ map (λ f. f.number) files.now) }
 {
-    files.iter().map(|file| file.number).collect(alloc)
+    files
+        .iter()
+        .map(|file| FileNumber::new(file.number))
+        .collect(alloc)
 }

@@ -7,6 +7,7 @@ ghost use Rattle.lsm_coord.specs.Contract.Shows.{Follows};
 ghost use Rattle.lsm_coord.specs.Contract.Serving.{FetchesTable, answer_message, table_body};
 
 use super::Coord;
+use lsm_key::FileNumber;
 use lsm_msg::{Body, Message, Node};
 use std::alloc::AllocError;
 
@@ -29,11 +30,11 @@ impl Coord {
     }
 
     // The table of a file, or that it is gone.
-    fn file_body(&self, file: u64) -> Result<Body, AllocError>
+    fn file_body(&self, file: FileNumber) -> Result<Body, AllocError>
         ensures ok { IfOk result (λ body. body ≡ table_body file (table_at self.now.served.places file)) }
         ensures err { IfErr result (λ e. IsSome (table_at self.now.served.places file)) }
     {
-        match self.served().table(file) {
+        match self.served().table(file.number()) {
             Some(table) => Ok(Body::Table(file, table.bytes().clone()?)),
             None => Ok(Body::Gone(file)),
         }

@@ -4,7 +4,7 @@ use crate::{Answer, Call, CoordError, ScanRange, ShownVersion, SnapId};
 use bytes::Bytes;
 use lsm_claim::JobId;
 use lsm_edit::Listing;
-use lsm_key::{Items, Op, Seq};
+use lsm_key::{Items, Op, Seq, VersionNumber};
 use std::alloc::{AllocError, Global};
 use std::test::Fail;
 
@@ -91,11 +91,13 @@ fn a_copied_answer_is_the_same(rt: HostRuntime) -> Result<(), Fail> {
 #[test]
 fn a_shown_version_is_a_copy_of_a_listing(rt: HostRuntime) -> Result<(), Fail> {
     let listing = Listing {
-        number: 2,
+        number: VersionNumber::new(2),
         flushed: Seq::new(1),
         files: &[],
     };
     let shown = ShownVersion::of(rt.alloc(), listing)?;
-    assert!(rt; shown.number == 2 && shown.flushed == Seq::new(1) && shown.files.len() == 0);
+    assert!(rt;
+        shown.number.number() == 2 && shown.flushed == Seq::new(1) && shown.files.len() == 0
+    );
     Ok(())
 }

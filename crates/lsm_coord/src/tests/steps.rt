@@ -5,7 +5,7 @@ use crate::{Coord, CoordError, Desk, Install, InstallError, SnapId};
 use bytes::Bytes;
 use lsm_claim::{Claim, JobId, Settled};
 use lsm_edit::FileMeta;
-use lsm_key::{Batch, Items, Limits, Op, Seq};
+use lsm_key::{Batch, FileNumber, Items, Limits, Op, Seq, VersionNumber};
 use lsm_msg::{Body, Job, JobResult, Message, Node, NodeIndex};
 use std::alloc::{AllocError, Global};
 use std::mem;
@@ -112,7 +112,11 @@ fn frozen(coord: &mut Coord) -> Made {
 
 fn flushed(coord: &mut Coord) -> Made {
     match coord.flush() {
-        Ok(flushed) => Made::Flushed(flushed.number, flushed.seq.number(), flushed.file),
+        Ok(flushed) => Made::Flushed(
+            flushed.number.number(),
+            flushed.seq.number(),
+            flushed.file.number(),
+        ),
         Err(why) => Made::Refused(why),
     }
 }
@@ -157,7 +161,11 @@ fn value_of(value: &[u8]) -> Made {
 
 fn listed(coord: &Coord) -> Made {
     let shown = coord.show();
-    Made::Listed(shown.number, shown.flushed.number(), shown.files.len())
+    Made::Listed(
+        shown.number.number(),
+        shown.flushed.number(),
+        shown.files.len(),
+    )
 }
 
 fn few(numbers: &[u64]) -> Few {
@@ -259,9 +267,9 @@ fn result_of(alloc: Global, number: u64, tables: &[&'static [u8]]) -> Result<Job
     Ok(JobResult { job, tables: list })
 }
 
-fn first_of(files: &Items<u64>) -> u64 {
+fn first_of(files: &Items<FileNumber>) -> u64 {
     match files.as_slice().first() {
-        Some(file) => *file,
+        Some(file) => file.number(),
         None => 0,
     }
 }
@@ -271,7 +279,7 @@ fn installed(coord: &mut Coord, desk: &mut Desk, index: NodeIndex, made: &JobRes
         return Made::Other;
     };
     match coord.install(claim, made) {
-        Install::Done(number, files) => Made::Installed(number, first_of(&files)),
+        Install::Done(number, files) => Made::Installed(number.number(), first_of(&files)),
         Install::Kept(claim, why) => {
             hold(coord, desk, index, claim);
             Made::KeptBack(why)
@@ -298,8 +306,8 @@ fn served(coord: &Coord, worker: NodeIndex, body: Body) -> Result<Option<Message
 /// Whether it brings this table of a file, or says that the file is gone.
 fn brings(body: &Body, file: u64, table: Option<&[u8]>) -> bool {
     match body {
-        Body::Table(number, bytes) => *number == file && table == Some(bytes.as_slice()),
-        Body::Gone(number) => *number == file && table.is_none(),
+        Body::Table(number, bytes) => number.number() == file && table == Some(bytes.as_slice()),
+        Body::Gone(number) => number.number() == file && table.is_none(),
         _ => false,
     }
 }
@@ -310,7 +318,7 @@ fn is_fetched(
     file: u64,
     table: Option<&[u8]>,
 ) -> Result<bool, AllocError> {
-    match served(coord, worker, Body::Fetch(file))? {
+    match served(coord, worker, Body::Fetch(FileNumber::new(file)))? {
         Some(answer) => Ok(
             answer.src == Node::Coordinator
                 && answer.dst == Node::Worker(worker)
@@ -321,7 +329,7 @@ fn is_fetched(
 }
 
 fn is_silent(coord: &Coord, worker: NodeIndex) -> Result<bool, AllocError> {
-    Ok(served(coord, worker, Body::Ask(1))?.is_none())
+    Ok(served(coord, worker, Body::Ask(VersionNumber::new(1)))?.is_none())
 }
 
 fn index_of(number: u8) -> Result<NodeIndex, Fail> {

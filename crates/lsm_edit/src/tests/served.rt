@@ -132,7 +132,7 @@ fn is_found(served: &Served, key: &[u8], at: u32) -> bool {
 // Whether the version is of this number and flushed sequence, and has these files.
 fn lists(served: &Served, number: u64, flushed: u64, files: &[u64]) -> bool {
     let listing = served.listing();
-    listing.number == number
+    listing.number.number() == number
         && listing.flushed.number() == flushed
         && are_numbered(listing.files, files)
 }

@@ -5,7 +5,7 @@ use bytes::Bytes;
 use lsm_claim::Claim;
 use lsm_coord::{Coord, CoordError, Desk, SnapId};
 use lsm_edit::FileMeta;
-use lsm_key::{Batch, Limits, Op};
+use lsm_key::{Batch, FileNumber, Limits, Op, VersionNumber};
 use lsm_msg::NodeIndex;
 use std::alloc::Global;
 use std::process::Abort;
@@ -71,7 +71,10 @@ const AT_LAST: [Step; 7] = [
 
 // The calls without their promises, which a test that runs does not need: so its proof is short.
 
-fn compact(alloc: Global, coord: &mut Coord) -> Result<Option<(u64, Vec<u64>)>, CoordError> {
+fn compact(
+    alloc: Global,
+    coord: &mut Coord,
+) -> Result<Option<(VersionNumber, Vec<FileNumber>)>, CoordError> {
     compact_once(alloc, coord)
 }
 
@@ -107,7 +110,7 @@ fn give_back(coord: &mut Coord, claim: Claim) {
 
 /// The number of the version.
 fn number_of(coord: &Coord) -> u64 {
-    coord.show().number
+    coord.show().number.number()
 }
 
 /// A new store with limits of `files` files for level 0 and `base` bytes for level 1.
@@ -137,9 +140,18 @@ fn is_compacted(
     files: &[u64],
 ) -> Result<bool, CoordError> {
     match compact(alloc, coord)? {
-        Some((made, new)) => Ok(made == number && new.as_slice() == files),
+        Some((made, new)) => Ok(made.number() == number && are_numbered(new.as_slice(), files)),
         None => Ok(false),
     }
+}
+
+/// Whether the files have these numbers.
+fn are_numbered(files: &[FileNumber], numbers: &[u64]) -> bool {
+    files.len() == numbers.len()
+        && files
+            .iter()
+            .zip(numbers)
+            .all(|(file, number)| file.number() == *number)
 }
 
 /// Compacts again if memory ran out, and then says whether the version was left as it was.
@@ -177,7 +189,7 @@ fn lists(coord: &Coord, number: u64, first: (u8, u64), second: (u8, u64)) -> boo
     let listing = coord.show();
     match listing.files {
         [one, other] => {
-            listing.number == number
+            listing.number.number() == number
                 && listing.flushed.number() == 2
                 && placed(one) == first
                 && placed(other) == second

@@ -55,7 +55,7 @@ returns-clause-step c = λ s h.
     let spelled = subst (IsSpelled adds.text) adds.edit_is adds.spelled in
     let applies = subst (λ (e : Edit). apply_fault v.served.version e ≡ None) adds.edit_is adds.applies in
     let shows = shows_after v v.frozen s c.in_ok-meta.meta c.in_ok-table.table adds.text h refl whole (c.in_ok-meta.ensures.place.0 ∙ file) c.in_ok-meta.ensures.place.1 spelled applies in
-    (after_flush s, (may, (omega (arith, versions, number), c.flush_end-seq.ensures ∙ sym (end_of v v.frozen s h refl), file ∙ sym h.tables.next_file, refl)), subst (λ (x : CoordValue). Shows x (after_flush s)) (sym adds.new_is) shows)
+    (after_flush s, (may, (omega (arith, versions, number, c.new.ensures), c.flush_end-seq.ensures ∙ sym (end_of v v.frozen s h refl), c.new-2.ensures ∙ file ∙ sym h.tables.next_file, refl)), subst (λ (x : CoordValue). Shows x (after_flush s)) (sym adds.new_is) shows)
 
 pub returns-clause-ok : goal.returns-clause-ok
 returns-clause-ok c = (sym c.flush_fault.ensures ∙ c.in-None.is, (c.in_ok-meta.meta, c.in_ok-table.table, c.in_ok-table.ensures ∙ c.in_ok-entries.ensures.all ∙ c.flushable.ensures, c.in_ok-add_table.ensures.ok))

@@ -60,7 +60,7 @@ invariant_of-self-in-Ok c =
     let found = sym c.job_named.ensures ∙ ap option_copied c.in-Some.is in
     let live = (λ i. find (λ (j : LiveJob). same_job_id j.id (sym c.id-id.ensures i)) (sym c.live.ensures.all i)) ∙ found in
     rw c.settle-in-Ok.ensures.book
-    (after_install m.active m.frozen m.newest m.versions c.put_outputs.new.versions m.book c.args.claim.id c.in-Some.job.now c.args.made.now c.in-Ok.number c.in-Ok.files m.live.items
+    (after_install m.active m.frozen m.newest m.versions c.put_outputs.new.versions m.book c.args.claim.id c.in-Some.job.now c.args.made.now c.in-Ok.put.number c.in-Ok.put.files m.live.items
     c.self.invariant c.live.ensures.sound served version live c.in-Ok.ensures.ok)
 
 pub returns-in-Ok-clause-became : goal.returns-in-Ok-clause-became
@@ -68,12 +68,12 @@ returns-in-Ok-clause-became c =
     let found = sym c.job_named.ensures ∙ ap option_copied c.in-Some.is in
     let live = (λ i. find (λ (j : LiveJob). same_job_id j.id (sym c.id-id.ensures i)) (sym c.live.ensures.all i)) ∙ found in
     rw (c.settle-in-Ok.ensures.book, ← c.self.view_is)
-    (became_done _ c.args.claim c.in-Some.job.now c.args.made.now c.in-Ok.number c.in-Ok.files c.put_outputs.new.versions live c.in-Ok.ensures.ok)
+    (became_done _ c.args.claim c.in-Some.job.now c.args.made.now c.in-Ok.put.number c.in-Ok.put.files c.put_outputs.new.versions live c.in-Ok.ensures.ok)
 
 pub returns-in-Ok-clause-step : goal.returns-in-Ok-clause-step
 returns-in-Ok-clause-step c = λ message holds.
     let view = c.self.view_is in
-    install_steps c.args.self.now _ c.args.claim c.args.made.now c.in-Ok.number c.in-Ok.files
+    install_steps c.args.self.now _ c.args.claim c.args.made.now c.in-Ok.put.number c.in-Ok.put.files
     (subst (λ (v : CoordValue). IsBook v.book) view c.live.ensures.sound)
     (subst (λ (v : CoordValue). IsServed v.served) view (subst IsServed c.served.ensures.served c.listing-listing.ensures.sound.0))
     (subst (λ (v : CoordValue). IsVersion v.served.version) view (subst (λ (s : ServedValue). IsVersion s.version) c.served.ensures.served c.listing-listing.ensures.sound.1))
@@ -99,7 +99,7 @@ returns-in-Err-clause-sound c = λ holds. nothing_keeps c.args.self.now _ (retur
 pub returns-in-Ok-clause-sound : goal.returns-in-Ok-clause-sound
 returns-in-Ok-clause-sound c = λ merge.
     let view = c.self.view_is in
-    install_keeps c.args.self.now _ c.args.claim c.args.made.now c.in-Ok.number c.in-Ok.files
+    install_keeps c.args.self.now _ c.args.claim c.args.made.now c.in-Ok.put.number c.in-Ok.put.files
     (subst (λ (v : CoordValue). IsBook v.book) view c.live.ensures.sound)
     (subst (λ (v : CoordValue). IsServed v.served) view (subst IsServed c.served.ensures.served c.listing-listing.ensures.sound.0))
     (subst (λ (v : CoordValue). IsVersion v.served.version) view (subst (λ (s : ServedValue). IsVersion s.version) c.served.ensures.served c.listing-listing.ensures.sound.1))

@@ -51,7 +51,7 @@ returns-clause-ok c =
       valid = c.in_ok-edit.ensures.sound;
       applies = subst (λ (v : VersionValue). apply_fault v c.in_ok-edit.edit ≡ None) c.version-version.ensures c.in_ok-edit.ensures.applies;
       new_is = c.in_ok-log_and_apply.ensures.ok;
-      number_is = ap (λ (n : ℕ). n + 1) (c.number-number.ensures.value ∙ ap (λ (v : VersionValue). v.number) c.version-version.ensures);
+      number_is = c.new-number.ensures ∙ ap (λ (n : ℕ). n + 1) (c.number.ensures.value ∙ ap (λ (v : VersionValue). v.number) c.version-version.ensures);
       files_are = c.from_vec.ensures ∙ c.in_ok-files.ensures ∙ ap (map (λ (f : FileMeta). f.number)) (c.as_slice-2.ensures ∙ ap (λ (e : Edit). e.added) is);
     }
 
