@@ -1,4 +1,4 @@
-//! Keys, sequences, entries and batches of writes: the types that every other crate of the store uses.
+//! Keys, key ranges, sequences, numbers, entries, batches of writes and the limits: what every other crate of the store uses.
 //!
 //! It promises a total order of internal keys, batches within their limits, a look-up among sorted entries that finds
 //! the newest visible one, and readers and writers of the fields that all formats share. It stands on no other crate
