@@ -1,12 +1,11 @@
 -- The keys of chains, and those of the entries in them.
-use Rattle.std.proofs.Common.{◌≡◌, ℕ, ◌<◌, Bool, true, false, cond, not, ◌&&◌, List, [], ◌∷◌, ◌++◌, length, map, Option, slice_get, zero, suc, refl, sym, ap, ◌∙◌, inl, inr, reverse, arith}
+use Rattle.std.proofs.Common.{◌≡◌, ℕ, ◌<◌, Bool, true, false, cond, not, ◌&&◌, List, [], ◌∷◌, ◌++◌, length, map, refl, sym, ap, ◌∙◌, inl, inr, reverse, arith}
 use Rattle.std.specs.declared.cmp.Ordering.{Ordering}
 use Rattle.std.specs.declared.cmp.Ordering.TheVariants.{Less, Equal, Greater}
 use Rattle.std.specs.declared.ops.Bound.TheVariants.{Included, Unbounded}
 use Rattle.std.specs.declared.vec.Vec.{Vec}
 use Rattle.std.specs.Ordering.{is_le, is_gt}
 use Rattle.std.specs.List.{filter, dedup_from}
-use Rattle.std.specs.Option.{option_map}
 use Rattle.std.specs.Str.{bytes_eq}
 use Rattle.std.specs.BTreeMap.Range.{entries_between, range_contains}
 use Rattle.std.specs.Cmp.Lexicographic.{bytes_decides}
@@ -31,22 +30,10 @@ test_alike Equal = refl
 test_alike Greater = refl
 
 -- what `range` of a map gives
-range_from : {Y Z : Type 0} (from : Vec ℕ Y) (ps : List (Vec ℕ Y × Vec Entry Z)) → keys_in (chains_of (entries_between vec_cmp (Included from) Unbounded ps)) ≡ filter (key_le from.items) (keys_in (chains_of ps))
+pub range_from : {Y Z : Type 0} (from : Vec ℕ Y) (ps : List (Vec ℕ Y × Vec Entry Z)) → keys_in (chains_of (entries_between vec_cmp (Included from) Unbounded ps)) ≡ filter (key_le from.items) (keys_in (chains_of ps))
 range_from from ps =
     ap keys_in (filter-map chain_of (λ p. range_contains vec_cmp (Included from) Unbounded p.0) (λ c. key_le from.items c.key) (λ p. test_alike (key_cmp from.items p.0.items)) ps)
     ∙ filter-map (λ (c : Chain). c.key) (λ c. key_le from.items c.key) (key_le from.items) (λ c. refl) (chains_of ps)
-
-key_of_pairs : {Y Z : Type 0} (ps : List (Vec ℕ Y × Vec Entry Z)) (i : ℕ) → option_map (λ (p : Vec ℕ Y × Vec Entry Z). p.0.items) (slice_get ps i) ≡ slice_get (keys_in (chains_of ps)) i
-key_of_pairs [] i = refl
-key_of_pairs (p ∷ ps) zero = refl
-key_of_pairs (p ∷ ps) (suc i) = key_of_pairs ps i
-
--- the pair at a place of what `range` gives has the key at that place
-pub key_at : {Y Z : Type 0} (from : Vec ℕ Y) (ps : List (Vec ℕ Y × Vec Entry Z)) (i : ℕ) (found : Option (Vec ℕ Y × Vec Entry Z)) → found ≡ slice_get (entries_between vec_cmp (Included from) Unbounded ps) i → option_map (λ (p : Vec ℕ Y × Vec Entry Z). p.0.items) found ≡ slice_get (filter (key_le from.items) (keys_in (chains_of ps))) i
-key_at from ps i found is =
-    ap (option_map (λ p. p.0.items)) is
-    ∙ key_of_pairs (entries_between vec_cmp (Included from) Unbounded ps) i
-    ∙ ap (λ (keys : List (List ℕ)). slice_get keys i) (range_from from ps)
 
 -- ---- the keys of the entries are those of their chains
 

@@ -190,11 +190,11 @@ module _ {Y Z : Type 0} where
 
   -- ---- what a map's calls leave
 
-  pub longer_is : (key : List ℕ) (e f : Entry) (ps : List (Vec ℕ Y × Vec Entry Z)) (v w : Vec Entry Z) → key ≡ e.ikey.key → f ≡ e → IsStrictlySortedBy vec_cmp (keys_of ps) → Some v ≡ lookup (is_key key) ps → w.items ≡ v.items ++ f ∷ [] → chains_of (set_value (is_key key) ps w) ≡ with_entry e (chains_of ps)
-  longer_is key e f ps v w same is up found items =
+  pub longer_is : (key : List ℕ) (e : Entry) (ps : List (Vec ℕ Y × Vec Entry Z)) (v w : Vec Entry Z) → key ≡ e.ikey.key → IsStrictlySortedBy vec_cmp (keys_of ps) → Some v ≡ lookup (is_key key) ps → w.items ≡ v.items ++ e ∷ [] → chains_of (set_value (is_key key) ps w) ≡ with_entry e (chains_of ps)
+  longer_is key e ps v w same up found items =
       let at_key : chains_of (set_value (is_key key) ps w) ≡ chains_of (set_value (is_key e.ikey.key) ps w) = ap (λ (k : List ℕ). chains_of (set_value (is_key k) ps w)) same in
-      at_key ∙ set_value-with_entry e ps v w (keys_ascend ps up) (sym (ap (λ (k : List ℕ). lookup (is_key k) ps) same) ∙ sym found) (items ∙ ap (λ (x : Entry). v.items ++ x ∷ []) is)
+      at_key ∙ set_value-with_entry e ps v w (keys_ascend ps up) (sym (ap (λ (k : List ℕ). lookup (is_key k) ps) same) ∙ sym found) items
 
-  pub first_is : (key : List ℕ) (e f : Entry) (k : Vec ℕ Y) (v : Vec Entry Z) (ps : List (Vec ℕ Y × Vec Entry Z)) → key ≡ e.ikey.key → f ≡ e → None ≡ lookup (is_key key) ps → k.items ≡ key → v.items ≡ f ∷ [] → chains_of (insert_entry vec_cmp ps k v) ≡ with_entry e (chains_of ps)
-  first_is key e f k v ps same is absent keyed items =
-      insert_entry-with_entry e k v ps (sym (ap (λ (x : List ℕ). lookup (is_key x) ps) same) ∙ sym absent) (keyed ∙ same) (items ∙ ap (λ (x : Entry). x ∷ []) is)
+  pub first_is : (key : List ℕ) (e : Entry) (k : Vec ℕ Y) (v : Vec Entry Z) (ps : List (Vec ℕ Y × Vec Entry Z)) → key ≡ e.ikey.key → None ≡ lookup (is_key key) ps → k.items ≡ key → v.items ≡ e ∷ [] → chains_of (insert_entry vec_cmp ps k v) ≡ with_entry e (chains_of ps)
+  first_is key e k v ps same absent keyed items =
+      insert_entry-with_entry e k v ps (sym (ap (λ (x : List ℕ). lookup (is_key x) ps) same) ∙ sym absent) (keyed ∙ same) items

@@ -46,11 +46,11 @@ range_between from to ps =
 
 -- ---- the entries of a chain stand where its key stands
 
-filter_own : (p : Entry → Bool) (b : Bool) (es : List Entry) → ((e : Entry) → IsIn e es → p e ≡ b) → filter p es ≡ cond b es []
+pub filter_own : {X : Type 0} (p : X → Bool) (b : Bool) (xs : List X) → ((x : X) → IsIn x xs → p x ≡ b) → filter p xs ≡ cond b xs []
 filter_own p true [] h = refl
 filter_own p false [] h = refl
-filter_own p true (e ∷ es) h = ap (λ (t : Bool). cond t (e ∷ filter p es) (filter p es)) (h e (inl refl)) ∙ ap (λ (fs : List Entry). e ∷ fs) (filter_own p true es (λ f m. h f (inr m)))
-filter_own p false (e ∷ es) h = ap (λ (t : Bool). cond t (e ∷ filter p es) (filter p es)) (h e (inl refl)) ∙ filter_own p false es (λ f m. h f (inr m))
+filter_own p true (x ∷ xs) h = ap (λ (t : Bool). cond t (x ∷ filter p xs) (filter p xs)) (h x (inl refl)) ∙ ap (λ ys. x ∷ ys) (filter_own p true xs (λ y m. h y (inr m)))
+filter_own p false (x ∷ xs) h = ap (λ (t : Bool). cond t (x ∷ filter p xs) (filter p xs)) (h x (inl refl)) ∙ filter_own p false xs (λ y m. h y (inr m))
 
 front_or : (b : Bool) (c : Chain) (cs : List Chain) → cond b (reverse c.versions) [] ++ entries_in cs ≡ entries_in (cond b (c ∷ cs) cs)
 front_or true c cs = refl

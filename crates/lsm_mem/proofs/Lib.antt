@@ -6,3 +6,9 @@ pub mod BatchEntries
 pub mod MemtableTotals
 pub mod EntriesBetween
 pub mod ChainKeys
+pub mod PrefixOrder
+pub mod BucketRanges
+pub mod ChainsApart
+pub mod ChainsOfBuckets
+pub mod NumberedPairs
+pub mod OneKey

@@ -1,2 +1,5 @@
-pub mod Memtable
+pub mod Buckets
 pub mod Chains
+pub mod Memtable
+pub mod Prefix
+pub mod Runs

@@ -1,11 +1,9 @@
-//! A memtable's entries, key by key.
+//! The entries of several keys, key by key.
 
-ghost use Rattle.std.specs.Prelude.{◌≡◌, ◌++◌, OnOk, reverse};
-ghost use Rattle.std.specs.Option.{option_copied};
-ghost use Rattle.lsm_key.specs.Visible.{latest};
-ghost use Rattle.lsm_mem.specs.Chains.{SequencesRise, is_written};
+ghost use Rattle.std.specs.Prelude.{◌≡◌, ◌++◌, OnOk};
 
-use lsm_key::{Entry, Op, Seq};
+use crate::versions::push_newest_first;
+use lsm_key::Entry;
 use std::alloc::{AllocError, Global};
 use std::collections::BTreeMap;
 use std::marker::Model;
@@ -27,11 +25,12 @@ impl Model for Chains {
 }
 
 impl Chains {
-    ghost use Rattle.std.specs.Prelude.{◌≡◌, ◌≢◌, ◌≤◌, ◌+◌, ◌-◌, ℕ, List, [], length, IfOk, IsTrue, ◌↔◌, IfSome, IfNone, OnErr, filter, slice_get};
+    ghost use Rattle.std.specs.Prelude.{◌≢◌, ◌+◌, [], length, IfOk, IsTrue, ◌↔◌, IfSome, IfNone, OnErr, filter, slice_get};
+    ghost use Rattle.std.specs.Option.{option_copied};
     ghost use Rattle.lsm_key.specs.Sets.{IsIn};
     ghost use Rattle.lsm_key.specs.Order.{key_le};
-    ghost use Rattle.lsm_key.specs.Places.{entry_of, entries_after};
-    ghost use Rattle.lsm_mem.specs.Chains.{Chain, AreChains, entries_in, with_entry, with_entries, without_newest, chains_between, keys_in};
+    ghost use Rattle.lsm_mem.specs.Chains.{Chain, entries_in, with_entry, without_newest, chains_between, keys_in};
+    ghost use Rattle.lsm_mem.specs.Buckets.{chain_of_versions};
 
     /// No keys.
     pub(crate) fn new(alloc: Global) -> Chains
@@ -41,6 +40,18 @@ impl Chains {
             alloc,
             by_key: BTreeMap::new(alloc),
         }
+    }
+
+    /// The versions of one key, the oldest first, if there are any.
+    pub(crate) fn of_versions(alloc: Global, versions: Vec<Entry>) -> Result<Chains, AllocError>
+        ensures { IfOk result (λ chains. chains ≡ chain_of_versions versions.items) }
+    {
+        let mut chains = Chains::new(alloc);
+        if let Some(first) = versions.first() {
+            let key = first.ikey.key.as_slice().to_vec(alloc)?;
+            chains.by_key.insert(key, versions)?;
+        }
+        Ok(chains)
     }
 
     /// Whether there is no key.
@@ -58,53 +69,24 @@ impl Chains {
         Some(self.by_key.get(key)?.as_slice())
     }
 
-    // Adds the entry of an operation as the newest of its key. If memory runs out, nothing changes.
-    fn put(&mut self, op: &Op, seq: Seq) -> Result<(), AllocError>
-        ensures ok { OnOk result (self.new ≡ with_entry (entry_of seq op.now) self.old) }
+    /// Adds an entry as the newest of its key. If memory runs out, nothing changes.
+    pub(crate) fn put(&mut self, entry: Entry) -> Result<(), AllocError>
+        ensures ok { OnOk result (self.new ≡ with_entry entry self.old) }
         ensures err { OnErr result (self.new ≡ self.old) }
     {
-        let entry = op.entry(seq)?;
-        if let Some(versions) = self.by_key.get_mut(op.key().as_slice()) {
+        if let Some(versions) = self.by_key.get_mut(entry.ikey.key.as_slice()) {
             versions.push(entry)?;
             return Ok(());
         }
-        let key = op.key().as_slice().to_vec(self.alloc)?;
-        let mut versions = Vec::new(self.alloc);
+        let key = entry.ikey.key.as_slice().to_vec(self.alloc)?;
+        let mut versions = Vec::with_capacity(self.alloc, 1)?;
         versions.push(entry)?;
         self.by_key.insert(key, versions)?;
         Ok(())
     }
 
-    /// Adds the entries of operations, from a sequence on. If memory runs out, nothing changes.
-    pub(crate) fn put_all(&mut self, ops: &[Op], first: Seq) -> Result<(), AllocError>
-        requires chained { AreChains self.old }
-        requires some { 1 ≤ first }
-        requires fits { first + length ops.now ≤ Seq.MAX + 1 }
-        ensures ok { OnOk result (self.new ≡ with_entries (entries_after (first - 1) ops.now) self.old) }
-        ensures err { OnErr result (self.new ≡ self.old) }
-    {
-        for (done, op) in ops.iter().enumerate() {
-            let seq = Seq::new(first.number() + done as u64);
-            if let Err(refused) = self.put(op, seq) {
-                self.take_all(&ops[..done]);
-                return Err(refused);
-            }
-        }
-        Ok(())
-    }
-
-    // Removes what `put_all` added.
-    fn take_all(&mut self, ops: &[Op])
-        ensures { (before : List Chain) (after : ℕ) → AreChains before
-            → self.old ≡ with_entries (entries_after after ops.now) before → self.new ≡ before }
-    {
-        for op in ops.iter().rev() {
-            self.take(op.key().as_slice());
-        }
-    }
-
-    // Removes the newest version of a key.
-    fn take(&mut self, key: &[u8])
+    /// Removes the newest version of a key.
+    pub(crate) fn take(&mut self, key: &[u8])
         ensures { self.new ≡ without_newest key.now self.old }
     {
         let Some(versions) = self.by_key.get_mut(key) else {
@@ -116,63 +98,49 @@ impl Chains {
         }
     }
 
-    /// Copies of all entries, in order. Shares the bytes.
-    pub(crate) fn entries(&self) -> Result<Vec<Entry>, AllocError>
-        ensures { IfOk result (λ copies. copies.items ≡ entries_in self.now) }
+    /// Appends copies of all entries, in order. Shares the bytes.
+    pub(crate) fn push_all(&self, copies: &mut Vec<Entry>) -> Result<(), AllocError>
+        ensures { OnOk result (copies.new.items ≡ copies.old.items ++ entries_in self.now) }
     {
-        let mut copies = Vec::new(self.alloc);
         for (_, versions) in &self.by_key {
-            push_newest_first(&mut copies, versions.as_slice())?;
+            push_newest_first(copies, versions.as_slice())?;
         }
-        Ok(copies)
+        Ok(())
     }
 
-    /// Copies of the entries whose key is at or after `lo` and before `hi`, in order. Shares the bytes.
-    pub(crate) fn entries_between(&self, lo: &[u8], hi: &[u8]) -> Result<Vec<Entry>, AllocError>
-        ensures { IfOk result (λ copies. copies.items ≡ entries_in (chains_between lo.now hi.now self.now)) }
+    /// Appends copies of the entries whose key is at or after `lo` and before `hi`, in order. Shares the bytes.
+    pub(crate) fn push_between(
+        &self,
+        copies: &mut Vec<Entry>,
+        lo: &[u8],
+        hi: &[u8],
+    ) -> Result<(), AllocError>
+        ensures { OnOk result (copies.new.items ≡ copies.old.items ++ entries_in (chains_between lo.now hi.now self.now)) }
     {
-        let mut copies = Vec::new(self.alloc);
         if lo.cmp(hi).is_ge() {
-            return Ok(copies);
+            return Ok(());
         }
         let from = lo.to_vec(self.alloc)?;
         let to = hi.to_vec(self.alloc)?;
         for (_, versions) in self.by_key.range(from..to) {
-            push_newest_first(&mut copies, versions.as_slice())?;
+            push_newest_first(copies, versions.as_slice())?;
         }
-        Ok(copies)
+        Ok(())
     }
 
-    /// The key `count` keys after the first one at or after `lo`, if there is one.
-    pub(crate) fn key_after(&self, lo: &[u8], count: usize) -> Result<Option<&[u8]>, AllocError>
-        ensures { IfOk result (λ found. option_copied found ≡ slice_get (filter (key_le lo.now) (keys_in self.now)) count) }
+    /// The key `left` keys after the first one at or after `lo`. If there is none, `left` becomes less by the number of
+    /// keys at or after `lo`.
+    pub(crate) fn key_after(&self, lo: &[u8], left: &mut usize) -> Result<Option<&[u8]>, AllocError>
+        ensures found { IfOk result (λ found. option_copied found ≡ slice_get (filter (key_le lo.now) (keys_in self.now)) left.old) }
+        ensures left { IfOk result (λ found. IfNone found (left.new + length (filter (key_le lo.now) (keys_in self.now)) ≡ left.old)) }
     {
         let from = lo.to_vec(self.alloc)?;
-        let Some((key, _)) = self.by_key.range(from..).nth(count) else {
-            return Ok(None);
-        };
-        Ok(Some(key.as_slice()))
+        for (key, _) in self.by_key.range(from..) {
+            if *left == 0 {
+                return Ok(Some(key.as_slice()));
+            }
+            *left -= 1;
+        }
+        Ok(None)
     }
-}
-
-/// Of versions in the order of their sequences, the last one of a sequence at most `at`.
-pub(crate) fn newest_at(versions: &[Entry], at: Seq) -> Option<&Entry>
-    requires { SequencesRise versions.now }
-    ensures { option_copied result ≡ latest (is_written at) versions.now }
-{
-    let place = versions.partition_point(|entry| entry.ikey.seq <= at);
-    if place == 0 {
-        return None;
-    }
-    Some(&versions[place - 1])
-}
-
-// Appends copies of the entries, the last one first.
-fn push_newest_first(copies: &mut Vec<Entry>, versions: &[Entry]) -> Result<(), AllocError>
-    ensures { OnOk result (copies.new.items ≡ copies.old.items ++ reverse versions.now) }
-{
-    for entry in versions.iter().rev() {
-        copies.push(entry.clone()?)?;
-    }
-    Ok(())
 }

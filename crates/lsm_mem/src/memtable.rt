@@ -1,6 +1,7 @@
 //! The memtable.
 
-use crate::chains::{Chains, newest_at};
+use crate::buckets::Buckets;
+use crate::versions::newest_at;
 use lsm_key::{Batch, Entry, EntryRef, Seq};
 use std::alloc::{AllocError, Global};
 use std::marker::Model;
@@ -8,7 +9,7 @@ use std::marker::Model;
 /// The entries that were written last, at most `MAX_MEMTABLE_WEIGHT` bytes of them, in the order of internal keys.
 #[derive(Debug, Drop)]
 pub struct Memtable {
-    chains: Chains,
+    buckets: Buckets,
     // The size that the entries take in a block, in bytes.
     weight: usize,
     // How many entries there are.
@@ -24,9 +25,9 @@ impl Model for Memtable {
 
     ghost Value = { List Entry };
 
-    ghost view = { λ m. entries_in m.chains };
+    ghost view = { λ m. entries_in m.buckets };
 
-    ghost invariant = { λ m. IsNoted m.chains m.weight m.count m.last };
+    ghost invariant = { λ m. IsNoted m.buckets m.weight m.count m.last };
 }
 
 impl Memtable {
@@ -47,7 +48,7 @@ impl Memtable {
         ensures { result ≡ [] }
     {
         Memtable {
-            chains: Chains::new(alloc),
+            buckets: Buckets::new(alloc),
             weight: 0,
             count: 0,
             last: Seq::ZERO,
@@ -65,7 +66,7 @@ impl Memtable {
         ensures err { OnErr result (self.new ≡ self.old) }
     {
         let ops = batch.ops();
-        self.chains.put_all(ops, first_seq)?;
+        self.buckets.put_all(ops, first_seq)?;
         self.weight += batch.weight();
         self.count += ops.len();
         if !ops.is_empty() {
@@ -79,7 +80,7 @@ impl Memtable {
     pub fn get(&self, key: &[u8], at: Seq) -> Option<EntryRef<'_>>
         ensures { option_map lent_entry result ≡ visible self.now key.now at }
     {
-        let versions = self.chains.versions(key)?;
+        let versions = self.buckets.versions(key)?;
         let entry = newest_at(versions, at)?;
         Some(EntryRef {
             key: entry.ikey.key.as_slice(),
@@ -94,7 +95,7 @@ impl Memtable {
         ensures all { IfOk result (λ copies. copies.items ≡ self.now) }
         ensures sound { IsMemtable self.now }
     {
-        self.chains.entries()
+        self.buckets.entries(self.count)
     }
 
     /// Copies of the entries whose key is at or after `lo` and before `hi`, in the order of internal keys, or out of
@@ -103,7 +104,7 @@ impl Memtable {
         ensures all { IfOk result (λ copies. copies.items ≡ filter (is_between lo.now hi.now) self.now) }
         ensures sound { IsMemtable self.now }
     {
-        self.chains.entries_between(lo, hi)
+        self.buckets.entries_between(lo, hi)
     }
 
     /// The key `count` keys after the first one at or after `lo`, if there is one, or out of memory. O(log n)
@@ -111,7 +112,7 @@ impl Memtable {
     pub fn key_after(&self, lo: &[u8], count: usize) -> Result<Option<&[u8]>, AllocError>
         ensures { IfOk result (λ found. option_copied found ≡ slice_get (filter (key_le lo.now) (keys_of self.now)) count) }
     {
-        self.chains.key_after(lo, count)
+        self.buckets.key_after(lo, count)
     }
 
     /// The greatest sequence, 0 if there is no entry.
@@ -142,6 +143,6 @@ impl Memtable {
     pub fn is_empty(&self) -> bool
         ensures { IsTrue result ↔ (self.now ≡ []) }
     {
-        self.chains.is_empty()
+        self.buckets.is_empty()
     }
 }

@@ -215,3 +215,64 @@ fn a_key_takes_a_thousand_versions(rt: HostRuntime) -> Result<(), Fail> {
     }
     Ok(())
 }
+
+#[test]
+fn keys_with_one_prefix_are_told_apart(rt: HostRuntime) -> Result<(), Fail> {
+    let keys = [
+        b"account-2".as_slice(),
+        b"account",
+        b"account-1",
+        b"account\0",
+        b"account-2",
+        b"account-10",
+    ];
+    let memtable = puts_of(rt.alloc(), &keys)?;
+    for (lo, hi, want) in [
+        (
+            "a",
+            "b",
+            "account2 account\04 account-13 account-106 account-25 account-21",
+        ),
+        ("account", "account\0", "account2"),
+        ("account-1", "account-2", "account-13 account-106"),
+        (
+            "account-10",
+            "account-3",
+            "account-106 account-25 account-21",
+        ),
+    ] {
+        let entries = memtable.range(lo.as_bytes(), hi.as_bytes())?;
+        let places = places_of(rt.alloc(), entries.as_slice())?;
+        assert!(rt; places.as_str() == want, "from {lo} to {hi}");
+    }
+    let key = key_after(&memtable, b"account", 3)?;
+    assert!(rt; key == Some(b"account-10".as_slice()));
+    let found = shown(rt.alloc(), &memtable, b"account-2", 4)?;
+    assert!(rt; found.as_str() == "1 put 5");
+    Ok(())
+}
+
+/// The first and the last byte of a value, and its length.
+fn ends_of(memtable: &Memtable, key: &[u8]) -> (u8, u8, usize) {
+    let Some(entry) = memtable.get(key, Seq::new(9)) else {
+        return (0, 0, 0);
+    };
+    match entry.value {
+        [first, .., last] => (*first, *last, entry.value.len()),
+        _ => (0, 0, entry.value.len()),
+    }
+}
+
+#[test]
+fn long_values_have_memory_of_their_own(rt: HostRuntime) -> Result<(), Fail> {
+    let mut batch = Batch::new(rt.alloc());
+    batch.push(put_of(b"a", &[1; 20_000]))?;
+    batch.push(put_of(b"b", &[2; 50_000]))?;
+    let mut memtable = puts_of(rt.alloc(), &[b"c"])?;
+    apply(&mut memtable, 2, &batch)?;
+    apply(&mut memtable, 4, &batch_of(rt.alloc(), &[b"d"])?)?;
+    assert!(rt; ends_of(&memtable, b"a") == (1, 1, 20_000));
+    assert!(rt; ends_of(&memtable, b"b") == (2, 2, 50_000));
+    assert!(rt; ends_of(&memtable, b"d") == (118, 101, 5));
+    Ok(())
+}

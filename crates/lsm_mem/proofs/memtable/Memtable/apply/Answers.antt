@@ -19,7 +19,7 @@ overflow_add-self-2 c =
     let light = is.light in
     let few = c.ops-ops.ensures.few in
     let ops = ap length c.ops-ops.ensures.all in
-    let le = length-le-weight (entries_in c.self.inside.chains) in
+    let le = length-le-weight (entries_in c.self.inside.buckets) in
     omega arith
 
 older_by_one : (cs : List Chain) (es : List Entry) (last first : ℕ) → entries_in cs ≡ es → last ≡ last_sequence (entries_in cs) → last_sequence es < first → last ≤ first - 1
@@ -34,7 +34,7 @@ light_enough cs es weight ops batch view weighed all room =
 pub invariant_of-self-then-not-is_empty : goal.invariant_of-self-then-not-is_empty
 invariant_of-self-then-not-is_empty c =
     let is = c.self.invariant in
-    let cs = c.self.inside.chains in
+    let cs = c.self.inside.buckets in
     let ops = c.ops-ops.result.now in
     let after : ℕ = c.args.first_seq - 1 in
     let weight : c.weight.result ≡ total_weight ops = c.weight.ensures.value ∙ sym (ap total_weight c.ops-ops.ensures.all) in
@@ -52,7 +52,7 @@ invariant_of-self-then-not-is_empty c =
 pub invariant_of-self-else-not-is_empty : goal.invariant_of-self-else-not-is_empty
 invariant_of-self-else-not-is_empty c =
     let is = c.self.invariant in
-    let cs = c.self.inside.chains in
+    let cs = c.self.inside.buckets in
     let ops = c.ops-ops.result.now in
     let after : ℕ = c.args.first_seq - 1 in
     let weight : c.weight.result ≡ total_weight ops = c.weight.ensures.value ∙ sym (ap total_weight c.ops-ops.ensures.all) in
@@ -66,4 +66,4 @@ pub returns-then-not-is_empty-clause-ok : goal.returns-then-not-is_empty-clause-
 returns-then-not-is_empty-clause-ok c =
     let made = c.in_ok-put_all.ensures.ok in
     let all = c.ops-ops.ensures.all in
-    rw (← c.self.view_is, ← all, made) (with_entries-permuted (entries_after (c.args.first_seq - 1) c.ops-ops.result.now) c.self.inside.chains)
+    rw (← c.self.view_is, ← all, made) (with_entries-permuted (entries_after (c.args.first_seq - 1) c.ops-ops.result.now) c.self.inside.buckets)

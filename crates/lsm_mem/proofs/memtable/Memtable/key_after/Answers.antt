@@ -8,5 +8,5 @@ use Rattle.lsm_mem.proofs.memtable.Memtable.key_after.Goals as goal
 
 pub returns : goal.returns
 returns c =
-    let same = sym (keys_of_chains c.self.inside.chains c.self.invariant.chained) ∙ ap keys_of c.self.view_is in
+    let same = sym (keys_of_chains c.self.inside.buckets c.self.invariant.chained) ∙ ap keys_of c.self.view_is in
     IfOk-weaker c.key_after.result _ _ (λ found is. is ∙ ap (λ (keys : List (List ℕ)). slice_get (filter (key_le c.args.lo.now) keys) c.args.count) same) c.key_after.ensures

@@ -1,0 +1,154 @@
+//! The entries whose keys have one prefix.
+
+ghost use Rattle.std.specs.Prelude.{◌≡◌, ◌≢◌, ◌+◌, ◌++◌, ◌↔◌, [], length, filter, slice_get, IfOk, IfSome, IfNone, IsTrue, OnOk, OnErr};
+ghost use Rattle.std.specs.Option.{option_copied};
+ghost use Rattle.lsm_key.specs.Sets.{IsIn};
+ghost use Rattle.lsm_key.specs.Order.{key_le};
+ghost use Rattle.lsm_mem.specs.Chains.{Chain, chains_between, entries_in, keys_in, with_entry, without_newest};
+ghost use Rattle.lsm_mem.specs.Buckets.{chain_of_versions, chains_in, chains_lent};
+
+use crate::chains::Chains;
+use crate::versions::{are_of, key_after, push_between, push_newest_first};
+use lsm_key::Entry;
+use std::alloc::{AllocError, Global};
+use std::slice;
+
+/// The entries whose keys have one prefix. Most often there is one.
+#[derive(Debug, Drop)]
+pub(crate) enum Bucket {
+    One(Entry),
+    /// Those of one key, the oldest first.
+    Versions(Vec<Entry>),
+    /// Those of several keys.
+    Many(Chains),
+}
+
+// The same, lent.
+pub(crate) enum Lent<'a> {
+    Key(&'a [Entry]),
+    Keys(&'a Chains),
+}
+
+impl Bucket {
+    fn lend(&self) -> Lent<'_>
+        ensures { chains_lent result ≡ chains_in self.now }
+    {
+        match self {
+            Bucket::One(entry) => Lent::Key(slice::from_ref(entry)),
+            Bucket::Versions(versions) => Lent::Key(versions.as_slice()),
+            Bucket::Many(chains) => Lent::Keys(chains),
+        }
+    }
+
+    /// Whether there is no entry.
+    pub(crate) fn is_empty(&self) -> bool
+        ensures { IsTrue result ↔ (chains_in self.now ≡ []) }
+    {
+        match self.lend() {
+            Lent::Key(versions) => versions.is_empty(),
+            Lent::Keys(chains) => chains.is_empty(),
+        }
+    }
+
+    /// The versions of a key, the oldest first.
+    pub(crate) fn versions(&self, key: &[u8]) -> Option<&[Entry]>
+        ensures found { IfSome result (λ versions. IsIn (record { key = key.now; versions = versions.now }) (chains_in self.now)) }
+        ensures none { IfNone result ((c : Chain) → IsIn c (chains_in self.now) → c.key ≢ key.now) }
+    {
+        match self.lend() {
+            Lent::Key(versions) if are_of(versions, key) => Some(versions),
+            Lent::Key(_) => None,
+            Lent::Keys(chains) => chains.versions(key),
+        }
+    }
+
+    /// Appends copies of all entries, in order. Shares the bytes.
+    pub(crate) fn push_all(&self, copies: &mut Vec<Entry>) -> Result<(), AllocError>
+        ensures { OnOk result (copies.new.items ≡ copies.old.items ++ entries_in (chains_in self.now)) }
+    {
+        match self.lend() {
+            Lent::Key(versions) => push_newest_first(copies, versions),
+            Lent::Keys(chains) => chains.push_all(copies),
+        }
+    }
+
+    /// Appends copies of the entries whose key is at or after `lo` and before `hi`, in order. Shares the bytes.
+    pub(crate) fn push_between(
+        &self,
+        copies: &mut Vec<Entry>,
+        lo: &[u8],
+        hi: &[u8],
+    ) -> Result<(), AllocError>
+        ensures { OnOk result (copies.new.items ≡ copies.old.items ++ entries_in (chains_between lo.now hi.now (chains_in self.now))) }
+    {
+        match self.lend() {
+            Lent::Key(versions) => push_between(copies, versions, lo, hi),
+            Lent::Keys(chains) => chains.push_between(copies, lo, hi),
+        }
+    }
+
+    /// The key `left` keys after the first one at or after `lo`. If there is none, `left` becomes less by the number of
+    /// keys at or after `lo`.
+    pub(crate) fn key_after(&self, lo: &[u8], left: &mut usize) -> Result<Option<&[u8]>, AllocError>
+        ensures found { IfOk result (λ found. option_copied found ≡ slice_get (filter (key_le lo.now) (keys_in (chains_in self.now))) left.old) }
+        ensures left { IfOk result (λ found. IfNone found (left.new + length (filter (key_le lo.now) (keys_in (chains_in self.now))) ≡ left.old)) }
+    {
+        match self.lend() {
+            Lent::Key(versions) => Ok(key_after(versions, lo, left)),
+            Lent::Keys(chains) => chains.key_after(lo, left),
+        }
+    }
+
+    /// Adds an entry as the newest of its key. If memory runs out, nothing changes.
+    pub(crate) fn put(&mut self, alloc: Global, entry: Entry) -> Result<(), AllocError>
+        ensures ok { OnOk result (chains_in self.new ≡ with_entry entry (chains_in self.old)) }
+        ensures err { OnErr result (chains_in self.new ≡ chains_in self.old) }
+    {
+        let wider = match self {
+            Bucket::One(first) => widened(alloc, slice::from_ref(first), entry)?,
+            Bucket::Versions(versions) => {
+                if are_of(versions, entry.ikey.key.as_slice()) {
+                    versions.push(entry)?;
+                    return Ok(());
+                }
+                widened(alloc, versions, entry)?
+            }
+            Bucket::Many(chains) => return chains.put(entry),
+        };
+        *self = wider;
+        Ok(())
+    }
+
+    /// Removes the newest version of a key.
+    pub(crate) fn take(&mut self, alloc: Global, key: &[u8])
+        ensures { chains_in self.new ≡ without_newest key.now (chains_in self.old) }
+    {
+        match self {
+            Bucket::One(entry) => {
+                if are_of(slice::from_ref(entry), key) {
+                    *self = Bucket::Versions(Vec::new(alloc));
+                }
+            }
+            Bucket::Versions(versions) => {
+                if are_of(versions, key) {
+                    versions.pop();
+                }
+            }
+            Bucket::Many(chains) => chains.take(key),
+        }
+    }
+}
+
+// A bucket of the versions of a key and one more entry.
+fn widened(alloc: Global, versions: &[Entry], entry: Entry) -> Result<Bucket, AllocError>
+    ensures { IfOk result (λ bucket. chains_in bucket ≡ with_entry entry (chain_of_versions versions.now)) }
+{
+    let mut copies = versions.to_vec(alloc)?;
+    if are_of(versions, entry.ikey.key.as_slice()) {
+        copies.push(entry)?;
+        return Ok(Bucket::Versions(copies));
+    }
+    let mut chains = Chains::of_versions(alloc, copies)?;
+    chains.put(entry)?;
+    Ok(Bucket::Many(chains))
+}

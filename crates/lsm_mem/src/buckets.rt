@@ -1,0 +1,198 @@
+//! A memtable's entries, in buckets by the prefixes of their keys.
+
+ghost use Rattle.std.specs.Prelude.{◌≡◌, length, take, drop, IfOk, OnOk};
+ghost use Rattle.lsm_key.specs.Places.{entry_of};
+ghost use Rattle.lsm_mem.specs.Runs.{bytes_in};
+
+use crate::bucket::Bucket;
+use crate::chunk::Chunk;
+use crate::prefix::prefix_of;
+use bytes::Bytes;
+use lsm_key::{Entry, InternalKey, Kind, Op, Seq};
+use std::alloc::{AllocError, Global};
+use std::collections::BTreeMap;
+use std::marker::Model;
+
+/// Keys in their order, each with its versions, the oldest first. Every bucket has an entry, and the keys in it have its
+/// prefix.
+#[derive(Debug, Drop)]
+pub(crate) struct Buckets {
+    alloc: Global,
+    chunk: Chunk,
+    by_prefix: BTreeMap<u64, Bucket>,
+}
+
+impl Model for Buckets {
+    ghost use Rattle.std.specs.Prelude.{List};
+    ghost use Rattle.lsm_mem.specs.Chains.{Chain};
+    ghost use Rattle.lsm_mem.specs.Buckets.{ArePlaced, chains_of_buckets};
+
+    ghost Value = { List Chain };
+
+    ghost view = { λ b. chains_of_buckets b.by_prefix.entries };
+
+    ghost invariant = { λ b. ArePlaced b.by_prefix.entries };
+}
+
+impl Buckets {
+    ghost use Rattle.std.specs.Prelude.{◌≢◌, ◌≤◌, ◌+◌, ◌-◌, ℕ, List, [], IsTrue, ◌↔◌, IfSome, IfNone, OnErr, filter, slice_get};
+    ghost use Rattle.std.specs.Option.{option_copied};
+    ghost use Rattle.lsm_key.specs.Sets.{IsIn};
+    ghost use Rattle.lsm_key.specs.Order.{key_le};
+    ghost use Rattle.lsm_key.specs.Places.{entries_after};
+    ghost use Rattle.lsm_mem.specs.Chains.{Chain, AreChains, entries_in, with_entry, with_entries, without_newest, chains_between, keys_in};
+
+    /// No keys.
+    pub(crate) fn new(alloc: Global) -> Buckets
+        ensures { result ≡ [] }
+    {
+        Buckets {
+            alloc,
+            chunk: Chunk::new(alloc),
+            by_prefix: BTreeMap::new(alloc),
+        }
+    }
+
+    /// Whether there is no key.
+    pub(crate) fn is_empty(&self) -> bool
+        ensures { IsTrue result ↔ (self.now ≡ []) }
+    {
+        self.by_prefix.is_empty()
+    }
+
+    /// The versions of a key, the oldest first.
+    pub(crate) fn versions(&self, key: &[u8]) -> Option<&[Entry]>
+        ensures found { IfSome result (λ versions. IsIn (record { key = key.now; versions = versions.now }) self.now) }
+        ensures none { IfNone result ((c : Chain) → IsIn c self.now → c.key ≢ key.now) }
+    {
+        // Proof hint: no two buckets have one prefix.
+        let _count = self.by_prefix.len();
+        self.by_prefix.get(&prefix_of(key))?.versions(key)
+    }
+
+    /// Adds the entries of operations, from a sequence on. Copies their keys and values. If memory runs out, nothing
+    /// changes.
+    pub(crate) fn put_all(&mut self, ops: &[Op], first: Seq) -> Result<(), AllocError>
+        requires chained { AreChains self.old }
+        requires some { 1 ≤ first }
+        requires fits { first + length ops.now ≤ Seq.MAX + 1 }
+        ensures ok { OnOk result (self.new ≡ with_entries (entries_after (first - 1) ops.now) self.old) }
+        ensures err { OnErr result (self.new ≡ self.old) }
+    {
+        let mut run = self.chunk.run_of(ops)?;
+        for (done, op) in ops.iter().enumerate() {
+            let seq = Seq::new(first.number() + done as u64);
+            if let Err(refused) = self.put_next(&mut run, op, seq) {
+                self.take_all(&ops[..done]);
+                return Err(refused);
+            }
+        }
+        Ok(())
+    }
+
+    // Adds the entry of an operation whose bytes come next, and takes them off. If memory runs out, nothing changes.
+    fn put_next(&mut self, run: &mut Bytes, op: &Op, seq: Seq) -> Result<(), AllocError>
+        requires { take (length (bytes_in op.now)) run.old ≡ bytes_in op.now }
+        ensures ok { OnOk result (self.new ≡ with_entry (entry_of seq op.now) self.old) }
+        ensures rest { OnOk result (run.new ≡ drop (length (bytes_in op.now)) run.old) }
+        ensures err { OnErr result (self.new ≡ self.old) }
+    {
+        let entry = next_entry(run, op, seq)?;
+        self.put(entry)
+    }
+
+    // Adds an entry as the newest of its key. If memory runs out, nothing changes.
+    fn put(&mut self, entry: Entry) -> Result<(), AllocError>
+        ensures ok { OnOk result (self.new ≡ with_entry entry self.old) }
+        ensures err { OnErr result (self.new ≡ self.old) }
+    {
+        let prefix = prefix_of(entry.ikey.key.as_slice());
+        if let Some(bucket) = self.by_prefix.get_mut(&prefix) {
+            return bucket.put(self.alloc, entry);
+        }
+        self.by_prefix.insert(prefix, Bucket::One(entry))?;
+        Ok(())
+    }
+
+    // Removes what `put_all` added.
+    fn take_all(&mut self, ops: &[Op])
+        ensures { (before : List Chain) (after : ℕ) → AreChains before
+            → self.old ≡ with_entries (entries_after after ops.now) before → self.new ≡ before }
+    {
+        for op in ops.iter().rev() {
+            self.take(op.key().as_slice());
+        }
+    }
+
+    // Removes the newest version of a key.
+    fn take(&mut self, key: &[u8])
+        ensures { self.new ≡ without_newest key.now self.old }
+    {
+        let prefix = prefix_of(key);
+        let Some(bucket) = self.by_prefix.get_mut(&prefix) else {
+            return;
+        };
+        bucket.take(self.alloc, key);
+        if bucket.is_empty() {
+            drop(self.by_prefix.remove(&prefix));
+        }
+    }
+
+    /// Copies of all entries, in order, with room for `count` of them. Shares the bytes.
+    pub(crate) fn entries(&self, count: usize) -> Result<Vec<Entry>, AllocError>
+        ensures { IfOk result (λ copies. copies.items ≡ entries_in self.now) }
+    {
+        let mut copies = Vec::with_capacity(self.alloc, count)?;
+        for (_, bucket) in &self.by_prefix {
+            bucket.push_all(&mut copies)?;
+        }
+        Ok(copies)
+    }
+
+    /// Copies of the entries whose key is at or after `lo` and before `hi`, in order. Shares the bytes.
+    pub(crate) fn entries_between(&self, lo: &[u8], hi: &[u8]) -> Result<Vec<Entry>, AllocError>
+        ensures { IfOk result (λ copies. copies.items ≡ entries_in (chains_between lo.now hi.now self.now)) }
+    {
+        let mut copies = Vec::new(self.alloc);
+        let first = prefix_of(lo);
+        let last = prefix_of(hi);
+        if first > last {
+            return Ok(copies);
+        }
+        for (_, bucket) in self.by_prefix.range(first..=last) {
+            bucket.push_between(&mut copies, lo, hi)?;
+        }
+        Ok(copies)
+    }
+
+    /// The key `count` keys after the first one at or after `lo`, if there is one.
+    pub(crate) fn key_after(&self, lo: &[u8], count: usize) -> Result<Option<&[u8]>, AllocError>
+        ensures { IfOk result (λ found. option_copied found ≡ slice_get (filter (key_le lo.now) (keys_in self.now)) count) }
+    {
+        let mut left = count;
+        for (_, bucket) in self.by_prefix.range(prefix_of(lo)..) {
+            if let Some(key) = bucket.key_after(lo, &mut left)? {
+                return Ok(Some(key));
+            }
+        }
+        Ok(None)
+    }
+}
+
+// The entry of an operation whose bytes come next. Takes them off.
+fn next_entry(run: &mut Bytes, op: &Op, seq: Seq) -> Result<Entry, AllocError>
+    requires { take (length (bytes_in op.now)) run.old ≡ bytes_in op.now }
+    ensures entry { IfOk result (λ entry. entry ≡ entry_of seq op.now) }
+    ensures rest { OnOk result (run.new ≡ drop (length (bytes_in op.now)) run.old) }
+{
+    let key = run.split_to(op.key().len())?;
+    let value = run.split_to(op.value_len())?;
+    let kind = match op {
+        Op::Put(_, _) => Kind::Put,
+        Op::Delete(_) => Kind::Delete,
+    };
+    Ok(Entry {
+        ikey: InternalKey { key, seq, kind },
+        value,
+    })
+}
