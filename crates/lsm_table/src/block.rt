@@ -16,9 +16,11 @@ use std::marker::Model;
 
 mod fault;
 mod reading;
+mod sharing;
 mod writing;
 
 pub use fault::{BlockError, BlockFault};
+pub(crate) use sharing::share_block;
 pub use writing::encode_block;
 pub(crate) use writing::write_entry;
 
