@@ -34,7 +34,7 @@ use Rattle.lsm_coord.proofs.InstallOutcomes.{held_by}
 use Rattle.lsm_coord.proofs.PickedJobs.{inputs_taken}
 use Rattle.lsm_coord.proofs.GiveBackSteps.{live_before, same_name}
 use Rattle.lsm_sim.specs.Compacting.{IsLeft, Merges, tables_at}
-use Rattle.lsm_sim.proofs.JobEntries.{fetched, fetched_in, in_fetched, none_shared}
+use Rattle.lsm_sim.proofs.JobEntries.{input_entries, from_input, in_inputs, none_shared}
 use Rattle.lsm_sim.proofs.MergedOutputs.{opened_as, opened_entries, opened_tables, outputs_are}
 
 -- ---- the last job of a list, whose name no other has
@@ -155,11 +155,11 @@ module _ (old mid : CoordValue) (claim : LiveJob) (job : JobParts) (ver : IsVers
   module _ (made : JobResult) (m : merge.IsMerge (tables_at mid.served.places job.inputs) job made.tables) where
     pub made_of_inputs : HoldsMergeOf mid.served job made
     made_of_inputs = record {
-      inputs = fetched mid.served.places job.inputs;
-      are = λ e. (λ n. fetched_in mid.served mid_ver mid_is job.inputs inputs_of_version e n, λ p. in_fetched mid.served mid_ver mid_is job.inputs inputs_of_version p.0 e p.1 p.2 p.3);
+      inputs = input_entries mid.served.places job.inputs;
+      are = λ e. (λ n. from_input mid.served mid_ver mid_is job.inputs inputs_of_version e n, λ p. in_inputs mid.served mid_ver mid_is job.inputs inputs_of_version p.0 e p.1 p.2 p.3);
       tables = opened_as made.tables m.entries;
       opened = opened_tables made.tables m.entries m.spelled;
-      kept = subst (λ (lists : List (List Entry)). HoldsKept (fetched mid.served.places job.inputs) job.points job.deeper (all_entries lists)) (sym (opened_entries made.tables m.entries m.spelled)) m.kept;
+      kept = subst (λ (lists : List (List Entry)). HoldsKept (input_entries mid.served.places job.inputs) job.points job.deeper (all_entries lists)) (sym (opened_entries made.tables m.entries m.spelled)) m.kept;
     }
 
     pub made_outputs : AreOutputTables claim.want.hull made.tables (opened_as made.tables m.entries)

@@ -16,11 +16,11 @@ use Rattle.lsm_edit.specs.Version.{IsVersion, FileNumbersRise}
 use Rattle.lsm_edit.proofs.ServedPlaces.{newer_places, one_first, one_place}
 use Rattle.lsm_merge.specs.Inputs.{HaveSameEntry, lists_of}
 use Rattle.lsm_sim.specs.Compacting.{tables_at}
-use Rattle.lsm_sim.proofs.FetchedTables.{at_place, next_table}
+use Rattle.lsm_sim.proofs.ServedTables.{at_place, next_table}
 
 -- all entries of the tables of files
-abbrev pub fetched : List Placed → List FileMeta → List Entry
-fetched places files = all_entries (lists_of (tables_at places files))
+abbrev pub input_entries : List Placed → List FileMeta → List Entry
+input_entries places files = all_entries (lists_of (tables_at places files))
 
 module _ (s : ServedValue) (ver : IsVersion s.version) (is : IsServed s) where
   -- the files are the version's
@@ -35,25 +35,25 @@ module _ (s : ServedValue) (ver : IsVersion s.version) (is : IsServed s) where
 
   -- ---- which entries they are
 
-  pub fetched_in : (files : List FileMeta) → AreOf files → (e : Entry) → IsIn e (fetched s.places files) → (p : Placed) × IsIn p s.places × IsIn p.meta files × IsIn e p.table.entries
-  fetched_in [] all e m = absurd m
-  fetched_in (f ∷ files) all e m =
+  pub from_input : (files : List FileMeta) → AreOf files → (e : Entry) → IsIn e (input_entries s.places files) → (p : Placed) × IsIn p s.places × IsIn p.meta files × IsIn e p.table.entries
+  from_input [] all e m = absurd m
+  from_input (f ∷ files) all e m =
       let p = first f files all in
-      let parts : IsIn e (p.0.table.entries ++ fetched s.places files) = subst (λ (lists : List (List Entry)). IsIn e (all_entries lists)) p.3 m in
-      elim (IsIn-append_cases e p.0.table.entries (fetched s.places files) parts) [
+      let parts : IsIn e (p.0.table.entries ++ input_entries s.places files) = subst (λ (lists : List (List Entry)). IsIn e (all_entries lists)) p.3 m in
+      elim (IsIn-append_cases e p.0.table.entries (input_entries s.places files) parts) [
         | inl here ↦ (p.0, p.1, inl (sym p.2), here)
-        | inr later ↦ let r = fetched_in files (λ g n. all g (inr n)) e later in (r.0, r.1, inr r.2, r.3)
+        | inr later ↦ let r = from_input files (λ g n. all g (inr n)) e later in (r.0, r.1, inr r.2, r.3)
       ]
 
-  pub in_fetched : (files : List FileMeta) → AreOf files → (p : Placed) (e : Entry) → IsIn p s.places → IsIn p.meta files → IsIn e p.table.entries → IsIn e (fetched s.places files)
-  in_fetched [] all p e mp mf me = absurd mf
-  in_fetched (f ∷ files) all p e mp mf me =
+  pub in_inputs : (files : List FileMeta) → AreOf files → (p : Placed) (e : Entry) → IsIn p s.places → IsIn p.meta files → IsIn e p.table.entries → IsIn e (input_entries s.places files)
+  in_inputs [] all p e mp mf me = absurd mf
+  in_inputs (f ∷ files) all p e mp mf me =
       let q = first f files all in
-      let parts : IsIn e (q.0.table.entries ++ fetched s.places files) = elim mf [
+      let parts : IsIn e (q.0.table.entries ++ input_entries s.places files) = elim mf [
         | inl here ↦
             let one : p ≡ q.0 = one_place s ver is p q.0 mp q.1 (ap (λ (g : FileMeta). g.number) (here ∙ q.2)) in
-            IsIn-append_left e q.0.table.entries (fetched s.places files) (subst (λ (x : Placed). IsIn e x.table.entries) one me)
-        | inr later ↦ IsIn-append_right e q.0.table.entries (fetched s.places files) (in_fetched files (λ g n. all g (inr n)) p e mp later me)
+            IsIn-append_left e q.0.table.entries (input_entries s.places files) (subst (λ (x : Placed). IsIn e x.table.entries) one me)
+        | inr later ↦ IsIn-append_right e q.0.table.entries (input_entries s.places files) (in_inputs files (λ g n. all g (inr n)) p e mp later me)
       ] in
       subst (λ (lists : List (List Entry)). IsIn e (all_entries lists)) (sym q.3) parts
 
@@ -68,7 +68,7 @@ module _ (s : ServedValue) (ver : IsVersion s.version) (is : IsServed s) where
         | inl share ↦
             let e = share.0 in
             let d = share.1 in
-            let q = fetched_in files (λ g n. all g (inr n)) d share.3 in
+            let q = from_input files (λ g n. all g (inr n)) d share.3 in
             let less = up.0 q.0.meta q.2 in
             let own : f.number ≡ p.0.meta.number = ap (λ (g : FileMeta). g.number) p.2 in
             let new = newer_places s ver is order in
@@ -81,14 +81,14 @@ module _ (s : ServedValue) (ver : IsVersion s.version) (is : IsServed s) where
 
   -- ---- how many they are
 
-  pub fetched_few : (files : List FileMeta) → AreOf files → length (fetched s.places files) ≤ sum_by (λ f. f.bytes) files
-  fetched_few [] all = omega arith
-  fetched_few (f ∷ files) all =
+  pub few_inputs : (files : List FileMeta) → AreOf files → length (input_entries s.places files) ≤ sum_by (λ f. f.bytes) files
+  few_inputs [] all = omega arith
+  few_inputs (f ∷ files) all =
       let p = first f files all in
       let es = p.0.table.entries in
       let is_table = (is.recorded p.0 p.1).table in
-      let total : length (fetched s.places (f ∷ files)) ≡ length es + length (fetched s.places files) = ap (λ (lists : List (List Entry)). length (all_entries lists)) p.3 ∙ length-append es (fetched s.places files) in
+      let total : length (input_entries s.places (f ∷ files)) ≡ length es + length (input_entries s.places files) = ap (λ (lists : List (List Entry)). length (all_entries lists)) p.3 ∙ length-append es (input_entries s.places files) in
       let size : f.bytes ≡ length (table es) = ap (λ (g : FileMeta). g.bytes) p.2 ∙ (is.recorded p.0 p.1).bytes ∙ ap (λ (bytes : List ℕ). length bytes) is_table.spelled in
       let parts : length (table es) ≡ length (header (length es)) + length (index es ++ entries es) = length-append (header (length es)) (index es ++ entries es) in
       let more : length (index es ++ entries es) ≡ length (index es) + length (entries es) = length-append (index es) (entries es) in
-      omega (arith, total, size, parts, more, as_long es, fetched_few files (λ g n. all g (inr n)), sum_by-cons (λ (g : FileMeta). g.bytes) f files)
+      omega (arith, total, size, parts, more, as_long es, few_inputs files (λ g n. all g (inr n)), sum_by-cons (λ (g : FileMeta). g.bytes) f files)

@@ -7,7 +7,7 @@ pub mod KnownStreams
 pub mod RunSteps
 pub mod StoppedRuns
 pub mod ToldRefusals
-pub mod FetchedTables
+pub mod ServedTables
 pub mod JobEntries
 pub mod MergedOutputs
 pub mod Compactions

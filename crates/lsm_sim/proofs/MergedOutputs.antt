@@ -26,7 +26,7 @@ use Rattle.lsm_merge.specs.Outputs.{HasLowerKeys}
 use Rattle.lsm_merge.proofs.KeptInOnePass.{newer_first}
 use Rattle.lsm_coord.specs.Contract.Installing.{AreAscending, AreOutputTables, DecodeTo, is_table_inside}
 use Rattle.lsm_sim.specs.Compacting.{tables_at}
-use Rattle.lsm_sim.proofs.JobEntries.{fetched, fetched_few, fetched_in}
+use Rattle.lsm_sim.proofs.JobEntries.{input_entries, few_inputs, from_input}
 
 -- ---- each, and two of them
 
@@ -130,15 +130,15 @@ fewer (x ∷ xs) ys falls among =
 -- ---- the outputs of a job
 
 module _ (s : ServedValue) (ver : IsVersion s.version) (is : IsServed s) (want : Want) (legal : IsLegal s.version.files want) (job : JobParts) (takes : (f : FileMeta) → IsIn f job.inputs ↔ Takes s.version.files want f) (texts : List (List ℕ)) (m : merge.IsMerge (tables_at s.places job.inputs) job texts) where
-  kept_in : (e : Entry) → IsIn e (all_entries m.entries) → IsIn e (fetched s.places job.inputs)
-  kept_in e n = kept_input (fetched s.places job.inputs) job.points job.deeper e ((m.kept e).0 n)
+  kept_in : (e : Entry) → IsIn e (all_entries m.entries) → IsIn e (input_entries s.places job.inputs)
+  kept_in e n = kept_input (input_entries s.places job.inputs) job.points job.deeper e ((m.kept e).0 n)
 
   own : (f : FileMeta) → IsIn f job.inputs → IsIn f s.version.files
   own f n = ((takes f).0 n).0
 
   in_hull : (e : Entry) → IsIn e (all_entries m.entries) → covers want.hull e.ikey.key ≡ true
   in_hull e n =
-      let p = fetched_in s ver is job.inputs own e (kept_in e n) in
+      let p = from_input s ver is job.inputs own e (kept_in e n) in
       input_key s want ver is legal p.0 p.1 ((takes p.0.meta).0 p.2).1 e p.3
 
   some : (es : List Entry) → IsIn es m.entries → 0 < length es
@@ -159,8 +159,8 @@ module _ (s : ServedValue) (ver : IsVersion s.version) (is : IsServed s) (want :
     few =
         let texts_are = as_many texts m.entries m.spelled in
         let lists = fewer_lists m.entries some in
-        let kept = fewer (all_entries m.entries) (fetched s.places job.inputs) (ascending_falls (all_entries m.entries) m.ascending) kept_in in
-        let inputs = fetched_few s ver is job.inputs own in
+        let kept = fewer (all_entries m.entries) (input_entries s.places job.inputs) (ascending_falls (all_entries m.entries) m.ascending) kept_in in
+        let inputs = few_inputs s ver is job.inputs own in
         let bound : length texts ≤ 268435456 = omega (arith, texts_are, lists, kept, inputs, most) in
         omega (arith, bound);
     tables = opened_tables texts m.entries m.spelled;

@@ -1,14 +1,12 @@
 -- What a compaction is: a pick, the merge of its job, and the install of what the merge makes (LevelDB, db_impl.cc: BackgroundCompaction, DoCompactionWork, InstallCompactionResults).
 use Rattle.std.specs.Prelude.{◌≡◌, ℕ, ◌+◌, ◌⊎◌, List, [], ◌∷◌, ◌++◌, Option, None, Some, Result, Ok, Err, Vec}
 use Rattle.lsm_claim.specs.declared.job.LiveJob.{LiveJob}
-use Rattle.lsm_table.specs.Tables.{Opened, IsTable}
+use Rattle.lsm_table.specs.Tables.{Opened}
 use Rattle.lsm_edit.specs.declared.file.FileMeta.{FileMeta}
 use Rattle.lsm_edit.specs.declared.served.Placed.{Placed}
 use Rattle.lsm_edit.specs.Served.{table_at}
 use Rattle.lsm_msg.specs.declared.job.JobParts.{JobParts}
 use Rattle.lsm_msg.specs.declared.job.JobResult.{JobResult}
-use Rattle.lsm_msg.specs.declared.message.Body.{Body}
-use Rattle.lsm_msg.specs.declared.message.Body.TheVariants as body
 use Rattle.lsm_merge.specs.Inputs.{HaveSameEntry, lists_of}
 use Rattle.lsm_merge.specs.Outputs as merge
 use Rattle.lsm_coord.specs.declared.coord.install.Install.TheVariants as became
@@ -36,11 +34,6 @@ list_of_option (Some t) = t ∷ []
 abbrev pub tables_at : List Placed → List FileMeta → List Opened
 tables_at places [] = []
 tables_at places (f ∷ fs) = list_of_option (table_at places f.number) ++ tables_at places fs
-
--- the message brings a table, by its bytes, or it brings none
-abbrev pub Brings : Body → Option Opened → Type 0
-Brings (body.Table file bytes) table = (t : Opened) × (table ≡ Some t) × (t.bytes ≡ bytes) × IsTable bytes t.entries
-Brings said table = table ≡ None
 
 -- a merge of the tables makes this result, or two of them share an entry
 abbrev pub Merges : List Opened → JobParts → Option JobResult → Type 0

@@ -1,11 +1,10 @@
 //! Compactions: one that is due, from its pick to its install.
 
-ghost use Rattle.std.specs.Prelude.{◌≡◌, ℕ, false, IfErr, IfOk, IfSome, None, OnErr, Option, Some};
+ghost use Rattle.std.specs.Prelude.{◌≡◌, ℕ, false, IfErr, IfOk, IfSome, None, OnErr};
 ghost use Rattle.lsm_key.specs.Sets.{IsIn};
 ghost use Rattle.lsm_claim.specs.Book.{holds};
-ghost use Rattle.lsm_table.specs.Tables.{IsTable, Opened};
 ghost use Rattle.lsm_edit.specs.declared.file.FileMeta.{FileMeta};
-ghost use Rattle.lsm_edit.specs.Served.{AllRecorded, IsServed, table_at};
+ghost use Rattle.lsm_edit.specs.Served.{IsServed};
 ghost use Rattle.lsm_edit.specs.Version.{IsVersion};
 ghost use Rattle.lsm_coord.specs.declared.coord.install.Install.TheVariants as became;
 ghost use Rattle.lsm_coord.specs.Contract.Calls.{after_give_back};
@@ -15,15 +14,14 @@ ghost use Rattle.lsm_coord.specs.Contract.Shows.{Follows, Shows};
 ghost use Rattle.lsm_coord.specs.Contract.Sound.{KeepsSound};
 ghost use Rattle.lsm_coord.specs.Model.Event.{Deliver, Installed};
 ghost use Rattle.lsm_coord.specs.Model.State.{State};
-ghost use Rattle.lsm_sim.specs.Compacting.{Brings, Compacts, CompactionRefuses, IsLeft, IsReached, KeptBack, Merges, tables_at};
+ghost use Rattle.lsm_sim.specs.Compacting.{Compacts, CompactionRefuses, IsLeft, IsReached, KeptBack, Merges, tables_at};
 
-use bytes::Bytes;
 use lsm_claim::Claim;
 use lsm_coord::{Coord, CoordError, Install};
 use lsm_edit::FileMeta;
-use lsm_key::{FileNumber, Items, Refused, VersionNumber};
+use lsm_key::{FileNumber, Items, VersionNumber};
 use lsm_merge::{MergeError, merge};
-use lsm_msg::{Body, Job, JobResult, Message, Node};
+use lsm_msg::{Job, JobResult};
 use lsm_table::Table;
 use std::alloc::{AllocError, Global};
 
@@ -85,7 +83,7 @@ fn install(
 }
 
 /// The result of a job's merge, or `None` if the merge refuses the tables.
-#[tactic(auto, using(crate::proofs::FetchedTables::are_recorded))]
+#[tactic(auto, using(crate::proofs::ServedTables::are_recorded))]
 fn result_of(alloc: Global, coord: &Coord, job: &Job) -> Result<Option<JobResult>, AllocError>
     requires version { IsVersion coord.now.served.version }
     requires served { IsServed coord.now.served }
@@ -105,53 +103,16 @@ fn result_of(alloc: Global, coord: &Coord, job: &Job) -> Result<Option<JobResult
     }
 }
 
-/// The tables of files, in their order. A file that is gone has none.
+/// The tables of files, in their order, which share what the coordinator serves: none is read again. A file that is gone
+/// has none.
 fn tables_of(alloc: Global, coord: &Coord, files: &[FileMeta]) -> Result<Vec<Table>, AllocError>
-    requires { AllRecorded coord.now.served.places }
     ensures { IfOk result (λ tables. tables.items ≡ tables_at coord.now.served.places files.now) }
 {
     let mut tables = Vec::with_capacity(alloc, files.len())?;
     for file in files {
-        if let Some(table) = fetched(alloc, coord, FileNumber::new(file.number))? {
-            tables.push(table)?;
+        if let Some(table) = coord.served().table(file.number) {
+            tables.push(table.copy()?)?;
         }
     }
     Ok(tables)
-}
-
-/// The table of a file, as a worker would fetch it.
-fn fetched(alloc: Global, coord: &Coord, file: FileNumber) -> Result<Option<Table>, AllocError>
-    requires { AllRecorded coord.now.served.places }
-    ensures { IfOk result (λ table. table ≡ table_at coord.now.served.places file) }
-{
-    let asked = Message {
-        src: Node::Coordinator,
-        dst: Node::Coordinator,
-        body: Body::Fetch(file),
-    };
-    match coord.serve(&asked)? {
-        Some(answer) => table_in(alloc, answer.body),
-        None => Ok(None),
-    }
-}
-
-/// The table that a message brings.
-fn table_in(alloc: Global, body: Body) -> Result<Option<Table>, AllocError>
-    ensures { (wanted : Option Opened) → Brings body wanted → IfOk result (λ table. table ≡ wanted) }
-{
-    match body {
-        Body::Table(_, bytes) => opened(alloc, bytes),
-        _ => Ok(None),
-    }
-}
-
-/// The table that the bytes are, if they are one.
-fn opened(alloc: Global, bytes: Bytes) -> Result<Option<Table>, AllocError>
-    ensures { (t : Opened) → t.bytes ≡ bytes → IsTable bytes t.entries → IfOk result (λ table. table ≡ Some t) }
-{
-    match Table::open(alloc, bytes) {
-        Ok(table) => Ok(Some(table)),
-        Err(Refused::OutOfMemory) => Err(AllocError),
-        Err(Refused::Fault(_)) => Ok(None),
-    }
 }

@@ -97,7 +97,7 @@ impl Store {
         self.spend(claim, made)
     }
 
-    // The result of a job, as a worker makes it.
+    // The result of a job.
     fn result_of(&self, job: &Job) -> Result<JobResult, TimingError> {
         let tables = self.inputs_of(job)?;
         let outputs = merge(self.alloc, &tables, job)?;
@@ -107,6 +107,7 @@ impl Store {
         })
     }
 
+    // The tables of a job's inputs, which share what the store serves: none is read again.
     fn inputs_of(&self, job: &Job) -> Result<Vec<Table>, TimingError> {
         let mut tables = Vec::with_capacity(self.alloc, job.inputs().len())?;
         for input in job.inputs() {
@@ -116,8 +117,10 @@ impl Store {
     }
 
     fn table(&self, file: u64) -> Result<Table, TimingError> {
-        let bytes = self.fetch(file)?;
-        Ok(Table::open(self.alloc, bytes)?)
+        match self.coord.served().table(file) {
+            None => Err(GONE),
+            Some(table) => Ok(table.copy()?),
+        }
     }
 
     // Installs what was made, or gives the claim back.

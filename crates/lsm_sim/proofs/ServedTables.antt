@@ -1,16 +1,15 @@
 -- The tables that the coordinator serves.
-use Rattle.std.proofs.Common.{◌≡◌, ℕ, Bool, true, false, cond, List, [], ◌∷◌, ◌++◌, Option, None, Some, refl, sym, ap, subst, ◌∙◌, inl, inr, unwrap_or, append_assoc}
+use Rattle.std.proofs.Common.{◌≡◌, ℕ, Bool, true, false, cond, List, [], ◌∷◌, ◌++◌, Option, Some, refl, sym, ap, subst, ◌∙◌, inl, inr, unwrap_or, append_assoc}
 use Rattle.std.specs.Prelude.{nat_eq}
 use Rattle.std.proofs.lemmas.Bool.{eqb-true, eq-eqb}
 use Rattle.lsm_key.specs.Sets.{IsIn}
-use Rattle.lsm_table.specs.Tables.{IsTable, Opened}
+use Rattle.lsm_table.specs.Tables.{Opened}
 use Rattle.lsm_edit.specs.declared.file.FileMeta.{FileMeta}
 use Rattle.lsm_edit.specs.declared.served.Placed.{Placed}
-use Rattle.lsm_edit.specs.Served.{AllRecorded, AreAsRecorded, IsAsRecorded, IsServed, ServedValue, table_at}
+use Rattle.lsm_edit.specs.Served.{AreAsRecorded, IsAsRecorded, IsServed, ServedValue, table_at}
 use Rattle.lsm_edit.specs.Version.{IsVersion}
 use Rattle.lsm_edit.proofs.ServedPlaces.{one_place, place_of}
-use Rattle.lsm_coord.specs.Contract.Serving.{table_body}
-use Rattle.lsm_sim.specs.Compacting.{Brings, list_of_option, tables_at}
+use Rattle.lsm_sim.specs.Compacting.{list_of_option, tables_at}
 
 -- ---- one table
 
@@ -40,16 +39,6 @@ is_there (q ∷ ps) n p m e = there_by q ps n (nat_eq q.meta.number n) refl (λ 
   | inl same ↦ let bad : true ≡ false = sym (eq-eqb q.meta.number n (ap (λ (x : Placed). x.meta.number) (sym same) ∙ e)) ∙ other in absurd cc
   | inr rest ↦ is_there ps n p rest e
 ])
-
-brings_by : (ps : List Placed) (n : ℕ) (o : Option Opened) → AllRecorded ps → table_at ps n ≡ o → Brings (table_body n o) o
-brings_by ps n None all e = refl
-brings_by ps n (Some t) all e =
-    let r = found_in ps n t e in
-    (t, refl, refl, subst (λ (x : Opened). IsTable x.bytes x.entries) r.table (all r.place r.member).table)
-
--- what is sent for a file brings its table
-pub brings_sent : (ps : List Placed) (n : ℕ) → AllRecorded ps → Brings (table_body n (table_at ps n)) (table_at ps n)
-brings_sent ps n all = brings_by ps n (table_at ps n) all refl
 
 -- ---- all tables
 
