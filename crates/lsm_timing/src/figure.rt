@@ -1,28 +1,29 @@
 //! Figures: what took how long.
 
+use crate::bench::Bench;
 use std::io;
-use std::time::Instant;
+use std::time::Duration;
 
 /// A figure that is being taken.
 #[derive(Clone, Copy)]
 pub(crate) struct Figure {
     name: &'static str,
-    start: Instant,
+    start: Duration,
 }
 
 impl Figure {
     /// Starts the clock.
-    pub(crate) fn begin(rt: &HostRuntime, name: &'static str) -> io::Result<Figure> {
-        let start = Instant::now(rt)?;
+    pub(crate) fn begin(bench: &Bench, name: &'static str) -> io::Result<Figure> {
+        let start = bench.now()?;
         Ok(Figure { name, start })
     }
 
     /// Stops the clock, and prints the figure: for `count` of them, with a checksum of their results.
-    pub(crate) fn end(self, rt: &HostRuntime, count: u64, checksum: u64) -> io::Result<()> {
-        let nanoseconds = self.start.elapsed(rt)?.as_nanos();
+    pub(crate) fn end(self, bench: &Bench, count: u64, checksum: u64) -> io::Result<()> {
+        let nanoseconds = bench.now()?.saturating_sub(self.start).as_nanos();
         let name = self.name;
-        println!(rt; "{name} {count} {checksum}")?;
-        eprintln!(rt; "{name} {count} {nanoseconds}")
+        println!(bench.rt; "{name} {count} {checksum}")?;
+        eprintln!(bench.rt; "{name} {count} {nanoseconds}")
     }
 }
 

@@ -1,5 +1,6 @@
 //! Filling a store, with all its flushes and merges in the caller's own thread.
 
+use crate::bench::Bench;
 use crate::error::{GONE, STALE, TimingError};
 use crate::figure::{Figure, with_number};
 use crate::keys::{ENTRY_BYTES, batch_count, batch_number, or_one};
@@ -217,38 +218,38 @@ fn made(alloc: Global, entries: u64, batch: u64) -> Result<u64, TimingError> {
 
 /// Times the filling of a store, and the making of its batches alone, and prints its write amplification and its
 /// levels.
-pub(crate) fn time_fill(rt: &HostRuntime, entries: u64, batch: u64) -> Result<(), TimingError> {
-    time_making(rt, entries, batch)?;
-    let store = time_filling(rt, entries, batch)?;
-    tell_sizes(rt, entries, &store)
+pub(crate) fn time_fill(bench: &Bench, entries: u64, batch: u64) -> Result<(), TimingError> {
+    time_making(bench, entries, batch)?;
+    let store = time_filling(bench, entries, batch)?;
+    tell_sizes(bench, entries, &store)
 }
 
-fn time_making(rt: &HostRuntime, entries: u64, batch: u64) -> Result<(), TimingError> {
-    let figure = Figure::begin(rt, "make")?;
-    let checksum = made(rt.alloc(), entries, batch)?;
-    figure.end(rt, entries, checksum)?;
+fn time_making(bench: &Bench, entries: u64, batch: u64) -> Result<(), TimingError> {
+    let figure = Figure::begin(bench, "make")?;
+    let checksum = made(bench.alloc(), entries, batch)?;
+    figure.end(bench, entries, checksum)?;
     Ok(())
 }
 
-fn time_filling(rt: &HostRuntime, entries: u64, batch: u64) -> Result<Store, TimingError> {
-    let figure = Figure::begin(rt, "fill")?;
-    let store = filled(rt.alloc(), entries, batch)?;
-    figure.end(rt, entries, shape_of(&store))?;
+fn time_filling(bench: &Bench, entries: u64, batch: u64) -> Result<Store, TimingError> {
+    let figure = Figure::begin(bench, "fill")?;
+    let store = filled(bench.alloc(), entries, batch)?;
+    figure.end(bench, entries, shape_of(&store))?;
     Ok(store)
 }
 
-fn tell_sizes(rt: &HostRuntime, entries: u64, store: &Store) -> Result<(), TimingError> {
+fn tell_sizes(bench: &Bench, entries: u64, store: &Store) -> Result<(), TimingError> {
     let percent = store.written().wrapping_mul(100) / or_one(entries.wrapping_mul(ENTRY_BYTES));
-    eprintln!(rt; "write_amplification_percent {entries} {percent}")?;
+    eprintln!(bench.rt; "write_amplification_percent {entries} {percent}")?;
     for (level, written) in store.written.iter().enumerate() {
-        eprintln!(rt; "bytes_written_to_level_{level} {entries} {written}")?;
-        tell_bytes_in(rt, entries, level, bytes_in(&store.coord, level))?;
+        eprintln!(bench.rt; "bytes_written_to_level_{level} {entries} {written}")?;
+        tell_bytes_in(bench, entries, level, bytes_in(&store.coord, level))?;
     }
     Ok(())
 }
 
-fn tell_bytes_in(rt: &HostRuntime, entries: u64, level: usize, bytes: u64) -> io::Result<()> {
-    eprintln!(rt; "bytes_in_level_{level} {entries} {bytes}")
+fn tell_bytes_in(bench: &Bench, entries: u64, level: usize, bytes: u64) -> io::Result<()> {
+    eprintln!(bench.rt; "bytes_in_level_{level} {entries} {bytes}")
 }
 
 // How many bytes the files of a level have.

@@ -2,6 +2,8 @@
 //! output and a line `name n nanoseconds` on standard error.
 #![tactic(auto)]
 
+mod bench;
+mod clock;
 mod error;
 mod figure;
 mod fill;
@@ -13,8 +15,9 @@ mod reads;
 mod script;
 mod tables;
 
+use bench::Bench;
 use error::{OUT_OF_MEMORY, STREAM, TimingError};
-use options::{Task, task_of};
+use options::{Task, request_of};
 use std::io::ErrorKind;
 use std::process::ExitCode;
 use std::{env, io};
@@ -51,17 +54,17 @@ fn words_of(rt: &HostRuntime) -> io::Result<Vec<String>> {
     Ok(words.collect(rt.alloc())?)
 }
 
-fn run(rt: &HostRuntime, task: Task) -> Result<(), TimingError> {
+fn run(bench: &Bench, task: Task) -> Result<(), TimingError> {
     match task {
-        Task::Fill { entries, batch } => fill::time_fill(rt, entries, batch),
-        Task::Get { entries, reads } => reads::time_gets(rt, entries, reads),
-        Task::Scan { entries, scans } => reads::time_scans(rt, entries, scans),
-        Task::Merge { megabytes } => merges::time_merge(rt, megabytes),
-        Task::Flush { entries } => tables::time_flush(rt, entries),
-        Task::Open { megabytes } => tables::time_open(rt, megabytes),
-        Task::Pick { files } => picks::time_picks(rt, files),
-        Task::Script { lines } => script::print_script(rt, lines),
-        Task::All => run_all(rt),
+        Task::Fill { entries, batch } => fill::time_fill(bench, entries, batch),
+        Task::Get { entries, reads } => reads::time_gets(bench, entries, reads),
+        Task::Scan { entries, scans } => reads::time_scans(bench, entries, scans),
+        Task::Merge { megabytes } => merges::time_merge(bench, megabytes),
+        Task::Flush { entries } => tables::time_flush(bench, entries),
+        Task::Open { megabytes } => tables::time_open(bench, megabytes),
+        Task::Pick { files } => picks::time_picks(bench, files),
+        Task::Script { lines } => script::print_script(&bench.rt, lines),
+        Task::All => run_all(bench),
     }
 }
 
@@ -69,16 +72,16 @@ fn run(rt: &HostRuntime, task: Task) -> Result<(), TimingError> {
 const MERGED: u64 = 260_000;
 
 /// Each figure at a small size.
-fn run_all(rt: &HostRuntime) -> Result<(), TimingError> {
-    fill::time_fill(rt, MERGED, 1_000)?;
-    reads::time_gets(rt, MERGED, 2_000)?;
-    reads::time_scans(rt, MERGED, None)?;
-    reads::time_scans(rt, 2_000, Some(50))?;
-    merges::time_merge(rt, 1)?;
-    tables::time_flush(rt, 1_000)?;
-    tables::time_open(rt, 1)?;
-    picks::time_picks(rt, 5)?;
-    script::print_script(rt, 12)
+fn run_all(bench: &Bench) -> Result<(), TimingError> {
+    fill::time_fill(bench, MERGED, 1_000)?;
+    reads::time_gets(bench, MERGED, 2_000)?;
+    reads::time_scans(bench, MERGED, None)?;
+    reads::time_scans(bench, 2_000, Some(50))?;
+    merges::time_merge(bench, 1)?;
+    tables::time_flush(bench, 1_000)?;
+    tables::time_open(bench, 1)?;
+    picks::time_picks(bench, 5)?;
+    script::print_script(&bench.rt, 12)
 }
 
 fn main(rt: HostRuntime) -> ExitCode {
@@ -92,11 +95,15 @@ fn main(rt: HostRuntime) -> ExitCode {
             return ExitCode::from(REFUSED);
         }
     };
-    let task = match task_of(rt.alloc(), words.as_slice()) {
-        Ok(task) => task,
+    let request = match request_of(rt.alloc(), words.as_slice()) {
+        Ok(request) => request,
         Err(error) => return answer(&rt, error),
     };
-    match run(&rt, task) {
+    let bench = Bench {
+        rt,
+        clock: request.clock,
+    };
+    match run(&bench, request.task) {
         Ok(()) => ExitCode::SUCCESS,
         Err(error) => fail(&rt, error),
     }

@@ -1,5 +1,6 @@
 //! A merge of two levels.
 
+use crate::bench::Bench;
 use crate::error::{NO_JOB, TimingError};
 use crate::figure::{Figure, with_bytes};
 use crate::fill::Store;
@@ -19,17 +20,17 @@ const UPPER: u8 = 1;
 
 /// Times the merge of the tables of two levels, with `megabytes` MB of keys and values in all. One key in eight is in
 /// both.
-pub(crate) fn time_merge(rt: &HostRuntime, megabytes: u64) -> Result<(), TimingError> {
-    let alloc = rt.alloc();
+pub(crate) fn time_merge(bench: &Bench, megabytes: u64) -> Result<(), TimingError> {
+    let alloc = bench.alloc();
     let (tables, lower) = tables_in(alloc, megabytes)?;
     let job = job_of(alloc, &tables, lower)?;
-    time_job(rt, &tables, &job)
+    time_job(bench, &tables, &job)
 }
 
-fn time_job(rt: &HostRuntime, tables: &[Table], job: &Job) -> Result<(), TimingError> {
-    let figure = Figure::begin(rt, "merge")?;
-    let outputs = merge(rt.alloc(), tables, job)?;
-    figure.end(rt, entries_of(tables), checksum_of(&outputs))?;
+fn time_job(bench: &Bench, tables: &[Table], job: &Job) -> Result<(), TimingError> {
+    let figure = Figure::begin(bench, "merge")?;
+    let outputs = merge(bench.alloc(), tables, job)?;
+    figure.end(bench, entries_of(tables), checksum_of(&outputs))?;
     Ok(())
 }
 

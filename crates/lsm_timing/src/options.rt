@@ -1,11 +1,20 @@
 //! The command line.
 
+use crate::clock::ClockKind;
+use clap::builder::ValueParser;
 use clap::error::ErrorKind;
 use clap::{Arg, ArgMatches, Command, Error, value_parser};
 use std::alloc::{AllocError, Global};
 
 /// The most entries of a store that is filled.
 const MAX_ENTRIES: i64 = 100_000_000;
+
+/// What the command line asks for.
+#[derive(Clone, Copy)]
+pub(crate) struct Request {
+    pub(crate) task: Task,
+    pub(crate) clock: ClockKind,
+}
 
 /// What is timed, and at which size.
 #[derive(Clone, Copy)]
@@ -153,6 +162,12 @@ const SCRIPT: Form = Form {
     other: None,
 };
 
+const WALL: &str = "wall";
+
+const PROCESSOR: &str = "processor";
+
+const CLOCKS: [&str; 2] = [WALL, PROCESSOR];
+
 const FORMS: [Form; 8] = [FILL, GET, SCAN, MERGE, FLUSH, OPEN, PICK, SCRIPT];
 
 fn arg_of<'a>(alloc: Global, number: Number) -> Arg<'a> {
@@ -176,6 +191,17 @@ fn subcommand<'a>(alloc: Global, form: Form) -> Result<Command<'a>, AllocError> 
     }
 }
 
+/// The clock, which every command takes.
+fn clock<'a>(alloc: Global) -> Arg<'a> {
+    Arg::new(alloc, "clock")
+        .long("clock")
+        .value_name("CLOCK")
+        .help("The time that passes, or that the process has a processor")
+        .value_parser(ValueParser::Names(&CLOCKS))
+        .default_value(WALL)
+        .global(true)
+}
+
 /// The command line that the program takes.
 fn command<'a>(alloc: Global) -> Result<Command<'a>, AllocError> {
     let mut command = Command::new(alloc, "lsm_timing")
@@ -184,7 +210,8 @@ fn command<'a>(alloc: Global) -> Result<Command<'a>, AllocError> {
             "Times the store: 'name n checksum' on standard output, 'name n nanoseconds' on standard error",
         )
         .no_binary_name(true)
-        .subcommand_required(true);
+        .subcommand_required(true)
+        .arg(clock(alloc))?;
     for form in FORMS {
         command = command.subcommand(subcommand(alloc, form)?)?;
     }
@@ -226,19 +253,34 @@ fn task_in(name: &str, found: &ArgMatches<'_>) -> Option<Task> {
     }
 }
 
-fn task_by<'a>(command: &mut Command<'a>, words: &'a [String]) -> Result<Option<Task>, Error> {
-    let found = command.try_get_matches_from_mut(words)?;
-    match found.subcommand() {
-        Some((name, numbers)) => Ok(task_in(name, numbers)),
-        None => Ok(None),
+fn clock_in(found: &ArgMatches<'_>) -> ClockKind {
+    match found.get_str("clock") {
+        Some(PROCESSOR) => ClockKind::Processor,
+        _ => ClockKind::Wall,
     }
 }
 
-/// The task that the words after the program's name ask for. Every other line, help too, is an error of `clap`.
-pub(crate) fn task_of<'a>(alloc: Global, words: &'a [String]) -> Result<Task, Error> {
+fn request_in(found: &ArgMatches<'_>) -> Option<Request> {
+    let (name, numbers) = found.subcommand()?;
+    Some(Request {
+        task: task_in(name, numbers)?,
+        clock: clock_in(found),
+    })
+}
+
+fn request_by<'a>(
+    command: &mut Command<'a>,
+    words: &'a [String],
+) -> Result<Option<Request>, Error> {
+    let found = command.try_get_matches_from_mut(words)?;
+    Ok(request_in(&found))
+}
+
+/// What the words after the program's name ask for. Every other line, help too, is an error of `clap`.
+pub(crate) fn request_of<'a>(alloc: Global, words: &'a [String]) -> Result<Request, Error> {
     let mut command = command(alloc)?;
-    match task_by(&mut command, words)? {
-        Some(task) => Ok(task),
+    match request_by(&mut command, words)? {
+        Some(request) => Ok(request),
         None => Err(command.error(ErrorKind::MissingSubcommand, "no figure was requested")?),
     }
 }

@@ -5,6 +5,7 @@ ghost use Rattle.lsm_edit.specs.File.{IsFile};
 ghost use Rattle.lsm_edit.specs.Edit.{IsEdit};
 ghost use Rattle.lsm_edit.specs.Served.{AreAsRecorded};
 
+use crate::bench::Bench;
 use crate::error::{EXHAUSTED, NO_PICK, TimingError};
 use crate::figure::{Figure, with_number};
 use crate::fill::Store;
@@ -27,15 +28,15 @@ const LEVEL: u8 = 1;
 const TIGHT: Limits = Limits { l0: 1, base: 1 };
 
 /// Times picks from a version with `files` files in level 1, which needs compaction, with no job running.
-pub(crate) fn time_picks(rt: &HostRuntime, files: u64) -> Result<(), TimingError> {
-    let served = version_of(rt.alloc(), files)?;
-    time_picks_of(rt, &served)
+pub(crate) fn time_picks(bench: &Bench, files: u64) -> Result<(), TimingError> {
+    let served = version_of(bench.alloc(), files)?;
+    time_picks_of(bench, &served)
 }
 
-fn time_picks_of(rt: &HostRuntime, served: &Served) -> Result<(), TimingError> {
-    let figure = Figure::begin(rt, "pick")?;
-    let checksum = picked(rt.alloc(), served)?;
-    figure.end(rt, PICKS, checksum)?;
+fn time_picks_of(bench: &Bench, served: &Served) -> Result<(), TimingError> {
+    let figure = Figure::begin(bench, "pick")?;
+    let checksum = picked(bench.alloc(), served)?;
+    figure.end(bench, PICKS, checksum)?;
     Ok(())
 }
 

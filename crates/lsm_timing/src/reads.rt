@@ -1,5 +1,6 @@
 //! Gets and scans of a settled store.
 
+use crate::bench::Bench;
 use crate::error::TimingError;
 use crate::figure::{Figure, with_bytes, with_number};
 use crate::fill::filled;
@@ -21,23 +22,23 @@ const SHORT: u64 = 20;
 const END: [u8; 17] = [255; 17];
 
 /// Times gets of random keys that are there, and of keys that are not.
-pub(crate) fn time_gets(rt: &HostRuntime, entries: u64, reads: u64) -> Result<(), TimingError> {
-    let mut store = filled(rt.alloc(), entries, BATCH)?;
-    time_gets_of(rt, &mut store.coord, entries, reads)
+pub(crate) fn time_gets(bench: &Bench, entries: u64, reads: u64) -> Result<(), TimingError> {
+    let mut store = filled(bench.alloc(), entries, BATCH)?;
+    time_gets_of(bench, &mut store.coord, entries, reads)
 }
 
 fn time_gets_of(
-    rt: &HostRuntime,
+    bench: &Bench,
     coord: &mut Coord,
     entries: u64,
     reads: u64,
 ) -> Result<(), TimingError> {
-    let figure = Figure::begin(rt, "get")?;
+    let figure = Figure::begin(bench, "get")?;
     let checksum = get_present(coord, entries, reads)?;
-    figure.end(rt, reads, checksum)?;
-    let figure = Figure::begin(rt, "get_absent")?;
+    figure.end(bench, reads, checksum)?;
+    let figure = Figure::begin(bench, "get_absent")?;
     let checksum = get_absent(coord, entries, reads)?;
-    figure.end(rt, reads, checksum)?;
+    figure.end(bench, reads, checksum)?;
     Ok(())
 }
 
@@ -73,33 +74,33 @@ fn with_value(checksum: u64, value: Option<Bytes>) -> u64 {
 
 /// Times one scan of the whole store, or a number of short ones.
 pub(crate) fn time_scans(
-    rt: &HostRuntime,
+    bench: &Bench,
     entries: u64,
     scans: Option<u64>,
 ) -> Result<(), TimingError> {
-    let mut store = filled(rt.alloc(), entries, BATCH)?;
+    let mut store = filled(bench.alloc(), entries, BATCH)?;
     match scans {
-        None => time_whole(rt, &mut store.coord),
-        Some(scans) => time_short(rt, &mut store.coord, entries, scans),
+        None => time_whole(bench, &mut store.coord),
+        Some(scans) => time_short(bench, &mut store.coord, entries, scans),
     }
 }
 
-fn time_whole(rt: &HostRuntime, coord: &mut Coord) -> Result<(), TimingError> {
-    let figure = Figure::begin(rt, "scan")?;
-    let (count, checksum) = scan_whole(rt.alloc(), coord)?;
-    figure.end(rt, count, checksum)?;
+fn time_whole(bench: &Bench, coord: &mut Coord) -> Result<(), TimingError> {
+    let figure = Figure::begin(bench, "scan")?;
+    let (count, checksum) = scan_whole(bench.alloc(), coord)?;
+    figure.end(bench, count, checksum)?;
     Ok(())
 }
 
 fn time_short(
-    rt: &HostRuntime,
+    bench: &Bench,
     coord: &mut Coord,
     entries: u64,
     scans: u64,
 ) -> Result<(), TimingError> {
-    let figure = Figure::begin(rt, "scan_short")?;
+    let figure = Figure::begin(bench, "scan_short")?;
     let checksum = scan_short(coord, entries, scans)?;
-    figure.end(rt, scans, checksum)?;
+    figure.end(bench, scans, checksum)?;
     Ok(())
 }
 

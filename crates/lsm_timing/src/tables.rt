@@ -1,5 +1,6 @@
 //! Tables: made by flushes, and opened.
 
+use crate::bench::Bench;
 use crate::error::TimingError;
 use crate::figure::{Figure, with_number};
 use crate::fill::Store;
@@ -67,9 +68,9 @@ pub(crate) fn opened(alloc: Global, tables: &[Bytes]) -> Result<Vec<Table>, Timi
 }
 
 /// Times the flush of a memtable of `entries` entries.
-pub(crate) fn time_flush(rt: &HostRuntime, entries: u64) -> Result<(), TimingError> {
-    let mut store = unflushed(rt.alloc(), entries)?;
-    time_flush_of(rt, &mut store, entries)
+pub(crate) fn time_flush(bench: &Bench, entries: u64) -> Result<(), TimingError> {
+    let mut store = unflushed(bench.alloc(), entries)?;
+    time_flush_of(bench, &mut store, entries)
 }
 
 // A store with `entries` entries in its memtable.
@@ -80,18 +81,18 @@ fn unflushed(alloc: Global, entries: u64) -> Result<Store, TimingError> {
     Ok(store)
 }
 
-fn time_flush_of(rt: &HostRuntime, store: &mut Store, entries: u64) -> Result<(), TimingError> {
-    let figure = Figure::begin(rt, "flush")?;
+fn time_flush_of(bench: &Bench, store: &mut Store, entries: u64) -> Result<(), TimingError> {
+    let figure = Figure::begin(bench, "flush")?;
     store.flush()?;
-    figure.end(rt, entries, store.written())?;
+    figure.end(bench, entries, store.written())?;
     Ok(())
 }
 
 /// Times the opening of tables of `megabytes` MB of keys and values.
-pub(crate) fn time_open(rt: &HostRuntime, megabytes: u64) -> Result<(), TimingError> {
+pub(crate) fn time_open(bench: &Bench, megabytes: u64) -> Result<(), TimingError> {
     let count = entries_in(megabytes);
-    let tables = made(rt.alloc(), count)?;
-    time_open_of(rt, &tables, count)
+    let tables = made(bench.alloc(), count)?;
+    time_open_of(bench, &tables, count)
 }
 
 // The tables of the entries of the first `count` indices.
@@ -101,10 +102,10 @@ fn made(alloc: Global, count: u64) -> Result<Vec<Bytes>, TimingError> {
     tables_of(alloc, &mut store, &indices)
 }
 
-fn time_open_of(rt: &HostRuntime, tables: &[Bytes], count: u64) -> Result<(), TimingError> {
-    let figure = Figure::begin(rt, "open")?;
-    let opened = opened(rt.alloc(), tables)?;
-    figure.end(rt, count, entries_of(&opened))?;
+fn time_open_of(bench: &Bench, tables: &[Bytes], count: u64) -> Result<(), TimingError> {
+    let figure = Figure::begin(bench, "open")?;
+    let opened = opened(bench.alloc(), tables)?;
+    figure.end(bench, count, entries_of(&opened))?;
     Ok(())
 }
 

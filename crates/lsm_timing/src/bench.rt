@@ -1,0 +1,24 @@
+//! What all figures of a run have in common.
+
+use crate::clock::ClockKind;
+use std::alloc::Global;
+use std::io;
+use std::time::Duration;
+
+/// What all figures of a run have in common.
+#[derive(Clone, Copy)]
+pub(crate) struct Bench {
+    pub(crate) rt: HostRuntime,
+    pub(crate) clock: ClockKind,
+}
+
+impl Bench {
+    pub(crate) fn alloc(&self) -> Global {
+        self.rt.alloc()
+    }
+
+    /// What the clock shows.
+    pub(crate) fn now(&self) -> io::Result<Duration> {
+        self.clock.now(&self.rt)
+    }
+}
