@@ -1,6 +1,7 @@
 //! What all figures of a run have in common.
 
 use crate::clock::ClockKind;
+use crate::keys::Shape;
 use std::alloc::Global;
 use std::io;
 use std::time::Duration;
@@ -10,6 +11,7 @@ use std::time::Duration;
 pub(crate) struct Bench {
     pub(crate) rt: HostRuntime,
     pub(crate) clock: ClockKind,
+    pub(crate) shape: Shape,
 }
 
 impl Bench {

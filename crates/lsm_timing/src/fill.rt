@@ -1,9 +1,10 @@
 //! Filling a store, with all its flushes and merges in the caller's own thread.
 
+use crate::batches::{batch_count, batch_number};
 use crate::bench::Bench;
 use crate::error::{GONE, STALE, TimingError};
 use crate::figure::{Figure, with_number};
-use crate::keys::{ENTRY_BYTES, batch_count, batch_number, or_one};
+use crate::keys::or_one;
 use bytes::Bytes;
 use lsm_claim::Claim;
 use lsm_coord::{Coord, CoordError, Install};
@@ -11,7 +12,6 @@ use lsm_key::{Batch, DEFAULT_BASE, DEFAULT_L0, FileNumber, Items, Limits, NUM_LE
 use lsm_merge::merge;
 use lsm_msg::{Body, Job, JobResult, Message, Node, NodeIndex};
 use lsm_table::Table;
-use std::alloc::Global;
 use std::io;
 
 /// The number of levels.
@@ -21,21 +21,21 @@ const LEVELS: usize = NUM_LEVELS as usize;
 #[derive(Drop)]
 pub(crate) struct Store {
     pub(crate) coord: Coord,
-    alloc: Global,
+    pub(crate) bench: Bench,
     written: [u64; LEVELS],
 }
 
 impl Store {
     /// A new store, with the default limits.
-    pub(crate) fn new(alloc: Global) -> Result<Store, TimingError> {
+    pub(crate) fn new(bench: &Bench) -> Result<Store, TimingError> {
         let limits = Limits {
             l0: DEFAULT_L0,
             base: DEFAULT_BASE,
         };
-        let coord = Coord::new(alloc, limits)?;
+        let coord = Coord::new(bench.alloc(), limits)?;
         Ok(Store {
             coord,
-            alloc,
+            bench: *bench,
             written: [0; LEVELS],
         })
     }
@@ -101,7 +101,7 @@ impl Store {
     // The result of a job.
     fn result_of(&self, job: &Job) -> Result<JobResult, TimingError> {
         let tables = self.inputs_of(job)?;
-        let outputs = merge(self.alloc, &tables, job)?;
+        let outputs = merge(self.bench.alloc(), &tables, job)?;
         Ok(JobResult {
             job: job.id(),
             tables: Items::from_vec(outputs),
@@ -110,7 +110,7 @@ impl Store {
 
     // The tables of a job's inputs, which share what the store serves: none is read again.
     fn inputs_of(&self, job: &Job) -> Result<Vec<Table>, TimingError> {
-        let mut tables = Vec::with_capacity(self.alloc, job.inputs().len())?;
+        let mut tables = Vec::with_capacity(self.bench.alloc(), job.inputs().len())?;
         for input in job.inputs() {
             tables.push(self.table(input.number)?)?;
         }
@@ -193,24 +193,24 @@ fn bytes_of(tables: &[Bytes]) -> u64 {
 }
 
 /// A store of `entries` entries, put in random order in batches, with no level due.
-pub(crate) fn filled(alloc: Global, entries: u64, batch: u64) -> Result<Store, TimingError> {
-    let mut store = Store::new(alloc)?;
+pub(crate) fn filled(bench: &Bench, entries: u64, batch: u64) -> Result<Store, TimingError> {
+    let mut store = Store::new(bench)?;
     fill(&mut store, entries, batch)?;
     Ok(store)
 }
 
 fn fill(store: &mut Store, entries: u64, batch: u64) -> Result<(), TimingError> {
     for number in 0..batch_count(entries, batch) {
-        store.write(&batch_number(store.alloc, number, entries, batch)?)?;
+        store.write(&batch_number(&store.bench, number, entries, batch)?)?;
     }
     store.settle()
 }
 
 // Makes the same batches, and drops them: the part of a fill that is not the store's.
-fn made(alloc: Global, entries: u64, batch: u64) -> Result<u64, TimingError> {
+fn made(bench: &Bench, entries: u64, batch: u64) -> Result<u64, TimingError> {
     let mut checksum = 0;
     for number in 0..batch_count(entries, batch) {
-        let puts = batch_number(alloc, number, entries, batch)?;
+        let puts = batch_number(bench, number, entries, batch)?;
         checksum = with_number(checksum, puts.weight() as u64);
     }
     Ok(checksum)
@@ -226,20 +226,21 @@ pub(crate) fn time_fill(bench: &Bench, entries: u64, batch: u64) -> Result<(), T
 
 fn time_making(bench: &Bench, entries: u64, batch: u64) -> Result<(), TimingError> {
     let figure = Figure::begin(bench, "make")?;
-    let checksum = made(bench.alloc(), entries, batch)?;
+    let checksum = made(bench, entries, batch)?;
     figure.end(bench, entries, checksum)?;
     Ok(())
 }
 
 fn time_filling(bench: &Bench, entries: u64, batch: u64) -> Result<Store, TimingError> {
     let figure = Figure::begin(bench, "fill")?;
-    let store = filled(bench.alloc(), entries, batch)?;
+    let store = filled(bench, entries, batch)?;
     figure.end(bench, entries, shape_of(&store))?;
     Ok(store)
 }
 
 fn tell_sizes(bench: &Bench, entries: u64, store: &Store) -> Result<(), TimingError> {
-    let percent = store.written().wrapping_mul(100) / or_one(entries.wrapping_mul(ENTRY_BYTES));
+    let put = entries.wrapping_mul(bench.shape.entry_bytes());
+    let percent = store.written().wrapping_mul(100) / or_one(put);
     eprintln!(bench.rt; "write_amplification_percent {entries} {percent}")?;
     for (level, written) in store.written.iter().enumerate() {
         eprintln!(bench.rt; "bytes_written_to_level_{level} {entries} {written}")?;

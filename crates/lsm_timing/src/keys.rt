@@ -2,18 +2,18 @@
 
 ghost use Rattle.std.specs.Prelude.{◌≤◌};
 
-use crate::error::TimingError;
 use bytes::{BufMut, Bytes, BytesMut};
-use lsm_key::{Batch, Op};
+use lsm_key::Op;
 use std::alloc::{AllocError, Global};
 
-/// How many bytes a key and its value have.
-pub(crate) const ENTRY_BYTES: u64 = 116;
+/// What each prefixed key begins with.
+const PREFIX: [u8; 16] = *b"user:profile:eu:";
 
-/// The words of a value: twelve of eight bytes, and half of one more.
-const VALUE_WORDS: u64 = 12;
+/// How many bytes of a value are made at a time.
+const WORD: u64 = 8;
 
-const VALUE_BYTES: usize = 100;
+/// What an entry takes in a table beside its key and value, in bytes.
+const OVERHEAD: u64 = 14;
 
 /// A permutation of the numbers that scatters them (Steele, Lea, Flood, "Fast splittable pseudorandom number
 /// generators", 2014: the mixer of SplitMix64).
@@ -24,40 +24,9 @@ pub(crate) fn mix(number: u64) -> u64 {
     twice ^ (twice >> 31)
 }
 
-/// The key of an index: 16 bytes, in random order, and different for each index.
-pub(crate) fn key_of(index: u64) -> [u8; 16] {
-    (((mix(index) as u128) << 64) | index as u128).to_be_bytes()
-}
-
-/// The value of an index: 100 bytes that nothing compresses.
-pub(crate) fn value_of(alloc: Global, index: u64) -> Result<Bytes, AllocError> {
-    let mut value = BytesMut::with_capacity(alloc, VALUE_BYTES)?;
-    for word in 0..VALUE_WORDS {
-        value.put_u64(mix(index.wrapping_mul(VALUE_WORDS).wrapping_add(word)))?;
-    }
-    value.put_u32((mix(index) >> 32) as u32)?;
-    Ok(value.freeze()?)
-}
-
-/// The put of an index.
-pub(crate) fn put_of(alloc: Global, index: u64) -> Result<Op, AllocError> {
-    let key = Bytes::copy_from_slice(alloc, &key_of(index))?;
-    let value = value_of(alloc, index)?;
-    Ok(Op::Put(key, value))
-}
-
-/// The puts of some indices, in one batch.
-pub(crate) fn batch_of(alloc: Global, indices: &[u64]) -> Result<Batch, TimingError> {
-    let mut batch = Batch::new(alloc);
-    for index in indices {
-        batch.push(put_of(alloc, *index)?)?;
-    }
-    Ok(batch)
-}
-
-/// How many batches entries take.
-pub(crate) fn batch_count(entries: u64, batch: u64) -> u64 {
-    entries.div_ceil(or_one(batch))
+/// The random number below a limit that belongs to this one.
+pub(crate) fn random_below(limit: u64, number: u64) -> u64 {
+    mix(!number) % or_one(limit)
 }
 
 /// The number, or 1 in place of 0.
@@ -67,18 +36,86 @@ pub(crate) fn or_one(number: u64) -> u64
     if number == 0 { 1 } else { number }
 }
 
-/// The puts of one of the batches in which the indices below a count are put, by its number from 0.
-pub(crate) fn batch_number(
-    alloc: Global,
-    number: u64,
-    entries: u64,
-    batch: u64,
-) -> Result<Batch, TimingError> {
-    let first = number.wrapping_mul(batch);
-    let end = first.saturating_add(batch).min(entries);
-    let mut puts = Batch::new(alloc);
-    for index in first..end {
-        puts.push(put_of(alloc, index)?)?;
+/// The scattered key of an index: 16 bytes, in random order, and different for each index.
+pub(crate) fn scattered_key(index: u64) -> [u8; 16] {
+    (((mix(index) as u128) << 64) | index as u128).to_be_bytes()
+}
+
+/// What the keys of all entries look like.
+#[derive(Clone, Copy)]
+pub(crate) enum KeyShape {
+    Scattered,
+    /// A prefix that all keys share, and then a scattered key.
+    Prefixed,
+}
+
+/// A key of either shape.
+#[derive(Clone, Copy)]
+pub(crate) struct Key {
+    shape: KeyShape,
+    // The prefixed key.
+    bytes: [u8; 32],
+}
+
+impl Key {
+    pub(crate) fn as_slice(&self) -> &[u8] {
+        match self.shape {
+            KeyShape::Scattered => &self.bytes[PREFIX.len()..],
+            KeyShape::Prefixed => &self.bytes,
+        }
     }
-    Ok(puts)
+}
+
+/// What all entries look like.
+#[derive(Clone, Copy)]
+pub(crate) struct Shape {
+    pub(crate) keys: KeyShape,
+    /// How many bytes a value has.
+    pub(crate) value_len: u64,
+}
+
+impl Shape {
+    /// How many bytes a key and its value have.
+    pub(crate) fn entry_bytes(self) -> u64 {
+        let key_len = match self.keys {
+            KeyShape::Scattered => 16,
+            KeyShape::Prefixed => 32,
+        };
+        self.value_len.saturating_add(key_len)
+    }
+
+    /// How many entries have this weight, at most.
+    pub(crate) fn count_within(self, weight: u64) -> u64 {
+        weight / or_one(self.entry_bytes().saturating_add(OVERHEAD))
+    }
+
+    /// The key of an index.
+    pub(crate) fn key(self, index: u64) -> Key {
+        let mut bytes = [0; 32];
+        bytes[..16].copy_from_slice(&PREFIX);
+        bytes[16..].copy_from_slice(&scattered_key(index));
+        Key {
+            shape: self.keys,
+            bytes,
+        }
+    }
+
+    /// The value of an index: bytes that nothing compresses.
+    pub(crate) fn value(self, alloc: Global, index: u64) -> Result<Bytes, AllocError> {
+        let words = self.value_len / WORD;
+        let mut value = BytesMut::with_capacity(alloc, self.value_len as usize)?;
+        for word in 0..words {
+            value.put_u64(mix(index.wrapping_mul(words).wrapping_add(word)))?;
+        }
+        let rest = mix(index).to_be_bytes();
+        value.put_slice(&rest[..(self.value_len % WORD) as usize])?;
+        Ok(value.freeze()?)
+    }
+
+    /// The put of an index.
+    pub(crate) fn put(self, alloc: Global, index: u64) -> Result<Op, AllocError> {
+        let key = Bytes::copy_from_slice(alloc, self.key(index).as_slice())?;
+        let value = self.value(alloc, index)?;
+        Ok(Op::Put(key, value))
+    }
 }

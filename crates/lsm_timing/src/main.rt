@@ -2,11 +2,13 @@
 //! output and a line `name n nanoseconds` on standard error.
 #![tactic(auto)]
 
+mod batches;
 mod bench;
 mod clock;
 mod error;
 mod figure;
 mod fill;
+mod globals;
 mod keys;
 mod merges;
 mod options;
@@ -102,6 +104,7 @@ fn main(rt: HostRuntime) -> ExitCode {
     let bench = Bench {
         rt,
         clock: request.clock,
+        shape: request.shape,
     };
     match run(&bench, request.task) {
         Ok(()) => ExitCode::SUCCESS,

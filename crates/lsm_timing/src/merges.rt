@@ -21,9 +21,8 @@ const UPPER: u8 = 1;
 /// Times the merge of the tables of two levels, with `megabytes` MB of keys and values in all. One key in eight is in
 /// both.
 pub(crate) fn time_merge(bench: &Bench, megabytes: u64) -> Result<(), TimingError> {
-    let alloc = bench.alloc();
-    let (tables, lower) = tables_in(alloc, megabytes)?;
-    let job = job_of(alloc, &tables, lower)?;
+    let (tables, lower) = tables_in(bench, megabytes)?;
+    let job = job_of(bench.alloc(), &tables, lower)?;
     time_job(bench, &tables, &job)
 }
 
@@ -35,37 +34,28 @@ fn time_job(bench: &Bench, tables: &[Table], job: &Job) -> Result<(), TimingErro
 }
 
 // The tables of the lower level and then those of the upper one, and how many the lower one has.
-fn tables_in(alloc: Global, megabytes: u64) -> Result<(Vec<Table>, usize), TimingError> {
-    let keys = entries_in(megabytes).wrapping_mul(8) / 9;
-    let (tables, lower) = spelled_tables(alloc, keys)?;
-    Ok((opened(alloc, &tables)?, lower))
+fn tables_in(bench: &Bench, megabytes: u64) -> Result<(Vec<Table>, usize), TimingError> {
+    let keys = entries_in(bench, megabytes).wrapping_mul(8) / 9;
+    let (tables, lower) = spelled_tables(bench, keys)?;
+    Ok((opened(bench.alloc(), &tables)?, lower))
 }
 
-fn spelled_tables(alloc: Global, keys: u64) -> Result<(Vec<Bytes>, usize), TimingError> {
-    let indices = sorted_indices(alloc, keys)?;
-    let mut store = Store::new(alloc)?;
-    both_levels(alloc, &mut store, &indices)
+fn spelled_tables(bench: &Bench, keys: u64) -> Result<(Vec<Bytes>, usize), TimingError> {
+    let indices = sorted_indices(bench.alloc(), keys)?;
+    let mut store = Store::new(bench)?;
+    both_levels(&mut store, &indices)
 }
 
-fn both_levels(
-    alloc: Global,
-    store: &mut Store,
-    indices: &[u64],
-) -> Result<(Vec<Bytes>, usize), TimingError> {
-    let lower = level_of(alloc, store, indices, 0)?;
-    let upper = level_of(alloc, store, indices, 1)?;
+fn both_levels(store: &mut Store, indices: &[u64]) -> Result<(Vec<Bytes>, usize), TimingError> {
+    let lower = level_of(store, indices, 0)?;
+    let upper = level_of(store, indices, 1)?;
     let count = lower.len();
     Ok((joined(lower, upper)?, count))
 }
 
-fn level_of(
-    alloc: Global,
-    store: &mut Store,
-    indices: &[u64],
-    level: u64,
-) -> Result<Vec<Bytes>, TimingError> {
-    let chosen = indices_at(alloc, indices, level)?;
-    tables_of(alloc, store, &chosen)
+fn level_of(store: &mut Store, indices: &[u64], level: u64) -> Result<Vec<Bytes>, TimingError> {
+    let chosen = indices_at(store.bench.alloc(), indices, level)?;
+    tables_of(store, &chosen)
 }
 
 // The indices of the entries of a level, 0 for the lower and 1 for the upper one: every eighth, and a random half of the

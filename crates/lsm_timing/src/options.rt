@@ -1,7 +1,8 @@
 //! The command line.
 
 use crate::clock::ClockKind;
-use clap::builder::ValueParser;
+use crate::globals::{clock, clock_in, keys, shape_in, value};
+use crate::keys::Shape;
 use clap::error::ErrorKind;
 use clap::{Arg, ArgMatches, Command, Error, value_parser};
 use std::alloc::{AllocError, Global};
@@ -14,6 +15,7 @@ const MAX_ENTRIES: i64 = 100_000_000;
 pub(crate) struct Request {
     pub(crate) task: Task,
     pub(crate) clock: ClockKind,
+    pub(crate) shape: Shape,
 }
 
 /// What is timed, and at which size.
@@ -162,12 +164,6 @@ const SCRIPT: Form = Form {
     other: None,
 };
 
-const WALL: &str = "wall";
-
-const PROCESSOR: &str = "processor";
-
-const CLOCKS: [&str; 2] = [WALL, PROCESSOR];
-
 const FORMS: [Form; 8] = [FILL, GET, SCAN, MERGE, FLUSH, OPEN, PICK, SCRIPT];
 
 fn arg_of<'a>(alloc: Global, number: Number) -> Arg<'a> {
@@ -191,17 +187,6 @@ fn subcommand<'a>(alloc: Global, form: Form) -> Result<Command<'a>, AllocError> 
     }
 }
 
-/// The clock, which every command takes.
-fn clock<'a>(alloc: Global) -> Arg<'a> {
-    Arg::new(alloc, "clock")
-        .long("clock")
-        .value_name("CLOCK")
-        .help("The time that passes, or that the process has a processor")
-        .value_parser(ValueParser::Names(&CLOCKS))
-        .default_value(WALL)
-        .global(true)
-}
-
 /// The command line that the program takes.
 fn command<'a>(alloc: Global) -> Result<Command<'a>, AllocError> {
     let mut command = Command::new(alloc, "lsm_timing")
@@ -211,7 +196,9 @@ fn command<'a>(alloc: Global) -> Result<Command<'a>, AllocError> {
         )
         .no_binary_name(true)
         .subcommand_required(true)
-        .arg(clock(alloc))?;
+        .arg(clock(alloc))?
+        .arg(keys(alloc))?
+        .arg(value(alloc))?;
     for form in FORMS {
         command = command.subcommand(subcommand(alloc, form)?)?;
     }
@@ -253,18 +240,12 @@ fn task_in(name: &str, found: &ArgMatches<'_>) -> Option<Task> {
     }
 }
 
-fn clock_in(found: &ArgMatches<'_>) -> ClockKind {
-    match found.get_str("clock") {
-        Some(PROCESSOR) => ClockKind::Processor,
-        _ => ClockKind::Wall,
-    }
-}
-
 fn request_in(found: &ArgMatches<'_>) -> Option<Request> {
     let (name, numbers) = found.subcommand()?;
     Some(Request {
         task: task_in(name, numbers)?,
         clock: clock_in(found),
+        shape: shape_in(found),
     })
 }
 

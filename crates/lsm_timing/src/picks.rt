@@ -5,11 +5,11 @@ ghost use Rattle.lsm_edit.specs.File.{IsFile};
 ghost use Rattle.lsm_edit.specs.Edit.{IsEdit};
 ghost use Rattle.lsm_edit.specs.Served.{AreAsRecorded};
 
+use crate::batches::batch_of;
 use crate::bench::Bench;
 use crate::error::{EXHAUSTED, NO_PICK, TimingError};
 use crate::figure::{Figure, with_number};
 use crate::fill::Store;
-use crate::keys::batch_of;
 use bytes::Bytes;
 use lsm_claim::ClaimBook;
 use lsm_edit::{Edit, EditKind, FileMeta, Served};
@@ -29,7 +29,7 @@ const TIGHT: Limits = Limits { l0: 1, base: 1 };
 
 /// Times picks from a version with `files` files in level 1, which needs compaction, with no job running.
 pub(crate) fn time_picks(bench: &Bench, files: u64) -> Result<(), TimingError> {
-    let served = version_of(bench.alloc(), files)?;
+    let served = version_of(bench, files)?;
     time_picks_of(bench, &served)
 }
 
@@ -56,11 +56,12 @@ fn picked(alloc: Global, served: &Served) -> Result<u64, TimingError> {
 }
 
 // A version with `files` files of one entry each.
-fn version_of(alloc: Global, files: u64) -> Result<Served, TimingError> {
+fn version_of(bench: &Bench, files: u64) -> Result<Served, TimingError> {
+    let alloc = bench.alloc();
     let mut served = Served::new(alloc);
     open_epoch(alloc, &mut served)?;
     for index in 0..files {
-        let bytes = table_of(alloc, index)?;
+        let bytes = table_of(bench, index)?;
         add_file(alloc, &mut served, &bytes)?;
     }
     Ok(served)
@@ -78,9 +79,9 @@ fn opened(alloc: Global, bytes: &Bytes) -> Result<Table, TimingError> {
 }
 
 // The table of the one entry of an index.
-fn table_of(alloc: Global, index: u64) -> Result<Bytes, TimingError> {
-    let batch = batch_of(alloc, &[index])?;
-    let mut store = Store::new(alloc)?;
+fn table_of(bench: &Bench, index: u64) -> Result<Bytes, TimingError> {
+    let batch = batch_of(bench, &[index])?;
+    let mut store = Store::new(bench)?;
     table_by(&mut store, &batch)
 }
 

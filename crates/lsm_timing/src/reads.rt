@@ -4,7 +4,7 @@ use crate::bench::Bench;
 use crate::error::TimingError;
 use crate::figure::{Figure, with_bytes, with_number};
 use crate::fill::filled;
-use crate::keys::{key_of, mix, or_one};
+use crate::keys::{Shape, random_below};
 use bytes::Bytes;
 use lsm_coord::Coord;
 use std::alloc::{AllocError, Global};
@@ -18,12 +18,12 @@ const WINDOW: u64 = 4_096;
 /// How many keys a short scan gives.
 const SHORT: u64 = 20;
 
-/// After every key of 16 bytes.
+/// After every key.
 const END: [u8; 17] = [255; 17];
 
 /// Times gets of random keys that are there, and of keys that are not.
 pub(crate) fn time_gets(bench: &Bench, entries: u64, reads: u64) -> Result<(), TimingError> {
-    let mut store = filled(bench.alloc(), entries, BATCH)?;
+    let mut store = filled(bench, entries, BATCH)?;
     time_gets_of(bench, &mut store.coord, entries, reads)
 }
 
@@ -34,35 +34,40 @@ fn time_gets_of(
     reads: u64,
 ) -> Result<(), TimingError> {
     let figure = Figure::begin(bench, "get")?;
-    let checksum = get_present(coord, entries, reads)?;
+    let checksum = get_present(bench.shape, coord, entries, reads)?;
     figure.end(bench, reads, checksum)?;
     let figure = Figure::begin(bench, "get_absent")?;
-    let checksum = get_absent(coord, entries, reads)?;
+    let checksum = get_absent(bench.shape, coord, entries, reads)?;
     figure.end(bench, reads, checksum)?;
     Ok(())
 }
 
-fn get_present(coord: &mut Coord, entries: u64, reads: u64) -> Result<u64, TimingError> {
+fn get_present(
+    shape: Shape,
+    coord: &mut Coord,
+    entries: u64,
+    reads: u64,
+) -> Result<u64, TimingError> {
     let mut checksum = 0;
     for read in 0..reads {
-        let index = random_below(entries, read);
-        checksum = with_value(checksum, coord.get(&key_of(index), None)?);
+        let key = shape.key(random_below(entries, read));
+        checksum = with_value(checksum, coord.get(key.as_slice(), None)?);
     }
     Ok(checksum)
 }
 
-fn get_absent(coord: &mut Coord, entries: u64, reads: u64) -> Result<u64, TimingError> {
+fn get_absent(
+    shape: Shape,
+    coord: &mut Coord,
+    entries: u64,
+    reads: u64,
+) -> Result<u64, TimingError> {
     let mut checksum = 0;
     for read in 0..reads {
-        let index = entries.wrapping_add(read);
-        checksum = with_value(checksum, coord.get(&key_of(index), None)?);
+        let key = shape.key(entries.wrapping_add(read));
+        checksum = with_value(checksum, coord.get(key.as_slice(), None)?);
     }
     Ok(checksum)
-}
-
-// The random number below a limit that belongs to this one.
-fn random_below(limit: u64, number: u64) -> u64 {
-    mix(!number) % or_one(limit)
 }
 
 fn with_value(checksum: u64, value: Option<Bytes>) -> u64 {
@@ -78,15 +83,20 @@ pub(crate) fn time_scans(
     entries: u64,
     scans: Option<u64>,
 ) -> Result<(), TimingError> {
-    let mut store = filled(bench.alloc(), entries, BATCH)?;
+    let mut store = filled(bench, entries, BATCH)?;
     match scans {
-        None => time_whole(bench, &mut store.coord),
+        None => time_whole(bench, &mut store.coord, "scan"),
         Some(scans) => time_short(bench, &mut store.coord, entries, scans),
     }
 }
 
-fn time_whole(bench: &Bench, coord: &mut Coord) -> Result<(), TimingError> {
-    let figure = Figure::begin(bench, "scan")?;
+/// Times one scan of the whole store, as a figure of this name.
+pub(crate) fn time_whole(
+    bench: &Bench,
+    coord: &mut Coord,
+    name: &'static str,
+) -> Result<(), TimingError> {
+    let figure = Figure::begin(bench, name)?;
     let (count, checksum) = scan_whole(bench.alloc(), coord)?;
     figure.end(bench, count, checksum)?;
     Ok(())
@@ -99,7 +109,7 @@ fn time_short(
     scans: u64,
 ) -> Result<(), TimingError> {
     let figure = Figure::begin(bench, "scan_short")?;
-    let checksum = scan_short(coord, entries, scans)?;
+    let checksum = scan_short(bench.shape, coord, entries, scans)?;
     figure.end(bench, scans, checksum)?;
     Ok(())
 }
@@ -136,11 +146,16 @@ fn with_pairs(checksum: u64, pairs: &[(Bytes, Bytes)]) -> u64 {
 }
 
 // Short scans from random keys.
-fn scan_short(coord: &mut Coord, entries: u64, scans: u64) -> Result<u64, TimingError> {
+fn scan_short(
+    shape: Shape,
+    coord: &mut Coord,
+    entries: u64,
+    scans: u64,
+) -> Result<u64, TimingError> {
     let mut checksum = 0;
     for scan in 0..scans {
-        let from = key_of(random_below(entries, scan));
-        let pairs = coord.scan(&from, &END, None, SHORT)?;
+        let from = shape.key(random_below(entries, scan));
+        let pairs = coord.scan(from.as_slice(), &END, None, SHORT)?;
         checksum = with_pairs(checksum, &pairs);
     }
     Ok(checksum)

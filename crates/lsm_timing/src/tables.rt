@@ -1,57 +1,52 @@
 //! Tables: made by flushes, and opened.
 
+use crate::batches::batch_of;
 use crate::bench::Bench;
 use crate::error::TimingError;
 use crate::figure::{Figure, with_number};
 use crate::fill::Store;
-use crate::keys::{ENTRY_BYTES, batch_of, key_of};
+use crate::keys::{or_one, scattered_key};
 use bytes::Bytes;
+use lsm_key::MAX_MEMTABLE_WEIGHT;
 use lsm_table::Table;
 use std::alloc::{AllocError, Global};
 
 /// How many operations a batch has that makes a table.
 const BATCH: usize = 1_000;
 
-/// How many entries a table has: about as much as the outputs of a merge.
-const TABLE_ENTRIES: usize = 15_000;
+/// What the entries of a table weigh, at most: about as much as the outputs of a merge.
+const TABLE_WEIGHT: u64 = 1_950_000;
 
 /// The bytes of a megabyte, here.
 const MEGABYTE: u64 = 1_000_000;
 
 /// How many entries take `megabytes` MB of keys and values.
-pub(crate) fn entries_in(megabytes: u64) -> u64 {
-    megabytes.wrapping_mul(MEGABYTE) / ENTRY_BYTES
+pub(crate) fn entries_in(bench: &Bench, megabytes: u64) -> u64 {
+    megabytes.wrapping_mul(MEGABYTE) / or_one(bench.shape.entry_bytes())
 }
 
-/// The indices below a count, in the order of their keys.
+/// The indices below a count, in the order of their keys, of either shape.
 pub(crate) fn sorted_indices(alloc: Global, count: u64) -> Result<Vec<u64>, AllocError> {
     let mut indices: Vec<u64> = (0..count).collect(alloc)?;
-    indices.sort_unstable_by(|index, other| key_of(*index).cmp(&key_of(*other)));
+    indices.sort_unstable_by(|index, other| scattered_key(*index).cmp(&scattered_key(*other)));
     Ok(indices)
 }
 
 /// Writes the entries of some indices, in batches, and leaves them in the memtable.
-pub(crate) fn put_all(
-    alloc: Global,
-    store: &mut Store,
-    indices: &[u64],
-) -> Result<(), TimingError> {
+pub(crate) fn put_all(store: &mut Store, indices: &[u64]) -> Result<(), TimingError> {
     for chunk in indices.chunks(BATCH) {
-        let batch = batch_of(alloc, chunk)?;
+        let batch = batch_of(&store.bench, chunk)?;
         store.coord.write(&batch)?;
     }
     Ok(())
 }
 
 /// The tables of the entries of indices that are in the order of their keys, one table after another.
-pub(crate) fn tables_of(
-    alloc: Global,
-    store: &mut Store,
-    indices: &[u64],
-) -> Result<Vec<Bytes>, TimingError> {
-    let mut tables = Vec::new(alloc);
-    for chunk in indices.chunks(TABLE_ENTRIES) {
-        put_all(alloc, store, chunk)?;
+pub(crate) fn tables_of(store: &mut Store, indices: &[u64]) -> Result<Vec<Bytes>, TimingError> {
+    let mut tables = Vec::new(store.bench.alloc());
+    let in_table = or_one(store.bench.shape.count_within(TABLE_WEIGHT)) as usize;
+    for chunk in indices.chunks(in_table) {
+        put_all(store, chunk)?;
         let file = store.flush()?;
         tables.push(store.fetch(file)?)?;
     }
@@ -67,17 +62,23 @@ pub(crate) fn opened(alloc: Global, tables: &[Bytes]) -> Result<Vec<Table>, Timi
     Ok(opened)
 }
 
-/// Times the flush of a memtable of `entries` entries.
+/// Times the flush of a memtable of `entries` entries, or of as many as it takes.
 pub(crate) fn time_flush(bench: &Bench, entries: u64) -> Result<(), TimingError> {
-    let mut store = unflushed(bench.alloc(), entries)?;
+    let entries = entries.min(memtable_entries(bench));
+    let mut store = unflushed(bench, entries)?;
     time_flush_of(bench, &mut store, entries)
 }
 
-// A store with `entries` entries in its memtable.
-fn unflushed(alloc: Global, entries: u64) -> Result<Store, TimingError> {
-    let indices: Vec<u64> = (0..entries).collect(alloc)?;
-    let mut store = Store::new(alloc)?;
-    put_all(alloc, &mut store, &indices)?;
+/// How many entries a memtable takes.
+pub(crate) fn memtable_entries(bench: &Bench) -> u64 {
+    bench.shape.count_within(MAX_MEMTABLE_WEIGHT as u64)
+}
+
+/// A store with `entries` entries in its memtable.
+pub(crate) fn unflushed(bench: &Bench, entries: u64) -> Result<Store, TimingError> {
+    let indices: Vec<u64> = (0..entries).collect(bench.alloc())?;
+    let mut store = Store::new(bench)?;
+    put_all(&mut store, &indices)?;
     Ok(store)
 }
 
@@ -90,16 +91,16 @@ fn time_flush_of(bench: &Bench, store: &mut Store, entries: u64) -> Result<(), T
 
 /// Times the opening of tables of `megabytes` MB of keys and values.
 pub(crate) fn time_open(bench: &Bench, megabytes: u64) -> Result<(), TimingError> {
-    let count = entries_in(megabytes);
-    let tables = made(bench.alloc(), count)?;
+    let count = entries_in(bench, megabytes);
+    let tables = made(bench, count)?;
     time_open_of(bench, &tables, count)
 }
 
 // The tables of the entries of the first `count` indices.
-fn made(alloc: Global, count: u64) -> Result<Vec<Bytes>, TimingError> {
-    let indices = sorted_indices(alloc, count)?;
-    let mut store = Store::new(alloc)?;
-    tables_of(alloc, &mut store, &indices)
+fn made(bench: &Bench, count: u64) -> Result<Vec<Bytes>, TimingError> {
+    let indices = sorted_indices(bench.alloc(), count)?;
+    let mut store = Store::new(bench)?;
+    tables_of(&mut store, &indices)
 }
 
 fn time_open_of(bench: &Bench, tables: &[Bytes], count: u64) -> Result<(), TimingError> {
