@@ -6,7 +6,7 @@ use crate::keys::or_one;
 use lsm_key::Batch;
 
 /// The puts of some indices, in one batch.
-pub(crate) fn batch_of(bench: &Bench, indices: &[u64]) -> Result<Batch, TimingError> {
+pub(crate) fn batch_of(bench: Bench, indices: &[u64]) -> Result<Batch, TimingError> {
     let mut batch = Batch::new(bench.alloc());
     for index in indices {
         batch.push(bench.shape.put(bench.alloc(), *index)?)?;
@@ -21,7 +21,7 @@ pub(crate) fn batch_count(entries: u64, batch: u64) -> u64 {
 
 /// The puts of one of the batches in which the indices below a count are put, by its number from 0.
 pub(crate) fn batch_number(
-    bench: &Bench,
+    bench: Bench,
     number: u64,
     entries: u64,
     batch: u64,

@@ -15,12 +15,12 @@ pub(crate) struct Bench {
 }
 
 impl Bench {
-    pub(crate) fn alloc(&self) -> Global {
+    pub(crate) fn alloc(self) -> Global {
         self.rt.alloc()
     }
 
     /// What the clock shows.
-    pub(crate) fn now(&self) -> io::Result<Duration> {
+    pub(crate) fn now(self) -> io::Result<Duration> {
         self.clock.now(&self.rt)
     }
 }

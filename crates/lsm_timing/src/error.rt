@@ -25,7 +25,11 @@ pub(crate) enum TimingError {
 pub(crate) const OUT_OF_MEMORY: TimingError = TimingError::Plain("out of memory");
 
 pub(crate) const STREAM: TimingError = TimingError::Plain(
-    "the clock, standard output or standard error failed",
+    "the clock, the account of the memory, standard output or standard error failed",
+);
+
+pub(crate) const NO_ACCOUNT: TimingError = TimingError::Plain(
+    "the system does not tell the memory of the process",
 );
 
 pub(crate) const GONE: TimingError = TimingError::Plain("a table was not served");

@@ -13,18 +13,28 @@ pub(crate) struct Figure {
 
 impl Figure {
     /// Starts the clock.
-    pub(crate) fn begin(bench: &Bench, name: &'static str) -> io::Result<Figure> {
+    pub(crate) fn begin(bench: Bench, name: &'static str) -> io::Result<Figure> {
         let start = bench.now()?;
         Ok(Figure { name, start })
     }
 
     /// Stops the clock, and prints the figure: for `count` of them, with a checksum of their results.
-    pub(crate) fn end(self, bench: &Bench, count: u64, checksum: u64) -> io::Result<()> {
+    pub(crate) fn end(self, bench: Bench, count: u64, checksum: u64) -> io::Result<()> {
         let nanoseconds = bench.now()?.saturating_sub(self.start).as_nanos();
-        let name = self.name;
-        println!(bench.rt; "{name} {count} {checksum}")?;
-        eprintln!(bench.rt; "{name} {count} {nanoseconds}")
+        tell(bench, self.name, count, checksum, nanoseconds)
     }
+}
+
+/// Prints a figure: how many nanoseconds or bytes, for `count` of them, with a checksum of their results.
+pub(crate) fn tell(
+    bench: Bench,
+    name: &'static str,
+    count: u64,
+    checksum: u64,
+    amount: u128,
+) -> io::Result<()> {
+    println!(bench.rt; "{name} {count} {checksum}")?;
+    eprintln!(bench.rt; "{name} {count} {amount}")
 }
 
 /// A checksum with some more bytes in it: their length and their ends, so that it costs no pass over them.

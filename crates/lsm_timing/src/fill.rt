@@ -5,6 +5,7 @@ use crate::bench::Bench;
 use crate::error::{GONE, STALE, TimingError};
 use crate::figure::{Figure, with_number};
 use crate::keys::or_one;
+use crate::watch::Watch;
 use bytes::Bytes;
 use lsm_claim::Claim;
 use lsm_coord::{Coord, CoordError, Install};
@@ -22,12 +23,13 @@ const LEVELS: usize = NUM_LEVELS as usize;
 pub(crate) struct Store {
     pub(crate) coord: Coord,
     pub(crate) bench: Bench,
+    pub(crate) watch: Watch,
     written: [u64; LEVELS],
 }
 
 impl Store {
     /// A new store, with the default limits.
-    pub(crate) fn new(bench: &Bench) -> Result<Store, TimingError> {
+    pub(crate) fn new(bench: Bench) -> Result<Store, TimingError> {
         let limits = Limits {
             l0: DEFAULT_L0,
             base: DEFAULT_BASE,
@@ -35,25 +37,36 @@ impl Store {
         let coord = Coord::new(bench.alloc(), limits)?;
         Ok(Store {
             coord,
-            bench: *bench,
+            bench,
+            watch: Watch::OFF,
             written: [0; LEVELS],
         })
     }
 
     /// Writes a batch. If the memtable is full it is flushed first, and all due levels are compacted.
     pub(crate) fn write(&mut self, batch: &Batch) -> Result<(), TimingError> {
-        match self.coord.write(batch) {
-            Ok(_) => return Ok(()),
+        match self.accept(batch) {
+            Ok(()) => return Ok(()),
             Err(CoordError::MemtableFull) => {}
             Err(why) => return Err(TimingError::from(why)),
         }
         self.settle()?;
-        self.coord.write(batch)?;
+        self.accept(batch)?;
         Ok(())
     }
 
-    // Flushes, and compacts until no level needs it.
-    fn settle(&mut self) -> Result<(), TimingError> {
+    fn accept(&mut self, batch: &Batch) -> Result<(), CoordError> {
+        let start = self.watch.begin(self.bench);
+        let done = self.coord.write(batch);
+        self.watch.end(self.bench, start);
+        match done {
+            Ok(_) => Ok(()),
+            Err(why) => Err(why),
+        }
+    }
+
+    /// Flushes, and compacts until no level needs it.
+    pub(crate) fn settle(&mut self) -> Result<(), TimingError> {
         self.flush()?;
         for _merge in 0..u64::MAX {
             if !self.merge_next()? {
@@ -63,14 +76,32 @@ impl Store {
         Ok(())
     }
 
-    /// Flushes the memtable, and returns the number of its file.
+    /// Freezes and flushes the memtable, and returns the number of its file.
     pub(crate) fn flush(&mut self) -> Result<u64, TimingError> {
-        let flushed = self.coord.flush()?;
+        self.freeze()?;
+        let file = self.flush_frozen()?;
         if let Some(file) = self.coord.show().files.last() {
             let bytes = file.bytes as u64;
             self.count(0, bytes);
         }
-        Ok(flushed.file.number())
+        Ok(file.number())
+    }
+
+    fn freeze(&mut self) -> Result<(), CoordError> {
+        let start = self.watch.begin(self.bench);
+        let done = self.coord.freeze();
+        self.watch.end(self.bench, start);
+        match done {
+            Ok(_) => Ok(()),
+            Err(why) => Err(why),
+        }
+    }
+
+    fn flush_frozen(&mut self) -> Result<FileNumber, CoordError> {
+        let start = self.watch.begin(self.bench);
+        let done = self.coord.flush();
+        self.watch.end_flush(self.bench, start);
+        Ok(done?.file)
     }
 
     // Counts bytes that were written to a level.
@@ -91,11 +122,18 @@ impl Store {
 
     // Runs the next compaction, and returns whether there was one.
     fn merge_next(&mut self) -> Result<bool, TimingError> {
-        let Some((claim, job)) = self.coord.pick()? else {
+        let Some((claim, job)) = self.pick()? else {
             return Ok(false);
         };
         let made = self.result_of(&job);
         self.spend(claim, made)
+    }
+
+    fn pick(&mut self) -> Result<Option<(Claim, Job)>, CoordError> {
+        let start = self.watch.begin(self.bench);
+        let picked = self.coord.pick();
+        self.watch.end(self.bench, start);
+        picked
     }
 
     // The result of a job.
@@ -117,7 +155,8 @@ impl Store {
         Ok(tables)
     }
 
-    fn table(&self, file: u64) -> Result<Table, TimingError> {
+    /// A file's table, which shares what the store serves.
+    pub(crate) fn table(&self, file: u64) -> Result<Table, TimingError> {
         match self.coord.served().table(file) {
             None => Err(GONE),
             Some(table) => Ok(table.copy()?),
@@ -142,7 +181,10 @@ impl Store {
     // Installs a result, and settles its claim.
     fn install(&mut self, claim: Claim, made: &JobResult) -> Result<bool, TimingError> {
         let level = (claim.level() as usize).saturating_add(1);
-        match self.coord.install(claim, made) {
+        let start = self.watch.begin(self.bench);
+        let installed = self.coord.install(claim, made);
+        self.watch.end(self.bench, start);
+        match installed {
             Install::Done(_, _) => {
                 self.count(level, bytes_of(made.tables.as_slice()));
                 Ok(true)
@@ -193,7 +235,7 @@ fn bytes_of(tables: &[Bytes]) -> u64 {
 }
 
 /// A store of `entries` entries, put in random order in batches, with no level due.
-pub(crate) fn filled(bench: &Bench, entries: u64, batch: u64) -> Result<Store, TimingError> {
+pub(crate) fn filled(bench: Bench, entries: u64, batch: u64) -> Result<Store, TimingError> {
     let mut store = Store::new(bench)?;
     fill(&mut store, entries, batch)?;
     Ok(store)
@@ -201,13 +243,13 @@ pub(crate) fn filled(bench: &Bench, entries: u64, batch: u64) -> Result<Store, T
 
 fn fill(store: &mut Store, entries: u64, batch: u64) -> Result<(), TimingError> {
     for number in 0..batch_count(entries, batch) {
-        store.write(&batch_number(&store.bench, number, entries, batch)?)?;
+        store.write(&batch_number(store.bench, number, entries, batch)?)?;
     }
     store.settle()
 }
 
 // Makes the same batches, and drops them: the part of a fill that is not the store's.
-fn made(bench: &Bench, entries: u64, batch: u64) -> Result<u64, TimingError> {
+fn made(bench: Bench, entries: u64, batch: u64) -> Result<u64, TimingError> {
     let mut checksum = 0;
     for number in 0..batch_count(entries, batch) {
         let puts = batch_number(bench, number, entries, batch)?;
@@ -218,27 +260,27 @@ fn made(bench: &Bench, entries: u64, batch: u64) -> Result<u64, TimingError> {
 
 /// Times the filling of a store, and the making of its batches alone, and prints its write amplification and its
 /// levels.
-pub(crate) fn time_fill(bench: &Bench, entries: u64, batch: u64) -> Result<(), TimingError> {
+pub(crate) fn time_fill(bench: Bench, entries: u64, batch: u64) -> Result<(), TimingError> {
     time_making(bench, entries, batch)?;
     let store = time_filling(bench, entries, batch)?;
     tell_sizes(bench, entries, &store)
 }
 
-fn time_making(bench: &Bench, entries: u64, batch: u64) -> Result<(), TimingError> {
+fn time_making(bench: Bench, entries: u64, batch: u64) -> Result<(), TimingError> {
     let figure = Figure::begin(bench, "make")?;
     let checksum = made(bench, entries, batch)?;
     figure.end(bench, entries, checksum)?;
     Ok(())
 }
 
-fn time_filling(bench: &Bench, entries: u64, batch: u64) -> Result<Store, TimingError> {
+fn time_filling(bench: Bench, entries: u64, batch: u64) -> Result<Store, TimingError> {
     let figure = Figure::begin(bench, "fill")?;
     let store = filled(bench, entries, batch)?;
     figure.end(bench, entries, shape_of(&store))?;
     Ok(store)
 }
 
-fn tell_sizes(bench: &Bench, entries: u64, store: &Store) -> Result<(), TimingError> {
+fn tell_sizes(bench: Bench, entries: u64, store: &Store) -> Result<(), TimingError> {
     let put = entries.wrapping_mul(bench.shape.entry_bytes());
     let percent = store.written().wrapping_mul(100) / or_one(put);
     eprintln!(bench.rt; "write_amplification_percent {entries} {percent}")?;
@@ -249,7 +291,7 @@ fn tell_sizes(bench: &Bench, entries: u64, store: &Store) -> Result<(), TimingEr
     Ok(())
 }
 
-fn tell_bytes_in(bench: &Bench, entries: u64, level: usize, bytes: u64) -> io::Result<()> {
+fn tell_bytes_in(bench: Bench, entries: u64, level: usize, bytes: u64) -> io::Result<()> {
     eprintln!(bench.rt; "bytes_in_level_{level} {entries} {bytes}")
 }
 
@@ -264,8 +306,8 @@ fn bytes_in(coord: &Coord, level: usize) -> u64 {
     bytes
 }
 
-// A checksum of the files that a store has.
-fn shape_of(store: &Store) -> u64 {
+/// A checksum of the files that a store has.
+pub(crate) fn shape_of(store: &Store) -> u64 {
     let mut checksum = store.written();
     for file in store.coord.show().files {
         checksum = with_number(checksum, file.number);

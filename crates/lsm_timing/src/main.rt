@@ -4,21 +4,26 @@
 
 mod batches;
 mod bench;
+mod churn;
 mod clock;
 mod error;
 mod figure;
 mod fill;
 mod globals;
 mod keys;
+mod memory;
 mod merges;
 mod options;
+mod pauses;
 mod picks;
 mod reads;
 mod script;
 mod tables;
+mod watch;
 
 use bench::Bench;
 use error::{OUT_OF_MEMORY, STREAM, TimingError};
+use keys::{KeyShape, Shape};
 use options::{Task, request_of};
 use std::io::ErrorKind;
 use std::process::ExitCode;
@@ -56,11 +61,16 @@ fn words_of(rt: &HostRuntime) -> io::Result<Vec<String>> {
     Ok(words.collect(rt.alloc())?)
 }
 
-fn run(bench: &Bench, task: Task) -> Result<(), TimingError> {
+fn run(bench: Bench, task: Task) -> Result<(), TimingError> {
     match task {
         Task::Fill { entries, batch } => fill::time_fill(bench, entries, batch),
         Task::Get { entries, reads } => reads::time_gets(bench, entries, reads),
         Task::Scan { entries, scans } => reads::time_scans(bench, entries, scans),
+        Task::Churn { operations } => churn::time_churn(bench, operations),
+        Task::Pauses { entries, batch } => pauses::time_pauses(bench, entries, batch),
+        Task::MemoryFill { entries } => memory::tell_filled(bench, entries),
+        Task::MemoryMemtable { entries } => memory::tell_memtable(bench, entries),
+        Task::MemoryTables { entries } => memory::tell_tables(bench, entries),
         Task::Merge { megabytes } => merges::time_merge(bench, megabytes),
         Task::Flush { entries } => tables::time_flush(bench, entries),
         Task::Open { megabytes } => tables::time_open(bench, megabytes),
@@ -73,8 +83,14 @@ fn run(bench: &Bench, task: Task) -> Result<(), TimingError> {
 /// Enough entries for a merge of level 0, and for merges of level 1 after it.
 const MERGED: u64 = 260_000;
 
+/// Entries of another shape than the default.
+const OTHER: Shape = Shape {
+    keys: KeyShape::Prefixed,
+    value_len: 1_000,
+};
+
 /// Each figure at a small size.
-fn run_all(bench: &Bench) -> Result<(), TimingError> {
+fn run_all(bench: Bench) -> Result<(), TimingError> {
     fill::time_fill(bench, MERGED, 1_000)?;
     reads::time_gets(bench, MERGED, 2_000)?;
     reads::time_scans(bench, MERGED, None)?;
@@ -83,7 +99,21 @@ fn run_all(bench: &Bench) -> Result<(), TimingError> {
     tables::time_flush(bench, 1_000)?;
     tables::time_open(bench, 1)?;
     picks::time_picks(bench, 5)?;
-    script::print_script(&bench.rt, 12)
+    script::print_script(&bench.rt, 12)?;
+    run_more(bench)
+}
+
+fn run_more(bench: Bench) -> Result<(), TimingError> {
+    churn::time_churn(bench, MERGED)?;
+    pauses::time_pauses(bench, 2_000, 100)?;
+    memory::tell_filled(bench, 2_000)?;
+    memory::tell_memtable(bench, 1_000)?;
+    memory::tell_tables(bench, 20_000)?;
+    let other = Bench {
+        shape: OTHER,
+        ..bench
+    };
+    reads::time_gets(other, 20_000, 500)
 }
 
 fn main(rt: HostRuntime) -> ExitCode {
@@ -106,7 +136,7 @@ fn main(rt: HostRuntime) -> ExitCode {
         clock: request.clock,
         shape: request.shape,
     };
-    match run(&bench, request.task) {
+    match run(bench, request.task) {
         Ok(()) => ExitCode::SUCCESS,
         Err(error) => fail(&rt, error),
     }

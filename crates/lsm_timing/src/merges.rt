@@ -20,13 +20,13 @@ const UPPER: u8 = 1;
 
 /// Times the merge of the tables of two levels, with `megabytes` MB of keys and values in all. One key in eight is in
 /// both.
-pub(crate) fn time_merge(bench: &Bench, megabytes: u64) -> Result<(), TimingError> {
+pub(crate) fn time_merge(bench: Bench, megabytes: u64) -> Result<(), TimingError> {
     let (tables, lower) = tables_in(bench, megabytes)?;
     let job = job_of(bench.alloc(), &tables, lower)?;
     time_job(bench, &tables, &job)
 }
 
-fn time_job(bench: &Bench, tables: &[Table], job: &Job) -> Result<(), TimingError> {
+fn time_job(bench: Bench, tables: &[Table], job: &Job) -> Result<(), TimingError> {
     let figure = Figure::begin(bench, "merge")?;
     let outputs = merge(bench.alloc(), tables, job)?;
     figure.end(bench, entries_of(tables), checksum_of(&outputs))?;
@@ -34,13 +34,13 @@ fn time_job(bench: &Bench, tables: &[Table], job: &Job) -> Result<(), TimingErro
 }
 
 // The tables of the lower level and then those of the upper one, and how many the lower one has.
-fn tables_in(bench: &Bench, megabytes: u64) -> Result<(Vec<Table>, usize), TimingError> {
+fn tables_in(bench: Bench, megabytes: u64) -> Result<(Vec<Table>, usize), TimingError> {
     let keys = entries_in(bench, megabytes).wrapping_mul(8) / 9;
     let (tables, lower) = spelled_tables(bench, keys)?;
     Ok((opened(bench.alloc(), &tables)?, lower))
 }
 
-fn spelled_tables(bench: &Bench, keys: u64) -> Result<(Vec<Bytes>, usize), TimingError> {
+fn spelled_tables(bench: Bench, keys: u64) -> Result<(Vec<Bytes>, usize), TimingError> {
     let indices = sorted_indices(bench.alloc(), keys)?;
     let mut store = Store::new(bench)?;
     both_levels(&mut store, &indices)

@@ -25,6 +25,11 @@ pub(crate) enum Task {
     Get { entries: u64, reads: u64 },
     /// One scan of all, or a number of short ones.
     Scan { entries: u64, scans: Option<u64> },
+    Churn { operations: u64 },
+    Pauses { entries: u64, batch: u64 },
+    MemoryFill { entries: u64 },
+    MemoryMemtable { entries: u64 },
+    MemoryTables { entries: u64 },
     Merge { megabytes: u64 },
     Flush { entries: u64 },
     Open { megabytes: u64 },
@@ -68,16 +73,25 @@ const ENTRIES: Number = Number {
     help: "How many entries",
 };
 
+const BATCH: Number = Number {
+    id: "BATCH",
+    most: 1_000,
+    need: Need::Always,
+    help: "Entries of a batch",
+};
+
+const MEMTABLE: Number = Number {
+    id: "N",
+    most: 61_538,
+    need: Need::OrElse("61538"),
+    help: "How many entries the memtable has",
+};
+
 const FILL: Form = Form {
     name: "fill",
     about: "Put entries into a new store, with all flushes and merges",
     number: ENTRIES,
-    other: Some(Number {
-        id: "BATCH",
-        most: 1_000,
-        need: Need::Always,
-        help: "Entries of a batch",
-    }),
+    other: Some(BATCH),
 };
 
 const GET: Form = Form {
@@ -104,6 +118,46 @@ const SCAN: Form = Form {
     }),
 };
 
+const CHURN: Form = Form {
+    name: "churn",
+    about: "Put and delete keys in random order, four times as often as there are keys, and scan what is left",
+    number: Number {
+        id: "N",
+        most: MAX_ENTRIES,
+        need: Need::Always,
+        help: "How many operations, one in eight a deletion",
+    },
+    other: None,
+};
+
+const PAUSES: Form = Form {
+    name: "pauses",
+    about: "Tell the longest calls of a fill, and of the flush of a full memtable",
+    number: ENTRIES,
+    other: Some(BATCH),
+};
+
+const MEMORY_FILL: Form = Form {
+    name: "memory_fill",
+    about: "Tell the bytes by which the process grows as a store is filled",
+    number: ENTRIES,
+    other: None,
+};
+
+const MEMORY_MEMTABLE: Form = Form {
+    name: "memory_memtable",
+    about: "Tell the bytes by which the process grows as a memtable is written",
+    number: MEMTABLE,
+    other: None,
+};
+
+const MEMORY_TABLES: Form = Form {
+    name: "memory_tables",
+    about: "Tell the bytes by which the process grows as tables are opened",
+    number: ENTRIES,
+    other: None,
+};
+
 const MERGE: Form = Form {
     name: "merge",
     about: "Merge the tables of two levels",
@@ -119,12 +173,7 @@ const MERGE: Form = Form {
 const FLUSH: Form = Form {
     name: "flush",
     about: "Flush a memtable",
-    number: Number {
-        id: "N",
-        most: 61_538,
-        need: Need::OrElse("61538"),
-        help: "How many entries the memtable has",
-    },
+    number: MEMTABLE,
     other: None,
 };
 
@@ -164,7 +213,21 @@ const SCRIPT: Form = Form {
     other: None,
 };
 
-const FORMS: [Form; 8] = [FILL, GET, SCAN, MERGE, FLUSH, OPEN, PICK, SCRIPT];
+const FORMS: [Form; 13] = [
+    FILL,
+    GET,
+    SCAN,
+    CHURN,
+    PAUSES,
+    MEMORY_FILL,
+    MEMORY_MEMTABLE,
+    MEMORY_TABLES,
+    MERGE,
+    FLUSH,
+    OPEN,
+    PICK,
+    SCRIPT,
+];
 
 fn arg_of<'a>(alloc: Global, number: Number) -> Arg<'a> {
     let arg = Arg::new(alloc, number.id)
@@ -226,6 +289,16 @@ fn task_in(name: &str, found: &ArgMatches<'_>) -> Option<Task> {
             entries,
             scans: found.get_one("K"),
         }),
+        "churn" => Some(Task::Churn {
+            operations: entries,
+        }),
+        "pauses" => Some(Task::Pauses {
+            entries,
+            batch: number_in(found, "BATCH"),
+        }),
+        "memory_fill" => Some(Task::MemoryFill { entries }),
+        "memory_memtable" => Some(Task::MemoryMemtable { entries }),
+        "memory_tables" => Some(Task::MemoryTables { entries }),
         "merge" => Some(Task::Merge { megabytes }),
         "flush" => Some(Task::Flush { entries }),
         "open" => Some(Task::Open { megabytes }),

@@ -28,12 +28,12 @@ const LEVEL: u8 = 1;
 const TIGHT: Limits = Limits { l0: 1, base: 1 };
 
 /// Times picks from a version with `files` files in level 1, which needs compaction, with no job running.
-pub(crate) fn time_picks(bench: &Bench, files: u64) -> Result<(), TimingError> {
+pub(crate) fn time_picks(bench: Bench, files: u64) -> Result<(), TimingError> {
     let served = version_of(bench, files)?;
     time_picks_of(bench, &served)
 }
 
-fn time_picks_of(bench: &Bench, served: &Served) -> Result<(), TimingError> {
+fn time_picks_of(bench: Bench, served: &Served) -> Result<(), TimingError> {
     let figure = Figure::begin(bench, "pick")?;
     let checksum = picked(bench.alloc(), served)?;
     figure.end(bench, PICKS, checksum)?;
@@ -56,7 +56,7 @@ fn picked(alloc: Global, served: &Served) -> Result<u64, TimingError> {
 }
 
 // A version with `files` files of one entry each.
-fn version_of(bench: &Bench, files: u64) -> Result<Served, TimingError> {
+fn version_of(bench: Bench, files: u64) -> Result<Served, TimingError> {
     let alloc = bench.alloc();
     let mut served = Served::new(alloc);
     open_epoch(alloc, &mut served)?;
@@ -79,7 +79,7 @@ fn opened(alloc: Global, bytes: &Bytes) -> Result<Table, TimingError> {
 }
 
 // The table of the one entry of an index.
-fn table_of(bench: &Bench, index: u64) -> Result<Bytes, TimingError> {
+fn table_of(bench: Bench, index: u64) -> Result<Bytes, TimingError> {
     let batch = batch_of(bench, &[index])?;
     let mut store = Store::new(bench)?;
     table_by(&mut store, &batch)

@@ -22,13 +22,13 @@ const SHORT: u64 = 20;
 const END: [u8; 17] = [255; 17];
 
 /// Times gets of random keys that are there, and of keys that are not.
-pub(crate) fn time_gets(bench: &Bench, entries: u64, reads: u64) -> Result<(), TimingError> {
+pub(crate) fn time_gets(bench: Bench, entries: u64, reads: u64) -> Result<(), TimingError> {
     let mut store = filled(bench, entries, BATCH)?;
     time_gets_of(bench, &mut store.coord, entries, reads)
 }
 
 fn time_gets_of(
-    bench: &Bench,
+    bench: Bench,
     coord: &mut Coord,
     entries: u64,
     reads: u64,
@@ -79,7 +79,7 @@ fn with_value(checksum: u64, value: Option<Bytes>) -> u64 {
 
 /// Times one scan of the whole store, or a number of short ones.
 pub(crate) fn time_scans(
-    bench: &Bench,
+    bench: Bench,
     entries: u64,
     scans: Option<u64>,
 ) -> Result<(), TimingError> {
@@ -92,7 +92,7 @@ pub(crate) fn time_scans(
 
 /// Times one scan of the whole store, as a figure of this name.
 pub(crate) fn time_whole(
-    bench: &Bench,
+    bench: Bench,
     coord: &mut Coord,
     name: &'static str,
 ) -> Result<(), TimingError> {
@@ -103,7 +103,7 @@ pub(crate) fn time_whole(
 }
 
 fn time_short(
-    bench: &Bench,
+    bench: Bench,
     coord: &mut Coord,
     entries: u64,
     scans: u64,

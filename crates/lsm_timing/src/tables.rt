@@ -1,5 +1,7 @@
 //! Tables: made by flushes, and opened.
 
+ghost use Rattle.std.specs.Prelude.{◌≤◌};
+
 use crate::batches::batch_of;
 use crate::bench::Bench;
 use crate::error::TimingError;
@@ -21,8 +23,15 @@ const TABLE_WEIGHT: u64 = 1_950_000;
 const MEGABYTE: u64 = 1_000_000;
 
 /// How many entries take `megabytes` MB of keys and values.
-pub(crate) fn entries_in(bench: &Bench, megabytes: u64) -> u64 {
+pub(crate) fn entries_in(bench: Bench, megabytes: u64) -> u64 {
     megabytes.wrapping_mul(MEGABYTE) / or_one(bench.shape.entry_bytes())
+}
+
+/// How many entries a table has.
+pub(crate) fn table_entries(bench: Bench) -> usize
+    ensures { 1 ≤ result }
+{
+    or_one(bench.shape.count_within(TABLE_WEIGHT)) as usize
 }
 
 /// The indices below a count, in the order of their keys, of either shape.
@@ -35,7 +44,7 @@ pub(crate) fn sorted_indices(alloc: Global, count: u64) -> Result<Vec<u64>, Allo
 /// Writes the entries of some indices, in batches, and leaves them in the memtable.
 pub(crate) fn put_all(store: &mut Store, indices: &[u64]) -> Result<(), TimingError> {
     for chunk in indices.chunks(BATCH) {
-        let batch = batch_of(&store.bench, chunk)?;
+        let batch = batch_of(store.bench, chunk)?;
         store.coord.write(&batch)?;
     }
     Ok(())
@@ -44,8 +53,7 @@ pub(crate) fn put_all(store: &mut Store, indices: &[u64]) -> Result<(), TimingEr
 /// The tables of the entries of indices that are in the order of their keys, one table after another.
 pub(crate) fn tables_of(store: &mut Store, indices: &[u64]) -> Result<Vec<Bytes>, TimingError> {
     let mut tables = Vec::new(store.bench.alloc());
-    let in_table = or_one(store.bench.shape.count_within(TABLE_WEIGHT)) as usize;
-    for chunk in indices.chunks(in_table) {
+    for chunk in indices.chunks(table_entries(store.bench)) {
         put_all(store, chunk)?;
         let file = store.flush()?;
         tables.push(store.fetch(file)?)?;
@@ -63,26 +71,26 @@ pub(crate) fn opened(alloc: Global, tables: &[Bytes]) -> Result<Vec<Table>, Timi
 }
 
 /// Times the flush of a memtable of `entries` entries, or of as many as it takes.
-pub(crate) fn time_flush(bench: &Bench, entries: u64) -> Result<(), TimingError> {
+pub(crate) fn time_flush(bench: Bench, entries: u64) -> Result<(), TimingError> {
     let entries = entries.min(memtable_entries(bench));
     let mut store = unflushed(bench, entries)?;
     time_flush_of(bench, &mut store, entries)
 }
 
 /// How many entries a memtable takes.
-pub(crate) fn memtable_entries(bench: &Bench) -> u64 {
+pub(crate) fn memtable_entries(bench: Bench) -> u64 {
     bench.shape.count_within(MAX_MEMTABLE_WEIGHT as u64)
 }
 
 /// A store with `entries` entries in its memtable.
-pub(crate) fn unflushed(bench: &Bench, entries: u64) -> Result<Store, TimingError> {
+pub(crate) fn unflushed(bench: Bench, entries: u64) -> Result<Store, TimingError> {
     let indices: Vec<u64> = (0..entries).collect(bench.alloc())?;
     let mut store = Store::new(bench)?;
     put_all(&mut store, &indices)?;
     Ok(store)
 }
 
-fn time_flush_of(bench: &Bench, store: &mut Store, entries: u64) -> Result<(), TimingError> {
+fn time_flush_of(bench: Bench, store: &mut Store, entries: u64) -> Result<(), TimingError> {
     let figure = Figure::begin(bench, "flush")?;
     store.flush()?;
     figure.end(bench, entries, store.written())?;
@@ -90,28 +98,28 @@ fn time_flush_of(bench: &Bench, store: &mut Store, entries: u64) -> Result<(), T
 }
 
 /// Times the opening of tables of `megabytes` MB of keys and values.
-pub(crate) fn time_open(bench: &Bench, megabytes: u64) -> Result<(), TimingError> {
+pub(crate) fn time_open(bench: Bench, megabytes: u64) -> Result<(), TimingError> {
     let count = entries_in(bench, megabytes);
     let tables = made(bench, count)?;
     time_open_of(bench, &tables, count)
 }
 
 // The tables of the entries of the first `count` indices.
-fn made(bench: &Bench, count: u64) -> Result<Vec<Bytes>, TimingError> {
+fn made(bench: Bench, count: u64) -> Result<Vec<Bytes>, TimingError> {
     let indices = sorted_indices(bench.alloc(), count)?;
     let mut store = Store::new(bench)?;
     tables_of(&mut store, &indices)
 }
 
-fn time_open_of(bench: &Bench, tables: &[Bytes], count: u64) -> Result<(), TimingError> {
+fn time_open_of(bench: Bench, tables: &[Bytes], count: u64) -> Result<(), TimingError> {
     let figure = Figure::begin(bench, "open")?;
     let opened = opened(bench.alloc(), tables)?;
     figure.end(bench, count, entries_of(&opened))?;
     Ok(())
 }
 
-// A checksum of how many entries tables have.
-fn entries_of(tables: &[Table]) -> u64 {
+/// A checksum of how many entries tables have.
+pub(crate) fn entries_of(tables: &[Table]) -> u64 {
     let mut checksum = 0;
     for table in tables {
         checksum = with_number(checksum, table.count() as u64);

@@ -1,0 +1,99 @@
+//! How much memory entries take.
+
+use crate::bench::Bench;
+use crate::error::{NO_ACCOUNT, TimingError};
+use crate::figure::tell;
+use crate::fill::{Store, filled, shape_of};
+use crate::tables::{
+    entries_of, memtable_entries, put_all, sorted_indices, table_entries, unflushed,
+};
+use lsm_table::Table;
+use std::fs;
+
+/// The size of the batches that fill the store.
+const BATCH: u64 = 100;
+
+/// The system's account of the process's memory.
+const ACCOUNT: &str = "/proc/self/smaps_rollup";
+
+/// The line of it that tells the memory that stands for no file, in units of 1,024 bytes.
+const LINE: &str = "Anonymous:";
+
+const UNIT: u64 = 1_024;
+
+/// Tells by how much the process grows as a store is filled.
+pub(crate) fn tell_filled(bench: Bench, entries: u64) -> Result<(), TimingError> {
+    let before = resident(bench)?;
+    let store = filled(bench, entries, BATCH)?;
+    let growth = growth_since(bench, before)?;
+    tell(bench, "memory_fill", entries, shape_of(&store), growth)?;
+    Ok(())
+}
+
+/// Tells by how much the process grows as entries are written to a memtable, as many as it takes.
+pub(crate) fn tell_memtable(bench: Bench, entries: u64) -> Result<(), TimingError> {
+    let entries = entries.min(memtable_entries(bench));
+    let before = resident(bench)?;
+    let mut store = unflushed(bench, entries)?;
+    let growth = growth_since(bench, before)?;
+    store.flush()?;
+    tell(bench, "memory_memtable", entries, store.written(), growth)?;
+    Ok(())
+}
+
+/// Tells by how much the process grows as tables are made and opened. A first one is made before, so that what its making
+/// leaves to the allocator serves the others.
+pub(crate) fn tell_tables(bench: Bench, entries: u64) -> Result<(), TimingError> {
+    let indices = sorted_indices(bench.alloc(), entries)?;
+    let first = table_entries(bench).min(indices.len());
+    let _first = tables_alone(bench, &indices[..first])?;
+    tell_tables_of(bench, &indices)
+}
+
+fn tell_tables_of(bench: Bench, indices: &[u64]) -> Result<(), TimingError> {
+    let before = resident(bench)?;
+    let tables = tables_alone(bench, indices)?;
+    let growth = growth_since(bench, before)?;
+    tell(
+        bench,
+        "memory_tables",
+        indices.len() as u64,
+        entries_of(&tables),
+        growth,
+    )?;
+    Ok(())
+}
+
+// The open tables of entries, without the stores that made them.
+fn tables_alone(bench: Bench, indices: &[u64]) -> Result<Vec<Table>, TimingError> {
+    let mut tables = Vec::new(bench.alloc());
+    for chunk in indices.chunks(table_entries(bench)) {
+        tables.push(table_alone(bench, chunk)?)?;
+    }
+    Ok(tables)
+}
+
+fn table_alone(bench: Bench, indices: &[u64]) -> Result<Table, TimingError> {
+    let mut store = Store::new(bench)?;
+    put_all(&mut store, indices)?;
+    let file = store.flush()?;
+    store.table(file)
+}
+
+fn growth_since(bench: Bench, before: u64) -> Result<u128, TimingError> {
+    Ok(resident(bench)?.saturating_sub(before) as u128)
+}
+
+// How many bytes of memory the process has that stand for no file.
+fn resident(bench: Bench) -> Result<u64, TimingError> {
+    let account = fs::read_to_string(&bench.rt, ACCOUNT)?;
+    match kilobytes_in(&account) {
+        Some(kilobytes) => Ok(kilobytes.saturating_mul(UNIT)),
+        None => Err(NO_ACCOUNT),
+    }
+}
+
+fn kilobytes_in(account: &str) -> Option<u64> {
+    let line = account.lines().find(|line| line.starts_with(LINE))?;
+    line.split_whitespace().nth(1)?.parse().ok()
+}
