@@ -5,6 +5,9 @@ use crate::error::TimingError;
 use crate::keys::or_one;
 use lsm_key::Batch;
 
+/// How many operations a batch has if the command does not say it.
+pub(crate) const BATCH: u64 = 100;
+
 /// The puts of some indices, in one batch.
 pub(crate) fn batch_of(bench: Bench, indices: &[u64]) -> Result<Batch, TimingError> {
     let mut batch = Batch::new(bench.alloc());

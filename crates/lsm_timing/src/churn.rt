@@ -1,6 +1,6 @@
 //! Overwrites and deletions.
 
-use crate::batches::batch_count;
+use crate::batches::{BATCH, batch_count};
 use crate::bench::Bench;
 use crate::error::TimingError;
 use crate::figure::Figure;
@@ -10,9 +10,6 @@ use crate::reads::time_whole;
 use bytes::Bytes;
 use lsm_key::{Batch, Op};
 use std::alloc::AllocError;
-
-/// The size of the batches.
-const BATCH: u64 = 100;
 
 /// How many operations there are to a key.
 const OPERATIONS_TO_A_KEY: u64 = 4;

@@ -56,13 +56,11 @@ impl Store {
     }
 
     fn accept(&mut self, batch: &Batch) -> Result<(), CoordError> {
-        let start = self.watch.begin(self.bench);
+        let start = self.watch.now(self.bench);
         let done = self.coord.write(batch);
         self.watch.end(self.bench, start);
-        match done {
-            Ok(_) => Ok(()),
-            Err(why) => Err(why),
-        }
+        done?;
+        Ok(())
     }
 
     /// Flushes, and compacts until no level needs it.
@@ -88,17 +86,15 @@ impl Store {
     }
 
     fn freeze(&mut self) -> Result<(), CoordError> {
-        let start = self.watch.begin(self.bench);
+        let start = self.watch.now(self.bench);
         let done = self.coord.freeze();
         self.watch.end(self.bench, start);
-        match done {
-            Ok(_) => Ok(()),
-            Err(why) => Err(why),
-        }
+        done?;
+        Ok(())
     }
 
     fn flush_frozen(&mut self) -> Result<FileNumber, CoordError> {
-        let start = self.watch.begin(self.bench);
+        let start = self.watch.now(self.bench);
         let done = self.coord.flush();
         self.watch.end_flush(self.bench, start);
         Ok(done?.file)
@@ -130,7 +126,7 @@ impl Store {
     }
 
     fn pick(&mut self) -> Result<Option<(Claim, Job)>, CoordError> {
-        let start = self.watch.begin(self.bench);
+        let start = self.watch.now(self.bench);
         let picked = self.coord.pick();
         self.watch.end(self.bench, start);
         picked
@@ -181,7 +177,7 @@ impl Store {
     // Installs a result, and settles its claim.
     fn install(&mut self, claim: Claim, made: &JobResult) -> Result<bool, TimingError> {
         let level = (claim.level() as usize).saturating_add(1);
-        let start = self.watch.begin(self.bench);
+        let start = self.watch.now(self.bench);
         let installed = self.coord.install(claim, made);
         self.watch.end(self.bench, start);
         match installed {

@@ -1,5 +1,5 @@
 //! The program `lsm_timing`: times the store by its public calls. Each figure is a line `name n checksum` on standard
-//! output and a line `name n nanoseconds` on standard error.
+//! output and a line `name n nanoseconds` on standard error, or bytes in place of the nanoseconds.
 #![tactic(auto)]
 
 mod batches;

@@ -1,5 +1,6 @@
-//! How much memory entries take.
+//! How much memory entries take: by how much a new process grows. What an earlier figure let go would serve them.
 
+use crate::batches::BATCH;
 use crate::bench::Bench;
 use crate::error::{NO_ACCOUNT, TimingError};
 use crate::figure::tell;
@@ -9,9 +10,6 @@ use crate::tables::{
 };
 use lsm_table::Table;
 use std::fs;
-
-/// The size of the batches that fill the store.
-const BATCH: u64 = 100;
 
 /// The system's account of the process's memory.
 const ACCOUNT: &str = "/proc/self/smaps_rollup";

@@ -255,7 +255,7 @@ fn command<'a>(alloc: Global) -> Result<Command<'a>, AllocError> {
     let mut command = Command::new(alloc, "lsm_timing")
         .bin_name("lsm_timing")?
         .about(
-            "Times the store: 'name n checksum' on standard output, 'name n nanoseconds' on standard error",
+            "Times the store: 'name n checksum' on standard output, 'name n nanoseconds', or bytes, on standard error",
         )
         .no_binary_name(true)
         .subcommand_required(true)

@@ -7,6 +7,7 @@ use crate::figure::tell;
 use crate::fill::{Store, shape_of};
 use crate::tables::{memtable_entries, unflushed};
 use crate::watch::Watch;
+use lsm_key::Batch;
 use std::time::Duration;
 
 /// Tells how long the flush of a full memtable takes in a new store, and the longest calls of a fill.
@@ -31,12 +32,18 @@ fn fill(store: &mut Store, entries: u64, batch: u64) -> Result<Duration, TimingE
     let mut longest = Duration::ZERO;
     for number in 0..batch_count(entries, batch) {
         let puts = batch_number(store.bench, number, entries, batch)?;
-        let start = store.bench.now()?;
-        store.write(&puts)?;
-        longest = longest.max(store.bench.now()?.saturating_sub(start));
+        longest = longest.max(write_timed(store, &puts)?);
     }
     store.settle()?;
     Ok(longest)
+}
+
+// Writes a batch, and returns how long it took.
+fn write_timed(store: &mut Store, puts: &Batch) -> Result<Duration, TimingError> {
+    let start = store.bench.now()?;
+    store.write(puts)?;
+    let end = store.bench.now()?;
+    Ok(end.saturating_sub(start))
 }
 
 fn tell_longest(store: &Store, longest_write: Duration) -> Result<(), TimingError> {

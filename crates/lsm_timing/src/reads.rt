@@ -1,5 +1,6 @@
 //! Gets and scans of a settled store.
 
+use crate::batches::BATCH;
 use crate::bench::Bench;
 use crate::error::TimingError;
 use crate::figure::{Figure, with_bytes, with_number};
@@ -8,9 +9,6 @@ use crate::keys::{Shape, random_below};
 use bytes::Bytes;
 use lsm_coord::Coord;
 use std::alloc::{AllocError, Global};
-
-/// The size of the batches that fill the store.
-const BATCH: u64 = 100;
 
 /// How many keys a scan of the whole store asks for at a time.
 const WINDOW: u64 = 4_096;

@@ -11,6 +11,11 @@ pub(crate) struct Longest {
     pub(crate) flush: Duration,
 }
 
+const NONE: Longest = Longest {
+    call: Duration::ZERO,
+    flush: Duration::ZERO,
+};
+
 /// Times each call of a coordinator if it is on, and costs nothing if it is off. A clock that fails is told at the
 /// end: a call can't be left halfway.
 #[derive(Clone, Copy)]
@@ -24,23 +29,17 @@ impl Watch {
     pub(crate) const OFF: Watch = Watch {
         is_on: false,
         is_broken: false,
-        longest: Longest {
-            call: Duration::ZERO,
-            flush: Duration::ZERO,
-        },
+        longest: NONE,
     };
 
     pub(crate) const ON: Watch = Watch {
         is_on: true,
         is_broken: false,
-        longest: Longest {
-            call: Duration::ZERO,
-            flush: Duration::ZERO,
-        },
+        longest: NONE,
     };
 
-    /// When a call begins.
-    pub(crate) fn begin(&mut self, bench: Bench) -> Duration {
+    /// What the clock shows, if the watch is on.
+    pub(crate) fn now(&mut self, bench: Bench) -> Duration {
         if !self.is_on {
             return Duration::ZERO;
         }
@@ -55,7 +54,7 @@ impl Watch {
 
     /// Ends a call that began then, and returns how long it took.
     pub(crate) fn end(&mut self, bench: Bench, start: Duration) -> Duration {
-        let took = self.begin(bench).saturating_sub(start);
+        let took = self.now(bench).saturating_sub(start);
         self.longest.call = self.longest.call.max(took);
         took
     }
