@@ -39,7 +39,7 @@ pub(crate) fn tell_memtable(bench: Bench, entries: u64) -> Result<(), TimingErro
     Ok(())
 }
 
-/// Tells by how much the process grows as tables are made and opened. A first one is made before, so that what its making
+/// Tells by how much the process grows as tables are made. A first one is made before, so that what its making
 /// leaves to the allocator serves the others.
 pub(crate) fn tell_tables(bench: Bench, entries: u64) -> Result<(), TimingError> {
     let indices = sorted_indices(bench.alloc(), entries)?;

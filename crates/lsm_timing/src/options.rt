@@ -153,7 +153,7 @@ const MEMORY_MEMTABLE: Form = Form {
 
 const MEMORY_TABLES: Form = Form {
     name: "memory_tables",
-    about: "Tell the bytes by which the process grows as tables are opened",
+    about: "Tell the bytes by which the process grows as tables are made",
     number: ENTRIES,
     other: None,
 };
