@@ -47,18 +47,18 @@ and_false false = refl
 greater : (a b : List ℕ) → key_cmp a b ≡ Less → key_cmp b a ≡ Greater
 greater a b less = nat_list_cmp_total.antisymm b a ∙ ap ordering_reverse less
 
-lower_key : (k l : ℕ) (key lo : List ℕ) → HasPrefix k key → HasPrefix l lo → k < l → key_cmp lo key ≡ Greater
-lower_key k l key lo own has lt =
-    let same : prefix_of key ≡ k = own.same in
-    let is : prefix_of lo ≡ l = has.same in
-    greater key lo (prefix_before key lo own.bytes has.bytes (omega (arith, lt, same, is)))
+lower_key : (front : List ℕ) (k l : ℕ) (key lo : List ℕ) → HasPrefix front k key → HasPrefix front l lo → k < l → key_cmp lo key ≡ Greater
+lower_key front k l key lo own has lt =
+    let same : prefix_of front key ≡ k = own.same in
+    let is : prefix_of front lo ≡ l = has.same in
+    greater key lo (prefix_before front key lo has.bytes (omega (arith, lt, same, is)))
 
-module _ (k a b : ℕ) (lo hi key : List ℕ) (own : HasPrefix k key) (from : HasPrefix a lo) (to : HasPrefix b hi) where
+module _ (front : List ℕ) (k a b : ℕ) (lo hi key : List ℕ) (own : HasPrefix front k key) (from : HasPrefix front a lo) (to : HasPrefix front b hi) where
   out_below : k < a → key_between lo hi key ≡ false
-  out_below lt = ap (λ (o : Ordering). not (is_gt o) && is_lt (key_cmp key hi)) (lower_key k a key lo own from lt)
+  out_below lt = ap (λ (o : Ordering). not (is_gt o) && is_lt (key_cmp key hi)) (lower_key front k a key lo own from lt)
 
   out_above : b < k → key_between lo hi key ≡ false
-  out_above lt = ap (λ (o : Ordering). not (is_gt (key_cmp lo key)) && is_lt o) (lower_key b k hi key to own lt) ∙ and_false (not (is_gt (key_cmp lo key)))
+  out_above lt = ap (λ (o : Ordering). not (is_gt (key_cmp lo key)) && is_lt o) (lower_key front b k hi key to own lt) ∙ and_false (not (is_gt (key_cmp lo key)))
 
   pub not_between : range_contains nat_cmp (Included a) (Included b) k ≡ false → key_between lo hi key ≡ false
   not_between out = elim (either (is_le (nat_cmp a k)) (not (is_lt (nat_cmp b k))) out) [
@@ -66,9 +66,9 @@ module _ (k a b : ℕ) (lo hi key : List ℕ) (own : HasPrefix k key) (from : Ha
     | inr high ↦ out_above (above_at b k (nat_cmp b k) refl high)
   ]
 
-not_from : (k a : ℕ) (lo key : List ℕ) → HasPrefix k key → HasPrefix a lo → range_contains nat_cmp (Included a) Unbounded k ≡ false → key_le lo key ≡ false
-not_from k a lo key own from out = elim (either (is_le (nat_cmp a k)) true out) [
-  | inl low ↦ ap (λ (o : Ordering). not (is_gt o)) (lower_key k a key lo own from (below_at a k (nat_cmp a k) refl low))
+not_from : (front : List ℕ) (k a : ℕ) (lo key : List ℕ) → HasPrefix front k key → HasPrefix front a lo → range_contains nat_cmp (Included a) Unbounded k ≡ false → key_le lo key ≡ false
+not_from front k a lo key own from out = elim (either (is_le (nat_cmp a k)) true out) [
+  | inl low ↦ ap (λ (o : Ordering). not (is_gt o)) (lower_key front k a key lo own from (below_at a k (nat_cmp a k) refl low))
   | inr high ↦ absurd cc
 ]
 
@@ -85,8 +85,8 @@ pub between_cons : (lo hi : List ℕ) (p : Pair) (ps : List Pair) → entries_in
 between_cons lo hi p ps =
     ap entries_in (chains_append lo hi (chains_in p.1) (chains_of_buckets ps)) ∙ entries_append (chains_between lo hi (chains_in p.1)) (chains_between lo hi (chains_of_buckets ps))
 
-module _ (a b : ℕ) (lo hi : List ℕ) (from : HasPrefix a lo) (to : HasPrefix b hi) where
-  bucket_at : (p : Pair) (ps : List Pair) (in_range : Bool) → range_contains nat_cmp (Included a) (Included b) p.0 ≡ in_range → IsPlaced p
+module _ (front : List ℕ) (a b : ℕ) (lo hi : List ℕ) (from : HasPrefix front a lo) (to : HasPrefix front b hi) where
+  bucket_at : (p : Pair) (ps : List Pair) (in_range : Bool) → range_contains nat_cmp (Included a) (Included b) p.0 ≡ in_range → IsPlaced front p
       → chains_between lo hi (chains_of_buckets (entries_between nat_cmp (Included a) (Included b) ps)) ≡ chains_between lo hi (chains_of_buckets ps)
       → chains_between lo hi (chains_of_buckets (cond in_range (p ∷ entries_between nat_cmp (Included a) (Included b) ps) (entries_between nat_cmp (Included a) (Included b) ps))) ≡ chains_between lo hi (chains_in p.1 ++ chains_of_buckets ps)
   bucket_at p ps true is own rest =
@@ -95,17 +95,17 @@ module _ (a b : ℕ) (lo hi : List ℕ) (from : HasPrefix a lo) (to : HasPrefix 
       ∙ sym (chains_append lo hi (chains_in p.1) (chains_of_buckets ps))
   bucket_at p ps false is own rest =
       rest
-      ∙ ap (λ (cs : List Chain). cs ++ chains_between lo hi (chains_of_buckets ps)) (sym (filter_own (λ (c : Chain). key_between lo hi c.key) false (chains_in p.1) (λ c m. not_between p.0 a b lo hi c.key (own.own c m) from to is)))
+      ∙ ap (λ (cs : List Chain). cs ++ chains_between lo hi (chains_of_buckets ps)) (sym (filter_own (λ (c : Chain). key_between lo hi c.key) false (chains_in p.1) (λ c m. not_between front p.0 a b lo hi c.key (own.own c m) from to is)))
       ∙ sym (chains_append lo hi (chains_in p.1) (chains_of_buckets ps))
 
   -- what `range` of a map gives
-  pub between_buckets : (ps : List Pair) → ArePlaced ps → chains_between lo hi (chains_of_buckets (entries_between nat_cmp (Included a) (Included b) ps)) ≡ chains_between lo hi (chains_of_buckets ps)
+  pub between_buckets : (ps : List Pair) → ArePlaced front ps → chains_between lo hi (chains_of_buckets (entries_between nat_cmp (Included a) (Included b) ps)) ≡ chains_between lo hi (chains_of_buckets ps)
   between_buckets [] placed = refl
   between_buckets (p ∷ ps) placed = bucket_at p ps (range_contains nat_cmp (Included a) (Included b) p.0) refl (placed p (inl refl)) (between_buckets ps (λ q m. placed q (inr m)))
 
   -- prefixes the wrong way round
   pub none_back : (cs : List Chain) → b < a → chains_between lo hi cs ≡ []
-  none_back cs lt = none_between lo hi cs (ap is_ge (lower_key b a hi lo to from lt))
+  none_back cs lt = none_between lo hi cs (ap is_ge (lower_key front b a hi lo to from lt))
 
 -- ---- the keys from one on
 
@@ -120,8 +120,8 @@ keys_none : (lo : List ℕ) (cs : List Chain) → ((c : Chain) → IsIn c cs →
 keys_none lo [] h = refl
 keys_none lo (c ∷ cs) h = ap (λ (b : Bool). cond b (c.key ∷ keys_from lo cs) (keys_from lo cs)) (h c (inl refl)) ∙ keys_none lo cs (λ d m. h d (inr m))
 
-module _ (a : ℕ) (lo : List ℕ) (from : HasPrefix a lo) where
-  keys_at : (p : Pair) (ps : List Pair) (in_range : Bool) → range_contains nat_cmp (Included a) Unbounded p.0 ≡ in_range → IsPlaced p
+module _ (front : List ℕ) (a : ℕ) (lo : List ℕ) (from : HasPrefix front a lo) where
+  keys_at : (p : Pair) (ps : List Pair) (in_range : Bool) → range_contains nat_cmp (Included a) Unbounded p.0 ≡ in_range → IsPlaced front p
       → keys_from lo (chains_of_buckets (entries_between nat_cmp (Included a) Unbounded ps)) ≡ keys_from lo (chains_of_buckets ps)
       → keys_from lo (chains_of_buckets (cond in_range (p ∷ entries_between nat_cmp (Included a) Unbounded ps) (entries_between nat_cmp (Included a) Unbounded ps))) ≡ keys_from lo (chains_in p.1 ++ chains_of_buckets ps)
   keys_at p ps true is own rest =
@@ -130,10 +130,10 @@ module _ (a : ℕ) (lo : List ℕ) (from : HasPrefix a lo) where
       ∙ sym (keys_append lo (chains_in p.1) (chains_of_buckets ps))
   keys_at p ps false is own rest =
       rest
-      ∙ ap (λ (keys : List (List ℕ)). keys ++ keys_from lo (chains_of_buckets ps)) (sym (keys_none lo (chains_in p.1) (λ c m. not_from p.0 a lo c.key (own.own c m) from is)))
+      ∙ ap (λ (keys : List (List ℕ)). keys ++ keys_from lo (chains_of_buckets ps)) (sym (keys_none lo (chains_in p.1) (λ c m. not_from front p.0 a lo c.key (own.own c m) from is)))
       ∙ sym (keys_append lo (chains_in p.1) (chains_of_buckets ps))
 
-  pub keys_of_range : (ps : List Pair) → ArePlaced ps → keys_from lo (chains_of_buckets (entries_between nat_cmp (Included a) Unbounded ps)) ≡ keys_from lo (chains_of_buckets ps)
+  pub keys_of_range : (ps : List Pair) → ArePlaced front ps → keys_from lo (chains_of_buckets (entries_between nat_cmp (Included a) Unbounded ps)) ≡ keys_from lo (chains_of_buckets ps)
   keys_of_range [] placed = refl
   keys_of_range (p ∷ ps) placed = keys_at p ps (range_contains nat_cmp (Included a) Unbounded p.0) refl (placed p (inl refl)) (keys_of_range ps (λ q m. placed q (inr m)))
 

@@ -40,6 +40,22 @@ impl Bucket {
         }
     }
 
+    /// The first key.
+    pub(crate) fn first_key(&self) -> Option<&[u8]> {
+        match self.lend() {
+            Lent::Key(versions) => Some(versions.first()?.ikey.key.as_slice()),
+            Lent::Keys(chains) => chains.first_key(),
+        }
+    }
+
+    /// The last key.
+    pub(crate) fn last_key(&self) -> Option<&[u8]> {
+        match self.lend() {
+            Lent::Key(versions) => Some(versions.first()?.ikey.key.as_slice()),
+            Lent::Keys(chains) => chains.last_key(),
+        }
+    }
+
     /// Whether there is no entry.
     pub(crate) fn is_empty(&self) -> bool
         ensures { IsTrue result ↔ (chains_in self.now ≡ []) }

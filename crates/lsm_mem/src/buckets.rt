@@ -6,6 +6,7 @@ ghost use Rattle.lsm_mem.specs.Runs.{bytes_in};
 
 use crate::bucket::Bucket;
 use crate::chunk::Chunk;
+use crate::front::Front;
 use crate::prefix::prefix_of;
 use bytes::Bytes;
 use lsm_key::{Entry, InternalKey, Kind, Op, Seq};
@@ -13,25 +14,29 @@ use std::alloc::{AllocError, Global};
 use std::collections::BTreeMap;
 use std::marker::Model;
 
+// A front is learned from as many entries as this.
+const MIN_LEARNED: usize = 1_000;
+
 /// Keys in their order, each with its versions, the oldest first. Every bucket has an entry, and the keys in it have its
-/// prefix.
+/// prefix after the front.
 #[derive(Debug, Drop)]
 pub(crate) struct Buckets {
     alloc: Global,
     chunk: Chunk,
+    front: Front,
     by_prefix: BTreeMap<u64, Bucket>,
 }
 
 impl Model for Buckets {
     ghost use Rattle.std.specs.Prelude.{List};
     ghost use Rattle.lsm_mem.specs.Chains.{Chain};
-    ghost use Rattle.lsm_mem.specs.Buckets.{ArePlaced, chains_of_buckets};
+    ghost use Rattle.lsm_mem.specs.Buckets.{ArePlaced, bytes_of_front, chains_of_buckets};
 
     ghost Value = { List Chain };
 
     ghost view = { λ b. chains_of_buckets b.by_prefix.entries };
 
-    ghost invariant = { λ b. ArePlaced b.by_prefix.entries };
+    ghost invariant = { λ b. ArePlaced (bytes_of_front b.front) b.by_prefix.entries };
 }
 
 impl Buckets {
@@ -42,15 +47,35 @@ impl Buckets {
     ghost use Rattle.lsm_key.specs.Places.{entries_after};
     ghost use Rattle.lsm_mem.specs.Chains.{Chain, AreChains, entries_in, with_entry, with_entries, without_newest, chains_between, keys_in};
 
-    /// No keys.
-    pub(crate) fn new(alloc: Global) -> Buckets
+    /// No keys. Those that begin with the front will be found fastest.
+    pub(crate) fn new(alloc: Global, front: Front) -> Buckets
         ensures { result ≡ [] }
     {
         Buckets {
             alloc,
             chunk: Chunk::new(alloc),
+            front,
             by_prefix: BTreeMap::new(alloc),
         }
+    }
+
+    /// No keys, to follow these, which have `count` entries. The front is what all of these begin with, if they are enough to learn
+    /// it from.
+    pub(crate) fn successor(&self, count: usize) -> Buckets
+        ensures { result ≡ [] }
+    {
+        let front = match self.ends() {
+            Some((first, last)) if count >= MIN_LEARNED => Front::shared(first, last),
+            _ => self.front,
+        };
+        Buckets::new(self.alloc, front)
+    }
+
+    // The first key and the last one.
+    fn ends(&self) -> Option<(&[u8], &[u8])> {
+        let (_, first) = self.by_prefix.first_key_value()?;
+        let (_, last) = self.by_prefix.last_key_value()?;
+        Some((first.first_key()?, last.last_key()?))
     }
 
     /// Whether there is no key.
@@ -67,7 +92,9 @@ impl Buckets {
     {
         // Proof hint: no two buckets have one prefix.
         let _count = self.by_prefix.len();
-        self.by_prefix.get(&prefix_of(key))?.versions(key)
+        self.by_prefix
+            .get(&prefix_of(self.front.as_slice(), key))?
+            .versions(key)
     }
 
     /// Adds the entries of operations, from a sequence on. Copies their keys and values. If memory runs out, nothing
@@ -106,7 +133,7 @@ impl Buckets {
         ensures ok { OnOk result (self.new ≡ with_entry entry self.old) }
         ensures err { OnErr result (self.new ≡ self.old) }
     {
-        let prefix = prefix_of(entry.ikey.key.as_slice());
+        let prefix = prefix_of(self.front.as_slice(), entry.ikey.key.as_slice());
         if let Some(bucket) = self.by_prefix.get_mut(&prefix) {
             return bucket.put(self.alloc, entry);
         }
@@ -128,7 +155,7 @@ impl Buckets {
     fn take(&mut self, key: &[u8])
         ensures { self.new ≡ without_newest key.now self.old }
     {
-        let prefix = prefix_of(key);
+        let prefix = prefix_of(self.front.as_slice(), key);
         let Some(bucket) = self.by_prefix.get_mut(&prefix) else {
             return;
         };
@@ -154,8 +181,8 @@ impl Buckets {
         ensures { IfOk result (λ copies. copies.items ≡ entries_in (chains_between lo.now hi.now self.now)) }
     {
         let mut copies = Vec::new(self.alloc);
-        let first = prefix_of(lo);
-        let last = prefix_of(hi);
+        let first = prefix_of(self.front.as_slice(), lo);
+        let last = prefix_of(self.front.as_slice(), hi);
         if first > last {
             return Ok(copies);
         }
@@ -170,7 +197,8 @@ impl Buckets {
         ensures { IfOk result (λ found. option_copied found ≡ slice_get (filter (key_le lo.now) (keys_in self.now)) count) }
     {
         let mut left = count;
-        for (_, bucket) in self.by_prefix.range(prefix_of(lo)..) {
+        let first = prefix_of(self.front.as_slice(), lo);
+        for (_, bucket) in self.by_prefix.range(first..) {
             if let Some(key) = bucket.key_after(lo, &mut left)? {
                 return Ok(Some(key));
             }

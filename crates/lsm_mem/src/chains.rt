@@ -54,6 +54,18 @@ impl Chains {
         Ok(chains)
     }
 
+    /// The first key.
+    pub(crate) fn first_key(&self) -> Option<&[u8]> {
+        let (key, _) = self.by_key.first_key_value()?;
+        Some(key.as_slice())
+    }
+
+    /// The last key.
+    pub(crate) fn last_key(&self) -> Option<&[u8]> {
+        let (key, _) = self.by_key.last_key_value()?;
+        Some(key.as_slice())
+    }
+
     /// Whether there is no key.
     pub(crate) fn is_empty(&self) -> bool
         ensures { IsTrue result ↔ (self.now ≡ []) }

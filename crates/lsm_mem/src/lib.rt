@@ -9,6 +9,7 @@ mod bucket;
 mod buckets;
 mod chains;
 mod chunk;
+mod front;
 mod memtable;
 mod prefix;
 #[cfg(test)]

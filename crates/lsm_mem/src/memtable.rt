@@ -1,6 +1,7 @@
 //! The memtable.
 
 use crate::buckets::Buckets;
+use crate::front::Front;
 use crate::versions::newest_at;
 use lsm_key::{Batch, Entry, EntryRef, Seq};
 use std::alloc::{AllocError, Global};
@@ -47,8 +48,24 @@ impl Memtable {
     pub fn new(alloc: Global) -> Memtable
         ensures { result ≡ [] }
     {
+        Memtable::of(Buckets::new(alloc, Front::NONE))
+    }
+
+    /// An empty memtable to take the writes after this one. It expects keys to begin as this one's do: others are found too, but
+    /// slower.
+    pub fn successor(&self) -> Memtable
+        ensures { result ≡ [] }
+    {
+        Memtable::of(self.buckets.successor(self.count))
+    }
+
+    // A memtable of no entries.
+    fn of(buckets: Buckets) -> Memtable
+        requires { buckets ≡ [] }
+        ensures { result ≡ [] }
+    {
         Memtable {
-            buckets: Buckets::new(alloc),
+            buckets,
             weight: 0,
             count: 0,
             last: Seq::ZERO,

@@ -1,16 +1,28 @@
-//! The first bytes of a key, as a number.
+//! The first bytes of a key after a front, as a number.
 
 ghost use Rattle.std.specs.Prelude.{◌≡◌, ℕ, ◌<◌, slice_index};
-ghost use Rattle.lsm_mem.specs.Prefix.{byte_at, prefix_of};
+ghost use Rattle.lsm_mem.specs.Prefix.{byte_at, leading, prefix_of};
 
 // How many bytes of a key its prefix has.
 const PREFIX_BYTES: usize = 8;
 
-/// The first 8 bytes of a key as a big-endian number, with zeros in place of those that it does not have: keys with
-/// different prefixes are in the order of their prefixes.
-pub(crate) fn prefix_of(key: &[u8]) -> u64
-    ensures value { result ≡ prefix_of key.now }
+/// The first 8 bytes of a key after the front as a big-endian number, with zeros in place of those that it does not have. A key
+/// that does not begin with the front has the least number or the greatest one. Keys with different prefixes are in the
+/// order of their prefixes, whatever the front is.
+pub(crate) fn prefix_of(front: &[u8], key: &[u8]) -> u64
+    ensures value { result ≡ prefix_of front.now key.now }
     ensures bytes { (i : ℕ) → slice_index key.now i < 256 }
+{
+    match key.strip_prefix(front) {
+        Some(rest) => leading(rest),
+        None if key.cmp(front).is_lt() => 0,
+        None => u64::MAX,
+    }
+}
+
+// The first 8 bytes.
+fn leading(key: &[u8]) -> u64
+    ensures { result ≡ leading 8 key.now }
 {
     let mut prefix = 0;
     for i in 0..PREFIX_BYTES {

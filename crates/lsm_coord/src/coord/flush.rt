@@ -111,7 +111,7 @@ impl Coord {
             self.frozen = None;
             return Ok(());
         }
-        self.active = Memtable::new(self.alloc);
+        self.active = self.active.successor();
         Ok(())
     }
 }

@@ -66,7 +66,8 @@ impl Coord {
             Some(why) => return Err(why),
             None => {}
         }
-        let memtable = mem::replace(&mut self.active, Memtable::new(self.alloc));
+        let next = self.active.successor();
+        let memtable = mem::replace(&mut self.active, next);
         let end = self.newest;
         self.frozen = Some(Frozen { memtable, end });
         Ok(end)

@@ -1,31 +1,14 @@
-use Rattle.std.proofs.Common.{◌≡◌, ◌+◌, ◌*◌, ◌≤◌, ◌^◌, arith}
-use Rattle.std.proofs.Math.Nat.{pow-le-pow_right}
+use Rattle.std.proofs.Common.{sym, ap, ◌∙◌}
+use Rattle.std.specs.Ordering.{is_lt}
 use Rattle.lsm_mem.specs.Prefix.{leading}
-use Rattle.lsm_mem.proofs.PrefixOrder.{leading_more, leading_below}
+use Rattle.lsm_mem.proofs.PrefixOrder.{prefix_starts, prefix_least, prefix_greatest}
 use Rattle.lsm_mem.proofs.prefix.prefix_of.Goals as goal
 
-pub loop-i-preserved : goal.loop-i-preserved
-loop-i-preserved c =
-    let more = leading_more c.loop-i.i c.args.key.now in
-    let before = c.loop-i.invariant.0 in
-    let byte = c.byte_at.ensures in
-    let wide = c.from.ensures in
-    let is : c.loop-i.prefix * 256 + c.from.result ≡ leading (c.loop-i.i + 1) c.args.key.now = omega (arith, more, before, byte, wide) in
-    let low = leading_below (c.loop-i.i + 1) c.args.key.now (λ i. omega (arith, c.type_inv.key i)) in
-    (is, omega (arith, is, low))
+pub returns-in-Some-clause-value : goal.returns-in-Some-clause-value
+returns-in-Some-clause-value c = c.leading.ensures ∙ ap (leading 8) c.in-Some.ensures.cases.1 ∙ sym (prefix_starts c.args.front.now c.args.key.now c.in-Some.ensures.cases.0)
 
-pub overflow_mul-prefix : goal.overflow_mul-prefix
-overflow_mul-prefix c =
-    let low = c.loop-i.invariant.1 in
-    let within : c.loop-i.i ≤ 7 = omega (arith, c.loop-i-test.true) in
-    let most : 256 ^ c.loop-i.i ≤ 256 ^ 7 = pow-le-pow_right (omega arith) within in
-    omega (arith, low, most)
+pub returns-in-None-clause-value : goal.returns-in-None-clause-value
+returns-in-None-clause-value c = sym (prefix_least c.args.front.now c.args.key.now c.in-None.ensures.cases (ap is_lt (sym c.cmp.ensures) ∙ sym c.is_lt.ensures ∙ c.if-is_lt.true))
 
-pub overflow_add-prefix : goal.overflow_add-prefix
-overflow_add-prefix c =
-    let low = c.loop-i.invariant.1 in
-    let byte = c.byte_at.type_inv in
-    let wide = c.from.ensures in
-    let within : c.loop-i.i ≤ 7 = omega (arith, c.loop-i-test.true) in
-    let most : 256 ^ c.loop-i.i ≤ 256 ^ 7 = pow-le-pow_right (omega arith) within in
-    omega (arith, low, most, byte, wide)
+pub returns-in-None-2-clause-value : goal.returns-in-None-2-clause-value
+returns-in-None-2-clause-value c = sym (prefix_greatest c.args.front.now c.args.key.now c.in-None.ensures.cases (ap is_lt (sym c.cmp.ensures) ∙ sym c.is_lt.ensures ∙ c.if-is_lt.false))

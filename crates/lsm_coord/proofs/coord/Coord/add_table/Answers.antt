@@ -36,7 +36,7 @@ invariant_of-self-2 c =
     let adds : AddsFile m.versions c.args.end c.args.meta c.args.table new = c.in_ok-add_table.ensures.ok in
     let end : c.args.end ≡ from.end = c.requires.end ∙ ap (λ (v : CoordValue). (flush_source v).end) (sym c.self.view_is) in
     let none : m.frozen ≡ None = none_from m.frozen (sym c.is_some.ensures ∙ c.if-is_some.false) in
-    let active : active_after m.active m.frozen ≡ c.new.result = ap (active_after m.active) none ∙ sym c.new.ensures in
+    let active : active_after m.active m.frozen ≡ c.successor.result = ap (active_after m.active) none ∙ sym c.successor.ensures in
     let version : IsVersion m.versions.served.version = subst IsVersion c.version.ensures c.files-files.ensures.sound in
     let number : c.args.meta.number ≡ m.versions.served.version.next_file = c.requires.place.0 ∙ ap (λ (v : CoordValue). v.served.version.next_file) (sym c.self.view_is) in
     let legal : AreLegal (with_flushed m.versions.served c.args.end c.args.meta c.args.table).version.files m.book.live = λ j live. legal_flushed m.versions.served c.args.end c.args.meta version c.requires.place.1 (omega (arith, number)) j.want (c.self.invariant.legal j live) in
@@ -69,7 +69,7 @@ returns-clause-ok c =
     let adds : AddsFile m.versions c.args.end c.args.meta c.args.table c.add_table.new.self = c.in_ok-add_table.ensures.ok in
     let end : c.args.end ≡ from.end = c.requires.end ∙ ap (λ (v : CoordValue). (flush_source v).end) (sym c.self.view_is) in
     let none : m.frozen ≡ None = none_from m.frozen (sym c.is_some.ensures ∙ c.if-is_some.false) in
-    let active : c.new.result ≡ active_after m.active m.frozen = c.new.ensures ∙ ap (active_after m.active) (sym none) in
+    let active : c.successor.result ≡ active_after m.active m.frozen = c.successor.ensures ∙ ap (active_after m.active) (sym none) in
     rw (← c.self.view_is, adds.new_is) (record {
       edit = adds.edit;
       edit_is = adds.edit_is ∙ ap (λ (n : ℕ). flush_edit s.version n c.args.meta) end;

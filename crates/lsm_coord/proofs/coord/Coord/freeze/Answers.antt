@@ -22,13 +22,13 @@ invariant_of-self c =
     let none : freeze_fault c.args.self.now ≡ None = sym c.freeze_fault.ensures ∙ c.in-None.is in
     let free = freezable c.self.inside.active c.self.inside.frozen (ap freeze_fault c.self.view_is ∙ none) in
     let is : IsCoord c.self.inside.active None c.self.inside.newest c.self.inside.versions.served c.self.inside.book c.self.inside.live.items = subst (λ f. IsCoord c.self.inside.active f c.self.inside.newest c.self.inside.versions.served c.self.inside.book c.self.inside.live.items) free.0 c.self.invariant in
-    rw (c.replace-memtable.ensures.value, c.replace-memtable.ensures.after, c.new.ensures) (after_freeze c.self.inside.active c.self.inside.newest c.self.inside.versions.served c.self.inside.book c.self.inside.live.items is free.1)
+    rw (c.replace-memtable.ensures.value, c.replace-memtable.ensures.after, c.successor-next.ensures) (after_freeze c.self.inside.active c.self.inside.newest c.self.inside.versions.served c.self.inside.book c.self.inside.live.items is free.1)
 
 pub returns-clause-step : goal.returns-clause-step
 returns-clause-step c =
     let none : freeze_fault c.args.self.now ≡ None = sym c.freeze_fault.ensures ∙ c.in-None.is in
     let free = freezable c.self.inside.active c.self.inside.frozen (ap freeze_fault c.self.view_is ∙ none) in
-    rw (c.replace-memtable.ensures.value, c.replace-memtable.ensures.after, c.new.ensures, ← c.self.view_is) (λ s h.
+    rw (c.replace-memtable.ensures.value, c.replace-memtable.ensures.after, c.successor-next.ensures, ← c.self.view_is) (λ s h.
     let may : refusal s say.Freeze ≡ None = freeze_forced _ s h ∙ ap (option_map refusal_of) (ap freeze_fault c.self.view_is ∙ none) in
     (record s { frozen = Some (last_seq s) }, (may, (sym h.last, refl)), Shows-froze _ s h free.0))
 
