@@ -276,3 +276,36 @@ fn long_values_have_memory_of_their_own(rt: HostRuntime) -> Result<(), Fail> {
     assert!(rt; ends_of(&memtable, b"d") == (118, 101, 5));
     Ok(())
 }
+
+#[test]
+fn a_successor_finds_each_key(rt: HostRuntime) -> Result<(), Fail> {
+    let mut memtable = puts_of(rt.alloc(), &[b"user:a".as_slice(); 1000])?;
+    apply(&mut memtable, 1001, &batch_of(rt.alloc(), &[b"user:b"])?)?;
+    let mut next = memtable.successor();
+    let keys = [
+        b"user:profile".as_slice(),
+        b"z",
+        b"user:1",
+        b"user",
+        b"uses",
+        b"user:",
+        b"a",
+    ];
+    apply(&mut next, 1, &batch_of(rt.alloc(), &keys)?)?;
+    let places = all_places(rt.alloc(), &next)?;
+    assert!(rt; places.as_str() == "a7 user4 user:6 user:13 user:profile1 uses5 z2");
+    for (key, want) in [
+        (b"user".as_slice(), "4 put 5"),
+        (b"user:1", "3 put 5"),
+        (b"uses", "5 put 5"),
+        (b"user:2", "none"),
+        (b"b", "none"),
+    ] {
+        let found = shown(rt.alloc(), &next, key, 9)?;
+        assert!(rt; found.as_str() == want);
+    }
+    let entries = next.range(b"user", b"user:p")?;
+    let places = places_of(rt.alloc(), entries.as_slice())?;
+    assert!(rt; places.as_str() == "user4 user:6 user:13");
+    Ok(())
+}
