@@ -29,6 +29,8 @@ pub fn merge(alloc: Global, tables: &[Table], job: &Job) -> Result<Vec<Bytes>, M
     }
     let merged = merged_of(alloc, tables)?;
     let kept = kept_of(alloc, &merged, job)?;
+    // Its memory serves the outputs.
+    drop(merged);
     let outputs = outputs_of(alloc, &kept)?;
     Ok(outputs)
 }
