@@ -59,13 +59,13 @@ impl Buckets {
         }
     }
 
-    /// No keys, to follow these, which have `count` entries. The front is what all of these begin with, if they are enough to learn
-    /// it from.
+    /// No keys, to follow these, which have `count` entries. The front comes from what all of these begin with, if they are
+    /// enough to learn it from.
     pub(crate) fn successor(&self, count: usize) -> Buckets
         ensures { result ≡ [] }
     {
         let front = match self.ends() {
-            Some((first, last)) if count >= MIN_LEARNED => Front::shared(first, last),
+            Some((first, last)) if count >= MIN_LEARNED => Front::after(first, last),
             _ => self.front,
         };
         Buckets::new(self.alloc, front)

@@ -3,6 +3,9 @@
 /// The most bytes of a front.
 const MAX_FRONT: usize = 32;
 
+/// How many bytes that keys share a front leaves out: keys that count up soon differ in the last ones.
+const SPARE_BYTES: usize = 2;
+
 /// The bytes that most keys of a memtable begin with. Any are right: they decide only how fast a key is found.
 #[derive(Clone, Copy, Debug)]
 pub(crate) struct Front {
@@ -20,17 +23,18 @@ impl Front {
         len: 0,
     };
 
-    /// The bytes that two keys begin with, and so each key between them, at most 32.
-    pub(crate) fn shared(key: &[u8], other: &[u8]) -> Front {
+    /// What keys after these two are expected to begin with: what both begin with but for its last bytes, at most 32 bytes.
+    pub(crate) fn after(key: &[u8], other: &[u8]) -> Front {
         let mut front = Front::NONE;
         let most = key.len().min(other.len()).min(MAX_FRONT);
         for i in 0..most {
             if key[i] != other[i] {
-                return front;
+                break;
             }
             front.bytes[i] = key[i];
             front.len = i + 1;
         }
+        front.len = front.len.saturating_sub(SPARE_BYTES);
         front
     }
 
