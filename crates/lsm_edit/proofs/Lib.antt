@@ -1,7 +1,11 @@
 pub mod ItemsInTurn
 pub mod Ascending
+pub mod FileLaws
 pub mod EditLaws
+pub mod VersionFiles
+pub mod BaseLaws
 pub mod JoinedBytes
+pub mod TextSizes
 pub mod VersionLaws
 pub mod NumbersNeverReturn
 pub mod KeysOutOfRange

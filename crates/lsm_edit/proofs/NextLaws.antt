@@ -13,7 +13,7 @@ use Rattle.lsm_edit.specs.Edit.{IsEdit, AreRemoved, AreAdded}
 use Rattle.lsm_edit.specs.Version.{VersionValue, IsVersion, FileNumbersRise, apply_fault, files_after, has_number, has_overlap, files_without}
 use Rattle.lsm_edit.specs.Next.{flush_edit, epoch_edit, install_edit, number_after}
 use Rattle.std.proofs.lemmas.List.{append-nil}
-use Rattle.lsm_edit.proofs.Ascending.{added_of_turn, removed_of_turn, turn_of_added}
+use Rattle.lsm_edit.proofs.Ascending.{added_bounds, added_of_turn, removed_of_turn, turn_of_added}
 use Rattle.lsm_edit.proofs.VersionLaws.{files_after-is, overlap-push, added_rise}
 
 pub flush_sound : (v : VersionValue) (flushed : ℕ) (f : FileMeta) → IsVersion v → v.number + 1 ≤ MAX_NUMBER → v.next_file + 1 ≤ MAX_NUMBER → v.flushed < flushed → flushed < 2 ^ 56 → IsFile f → f.level ≡ 0 → 1 ≤ v.epoch → IsEdit (flush_edit v flushed f)
@@ -26,7 +26,7 @@ flush_sound v flushed f is number next newer fits file level epoch = record {
   some_file = omega arith;
   next_file = next;
   removed = removed_of_turn Flush [] (omega arith) (omega arith) tt;
-  added = added_of_turn Flush (f ∷ []) (omega arith) (omega arith) ((file, omega arith, omega arith, omega arith), tt);
+  added = added_of_turn Flush (f ∷ []) (omega arith) (omega arith) ((file, omega arith, file.last, omega arith, omega arith), tt);
 }
 
 pub flush_applies : (v : VersionValue) (flushed : ℕ) (f : FileMeta) → IsVersion v → v.flushed < flushed → f.number ≡ v.next_file → f.level ≡ 0 → apply_fault v (flush_edit v flushed f) ≡ None
@@ -94,7 +94,7 @@ after_none n (x ∷ files) h =
 
 module _ (v : VersionValue) (removed : List ℕ) (added : List FileMeta) (is : IsVersion v) (old : AreRemoved Install removed) (new : AreAdded Install added) (fresh : (f : FileMeta) → IsIn f added → v.next_file ≤ f.number) where
   rise : FileNumbersRise added
-  rise = added_rise (1, 1, 6) added (turn_of_added Install added new)
+  rise = added_rise (added_bounds Install) added (turn_of_added Install added new)
 
   pub install_sound : v.number + 1 ≤ MAX_NUMBER → 1 ≤ v.epoch → number_after v.next_file added ≤ MAX_NUMBER → IsEdit (install_edit v removed added)
   install_sound number epoch room = record {

@@ -40,15 +40,15 @@ files_rise (f ∷ fs) up zero (suc j) d le lt = (let more = up.0 (get_or fs j d)
 files_rise (f ∷ fs) up (suc i) zero d le lt = absurd (omega (arith, le))
 files_rise (f ∷ fs) up (suc i) (suc j) d le lt = files_rise fs up.1 i j d (omega (arith, le)) (omega (arith, lt))
 
-number_from : (least : ℕ) (ns : List ℕ) → AreInTurn IsNumberFrom after_number least ns → (k d : ℕ) → k < length ns → least ≤ get_or ns k d
-number_from least [] is k d lt = absurd (omega (arith, lt))
-number_from least (n ∷ ns) is zero d lt = is.0.0
-number_from least (n ∷ ns) is (suc k) d lt = (let low = is.0.0 in let more = number_from (n + 1) ns is.1 k d (omega (arith, lt)) in omega (arith, low, more))
+number_from : (most least : ℕ) (ns : List ℕ) → AreInTurn (IsNumberFrom most) after_number least ns → (k d : ℕ) → k < length ns → least ≤ get_or ns k d
+number_from most least [] is k d lt = absurd (omega (arith, lt))
+number_from most least (n ∷ ns) is zero d lt = is.0.0
+number_from most least (n ∷ ns) is (suc k) d lt = (let low = is.0.0 in let more = number_from most (n + 1) ns is.1 k d (omega (arith, lt)) in omega (arith, low, more))
 
 -- numbers in turn
-pub numbers_rise : (least : ℕ) (ns : List ℕ) → AreInTurn IsNumberFrom after_number least ns → IsNonDecreasing ns
-numbers_rise least [] is i j d le lt = absurd (omega (arith, lt))
-numbers_rise least (n ∷ ns) is zero zero d le lt = omega arith
-numbers_rise least (n ∷ ns) is zero (suc j) d le lt = (let more = number_from (n + 1) ns is.1 j d (omega (arith, lt)) in omega (arith, more))
-numbers_rise least (n ∷ ns) is (suc i) zero d le lt = absurd (omega (arith, le))
-numbers_rise least (n ∷ ns) is (suc i) (suc j) d le lt = numbers_rise (n + 1) ns is.1 i j d (omega (arith, le)) (omega (arith, lt))
+pub numbers_rise : (most least : ℕ) (ns : List ℕ) → AreInTurn (IsNumberFrom most) after_number least ns → IsNonDecreasing ns
+numbers_rise most least [] is i j d le lt = absurd (omega (arith, lt))
+numbers_rise most least (n ∷ ns) is zero zero d le lt = omega arith
+numbers_rise most least (n ∷ ns) is zero (suc j) d le lt = (let more = number_from most (n + 1) ns is.1 j d (omega (arith, lt)) in omega (arith, more))
+numbers_rise most least (n ∷ ns) is (suc i) zero d le lt = absurd (omega (arith, le))
+numbers_rise most least (n ∷ ns) is (suc i) (suc j) d le lt = numbers_rise most (n + 1) ns is.1 i j d (omega (arith, le)) (omega (arith, lt))

@@ -6,13 +6,14 @@ use Rattle.lsm_key.specs.Sets.{IsIn}
 use Rattle.lsm_key.proofs.AscendingEntries.{IsIn-filter}
 use Rattle.lsm_key.proofs.Membership.{IsIn-append_cases}
 use Rattle.std.proofs.lemmas.List.Folds.{list_any-append}
+use Rattle.lsm_edit.specs.declared.file.FileBounds.{FileBounds}
 use Rattle.lsm_edit.specs.declared.file.FileMeta.{FileMeta}
 use Rattle.lsm_edit.specs.declared.edit.Edit.{Edit}
 use Rattle.lsm_edit.specs.declared.version.ApplyError.{ApplyError}
 use Rattle.lsm_edit.specs.File.{IsFile}
-use Rattle.lsm_edit.specs.Edit.{IsEdit, after_file, shape}
+use Rattle.lsm_edit.specs.Edit.{IsEdit, after_file}
 use Rattle.lsm_edit.specs.Version.{VersionValue, IsVersion, FileNumbersRise, files_without, has_number, files_after, clashes, files_meet, has_overlap, apply_fault, after_apply, goes_back, miscounts, is_low}
-use Rattle.lsm_edit.proofs.Ascending.{IsFileFrom, turn_of_added}
+use Rattle.lsm_edit.proofs.Ascending.{added_bounds, IsFileFrom, turn_of_added}
 use Rattle.lsm_edit.proofs.ItemsInTurn.{AreInTurn}
 
 -- ---- the files after an edit that removes none
@@ -82,22 +83,22 @@ overlap-after numbers (f ∷ files) added h =
 
 -- ---- the files that are added
 
-pub added_each : (from : ℕ × ℕ × ℕ) (files : List FileMeta) → AreInTurn IsFileFrom after_file from files → (f : FileMeta) → IsIn f files → IsFileFrom from f
+pub added_each : (from : FileBounds) (files : List FileMeta) → AreInTurn IsFileFrom after_file from files → (f : FileMeta) → IsIn f files → IsFileFrom from f
 added_each from [] is f m = absurd m
 added_each from (x ∷ files) is f m = elim m [
   | inl e ↦ subst (λ (y : FileMeta). IsFileFrom from y) (sym e) is.0
-  | inr n ↦ let later = added_each (after_file x) files is.1 f n in (later.0, (let a = later.1 in let b = is.0.1 in omega arith), (let a = later.2 in let b = is.0.2 in omega arith), (let a = later.3 in let b = is.0.3 in omega arith))
+  | inr n ↦ let later = added_each (after_file from x) files is.1 f n in (later.0, (let a = later.1 in let b = is.0.1 in omega arith), later.2, (let a = later.3 in let b = is.0.3 in omega arith), (let a = later.4 in let b = is.0.4 in omega arith))
 ]
 
-pub added_rise : (from : ℕ × ℕ × ℕ) (files : List FileMeta) → AreInTurn IsFileFrom after_file from files → FileNumbersRise files
+pub added_rise : (from : FileBounds) (files : List FileMeta) → AreInTurn IsFileFrom after_file from files → FileNumbersRise files
 added_rise from [] is = tt
-added_rise from (f ∷ files) is = (λ g m. let later = added_each (after_file f) files is.1 g m in (let a = later.1 in omega arith), added_rise (after_file f) files is.1)
+added_rise from (f ∷ files) is = (λ g m. let later = added_each (after_file from f) files is.1 g m in (let a = later.1 in omega arith), added_rise (after_file from f) files is.1)
 
 pub added_is : (edit : Edit) → IsEdit edit → (f : FileMeta) → IsIn f edit.added → IsFile f
-added_is edit ok f m = (added_each (1, (shape edit.kind).lowest, (shape edit.kind).deepest) edit.added (turn_of_added edit.kind edit.added ok.added) f m).0
+added_is edit ok f m = (added_each (added_bounds edit.kind) edit.added (turn_of_added edit.kind edit.added ok.added) f m).0
 
 pub added_rises : (edit : Edit) → IsEdit edit → FileNumbersRise edit.added
-added_rises edit ok = added_rise (1, (shape edit.kind).lowest, (shape edit.kind).deepest) edit.added (turn_of_added edit.kind edit.added ok.added)
+added_rises edit ok = added_rise (added_bounds edit.kind) edit.added (turn_of_added edit.kind edit.added ok.added)
 
 -- some of the files stand by number, as all do
 rise-if : (b : Bool) (f : FileMeta) (kept : List FileMeta) → ((g : FileMeta) → IsIn g kept → f.number < g.number) → FileNumbersRise kept → FileNumbersRise (cond b (f ∷ kept) kept)

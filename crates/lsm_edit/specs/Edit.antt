@@ -5,6 +5,7 @@ use Rattle.std.specs.List.{flat_map}
 use Rattle.lsm_key.specs.declared.limits.TheConstants.{MAX_NUMBER}
 use Rattle.lsm_key.specs.Reading.{◌>>=◌, number_at, ranged_number_at}
 use Rattle.lsm_edit.specs.declared.file.FileMeta.{FileMeta}
+use Rattle.lsm_edit.specs.declared.file.FileBounds.{FileBounds}
 use Rattle.lsm_edit.specs.declared.edit.Edit.{Edit}
 use Rattle.lsm_edit.specs.declared.edit.EditKind.{EditKind}
 use Rattle.lsm_edit.specs.declared.edit.Shape.{Shape}
@@ -68,63 +69,63 @@ pub record IsSpelled (bytes : List ℕ) (e : Edit) : Type 0 where
   pub sound : IsEdit e
   pub spelled : bytes ≡ edit e
 
-abbrev pub kind_from : ℕ → Result EditKind FormatFault
-kind_from n = if n == 1 then Ok Flush else if n == 2 then Ok Install else if n == 3 then Ok Epoch else Err BadField
+abbrev pub kind_from : {F : Type 0} → F → ℕ → Result EditKind F
+kind_from bad n = if n == 1 then Ok Flush else if n == 2 then Ok Install else if n == 3 then Ok Epoch else Err bad
 
-abbrev pub kind_at : List ℕ → Result (EditKind × List ℕ) FormatFault
-kind_at bytes = do
-  code ← number_at Truncated w8 bytes
-  kind ← kind_from code.0
+abbrev pub kind_at : {F : Type 0} → F → F → List ℕ → Result (EditKind × List ℕ) F
+kind_at short bad bytes = do
+  code ← number_at short w8 bytes
+  kind ← kind_from bad code.0
   Ok (kind, code.1)
 
--- n items, each read as the one before it requires
-abbrev pub items_at : {S X F : Type 0} → (S → List ℕ → Result (X × List ℕ) F) → (X → S) → ℕ → S → List ℕ → Result (List X × List ℕ) F
+-- n items, each read as those before it require
+abbrev pub items_at : {S X F : Type 0} → (S → List ℕ → Result (X × List ℕ) F) → (S → X → S) → ℕ → S → List ℕ → Result (List X × List ℕ) F
 items_at read next zero s bytes = Ok ([], bytes)
 items_at read next (suc n) s bytes = do
   x ← read s bytes
-  xs ← items_at read next n (next x.0) x.1
+  xs ← items_at read next n (next s x.0) x.1
   Ok (x.0 ∷ xs.0, xs.1)
 
 -- the least number that may follow a number
-abbrev pub after_number : ℕ → ℕ
-after_number n = n + 1
+abbrev pub after_number : ℕ → ℕ → ℕ
+after_number least n = n + 1
 
--- count numbers of files, ascending
-abbrev pub numbers_at : ℕ → ℕ → List ℕ → Result (List ℕ × List ℕ) FormatFault
-numbers_at count least bytes = items_at (λ from. ranged_number_at Truncated BadField w64 from MAX_NUMBER) after_number count least bytes
+-- count numbers, ascending, none above most
+abbrev pub numbers_at : {F : Type 0} → F → F → ℕ → ℕ → ℕ → List ℕ → Result (List ℕ × List ℕ) F
+numbers_at short bad most count least bytes = items_at (λ from. ranged_number_at short bad w64 from most) after_number count least bytes
 
--- the least number that may follow a file, and the least and the deepest level: its own
-abbrev pub after_file : FileMeta → ℕ × ℕ × ℕ
-after_file f = (f.number + 1, f.level, f.level)
+-- a file of the same level and a greater number may follow a file
+abbrev pub after_file : FileBounds → FileMeta → FileBounds
+after_file within f = record { least = f.number + 1; most = within.most; lowest = f.level; deepest = f.level }
 
 -- count files of one level, with ascending numbers
-abbrev pub files_at : ℕ → ℕ × ℕ × ℕ → List ℕ → Result (List FileMeta × List ℕ) FormatFault
-files_at count from bytes = items_at (λ from. file_at from.0 from.1 from.2) after_file count from bytes
+abbrev pub files_at : {F : Type 0} → F → F → ℕ → FileBounds → List ℕ → Result (List FileMeta × List ℕ) F
+files_at short bad count within bytes = items_at (λ within. file_at short bad within []) after_file count within bytes
 
-unfoldable pub removed_at : EditKind → List ℕ → Result (List ℕ × List ℕ) FormatFault
-removed_at kind bytes = do
-  count ← ranged_number_at Truncated BadField w32 (shape kind).least_removed (shape kind).most_removed bytes
-  numbers_at count.0 1 count.1
+unfoldable pub removed_at : {F : Type 0} → F → F → EditKind → List ℕ → Result (List ℕ × List ℕ) F
+removed_at short bad kind bytes = do
+  count ← ranged_number_at short bad w32 (shape kind).least_removed (shape kind).most_removed bytes
+  numbers_at short bad MAX_NUMBER count.0 1 count.1
 
-unfoldable pub added_at : EditKind → List ℕ → Result (List FileMeta × List ℕ) FormatFault
-added_at kind bytes = do
-  count ← ranged_number_at Truncated BadField w32 (shape kind).least_added (shape kind).most_added bytes
-  files_at count.0 (1, (shape kind).lowest, (shape kind).deepest) count.1
+unfoldable pub added_at : {F : Type 0} → F → F → EditKind → List ℕ → Result (List FileMeta × List ℕ) F
+added_at short bad kind bytes = do
+  count ← ranged_number_at short bad w32 (shape kind).least_added (shape kind).most_added bytes
+  files_at short bad count.0 (record { least = 1; most = MAX_NUMBER; lowest = (shape kind).lowest; deepest = (shape kind).deepest }) count.1
 
 -- an edit from the front
-unfoldable pub fields_at : List ℕ → Result (Edit × List ℕ) FormatFault
-fields_at bytes = do
-  number ← ranged_number_at Truncated BadField w64 1 MAX_NUMBER bytes
-  kind ← kind_at number.1
-  flushed ← ranged_number_at Truncated BadField w64 0 (2 ^ 56 - 1) kind.1
-  epoch ← ranged_number_at Truncated BadField w64 1 MAX_NUMBER flushed.1
-  next_file ← ranged_number_at Truncated BadField w64 1 MAX_NUMBER epoch.1
-  removed ← removed_at kind.0 next_file.1
-  added ← added_at kind.0 removed.1
+unfoldable pub edit_at : {F : Type 0} → F → F → List ℕ → Result (Edit × List ℕ) F
+edit_at short bad bytes = do
+  number ← ranged_number_at short bad w64 1 MAX_NUMBER bytes
+  kind ← kind_at short bad number.1
+  flushed ← ranged_number_at short bad w64 0 (2 ^ 56 - 1) kind.1
+  epoch ← ranged_number_at short bad w64 1 MAX_NUMBER flushed.1
+  next_file ← ranged_number_at short bad w64 1 MAX_NUMBER epoch.1
+  removed ← removed_at short bad kind.0 next_file.1
+  added ← added_at short bad kind.0 removed.1
   Ok (record { number = number.0; kind = kind.0; flushed = flushed.0; epoch = epoch.0; next_file = next_file.0; removed = removed.0; added = added.0 }, added.1)
 
 -- an edit, all of the bytes
 unfoldable pub read_edit : List ℕ → Result Edit FormatFault
 read_edit bytes = do
-  e ← fields_at bytes
+  e ← edit_at Truncated BadField bytes
   if length e.1 == 0 then Ok e.0 else Err TrailingBytes

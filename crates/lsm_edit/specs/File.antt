@@ -1,13 +1,14 @@
 -- File records: what they may say, and how they are encoded (LevelDB, FileMetaData).
-use Rattle.std.specs.Prelude.{◌≡◌, ℕ, ◌<◌, ◌≤◌, ◌^◌, true, not, List, ◌++◌, Result, Ok, Err, if◌then◌else◌}
+use Rattle.std.specs.Prelude.{◌≡◌, ℕ, ◌<◌, ◌≤◌, ◌^◌, ◌-◌, Bool, true, not, ◌&&◌, ◌||◌, List, ◌++◌, length, min, Result, Ok, Err, nat_eq, nat_lt, if◌then◌else◌}
 use Rattle.std.specs.Int.{w8, w32, w64, to_be_bytes}
+use Rattle.std.specs.List.{list_any}
 use Rattle.lsm_key.specs.declared.limits.TheConstants.{MAX_KEY_BYTES, MAX_NUMBER, MAX_TABLE_BYTES, MAX_LEVEL}
 use Rattle.lsm_key.specs.Order.{key_le}
+use Rattle.lsm_key.specs.KeyRanges.{ranges_meet}
 use Rattle.lsm_key.specs.Spelling.{key, IsKey}
 use Rattle.lsm_key.specs.Reading.{◌>>=◌, ranged_number_at, key_at}
 use Rattle.lsm_edit.specs.declared.file.FileMeta.{FileMeta}
-use Rattle.lsm_edit.specs.declared.format.FormatFault.{FormatFault}
-use Rattle.lsm_edit.specs.declared.format.FormatFault.TheVariants.{Truncated, BadField}
+use Rattle.lsm_edit.specs.declared.file.FileBounds.{FileBounds}
 
 pub record IsFile (f : FileMeta) : Type 0 where
   pub first : 1 ≤ f.number
@@ -24,15 +25,23 @@ pub record IsFile (f : FileMeta) : Type 0 where
 abbrev pub file : FileMeta → List ℕ
 file f = to_be_bytes w64 f.number ++ to_be_bytes w8 f.level ++ key f.smallest ++ key f.largest ++ to_be_bytes w32 f.bytes ++ to_be_bytes w32 f.entries
 
--- a record of a file of at least a number, and of these levels
-unfoldable pub file_at : ℕ → ℕ → ℕ → List ℕ → Result (FileMeta × List ℕ) FormatFault
-file_at least lowest deepest bytes = do
-  number ← ranged_number_at Truncated BadField w64 least MAX_NUMBER bytes
-  level ← ranged_number_at Truncated BadField w8 lowest deepest number.1
-  smallest ← key_at MAX_KEY_BYTES Truncated BadField level.1
-  largest ← key_at MAX_KEY_BYTES Truncated BadField smallest.1
-  if not (key_le smallest.0 largest.0) then Err BadField else
+-- how many bytes, as far as a count of eight bytes goes
+abbrev pub size : List ℕ → ℕ
+size bytes = min (length bytes) (2 ^ 64 - 1)
+
+-- a file of a level from 1 up whose range meets this one of the same level
+abbrev pub meets_file : ℕ → List ℕ → List ℕ → FileMeta → Bool
+meets_file level smallest largest f = nat_eq f.level level && (nat_lt 0 f.level && ranges_meet f.smallest f.largest smallest largest)
+
+-- a record within bounds that meets no earlier file; the fault is short if the bytes end inside a field, and bad if a field breaks its rule
+unfoldable pub file_at : {F : Type 0} → F → F → FileBounds → List FileMeta → List ℕ → Result (FileMeta × List ℕ) F
+file_at short bad within earlier bytes = do
+  number ← ranged_number_at short bad w64 within.least within.most bytes
+  level ← ranged_number_at short bad w8 within.lowest within.deepest number.1
+  smallest ← key_at MAX_KEY_BYTES short bad level.1
+  largest ← key_at MAX_KEY_BYTES short bad smallest.1
+  if not (key_le smallest.0 largest.0) || list_any (meets_file level.0 smallest.0 largest.0) earlier then Err bad else
       (do
-        size ← ranged_number_at Truncated BadField w32 1 MAX_TABLE_BYTES largest.1
-        entries ← ranged_number_at Truncated BadField w32 1 4294967295 size.1
+        size ← ranged_number_at short bad w32 1 MAX_TABLE_BYTES largest.1
+        entries ← ranged_number_at short bad w32 1 4294967295 size.1
         Ok (record { number = number.0; level = level.0; smallest = smallest.0; largest = largest.0; bytes = size.0; entries = entries.0 }, entries.1))

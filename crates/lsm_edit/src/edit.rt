@@ -3,18 +3,17 @@
 //! An edit is encoded as: u64 number, u8 kind (1 flush, 2 install, 3 epoch), u64 flushed, u64 epoch, u64 next_file, u32
 //! count of removed files and u64 each, u32 count of added files and a file record each; all numbers are big-endian.
 
-ghost use Rattle.std.specs.Prelude.{◌≡◌, ◌≤◌, ◌<◌, ◌^◌, ◌++◌, ◌↔◌, length, All, IfOk, IsTrue, OnOk, Ok};
-ghost use Rattle.std.specs.List.{flat_map};
-ghost use Rattle.lsm_edit.specs.File.{IsFile, file};
+ghost use Rattle.std.specs.Prelude.{◌≡◌, ◌≤◌, ◌<◌, ◌^◌, ◌++◌, ◌↔◌, ◌-◌, length, All, IfOk, IsTrue, OnOk, Ok};
+ghost use Rattle.lsm_edit.specs.File.{IsFile, size};
 ghost use Rattle.lsm_key.specs.Reading.{Gives};
 ghost use Rattle.lsm_edit.specs.declared.edit.Edit.{Edit};
-ghost use Rattle.lsm_edit.specs.Edit.{IsEdit, IsSpelled, edit, head, read_edit, fields_at, kind_at, kind_code, shape, removed_bytes, removed_at, added_at, numbers_at, files_at};
+ghost use Rattle.lsm_edit.specs.Edit.{IsEdit, IsSpelled, edit, head, read_edit, edit_at, kind_at, kind_code, shape, removed_bytes, added_bytes, removed_at, added_at, numbers_at, files_at};
 
-use crate::file::{read_file, same_files, write_file};
+use crate::file::{FileBounds, files_bytes, read_file, same_files, write_file};
 use crate::{FileMeta, FormatError, FormatFault};
 use bytes::{BufMut, Bytes, BytesMut};
 use lsm_key::{
-    Items, MAX_KEY_BYTES, MAX_LEVEL, MAX_NUMBER, Refused, Seq, know_bytes, read_ranged_u32,
+    Items, MAX_LEVEL, MAX_NUMBER, Refused, Seq, know_bytes, read_ranged_u32,
     read_ranged_u64, read_u8, read_u32,
 };
 use std::alloc::{AllocError, Global};
@@ -92,10 +91,6 @@ pub(crate) struct Shape {
     deepest: u8,
 }
 
-const SHORT: FormatFault = FormatFault::Truncated;
-
-const BAD: FormatFault = FormatFault::BadField;
-
 impl EditKind {
     /// Its code in an edit.
     fn code(self) -> u8
@@ -146,25 +141,35 @@ pub fn same_numbers(numbers: &[u64], others: &[u64]) -> bool
     numbers == others
 }
 
-fn read_kind(rest: &mut Bytes) -> Result<EditKind, FormatError>
-    ensures { Gives (λ k. (k, rest.new)) result (kind_at rest.old) }
+fn read_kind<F: Copy>(rest: &mut Bytes, short: F, bad: F) -> Result<EditKind, Refused<F>>
+    ensures { Gives (λ k. (k, rest.new)) result (kind_at short bad rest.old) }
 {
-    match read_u8(rest, SHORT)? {
+    match read_u8(rest, short)? {
         1 => Ok(EditKind::Flush),
         2 => Ok(EditKind::Install),
         3 => Ok(EditKind::Epoch),
-        _ => Err(Refused::Fault(BAD)),
+        _ => Err(Refused::Fault(bad)),
     }
 }
 
-// `count` numbers of files, ascending.
-fn read_numbers(alloc: Global, count: u32, rest: &mut Bytes) -> Result<Items<u64>, FormatError>
-    ensures { Gives (λ numbers. (numbers, rest.new)) result (numbers_at count 1 rest.old) }
+/// `count` ascending numbers from the front, the first at least `least` and none above `most`, which is below
+/// `u64::MAX`.
+pub fn read_numbers<F: Copy>(
+    alloc: Global,
+    count: u32,
+    least: u64,
+    most: u64,
+    rest: &mut Bytes,
+    short: F,
+    bad: F,
+) -> Result<Items<u64>, Refused<F>>
+    requires { most < 2 ^ 64 - 1 }
+    ensures { Gives (λ numbers. (numbers, rest.new)) result (numbers_at short bad most count least rest.old) }
 {
     let mut numbers = Items::new(alloc);
-    let mut least = 1;
+    let mut least = least;
     for _place in 0..count {
-        let number = read_ranged_u64(rest, least, MAX_NUMBER, SHORT, BAD)?;
+        let number = read_ranged_u64(rest, least, most, short, bad)?;
         numbers.push(number)?;
         least = number + 1;
     }
@@ -173,30 +178,42 @@ fn read_numbers(alloc: Global, count: u32, rest: &mut Bytes) -> Result<Items<u64
 
 // The files that an edit of the kind removes.
 #[tactic(auto, unfolding(crate::specs::Edit::removed_at))]
-fn read_removed(alloc: Global, kind: EditKind, rest: &mut Bytes) -> Result<Items<u64>, FormatError>
-    ensures { Gives (λ numbers. (numbers, rest.new)) result (removed_at kind rest.old) }
+fn read_removed<F: Copy>(
+    alloc: Global,
+    kind: EditKind,
+    rest: &mut Bytes,
+    short: F,
+    bad: F,
+) -> Result<Items<u64>, Refused<F>>
+    ensures { Gives (λ numbers. (numbers, rest.new)) result (removed_at short bad kind rest.old) }
 {
     let shape = kind.shape();
-    let count = read_ranged_u32(rest, shape.least_removed, shape.most_removed, SHORT, BAD)?;
-    read_numbers(alloc, count, rest)
+    let count = read_ranged_u32(rest, shape.least_removed, shape.most_removed, short, bad)?;
+    read_numbers(alloc, count, 1, MAX_NUMBER, rest, short, bad)
 }
 
-// `count` files of one level, from `lowest` to `deepest`, with ascending numbers.
-fn read_files(
+// `count` files of one level within bounds, with ascending numbers.
+fn read_files<F: Copy>(
     alloc: Global,
     count: u32,
-    lowest: u8,
-    deepest: u8,
+    within: FileBounds,
     rest: &mut Bytes,
-) -> Result<Items<FileMeta>, FormatError>
-    requires { deepest ≤ MAX_LEVEL }
-    ensures { Gives (λ files. (files, rest.new)) result (files_at count (1, lowest, deepest) rest.old) }
+    short: F,
+    bad: F,
+) -> Result<Items<FileMeta>, Refused<F>>
+    requires { within.most < 2 ^ 64 - 1 }
+    ensures { Gives (λ files. (files, rest.new)) result (files_at short bad count within rest.old) }
 {
     let mut files = Items::new(alloc);
-    let (mut least, mut lowest, mut deepest) = (1, lowest, deepest);
+    let mut within = within;
     for _place in 0..count {
-        let file = read_file(rest, least, lowest, deepest)?;
-        (least, lowest, deepest) = (file.number + 1, file.level, file.level);
+        let file = read_file(rest, within, &[], short, bad)?;
+        within = FileBounds {
+            least: file.number + 1,
+            most: within.most,
+            lowest: file.level,
+            deepest: file.level,
+        };
         files.push(file)?;
     }
     Ok(files)
@@ -204,29 +221,43 @@ fn read_files(
 
 // The files that an edit of the kind adds.
 #[tactic(auto, unfolding(crate::specs::Edit::added_at))]
-fn read_added(
+fn read_added<F: Copy>(
     alloc: Global,
     kind: EditKind,
     rest: &mut Bytes,
-) -> Result<Items<FileMeta>, FormatError>
-    ensures { Gives (λ files. (files, rest.new)) result (added_at kind rest.old) }
+    short: F,
+    bad: F,
+) -> Result<Items<FileMeta>, Refused<F>>
+    ensures { Gives (λ files. (files, rest.new)) result (added_at short bad kind rest.old) }
 {
     let shape = kind.shape();
-    let count = read_ranged_u32(rest, shape.least_added, shape.most_added, SHORT, BAD)?;
-    read_files(alloc, count, shape.lowest, shape.deepest, rest)
+    let count = read_ranged_u32(rest, shape.least_added, shape.most_added, short, bad)?;
+    let within = FileBounds {
+        least: 1,
+        most: MAX_NUMBER,
+        lowest: shape.lowest,
+        deepest: shape.deepest,
+    };
+    read_files(alloc, count, within, rest, short, bad)
 }
 
-#[tactic(auto, unfolding(crate::specs::Edit::fields_at))]
-fn read_fields(alloc: Global, rest: &mut Bytes) -> Result<Edit, FormatError>
-    ensures { Gives (λ e. (e, rest.new)) result (fields_at rest.old) }
+/// An edit from the front. The fault is `short` if the bytes end inside a field, and `bad` if a field breaks its rule.
+#[tactic(auto, unfolding(crate::specs::Edit::edit_at))]
+pub fn read_edit<F: Copy>(
+    alloc: Global,
+    rest: &mut Bytes,
+    short: F,
+    bad: F,
+) -> Result<Edit, Refused<F>>
+    ensures { Gives (λ e. (e, rest.new)) result (edit_at short bad rest.old) }
 {
-    let number = read_ranged_u64(rest, 1, MAX_NUMBER, SHORT, BAD)?;
-    let kind = read_kind(rest)?;
-    let flushed = read_ranged_u64(rest, 0, Seq::MAX, SHORT, BAD)?;
-    let epoch = read_ranged_u64(rest, 1, MAX_NUMBER, SHORT, BAD)?;
-    let next_file = read_ranged_u64(rest, 1, MAX_NUMBER, SHORT, BAD)?;
-    let removed = read_removed(alloc, kind, rest)?;
-    let added = read_added(alloc, kind, rest)?;
+    let number = read_ranged_u64(rest, 1, MAX_NUMBER, short, bad)?;
+    let kind = read_kind(rest, short, bad)?;
+    let flushed = read_ranged_u64(rest, 0, Seq::MAX, short, bad)?;
+    let epoch = read_ranged_u64(rest, 1, MAX_NUMBER, short, bad)?;
+    let next_file = read_ranged_u64(rest, 1, MAX_NUMBER, short, bad)?;
+    let removed = read_removed(alloc, kind, rest, short, bad)?;
+    let added = read_added(alloc, kind, rest, short, bad)?;
     Ok(Edit {
         number,
         kind,
@@ -257,7 +288,12 @@ fn read_whole(alloc: Global, bytes: Bytes) -> Result<Edit, FormatError>
     ensures { Gives (λ x. x) result (read_edit bytes) }
 {
     let mut rest = bytes;
-    let edit = read_fields(alloc, &mut rest)?;
+    let edit = read_edit(
+        alloc,
+        &mut rest,
+        FormatFault::Truncated,
+        FormatFault::BadField,
+    )?;
     if !rest.is_empty() {
         return Err(Refused::Fault(FormatFault::TrailingBytes));
     }
@@ -266,9 +302,6 @@ fn read_whole(alloc: Global, bytes: Bytes) -> Result<Edit, FormatError>
 
 // The size of an edit without its files: four numbers of eight bytes, the kind, and two counts.
 const HEAD_BYTES: usize = 41;
-
-// The largest size of a file record: its numbers, and two keys of the greatest length.
-const MOST_FILE_BYTES: usize = 17 + 2 * (2 + MAX_KEY_BYTES);
 
 // Appends what comes before the added files.
 fn write_head(out: &mut BytesMut, e: &Edit) -> Result<(), AllocError>
@@ -296,15 +329,36 @@ fn write_numbers(out: &mut BytesMut, numbers: &[u64]) -> Result<(), AllocError>
     Ok(())
 }
 
-// Appends the files, without their count.
-fn write_files(out: &mut BytesMut, files: &[FileMeta]) -> Result<(), AllocError>
-    requires { All IsFile files.now }
-    ensures { OnOk result (out.new.items ≡ out.old.items ++ flat_map file files.now) }
+/// Appends a count of files, and the record of each.
+pub fn write_files(out: &mut BytesMut, files: &[FileMeta]) -> Result<(), AllocError>
+    requires sound { All IsFile files.now }
+    requires few { length files.now < 2 ^ 32 }
+    ensures { OnOk result (out.new.items ≡ out.old.items ++ added_bytes files.now) }
 {
+    out.put_u32(files.len() as u32)?;
     for file in files {
         write_file(out, file)?;
     }
     Ok(())
+}
+
+/// Appends the edit.
+pub fn write_edit(out: &mut BytesMut, e: &Edit) -> Result<(), AllocError>
+    requires { IsEdit e.now }
+    ensures { OnOk result (out.new.items ≡ out.old.items ++ edit e.now) }
+{
+    write_head(out, e)?;
+    write_files(out, e.added.as_slice())?;
+    Ok(())
+}
+
+/// How many bytes the edit has, at most `usize::MAX`.
+pub fn edit_bytes(e: &Edit) -> usize
+    requires { IsEdit e.now }
+    ensures { result ≡ size (edit e.now) }
+{
+    let removed = 8 * e.removed.as_slice().len();
+    files_bytes(e.added.as_slice()).saturating_add(HEAD_BYTES + removed)
 }
 
 /// The one encoding of the edit.
@@ -312,10 +366,7 @@ pub fn encode_edit(alloc: Global, e: &Edit) -> Result<Bytes, AllocError>
     requires { IsEdit e.now }
     ensures { IfOk result (λ b. b ≡ edit e.now) }
 {
-    let files = e.added.as_slice();
-    let mut out = BytesMut::with_capacity(alloc, HEAD_BYTES + MOST_FILE_BYTES)?;
-    write_head(&mut out, e)?;
-    out.put_u32(files.len() as u32)?;
-    write_files(&mut out, files)?;
+    let mut out = BytesMut::with_capacity(alloc, edit_bytes(e))?;
+    write_edit(&mut out, e)?;
     Ok(out.freeze()?)
 }

@@ -3,16 +3,15 @@
 //! A record is encoded as: u64 number, u8 level, smallest key, largest key, u32 bytes, u32 entries; a key is u16 length
 //! and its bytes, and all numbers are big-endian.
 
-ghost use Rattle.std.specs.Prelude.{◌≡◌, ◌++◌, ◌↔◌, IsTrue, OnOk, IfOk};
+ghost use Rattle.std.specs.Prelude.{◌≡◌, ◌++◌, ◌↔◌, IsTrue, OnOk, length, All};
+ghost use Rattle.std.specs.List.{flat_map, list_any};
 ghost use Rattle.lsm_key.specs.Reading.{Gives};
-ghost use Rattle.lsm_edit.specs.File.{IsFile, file, file_at};
-ghost use Rattle.lsm_edit.specs.declared.format.FormatFault.TheVariants.{Truncated, BadField};
+ghost use Rattle.lsm_edit.specs.File.{IsFile, file, file_at, meets_file, size};
 
-use crate::format::{FormatError, FormatFault};
 use bytes::{BufMut, Bytes, BytesMut};
 use lsm_key::{
-    MAX_KEY_BYTES, MAX_NUMBER, MAX_TABLE_BYTES, Refused, read_key, read_ranged_u8, read_ranged_u32,
-    read_ranged_u64, write_key,
+    KeyRangeRef, MAX_KEY_BYTES, MAX_TABLE_BYTES, Refused, read_key, read_ranged_u8,
+    read_ranged_u32, read_ranged_u64, write_key,
 };
 use std::alloc::AllocError;
 
@@ -33,29 +32,40 @@ pub struct FileMeta {
     pub entries: u32,
 }
 
-const SHORT: FormatFault = FormatFault::Truncated;
+/// Which file record may come next.
+#[derive(Clone, Copy, Debug)]
+pub struct FileBounds {
+    /// The least number that it may have.
+    pub least: u64,
+    /// The greatest one.
+    pub most: u64,
+    /// The lowest level that it may have.
+    pub lowest: u8,
+    /// The deepest one.
+    pub deepest: u8,
+}
 
-const BAD: FormatFault = FormatFault::BadField;
-
-/// A record from the front, of a file of number `least` or more, and of level `lowest` to `deepest`.
+/// A record within bounds from the front, of a file that overlaps none of the earlier ones of its level, if it is not
+/// level 0. The fault is `short` if the bytes end inside a field, and `bad` if a field breaks its rule.
 #[tactic(auto, unfolding(crate::specs::File::file_at))]
-pub(crate) fn read_file(
+pub fn read_file<F: Copy>(
     rest: &mut Bytes,
-    least: u64,
-    lowest: u8,
-    deepest: u8,
-) -> Result<FileMeta, FormatError>
-    ensures { Gives (λ f. (f, rest.new)) result (file_at least lowest deepest rest.old) }
+    within: FileBounds,
+    earlier: &[FileMeta],
+    short: F,
+    bad: F,
+) -> Result<FileMeta, Refused<F>>
+    ensures { Gives (λ f. (f, rest.new)) result (file_at short bad within earlier.now rest.old) }
 {
-    let number = read_ranged_u64(rest, least, MAX_NUMBER, SHORT, BAD)?;
-    let level = read_ranged_u8(rest, lowest, deepest, SHORT, BAD)?;
-    let smallest = read_key(rest, MAX_KEY_BYTES, SHORT, BAD)?;
-    let largest = read_key(rest, MAX_KEY_BYTES, SHORT, BAD)?;
-    if smallest.cmp(&largest).is_gt() {
-        return Err(Refused::Fault(BAD));
+    let number = read_ranged_u64(rest, within.least, within.most, short, bad)?;
+    let level = read_ranged_u8(rest, within.lowest, within.deepest, short, bad)?;
+    let smallest = read_key(rest, MAX_KEY_BYTES, short, bad)?;
+    let largest = read_key(rest, MAX_KEY_BYTES, short, bad)?;
+    if smallest.cmp(&largest).is_gt() || meets_any(level, &smallest, &largest, earlier) {
+        return Err(Refused::Fault(bad));
     }
-    let bytes = read_ranged_u32(rest, 1, MAX_TABLE_BYTES as u32, SHORT, BAD)?;
-    let entries = read_ranged_u32(rest, 1, u32::MAX, SHORT, BAD)?;
+    let bytes = read_ranged_u32(rest, 1, MAX_TABLE_BYTES as u32, short, bad)?;
+    let entries = read_ranged_u32(rest, 1, u32::MAX, short, bad)?;
     Ok(FileMeta {
         number,
         level,
@@ -66,8 +76,27 @@ pub(crate) fn read_file(
     })
 }
 
+// Whether a file of the level, if it is not level 0, overlaps the keys from `smallest` to `largest`.
+fn meets_any(level: u8, smallest: &Bytes, largest: &Bytes, files: &[FileMeta]) -> bool
+    ensures { result ≡ list_any (meets_file level smallest.now largest.now) files.now }
+{
+    files
+        .iter()
+        .any(|file| meets(level, smallest, largest, file))
+}
+
+fn meets(level: u8, smallest: &Bytes, largest: &Bytes, file: &FileMeta) -> bool
+    ensures { result ≡ meets_file level smallest.now largest.now file.now }
+{
+    let range = KeyRangeRef {
+        lo: smallest.as_slice(),
+        hi: largest.as_slice(),
+    };
+    file.level == level && file.level > 0 && file.range().overlaps(range)
+}
+
 /// Appends a record.
-pub(crate) fn write_file(out: &mut BytesMut, meta: &FileMeta) -> Result<(), AllocError>
+pub fn write_file(out: &mut BytesMut, meta: &FileMeta) -> Result<(), AllocError>
     requires { IsFile meta.now }
     ensures { OnOk result (out.new.items ≡ out.old.items ++ file meta.now) }
 {
@@ -78,6 +107,26 @@ pub(crate) fn write_file(out: &mut BytesMut, meta: &FileMeta) -> Result<(), Allo
     out.put_u32(meta.bytes)?;
     out.put_u32(meta.entries)?;
     Ok(())
+}
+
+/// How many bytes a record has.
+pub fn file_bytes(meta: &FileMeta) -> usize
+    requires { IsFile meta.now }
+    ensures { result ≡ length (file meta.now) }
+{
+    21 + meta.smallest.len() + meta.largest.len()
+}
+
+/// How many bytes the records have together, at most `usize::MAX`.
+pub fn files_bytes(files: &[FileMeta]) -> usize
+    requires { All IsFile files.now }
+    ensures { result ≡ size (flat_map file files.now) }
+{
+    let mut total: usize = 0;
+    for file in files {
+        total = total.saturating_add(file_bytes(file));
+    }
+    total
 }
 
 /// Whether two lists of files are the same.

@@ -4,6 +4,7 @@
 //! that a read of a version with its tables returns the newest visible entry. It stands on the tables and the keys.
 #![tactic(auto)]
 
+mod base;
 mod edit;
 mod file;
 mod format;
@@ -14,8 +15,14 @@ mod served;
 mod tests;
 mod version;
 
-pub use edit::{Edit, EditKind, decode_edit, encode_edit, same_numbers};
-pub use file::{FileMeta, same_files};
+pub use base::{base_bytes, decode_base, encode_base, read_base, write_base};
+pub use edit::{
+    Edit, EditKind, decode_edit, edit_bytes, encode_edit, read_edit, read_numbers, same_numbers,
+    write_edit, write_files,
+};
+pub use file::{
+    FileBounds, FileMeta, file_bytes, files_bytes, read_file, same_files, write_file,
+};
 pub use format::{FormatError, FormatFault};
 pub use laws::{a_number_names_one_file, no_file_is_removed_twice, worked_edits};
 pub use served::{Listing, Placed, Served};

@@ -94,6 +94,28 @@ impl Version {
         }
     }
 
+    // The version of these parts.
+    pub(crate) fn from_parts(
+        alloc: Global,
+        number: u64,
+        flushed: Seq,
+        epoch: u64,
+        next_file: u64,
+        listed: Vec<FileMeta>,
+    ) -> Version
+        requires { IsVersion (record { number = number; flushed = flushed; epoch = epoch; next_file = next_file; files = listed.items }) }
+        ensures { result ≡ record { number = number; flushed = flushed; epoch = epoch; next_file = next_file; files = listed.items } }
+    {
+        Version {
+            alloc,
+            number,
+            flushed,
+            epoch,
+            next_file,
+            listed,
+        }
+    }
+
     /// Its number, at most `MAX_NUMBER`.
     pub fn number(&self) -> u64
         ensures value { result ≡ self.now.number }

@@ -1,5 +1,6 @@
 pub mod Rules
 pub mod Jobs
+pub mod Messages
 pub mod Merge
 pub mod Legal
 pub mod Laws

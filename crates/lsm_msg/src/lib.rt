@@ -22,5 +22,5 @@ pub use laws::{
     flushes_keep_jobs, flushes_keep_order, hidden_entries_go, installs_keep_jobs,
     installs_keep_order, installs_keep_reads, kept_are_inputs, reads_stay, worked_merges,
 };
-pub use message::{Body, Message};
+pub use message::{Body, MAX_MESSAGE_BYTES, Message};
 pub use node::{Node, NodeIndex};

@@ -8,6 +8,9 @@ use lsm_edit::{Edit, Version};
 use lsm_key::{FileNumber, VersionNumber};
 use std::alloc::{AllocError, Global};
 
+/// A message is held whole in memory by its sender, the network and its receiver. In bytes.
+pub const MAX_MESSAGE_BYTES: usize = 1 << 30;
+
 /// The body of a message.
 #[derive(Debug, Drop)]
 pub enum Body {

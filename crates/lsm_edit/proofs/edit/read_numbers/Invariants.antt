@@ -4,4 +4,4 @@ use Rattle.lsm_edit.proofs.ItemsInTurn.{after_these}
 use Rattle.lsm_edit.proofs.edit.read_numbers.Given as goal
 
 abbrev pub invariant-loop-place : goal.invariant-loop-place
-invariant-loop-place l = numbers_at l.count 1 l.fn.rest ≡ after_these l.numbers (numbers_at (l.count - l._place) l.least l.rest)
+invariant-loop-place g l = numbers_at l.short l.bad l.most l.count l.fn.least l.fn.rest ≡ after_these l.numbers (numbers_at l.short l.bad l.most (l.count - l._place) l.least l.rest)

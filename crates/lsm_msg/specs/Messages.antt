@@ -1,0 +1,121 @@
+-- Messages: what they may say, and how they are encoded (RocksDB wiki: remote compaction, secondary instances; the layout is the store's own).
+use Rattle.std.specs.Prelude.{◌≡◌, ℕ, ◌≤◌, List, ◌∷◌, [], ◌++◌, length, All}
+use Rattle.std.specs.Int.{w8, w16, w32, w64, to_be_bytes}
+use Rattle.std.specs.List.{flat_map}
+use Rattle.lsm_key.specs.declared.limits.TheConstants.{MAX_NODES, MAX_NUMBER, MAX_TABLE_BYTES}
+use Rattle.lsm_key.specs.declared.range.KeyRange.{KeyRange}
+use Rattle.lsm_key.specs.Spelling.{key}
+use Rattle.lsm_claim.specs.declared.job.JobId.{JobId}
+use Rattle.lsm_edit.specs.File.{file}
+use Rattle.lsm_edit.specs.Edit.{IsEdit, edit}
+use Rattle.lsm_edit.specs.Base.{IsBase, base}
+use Rattle.lsm_msg.specs.declared.job.JobParts.{JobParts}
+use Rattle.lsm_msg.specs.declared.job.JobResult.{JobResult}
+use Rattle.lsm_msg.specs.declared.message.Body.{Body}
+use Rattle.lsm_msg.specs.declared.message.Body.TheVariants as body
+use Rattle.lsm_msg.specs.declared.message.Message.{Message}
+use Rattle.lsm_msg.specs.declared.message.TheConstants.{MAX_MESSAGE_BYTES}
+use Rattle.lsm_msg.specs.declared.node.Node.{Node}
+use Rattle.lsm_msg.specs.declared.node.Node.TheVariants.{Coordinator, Worker, Follower}
+use Rattle.lsm_msg.specs.Jobs.{IsJob}
+use Rattle.lsm_msg.specs.Rules.{IsJobId}
+
+-- ---- what messages may say
+
+-- workers and followers are numbered from 1 to MAX_NODES
+abbrev pub IsNode : Node → Type 0
+IsNode Coordinator = Unit {0}
+IsNode (Worker index) = (1 ≤ index) × (index ≤ MAX_NODES)
+IsNode (Follower index) = (1 ≤ index) × (index ≤ MAX_NODES)
+
+abbrev pub IsFileNumber : ℕ → Type 0
+IsFileNumber number = (1 ≤ number) × (number ≤ MAX_NUMBER)
+
+-- bytes that may be a table's: what they say is not looked at
+abbrev pub AreTableBytes : List ℕ → Type 0
+AreTableBytes bytes = (1 ≤ length bytes) × (length bytes ≤ MAX_TABLE_BYTES)
+
+abbrev pub IsBody : Body → Type 0
+IsBody (body.Job j) = IsJob j
+IsBody (body.Fetch n) = IsFileNumber n
+IsBody (body.Table n bytes) = IsFileNumber n × AreTableBytes bytes
+IsBody (body.Gone n) = IsFileNumber n
+IsBody (body.Result r) = IsJobId r.job × All AreTableBytes r.tables
+IsBody (body.Ask n) = n ≤ MAX_NUMBER
+IsBody (body.Edit e) = IsEdit e
+IsBody (body.Base v) = IsBase v
+IsBody (body.Current n) = n ≤ MAX_NUMBER
+
+pub record IsMessage (m : Message) : Type 0 where
+  pub src : IsNode m.src
+  pub dst : IsNode m.dst
+  pub body : IsBody m.body
+
+-- ---- how they are encoded
+
+-- LSMM in ASCII
+abbrev pub message_magic : ℕ
+message_magic = 1280527693
+
+-- one byte for the kind of node, and one for its number
+abbrev pub node : Node → List ℕ
+node Coordinator = to_be_bytes w8 0 ++ to_be_bytes w8 0
+node (Worker index) = to_be_bytes w8 1 ++ to_be_bytes w8 index
+node (Follower index) = to_be_bytes w8 2 ++ to_be_bytes w8 index
+
+abbrev pub job_id : JobId → List ℕ
+job_id id = to_be_bytes w64 id.epoch ++ to_be_bytes w64 id.number
+
+abbrev pub points : List ℕ → List ℕ
+points ps = to_be_bytes w8 (length ps) ++ flat_map (to_be_bytes w64) ps
+
+abbrev pub range : KeyRange → List ℕ
+range r = key r.lo ++ key r.hi
+
+abbrev pub ranges : List KeyRange → List ℕ
+ranges rs = to_be_bytes w32 (length rs) ++ flat_map range rs
+
+abbrev pub job : JobParts → List ℕ
+job j =
+    job_id j.id ++ to_be_bytes w8 j.level ++ to_be_bytes w32 j.block ++ points j.points
+    ++ (to_be_bytes w16 (length j.inputs) ++ flat_map file j.inputs) ++ ranges j.deeper
+
+-- four bytes of length, and the bytes
+abbrev pub sized : List ℕ → List ℕ
+sized bytes = to_be_bytes w32 (length bytes) ++ bytes
+
+abbrev pub tables : List (List ℕ) → List ℕ
+tables ts = to_be_bytes w32 (length ts) ++ flat_map sized ts
+
+-- the code of the kind of a message
+abbrev pub body_code : Body → ℕ
+body_code (body.Job j) = 1
+body_code (body.Fetch n) = 2
+body_code (body.Table n bytes) = 3
+body_code (body.Gone n) = 4
+body_code (body.Result r) = 5
+body_code (body.Ask n) = 6
+body_code (body.Edit e) = 7
+body_code (body.Base v) = 8
+body_code (body.Current n) = 9
+
+abbrev pub body_text : Body → List ℕ
+body_text (body.Job j) = job j
+body_text (body.Fetch n) = to_be_bytes w64 n
+body_text (body.Table n bytes) = to_be_bytes w64 n ++ sized bytes
+body_text (body.Gone n) = to_be_bytes w64 n
+body_text (body.Result r) = job_id r.job ++ tables r.tables
+body_text (body.Ask n) = to_be_bytes w64 n
+body_text (body.Edit e) = edit e
+body_text (body.Base v) = base v
+body_text (body.Current n) = to_be_bytes w64 n
+
+-- magic, version 1, the kind, sender, receiver, body
+abbrev pub message : Message → List ℕ
+message m = to_be_bytes w32 message_magic ++ to_be_bytes w8 1 ++ to_be_bytes w8 (body_code m.body) ++ node m.src ++ node m.dst ++ body_text m.body
+
+-- the bytes are those of this message, and not too many
+pub record IsSpelled (bytes : List ℕ) (m : Message) : Type 0 where
+  pub sound : IsMessage m
+  pub small : length bytes ≤ MAX_MESSAGE_BYTES
+  pub spelled : bytes ≡ message m
