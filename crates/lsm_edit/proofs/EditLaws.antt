@@ -20,7 +20,7 @@ use Rattle.lsm_edit.specs.File.{IsFile, file, file_at}
 use Rattle.lsm_edit.specs.Edit.{IsEdit, IsSpelled, AreRemoved, AreAdded, after_number, after_file, added_bytes, removed_bytes, edit, kind_code, shape, kind_from, kind_at, removed_at, added_at, edit_at, read_edit}
 use Rattle.lsm_edit.proofs.Ascending.{IsFileFrom, IsNumberFrom, added_bounds, added_of_turn, removed_of_turn, turn_of_added, turn_of_removed}
 use Rattle.lsm_edit.proofs.FileLaws.{AreBounds, file_reads}
-use Rattle.lsm_edit.proofs.ItemsInTurn.{counted_reads}
+use Rattle.lsm_edit.proofs.ItemsInTurn.{counted_reads, reads_as}
 
 -- ---- the kind
 
@@ -79,13 +79,6 @@ removed_small kind numbers is = let small = (counts_small kind).0 in let most = 
 
 pub added_small : (kind : EditKind) (files : List FileMeta) → AreAdded kind files → length files < 2 ^ 32
 added_small kind files is = let small = (counts_small kind).1 in let most = is.1 in omega (arith, small, most)
-
--- the same reader, by an equivalent property of what it reads
-reads_as : {Z F : Type 0} {read : List ℕ → Result (Z × List ℕ) F} {spell : Z → List ℕ} {IsZ AsZ : Z → Type 0} → ((z : Z) → IsZ z → AsZ z) → ((z : Z) → AsZ z → IsZ z) → Reads read spell IsZ → Reads read spell AsZ
-reads_as to from reads = record {
-  takes = λ bytes z fits e. let t = reads.takes bytes z fits e in (t.0, to z.0 t.1);
-  again = λ z rest is. reads.again z rest (from z is);
-}
 
 module _ {F : Type 0} (short bad : F) where
   removed_reads : (kind : EditKind) → Reads (removed_at short bad kind) removed_bytes (AreRemoved kind)

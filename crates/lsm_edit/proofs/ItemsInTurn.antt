@@ -10,6 +10,13 @@ use Rattle.lsm_key.proofs.FieldLaws.{IsBytes, Takes, Takes-then, bind_ok, ok_is,
 use Rattle.lsm_key.proofs.ReaderLaws.{Reads, within_reads}
 use Rattle.lsm_edit.specs.Edit.{items_at}
 
+-- the same reader, by an equivalent property of what it reads
+pub reads_as : {Z F : Type 0} {read : List ℕ → Result (Z × List ℕ) F} {spell : Z → List ℕ} {IsZ AsZ : Z → Type 0} → ((z : Z) → IsZ z → AsZ z) → ((z : Z) → AsZ z → IsZ z) → Reads read spell IsZ → Reads read spell AsZ
+reads_as to from reads = record {
+  takes = λ bytes z fits e. let t = reads.takes bytes z fits e in (t.0, to z.0 t.1);
+  again = λ z rest is. reads.again z rest (from z is);
+}
+
 -- each item is as the one before it requires
 abbrev pub AreInTurn : {S X : Type 0} → (S → X → Type 0) → (S → X → S) → S → List X → Type 0
 AreInTurn Is next s [] = Unit {0}
@@ -17,7 +24,7 @@ AreInTurn Is next s (x ∷ xs) = Is s x × AreInTurn Is next (next s x) xs
 
 module _ {S X F : Type 0} (Good : S → Type 0) (Is : S → X → Type 0) (read : S → List ℕ → Result (X × List ℕ) F) (next : S → X → S) (spell : X → List ℕ)
     (each : (s : S) → Good s → Reads (read s) spell (Is s)) (on : (s : S) (x : X) → Good s → Is s x → Good (next s x)) where
-  items_takes : (n : ℕ) (s : S) (bytes : List ℕ) (z : List X × List ℕ) → Good s → IsBytes bytes → items_at read next n s bytes ≡ Ok z → Takes bytes (flat_map spell z.0) z.1 × AreInTurn Is next s z.0 × (length z.0 ≡ n)
+  pub items_takes : (n : ℕ) (s : S) (bytes : List ℕ) (z : List X × List ℕ) → Good s → IsBytes bytes → items_at read next n s bytes ≡ Ok z → Takes bytes (flat_map spell z.0) z.1 × AreInTurn Is next s z.0 × (length z.0 ≡ n)
   items_takes zero s bytes z good fits e =
       let same = ok_is {F = F} ([], bytes) z e in
       let start : Takes bytes [] bytes = record { parts = refl; rest_fits = fits } in
@@ -31,7 +38,7 @@ module _ {S X F : Type 0} (Good : S → Type 0) (Is : S → X → Type 0) (read 
       subst (λ (p : List X × List ℕ). Takes bytes (flat_map spell p.0) p.1 × AreInTurn Is next s p.0 × (length p.0 ≡ suc n)) same
       (Takes-then bytes (spell a.0.0) a.0.1 (flat_map spell b.0.0) b.0.1 t.0 u.0, (t.1, u.1), ap suc u.2)
 
-  items_again : (xs : List X) (s : S) (rest : List ℕ) → Good s → AreInTurn Is next s xs → items_at read next (length xs) s (flat_map spell xs ++ rest) ≡ Ok (xs, rest)
+  pub items_again : (xs : List X) (s : S) (rest : List ℕ) → Good s → AreInTurn Is next s xs → items_at read next (length xs) s (flat_map spell xs ++ rest) ≡ Ok (xs, rest)
   items_again [] s rest good is = refl
   items_again (x ∷ xs) s rest good is =
       let a : read s (spell x ++ (flat_map spell xs ++ rest)) ≡ Ok (x, flat_map spell xs ++ rest) = (each s good).again x (flat_map spell xs ++ rest) is.0 in

@@ -1,4 +1,10 @@
 pub mod NumbersRise
+pub mod EachInTurn
+pub mod InputsInTurn
+pub mod JobLaws
+pub mod BodyLaws
+pub mod MessageSizes
+pub mod MessageLaws
 pub mod KeptEntries
 pub mod VisibleAfterMerge
 pub mod LegalInputs

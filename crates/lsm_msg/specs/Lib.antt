@@ -1,6 +1,7 @@
 pub mod Rules
 pub mod Jobs
 pub mod Messages
+pub mod MessageReading
 pub mod Merge
 pub mod Legal
 pub mod Laws

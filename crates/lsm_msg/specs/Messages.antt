@@ -1,5 +1,5 @@
 -- Messages: what they may say, and how they are encoded (RocksDB wiki: remote compaction, secondary instances; the layout is the store's own).
-use Rattle.std.specs.Prelude.{◌≡◌, ℕ, ◌≤◌, List, ◌∷◌, [], ◌++◌, length, All}
+use Rattle.std.specs.Prelude.{◌≡◌, ℕ, ◌<◌, ◌≤◌, ◌^◌, List, ◌++◌, length, All, Result, Ok, Err, nat_lt, if◌then◌else◌}
 use Rattle.std.specs.Int.{w8, w16, w32, w64, to_be_bytes}
 use Rattle.std.specs.List.{flat_map}
 use Rattle.lsm_key.specs.declared.limits.TheConstants.{MAX_NODES, MAX_NUMBER, MAX_TABLE_BYTES}
@@ -9,8 +9,11 @@ use Rattle.lsm_claim.specs.declared.job.JobId.{JobId}
 use Rattle.lsm_edit.specs.File.{file}
 use Rattle.lsm_edit.specs.Edit.{IsEdit, edit}
 use Rattle.lsm_edit.specs.Base.{IsBase, base}
+use Rattle.lsm_msg.specs.declared.fault.MsgFault.{MsgFault}
+use Rattle.lsm_msg.specs.declared.fault.MsgFault.TheVariants.{TooLarge}
 use Rattle.lsm_msg.specs.declared.job.JobParts.{JobParts}
-use Rattle.lsm_msg.specs.declared.job.JobResult.{JobResult}
+use Rattle.lsm_msg.specs.declared.kind.MessageKind.{MessageKind}
+use Rattle.lsm_msg.specs.declared.kind.MessageKind.TheVariants as kind
 use Rattle.lsm_msg.specs.declared.message.Body.{Body}
 use Rattle.lsm_msg.specs.declared.message.Body.TheVariants as body
 use Rattle.lsm_msg.specs.declared.message.Message.{Message}
@@ -35,8 +38,12 @@ IsFileNumber number = (1 ≤ number) × (number ≤ MAX_NUMBER)
 abbrev pub AreTableBytes : List ℕ → Type 0
 AreTableBytes bytes = (1 ≤ length bytes) × (length bytes ≤ MAX_TABLE_BYTES)
 
+-- sequences are below 2^56
+abbrev pub AreSequences : List ℕ → Type 0
+AreSequences points = All (λ p. p < 2 ^ 56) points
+
 abbrev pub IsBody : Body → Type 0
-IsBody (body.Job j) = IsJob j
+IsBody (body.Job j) = IsJob j × AreSequences j.points
 IsBody (body.Fetch n) = IsFileNumber n
 IsBody (body.Table n bytes) = IsFileNumber n × AreTableBytes bytes
 IsBody (body.Gone n) = IsFileNumber n
@@ -87,17 +94,27 @@ sized bytes = to_be_bytes w32 (length bytes) ++ bytes
 abbrev pub tables : List (List ℕ) → List ℕ
 tables ts = to_be_bytes w32 (length ts) ++ flat_map sized ts
 
--- the code of the kind of a message
-abbrev pub body_code : Body → ℕ
-body_code (body.Job j) = 1
-body_code (body.Fetch n) = 2
-body_code (body.Table n bytes) = 3
-body_code (body.Gone n) = 4
-body_code (body.Result r) = 5
-body_code (body.Ask n) = 6
-body_code (body.Edit e) = 7
-body_code (body.Base v) = 8
-body_code (body.Current n) = 9
+abbrev pub kind_of : Body → MessageKind
+kind_of (body.Job j) = kind.Job
+kind_of (body.Fetch n) = kind.Fetch
+kind_of (body.Table n bytes) = kind.Table
+kind_of (body.Gone n) = kind.Gone
+kind_of (body.Result r) = kind.Result
+kind_of (body.Ask n) = kind.Ask
+kind_of (body.Edit e) = kind.Edit
+kind_of (body.Base v) = kind.Base
+kind_of (body.Current n) = kind.Current
+
+abbrev pub kind_code : MessageKind → ℕ
+kind_code kind.Job = 1
+kind_code kind.Fetch = 2
+kind_code kind.Table = 3
+kind_code kind.Gone = 4
+kind_code kind.Result = 5
+kind_code kind.Ask = 6
+kind_code kind.Edit = 7
+kind_code kind.Base = 8
+kind_code kind.Current = 9
 
 abbrev pub body_text : Body → List ℕ
 body_text (body.Job j) = job j
@@ -112,10 +129,14 @@ body_text (body.Current n) = to_be_bytes w64 n
 
 -- magic, version 1, the kind, sender, receiver, body
 abbrev pub message : Message → List ℕ
-message m = to_be_bytes w32 message_magic ++ to_be_bytes w8 1 ++ to_be_bytes w8 (body_code m.body) ++ node m.src ++ node m.dst ++ body_text m.body
+message m = to_be_bytes w32 message_magic ++ to_be_bytes w8 1 ++ to_be_bytes w8 (kind_code (kind_of m.body)) ++ node m.src ++ node m.dst ++ body_text m.body
 
 -- the bytes are those of this message, and not too many
 pub record IsSpelled (bytes : List ℕ) (m : Message) : Type 0 where
   pub sound : IsMessage m
   pub small : length bytes ≤ MAX_MESSAGE_BYTES
   pub spelled : bytes ≡ message m
+
+-- the bytes of a message, unless they are too many
+abbrev pub encoding : Message → Result (List ℕ) MsgFault
+encoding m = if nat_lt MAX_MESSAGE_BYTES (length (message m)) then Err TooLarge else Ok (message m)

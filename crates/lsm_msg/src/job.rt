@@ -106,6 +106,14 @@ impl Job {
         }
     }
 
+    // The job of parts that keep the rules.
+    pub(crate) fn of_parts(parts: JobParts) -> Job
+        requires { IsJob parts }
+        ensures { result ≡ parts }
+    {
+        Job { parts }
+    }
+
     /// Its parts, which keep the rules.
     pub fn parts(&self) -> &JobParts
         ensures all { result.now ≡ self.now }

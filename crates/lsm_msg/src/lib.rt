@@ -8,15 +8,20 @@
 //! in a set of entries.
 #![tactic(auto)]
 
+mod fault;
 mod job;
+mod kind;
 mod laws;
 mod lists;
 mod message;
 mod node;
+mod reading;
 mod rules;
 #[cfg(test)]
 mod tests;
+mod writing;
 
+pub use fault::{MsgError, MsgFault};
 pub use job::{Job, JobParts, JobResult};
 pub use laws::{
     flushes_keep_jobs, flushes_keep_order, hidden_entries_go, installs_keep_jobs,
@@ -24,3 +29,5 @@ pub use laws::{
 };
 pub use message::{Body, MAX_MESSAGE_BYTES, Message};
 pub use node::{Node, NodeIndex};
+pub use reading::decode;
+pub use writing::encode;

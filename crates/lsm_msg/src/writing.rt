@@ -1,0 +1,114 @@
+//! Writing a message's bytes.
+
+mod job;
+mod result;
+
+ghost use Rattle.std.specs.Prelude.{◌≡◌, ◌++◌, ◌≤◌, OnOk, length};
+ghost use Rattle.std.specs.Int.{w64, to_be_bytes};
+ghost use Rattle.lsm_edit.specs.File.{size};
+ghost use Rattle.lsm_key.specs.Reading.{Gives};
+ghost use Rattle.lsm_msg.specs.declared.message.TheConstants.{MAX_MESSAGE_BYTES};
+ghost use Rattle.lsm_msg.specs.Messages.{AreTableBytes, IsBody, body_text, encoding, message, node, sized};
+
+use crate::fault::{MsgError, MsgFault};
+use crate::kind::MessageKind;
+use crate::message::{Body, MAX_MESSAGE_BYTES, Message};
+use crate::node::Node;
+use crate::reading::{MAGIC, VERSION};
+use bytes::{BufMut, Bytes, BytesMut};
+use job::{job_bytes, write_job};
+use lsm_edit::{base_bytes, edit_bytes, write_base, write_edit};
+use lsm_key::{FileNumber, Refused};
+use result::{result_bytes, write_result, write_sized};
+use std::alloc::{AllocError, Global};
+
+// The size of a message without its body: the letters, the version, the kind and two nodes of two bytes.
+const HEAD_BYTES: usize = 10;
+
+/// The one encoding of the message. Refuses as `TooLarge` if it has more bytes than `MAX_MESSAGE_BYTES`, before it takes
+/// memory.
+pub fn encode(alloc: Global, m: &Message) -> Result<Bytes, MsgError>
+    requires { IsBody m.now.body }
+    ensures { Gives (λ b. b) result (encoding m.now) }
+{
+    let size = body_bytes(&m.body).saturating_add(HEAD_BYTES);
+    if size > MAX_MESSAGE_BYTES {
+        return Err(Refused::Fault(MsgFault::TooLarge));
+    }
+    let mut out = BytesMut::with_capacity(alloc, size)?;
+    write_message(&mut out, m)?;
+    Ok(out.freeze()?)
+}
+
+// Appends the message.
+fn write_message(out: &mut BytesMut, m: &Message) -> Result<(), AllocError>
+    requires body { IsBody m.now.body }
+    requires small { length (body_text m.now.body) ≤ MAX_MESSAGE_BYTES }
+    ensures { OnOk result (out.new.items ≡ out.old.items ++ message m.now) }
+{
+    out.put_u32(MAGIC)?;
+    out.put_u8(VERSION)?;
+    out.put_u8(MessageKind::of(&m.body).code())?;
+    write_node(out, m.src)?;
+    write_node(out, m.dst)?;
+    write_body(out, &m.body)?;
+    Ok(())
+}
+
+// Appends the code of the node's role, and its number.
+fn write_node(out: &mut BytesMut, n: Node) -> Result<(), AllocError>
+    ensures { OnOk result (out.new.items ≡ out.old.items ++ node n) }
+{
+    let (role, index) = match n {
+        Node::Coordinator => (0, 0),
+        Node::Worker(index) => (1, index.number()),
+        Node::Follower(index) => (2, index.number()),
+    };
+    out.put_u8(role)?;
+    out.put_u8(index)?;
+    Ok(())
+}
+
+// Appends the body.
+fn write_body(out: &mut BytesMut, body: &Body) -> Result<(), AllocError>
+    requires sound { IsBody body.now }
+    requires small { length (body_text body.now) ≤ MAX_MESSAGE_BYTES }
+    ensures { OnOk result (out.new.items ≡ out.old.items ++ body_text body.now) }
+{
+    match body {
+        Body::Job(job) => write_job(out, job),
+        Body::Fetch(number) => out.put_u64(number.number()),
+        Body::Table(number, table) => write_table(out, *number, table),
+        Body::Gone(number) => out.put_u64(number.number()),
+        Body::Result(made) => write_result(out, made),
+        Body::Ask(number) => out.put_u64(number.number()),
+        Body::Edit(edit) => write_edit(out, edit),
+        Body::Base(version) => write_base(out, version),
+        Body::Current(number) => out.put_u64(number.number()),
+    }
+}
+
+// Appends the number of a file, and its table.
+fn write_table(out: &mut BytesMut, number: FileNumber, table: &Bytes) -> Result<(), AllocError>
+    requires { AreTableBytes table.now }
+    ensures { OnOk result (out.new.items ≡ out.old.items ++ (to_be_bytes w64 number ++ sized table.now)) }
+{
+    out.put_u64(number.number())?;
+    write_sized(out, table)?;
+    Ok(())
+}
+
+// How many bytes the body has, at most `usize::MAX`.
+fn body_bytes(body: &Body) -> usize
+    requires { IsBody body.now }
+    ensures { result ≡ size (body_text body.now) }
+{
+    match body {
+        Body::Job(job) => job_bytes(job),
+        Body::Table(_, table) => 12 + table.len(),
+        Body::Result(made) => result_bytes(made),
+        Body::Edit(edit) => edit_bytes(edit),
+        Body::Base(version) => base_bytes(version),
+        Body::Fetch(_) | Body::Gone(_) | Body::Ask(_) | Body::Current(_) => 8,
+    }
+}
