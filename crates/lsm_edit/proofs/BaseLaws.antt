@@ -67,8 +67,7 @@ base_is v r =
 rules_of : (v : VersionValue) → IsCountedBase v → FieldRules v
 rules_of v is =
     let own = is.0.version in
-    let from : FileBounds × List FileMeta = (version_bounds v.next_file, []) in
-    (
+    let from : FileBounds × List FileMeta = (version_bounds v.next_file, []) in (
       (is.0.number, own.number),
       (
         (omega arith, (let h = own.flushed in omega (arith, h))),
@@ -81,8 +80,8 @@ rules_of v is =
                 omega arith,
                 (let few = is.1 in omega (arith, few)),
                 version_in_turn from v.files
-                (λ f m. let file = own.files f m in (file, file.first, (let below = own.below f m in omega (arith, below)), omega arith, file.level))
-                own.rising own.disjoint (λ g m f n. absurd m),
+                    (λ f m. let file = own.files f m in (file, file.first, (let below = own.below f m in omega (arith, below)), omega arith, file.level))
+                    own.rising own.disjoint (λ g m f n. absurd m),
               ),
               tt,
             ),

@@ -45,7 +45,7 @@ module _ {F : Type 0} (short bad : F) (within : FileBounds) (earlier : List File
       field _ (λ (f : FileMeta). f.smallest) (key_reads short bad MAX_KEY_BYTES (omega arith)) (λ smallest _.
       field _ (λ (f : FileMeta). f.largest) (key_reads short bad MAX_KEY_BYTES (omega arith)) (λ largest _.
       unless _ bad (not (key_le smallest largest) || list_any (meets_file level smallest largest) earlier) (λ (f : FileMeta). not (key_le f.smallest f.largest) || meets_earlier earlier f)
-          (λ f known i. not (key_le (known.0.1 i) (known.1 i)) || list_any (meets_file (known.0.0.1 i) (known.0.1 i) (known.1 i)) earlier) (
+      (λ f known i. not (key_le (known.0.1 i) (known.1 i)) || list_any (meets_file (known.0.0.1 i) (known.0.1 i) (known.1 i)) earlier) (
       field _ (λ (f : FileMeta). f.bytes) (within_reads short bad w32 (2 ^ 32) wide32 1 MAX_TABLE_BYTES (omega arith)) (λ size _.
       field _ (λ (f : FileMeta). f.entries) (within_reads short bad w32 (2 ^ 32) wide32 1 4294967295 (omega arith)) (λ entries _.
       done (λ f. Unit {0}) (record { number = number; level = level; smallest = smallest; largest = largest; bytes = size; entries = entries })
@@ -55,8 +55,7 @@ module _ {F : Type 0} (short bad : F) (within : FileBounds) (earlier : List File
   pub file_reads : AreBounds within → Reads (file_at short bad within earlier) file (IsNextFile within earlier)
   file_reads are = whole file (IsNextFile within earlier) (λ f is. simp append_assoc refl)
       (λ f r.
-      let parts = or_parts (not (key_le f.smallest f.largest)) (meets_earlier earlier f) r.1.1.1.1.0 in
-      (
+      let parts = or_parts (not (key_le f.smallest f.largest)) (meets_earlier earlier f) r.1.1.1.1.0 in (
         (
           record {
             first = (let h = r.0.0 in let s = are.some in omega (arith, h, s));

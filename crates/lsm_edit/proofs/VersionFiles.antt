@@ -36,9 +36,9 @@ version_each from [] is f m = absurd m
 version_each from (g ∷ files) is f m = elim m [
   | inl e ↦ subst (λ (x : FileMeta). IsFileFrom from.0 x) (sym e) is.0.0
   | inr n ↦
-    let later = version_each (after_version_file from g) files is.1 f n in
-    let own = is.0.0 in
-    (later.0, (let a = later.1 in let b = own.1 in omega (arith, a, b)), later.2, later.3, later.4)
+      let later = version_each (after_version_file from g) files is.1 f n in
+      let own = is.0.0 in
+      (later.0, (let a = later.1 in let b = own.1 in omega (arith, a, b)), later.2, later.3, later.4)
 ]
 
 pub version_rises : (from : FileBounds × List FileMeta) (files : List FileMeta) → AreVersionFiles from files → FileNumbersRise files

@@ -14,9 +14,7 @@ use crate::edit::write_files;
 use crate::file::{FileBounds, files_bytes, read_file};
 use crate::{FileMeta, FormatError, FormatFault, Version};
 use bytes::{BufMut, Bytes, BytesMut};
-use lsm_key::{
-    MAX_LEVEL, MAX_NUMBER, Refused, Seq, know_bytes, read_ranged_u32, read_ranged_u64,
-};
+use lsm_key::{MAX_LEVEL, MAX_NUMBER, Refused, Seq, know_bytes, read_ranged_u32, read_ranged_u64};
 use std::alloc::{AllocError, Global};
 
 // The size of a base without its files: four numbers of eight bytes, and a count.
@@ -114,14 +112,7 @@ pub fn read_base<F: Copy>(
     let epoch = read_ranged_u64(rest, 1, MAX_NUMBER, short, bad)?;
     let next_file = read_ranged_u64(rest, 1, MAX_NUMBER, short, bad)?;
     let files = read_listed(alloc, next_file, rest, short, bad)?;
-    Ok(Version::from_parts(
-        alloc,
-        number,
-        Seq::new(flushed),
-        epoch,
-        next_file,
-        files,
-    ))
+    Ok(Version::from_parts(alloc, number, Seq::new(flushed), epoch, next_file, files))
 }
 
 /// The version that the bytes encode, all of the bytes, or the first fault. The time is quadratic in the number of

@@ -13,8 +13,8 @@ use crate::file::{FileBounds, files_bytes, read_file, same_files, write_file};
 use crate::{FileMeta, FormatError, FormatFault};
 use bytes::{BufMut, Bytes, BytesMut};
 use lsm_key::{
-    Items, MAX_LEVEL, MAX_NUMBER, Refused, Seq, know_bytes, read_ranged_u32,
-    read_ranged_u64, read_u8, read_u32,
+    Items, MAX_LEVEL, MAX_NUMBER, Refused, Seq, know_bytes, read_ranged_u32, read_ranged_u64,
+    read_u8, read_u32,
 };
 use std::alloc::{AllocError, Global};
 

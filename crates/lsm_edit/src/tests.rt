@@ -1,5 +1,6 @@
 //! Edits as the format's worked examples have them, and each refusal by its name.
 
+mod bases;
 mod installs;
 mod served;
 mod versions;

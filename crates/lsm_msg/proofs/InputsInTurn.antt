@@ -20,20 +20,20 @@ AreNextInputs s files = AreInTurn (λ s. IsFileFrom (input_bounds s)) after_inpu
 of_level : (s : InputsLeft) (f : FileMeta) → IsFileFrom (input_bounds s) f → uses_level s.level f.level ≡ true
 of_level s f is = elim (cases_Bool (not s.own && eqb s.left 1)) [
   | inl last ↦
-    let low = is.3 in
-    let high : f.level ≤ s.level = subst (λ (b : Bool). f.level ≤ cond b s.level (s.level + 1)) last is.4 in
-    let same : nat_eq f.level s.level ≡ true = eq-eqb f.level s.level (omega (arith, low, high)) in
-    ap (λ (b : Bool). b || nat_eq f.level (s.level + 1)) same
+      let low = is.3 in
+      let high : f.level ≤ s.level = subst (λ (b : Bool). f.level ≤ cond b s.level (s.level + 1)) last is.4 in
+      let same : nat_eq f.level s.level ≡ true = eq-eqb f.level s.level (omega (arith, low, high)) in
+      ap (λ (b : Bool). b || nat_eq f.level (s.level + 1)) same
   | inr more ↦
-    let low = is.3 in
-    let high : f.level ≤ s.level + 1 = subst (λ (b : Bool). f.level ≤ cond b s.level (s.level + 1)) more is.4 in
-    elim (cases_Bool (nat_eq f.level s.level)) [
-      | inl same ↦ ap (λ (b : Bool). b || nat_eq f.level (s.level + 1)) same
-      | inr apart ↦
-        let other = eqb-false f.level s.level apart in
-        let next : nat_eq f.level (s.level + 1) ≡ true = eq-eqb f.level (s.level + 1) (omega (arith, low, high, other)) in
-        ap (λ (b : Bool). b || nat_eq f.level (s.level + 1)) apart ∙ next
-    ]
+      let low = is.3 in
+      let high : f.level ≤ s.level + 1 = subst (λ (b : Bool). f.level ≤ cond b s.level (s.level + 1)) more is.4 in
+      elim (cases_Bool (nat_eq f.level s.level)) [
+        | inl same ↦ ap (λ (b : Bool). b || nat_eq f.level (s.level + 1)) same
+        | inr apart ↦
+            let other = eqb-false f.level s.level apart in
+            let next : nat_eq f.level (s.level + 1) ≡ true = eq-eqb f.level (s.level + 1) (omega (arith, low, high, other)) in
+            ap (λ (b : Bool). b || nat_eq f.level (s.level + 1)) apart ∙ next
+      ]
 ]
 
 pub inputs_each : (s : InputsLeft) (files : List FileMeta) → AreNextInputs s files → All (λ f. IsInput s.level f × (s.least ≤ f.number)) files
@@ -63,8 +63,8 @@ one_own s (f ∷ []) is left some own = (0, f, omega arith, refl, last_own s f i
 one_own s (f ∷ g ∷ files) is left some own = elim (cases_Bool (nat_eq f.level s.level)) [
   | inl same ↦ (0, f, omega arith, refl, eqb-true f.level s.level same)
   | inr apart ↦
-    let later = one_own (after_input s f) (g ∷ files) is.1 (omega (arith, left)) (omega arith) (or_from s.own (nat_eq f.level s.level) own apart) in
-    let lt = later.2 in (suc later.0, later.1, omega (arith, lt), later.3, later.4)
+      let later = one_own (after_input s f) (g ∷ files) is.1 (omega (arith, left)) (omega arith) (or_from s.own (nat_eq f.level s.level) own apart) in
+      let lt = later.2 in (suc later.0, later.1, omega (arith, lt), later.3, later.4)
 ]
 
 pub inputs_of_turn : (level : ℕ) (files : List FileMeta) → 1 ≤ length files → length files ≤ MAX_INPUTS → AreNextInputs (record { least = 1; level = level; left = length files; own = false }) files → AreInputs level files
@@ -95,8 +95,7 @@ pub turn_of_inputs : (s : InputsLeft) (files : List FileMeta) → s.left ≡ len
 turn_of_inputs s [] left each rise own = tt
 turn_of_inputs s (f ∷ files) left each rise own =
     let is = each zero f (omega arith) in
-    let near = level_near s.level f.level is.0.level in
-    (
+    let near = level_near s.level f.level is.0.level in (
       (is.0.file, is.1, is.0.file.last, near.0, deep near.1),
       turn_of_inputs (after_input s f) files (omega (arith, left))
           (λ k d lt. ((each (suc k) d (omega (arith, lt))).0, (let up = rise zero (suc k) d (omega arith) (omega (arith, lt)) in omega (arith, up))))

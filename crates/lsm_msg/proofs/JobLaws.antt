@@ -93,8 +93,7 @@ inputs_reads level low = record {
       let t = (within_reads Truncated BadField w16 (2 ^ 16) wide16 1 MAX_INPUTS (omega arith)).takes bytes a.0 fits a.1 in
       let u = items_takes AreInputBounds (λ s. IsFileFrom (input_bounds s)) (λ s. file_at Truncated BadField (input_bounds s) []) after_input file input_reads input_goes_on n (first_left level n) a.0.1 z (first_good level n low) t.0.rest_fits a.2 in
       let few : length z.0 ≤ MAX_INPUTS = (let h = t.1.1 in omega (arith, h, u.2)) in
-      let some : 1 ≤ length z.0 = (let h = t.1.0 in omega (arith, h, u.2)) in
-      (
+      let some : 1 ≤ length z.0 = (let h = t.1.0 in omega (arith, h, u.2)) in (
         subst (λ (m : ℕ). Takes bytes (to_be_bytes w16 m ++ flat_map file z.0) z.1) (sym u.2) (Takes-then bytes (to_be_bytes w16 n) a.0.1 (flat_map file z.0) z.1 t.0 u.0),
         inputs_of_turn level z.0 some few (subst (λ (m : ℕ). AreNextInputs (first_left level m) z.0) (sym u.2) u.1),
       );

@@ -26,8 +26,15 @@ use Rattle.lsm_msg.proofs.MessageSizes.{body_short, counted_of}
 
 other_kind : (n : ℕ) → 10 ≤ n → kind_from n ≡ Err BadKind
 other_kind n high = rw (
-  ne_eqb n 1 (λ z. omega (arith, z, high)), ne_eqb n 2 (λ z. omega (arith, z, high)), ne_eqb n 3 (λ z. omega (arith, z, high)), ne_eqb n 4 (λ z. omega (arith, z, high)), ne_eqb n 5 (λ z. omega (arith, z, high)),
-  ne_eqb n 6 (λ z. omega (arith, z, high)), ne_eqb n 7 (λ z. omega (arith, z, high)), ne_eqb n 8 (λ z. omega (arith, z, high)), ne_eqb n 9 (λ z. omega (arith, z, high)),
+  ne_eqb n 1 (λ z. omega (arith, z, high)),
+  ne_eqb n 2 (λ z. omega (arith, z, high)),
+  ne_eqb n 3 (λ z. omega (arith, z, high)),
+  ne_eqb n 4 (λ z. omega (arith, z, high)),
+  ne_eqb n 5 (λ z. omega (arith, z, high)),
+  ne_eqb n 6 (λ z. omega (arith, z, high)),
+  ne_eqb n 7 (λ z. omega (arith, z, high)),
+  ne_eqb n 8 (λ z. omega (arith, z, high)),
+  ne_eqb n 9 (λ z. omega (arith, z, high)),
 ) refl
 
 no_value : (k : MessageKind) → Err BadKind ≡ Ok k → ⊥

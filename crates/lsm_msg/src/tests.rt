@@ -1,5 +1,7 @@
 //! Jobs at each edge of their rules, and what is the same as what.
 
+mod bytes_of;
+
 use crate::{Body, Job, JobParts, JobResult, Message, Node, NodeIndex};
 use bytes::Bytes;
 use lsm_claim::JobId;

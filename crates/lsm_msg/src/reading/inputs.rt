@@ -93,11 +93,7 @@ fn read_count(rest: &mut Bytes) -> Result<u16, MsgError>
     Ok(count)
 }
 
-fn read_each(
-    alloc: Global,
-    left: InputsLeft,
-    rest: &mut Bytes,
-) -> Result<Items<FileMeta>, MsgError>
+fn read_each(alloc: Global, left: InputsLeft, rest: &mut Bytes) -> Result<Items<FileMeta>, MsgError>
     requires { left.level ≤ MAX_JOB_LEVEL }
     ensures { Gives (λ files. (files, rest.new)) result (each_input_at left.left left rest.old) }
 {

@@ -81,11 +81,7 @@ fn read_ranges(alloc: Global, rest: &mut Bytes) -> Result<Items<KeyRange>, MsgEr
     read_each_range(alloc, count, rest)
 }
 
-fn read_each_range(
-    alloc: Global,
-    count: u32,
-    rest: &mut Bytes,
-) -> Result<Items<KeyRange>, MsgError>
+fn read_each_range(alloc: Global, count: u32, rest: &mut Bytes) -> Result<Items<KeyRange>, MsgError>
     ensures { Gives (λ ranges. (ranges, rest.new)) result (each_at range_at count rest.old) }
 {
     let mut ranges = Items::new(alloc);

@@ -9,9 +9,7 @@ use crate::fault::MsgError;
 use crate::job::JobResult;
 use bytes::Bytes;
 use lsm_claim::JobId;
-use lsm_key::{
-    Items, MAX_NUMBER, MAX_TABLE_BYTES, read_piece, read_ranged_u32, read_ranged_u64,
-};
+use lsm_key::{Items, MAX_NUMBER, MAX_TABLE_BYTES, read_piece, read_ranged_u32, read_ranged_u64};
 use std::alloc::Global;
 
 /// The result of a job.

@@ -24,7 +24,7 @@ overflow_add-within g c =
 pub loop-place-preserved : goal.loop-place-preserved
 loop-place-preserved g c = (
   one_read (λ (from : FileBounds). file_at c.args.short c.args.bad from []) after_file (files_at c.args.short c.args.bad c.args.count c.args.within c.args.rest.now) c.loop-place.files (c.args.count - c.loop-place._place) (c.args.count - (c.loop-place._place + 1)) c.loop-place.within c.loop-place.rest
-  c.loop-place.invariant.0 (omega (arith, c.loop-place-test.true)) c.read_file.new.rest c.in_ok-file.file c.push.new.self c.in_ok-file.ensures c.in_ok-push.ensures.ok,
+      c.loop-place.invariant.0 (omega (arith, c.loop-place-test.true)) c.read_file.new.rest c.in_ok-file.file c.push.new.self c.in_ok-file.ensures c.in_ok-push.ensures.ok,
   c.loop-place.invariant.1,
 )
 
