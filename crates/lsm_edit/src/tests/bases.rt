@@ -57,6 +57,15 @@ const FAULTS: [(usize, usize, u8, FormatFault); 14] = [
     (LEN - 1, 0, 0, FormatFault::Truncated),
 ];
 
+// A length of the version with two files, places and their bytes, and the fault: the second file begins at b, and in the
+// last case both are of level 0.
+const OVERLAPS: [(usize, &[(usize, u8)], Option<FormatFault>); 4] = [
+    (APART_LEN, &[(70, 0x62)], Some(FormatFault::BadField)),
+    (74, &[(70, 0x62)], Some(FormatFault::BadField)),
+    (73, &[(70, 0x62)], Some(FormatFault::Truncated)),
+    (APART_LEN, &[(44, 0), (67, 0), (70, 0x62)], None),
+];
+
 // The fault of the bytes as a base, or none.
 fn fault_of(alloc: Global, bytes: &[u8]) -> Result<Option<FormatFault>, Fail> {
     match decode_base(alloc, Bytes::copy_from_slice(alloc, bytes)?) {
@@ -99,11 +108,10 @@ fn each_fault_of_a_base(rt: HostRuntime) -> Result<(), Fail> {
 // Files of one level below level 0 that overlap are refused at the second one's largest key, before its size.
 #[test]
 fn files_of_one_level_lie_apart(rt: HostRuntime) -> Result<(), Fail> {
-    let meeting = changed(rt.alloc(), &APART, &[(70, 0x62)])?;
-    assert!(rt; fault_of(rt.alloc(), &meeting[..APART_LEN])? == Some(FormatFault::BadField));
-    assert!(rt; fault_of(rt.alloc(), &meeting[..74])? == Some(FormatFault::BadField));
-    assert!(rt; fault_of(rt.alloc(), &meeting[..73])? == Some(FormatFault::Truncated));
-    let stacked = changed(rt.alloc(), &APART, &[(44, 0), (67, 0), (70, 0x62)])?;
-    assert!(rt; fault_of(rt.alloc(), &stacked[..APART_LEN])?.is_none());
+    for (len, changes, fault) in OVERLAPS {
+        let mut bytes = changed(rt.alloc(), &APART, changes)?;
+        bytes.truncate(len);
+        assert!(rt; fault_of(rt.alloc(), &bytes)? == fault, "at {len}");
+    }
     Ok(())
 }
