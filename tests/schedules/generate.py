@@ -1,0 +1,244 @@
+#!/usr/bin/env python3
+"""Makes random schedules: scripts of writes, reads, picks and deliveries, each with the lines that the model prints for it.
+
+Usage: tests/schedules/generate.py [--seed S] [--count N] [--length EVENTS] [--commands all|writes] [--stats | --cases FOLDER]
+
+Prints the scripts, each after a comment with its name and options; or with --stats how often each kind of reply occurs; or with
+--cases writes NAME, NAME.args and NAME.stdout into a folder, as 'rt try --cases FOLDER -- run' takes them. The same seed, length and
+commands make the same schedules."""
+import argparse
+import os
+import random
+import sys
+from collections import Counter
+
+sys.dont_write_bytecode = True
+from store import events
+from store.limits import Limits
+from store.lines import line
+from store.messages import Job
+from store.script import events_of_line
+from store.world import World
+from store.worker import COLLECTING
+
+# With few files and bytes to a level, merges go deep within a short schedule.
+LIMITS = [(2, 10_485_760), (2, 10_485_760), (1, 1), (1, 1), (1, 100), (1, 10_485_760), (2, 1), (2, 60), (3, 200), (4, 10_485_760)]
+KEYS = ["a", "b", "c", "d", "m", "n", "z", "aa", "a%00", "%00", "%FF", "x%25", "~"]
+# How often each command is tried, of those that a script has in common with a store without jobs, and of all.
+WRITES = {"put": 12, "del": 6, "batch": 3, "freeze": 2, "flush": 9, "snap": 3, "release": 2, "get": 6, "scan": 3, "show": 2}
+ALL = {**WRITES, "pick": 10, "giveup": 2, "deliver": 44, "restart": 1}
+COMMANDS = {"all": ALL, "writes": WRITES}
+# How a delivery chooses its message.
+DELIVERIES = {"oldest": 10, "several": 6, "newest": 2, "any": 3, "again": 4, "unsent": 0.4}
+# Of so many schedules one has values so large that batches and memtables are full and outputs are cut.
+ONE_IN_LARGE = 40
+
+
+class Schedule:
+    """One script, made while the model runs it: a delivery needs the numbers of the messages that are there."""
+
+    def __init__(self, seed, index, length, commands):
+        self.name = f"{seed}.{index}"
+        self.random = random.Random(f"{self.name} {length} {commands}")
+        self.limits = Limits(*self.random.choice(LIMITS))
+        self.is_large = self.random.randrange(ONE_IN_LARGE) == 0
+        self.keys = [f"k{it:02d}" for it in range(40)] if self.is_large else self.random.sample(KEYS, self.random.randint(1, 6))
+        self.near = self.random.choice(self.keys)
+        self.weights = {it: weight * self.random.choice((0.5, 1, 1, 2)) for it, weight in COMMANDS[commands].items()}
+        self.world, self.script, self.lines, self.kinds = World(self.limits), [], [], Counter()
+        self.undelivered = []
+        while len(self.lines) < length:
+            # With no message under way, most deliveries would repeat what is long over.
+            now = self.weights if self.undelivered else {**self.weights, "deliver": self.weights.get("deliver", 0) / 10}
+            self.run(getattr(self, self.chosen(now))())
+
+    @property
+    def options(self):
+        return ["--l0", str(self.limits.l0), "--base", str(self.limits.base)]
+
+    @property
+    def text(self):
+        return "".join(it + "\n" for it in self.script)
+
+    @property
+    def wanted(self):
+        return "".join(it + "\n" for it in self.lines)
+
+    def run(self, text):
+        self.script.append(text)
+        for event in events_of_line(text.encode()):
+            sent = len(self.world.messages)
+            kind = self.kind_before(event)
+            reply = self.world.step(event)
+            self.lines.append(line(reply))
+            self.kinds[kind_of(event, kind, reply)] += 1
+            self.undelivered += range(sent + 1, len(self.world.messages) + 1)
+            if isinstance(event, events.Deliver) and event.message in self.undelivered:
+                self.undelivered.remove(event.message)
+
+    def kind_before(self, event):
+        """Of a delivery what its message is, and to a worker what it finds."""
+        if not isinstance(event, events.Deliver) or not 1 <= event.message <= len(self.world.messages):
+            return ""
+        message = self.world.messages[event.message - 1]
+        body = type(message.body).__name__
+        if message.dst.role != "w":
+            return body
+        job = self.world.workers[message.dst.index].job
+        if not isinstance(message.body, Job):
+            return f"{body} to {'an idle' if job is None else 'a collecting'} worker"
+        if job is None:
+            return f"{body} to an idle worker"
+        return f"{body} that is {'the same' if job.name == message.body.name else 'newer' if job.name < message.body.name else 'older'}"
+
+    # Choices.
+
+    def chosen(self, weights):
+        return self.random.choices(list(weights), list(weights.values()))[0]
+
+    def often(self, likely, others):
+        """Mostly one of the likely ones, if there is any."""
+        return self.random.choice(likely if likely and self.random.random() < 0.75 else others)
+
+    def key(self):
+        """A key: mostly near the last ones, so that several jobs with no key in common can run."""
+        if self.random.random() < 0.005:
+            return self.random.choice(['""', "k" * 1025])
+        return self.near if self.random.random() < 0.6 and not self.is_large else self.random.choice(self.keys)
+
+    def value(self):
+        if self.is_large:
+            return "v" * self.random.choice((1, 30_000, 65_536, 65_536, 65_536))
+        if self.random.random() < 0.002:
+            return "v" * 65_537
+        return self.random.choice(['""', "%0a", "=", "x" * self.random.randint(1, 60)] + 12 * [str(self.world.coordinator.last + 1)])
+
+    def at(self):
+        """Where a read is asked: mostly at present."""
+        return "" if self.random.random() < 0.5 else f" @{self.snapshot()}"
+
+    def snapshot(self):
+        made = self.world.coordinator.snapshots_made
+        live = [f"{it.epoch}.{it.number}" for it in self.world.coordinator.snapshots]
+        return self.often(live, [f"1.{it}" for it in range(1, made + 2)] + ["2.1", "0.0"])
+
+    def dispatcher(self, is_busy):
+        likely = [it for it, held in self.world.held.items() if (held is not None) == is_busy]
+        return self.often(likely, list(self.world.held))
+
+    # Commands.
+
+    def put(self):
+        return f"put {self.key()} {self.value()}"
+
+    def delete(self):
+        return f"del {self.key()}"
+
+    def batch(self):
+        operations = self.random.randint(20, 66) if self.is_large else self.random.choice((0, 1, 2, 2, 3, 5))
+        return " ".join(["batch"] + [self.random.choice((self.put, self.put, self.delete))() for _ in range(operations)])
+
+    def freeze(self):
+        return "freeze"
+
+    def flush(self):
+        self.near = self.random.choice(self.keys)
+        return "flush"
+
+    def snap(self):
+        return "snap"
+
+    def release(self):
+        return f"release {self.snapshot()}"
+
+    def get(self):
+        return f"get {self.key()}{self.at()}"
+
+    def scan(self):
+        low, high = (self.random.choice([*self.keys, '""', "~~"]) for _ in range(2))
+        return f"scan {low} {high} {self.random.choice((0, 1, 2) if self.is_large else (0, 1, 2, 10, 2**64 - 1))}{self.at()}"
+
+    def show(self):
+        return "show c"
+
+    def pick(self):
+        return f"pick {self.dispatcher(is_busy=False)}"
+
+    def giveup(self):
+        return f"giveup {self.dispatcher(is_busy=True)}"
+
+    def restart(self):
+        return f"restart w{self.random.randint(1, 4)}"
+
+    def deliver(self):
+        """In order, out of order, again, before it was sent; and what is taken out of the undelivered here is mostly never delivered."""
+        sent, waiting = len(self.world.messages), self.undelivered
+        if waiting and self.random.random() < 0.02:
+            waiting.pop(self.random.randrange(len(waiting)))
+        how = self.chosen(DELIVERIES)
+        if how == "unsent" or not sent:
+            return f"deliver {self.random.choice((0, sent + 1, sent + 2, 2**64 - 1))}"
+        if how == "again" or not waiting:
+            return f"deliver {self.random.randint(1, sent)}"
+        if how == "several":
+            return f"deliver {waiting[0]}-{min(waiting[0] + self.random.randint(0, 6), sent + 1)}"
+        return f"deliver {dict(oldest=waiting[0], newest=waiting[-1], any=self.random.choice(waiting))[how]}"
+
+
+setattr(Schedule, "del", Schedule.delete)
+
+
+def kind_of(event, before, reply):
+    """The kind of a reply, for the count of them."""
+    if isinstance(reply, events.Refusal):
+        return f"{type(event).__name__}: refused {reply.name}"
+    if isinstance(reply, events.Installed):
+        return f"Deliver: installed {min(len(reply.files), 2)} files{' or more' if len(reply.files) > 1 else ''}"
+    if isinstance(reply, events.Picked):
+        return f"Pick: job of level {reply.level}"
+    if isinstance(reply, events.Worked):
+        return f"Deliver: {reply.change}{' none' if reply.change == COLLECTING and not reply.missing else ''}, {before}"
+    if isinstance(reply, events.Got):
+        return f"Get{' at a snapshot' if event.snapshot else ''}: {'none' if reply.value is None else 'value'}"
+    if isinstance(reply, events.Scanned):
+        return f"Scan{' at a snapshot' if event.snapshot else ''}: {min(len(reply.pairs), 2)} pairs{' or more' if len(reply.pairs) > 1 else ''}"
+    return f"{type(event).__name__}: {type(reply).__name__}{', ' + before if before else ''}"
+
+
+def schedules(seed, count, length, commands):
+    return (Schedule(seed, index, length, commands) for index in range(1, count + 1))
+
+
+def add_arguments(arguments):
+    arguments.add_argument("--seed", type=int, default=1)
+    arguments.add_argument("--count", type=int, default=1)
+    arguments.add_argument("--length", type=int, default=60, help="events of a schedule; a last range of deliveries may exceed it")
+    arguments.add_argument("--commands", choices=sorted(COMMANDS), default="all")
+
+
+def write_case(folder, it):
+    for end, text in (("", it.text), (".args", "\n".join(it.options) + "\n"), (".stdout", it.wanted)):
+        with open(os.path.join(folder, f"schedule-{it.name}{end}"), "w", encoding="ascii") as file:
+            file.write(text)
+
+
+def main():
+    arguments = argparse.ArgumentParser(description=__doc__.splitlines()[0])
+    add_arguments(arguments)
+    arguments.add_argument("--stats", action="store_true")
+    arguments.add_argument("--cases", metavar="FOLDER")
+    given = arguments.parse_args()
+    kinds = Counter()
+    for it in schedules(given.seed, given.count, given.length, given.commands):
+        kinds += it.kinds
+        if given.cases:
+            write_case(given.cases, it)
+        elif not given.stats:
+            print(f"# {' '.join(it.options)}\n# schedule {it.name}\n{it.text}", end="")
+    if given.stats:
+        for kind, count in sorted(kinds.items()):
+            print(f"{count:8} {kind}")
+
+
+if __name__ == "__main__":
+    main()

@@ -1,0 +1,3 @@
+"""A second store, written from the specification alone: slow, by definitions, and without a line of the first one.
+
+A file has one idea each: entries, writes, tables, versions, claims, picker, merging, messages, worker, coordinator, world, script, lines."""

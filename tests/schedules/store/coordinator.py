@@ -1,0 +1,157 @@
+"""The coordinator: takes the writes, answers the reads, hands out jobs and installs their results.
+
+Its reads are answered from the list of accepted writes. Each is also looked up as a store does it, in memtables and levels, and
+must be the same: so each merge of a schedule is tested against what it means."""
+from .claims import ClaimBook, Name
+from .entries import value_of, visible, weight_of
+from .limits import LAST_LEVEL, MEMTABLE_WEIGHT, SEQUENCE, SNAPSHOTS, refuse_if
+from .messages import Fetch, FetchedTable, Gone, Job
+from .picker import deeper_ranges, pick
+from .tables import Table
+from .versions import EPOCH, FLUSH, INSTALL, Edit, Version, applied, file_meta
+from .writes import answer, answers, batch_of, entries_of
+
+
+class Coordinator:
+    def __init__(self, limits):
+        self.limits = limits
+        self.writes, self.frozen = [], None
+        self.snapshots, self.snapshots_made = {}, 0
+        self.versions, self.floor, self.tables = [Version()], 1, {}
+        self.book = ClaimBook(1)
+        self.append(EPOCH, epoch=1)
+
+    @property
+    def version(self):
+        return self.versions[-1]
+
+    @property
+    def last(self):
+        """The last sequence that was given."""
+        return len(self.writes)
+
+    def append(self, kind, **changes):
+        """Goes on to the next version, by an edit that changes this and nothing else."""
+        now = self.version
+        same = {"flushed": now.flushed, "epoch": now.epoch, "next_file": now.next_file}
+        self.versions.append(applied(now, Edit(now.number + 1, kind, **{**same, **changes})))
+
+    # Writes.
+
+    def active(self):
+        """The writes of the active memtable, from the first sequence that is neither flushed nor frozen."""
+        return self.writes[self.version.flushed if self.frozen is None else self.frozen :]
+
+    def write(self, operations):
+        batch = batch_of(operations)
+        refuse_if(not batch, "EmptyBatch")
+        refuse_if(self.last + len(batch) > SEQUENCE, "SequenceExhausted")
+        refuse_if(sum(map(weight_of, self.active() + batch)) > MEMTABLE_WEIGHT, "MemtableFull")
+        self.writes += batch
+        return self.last - len(batch) + 1, self.last
+
+    def freeze(self):
+        refuse_if(self.frozen is not None, "FrozenWaiting")
+        refuse_if(not self.active(), "NothingToFreeze")
+        self.frozen = self.last
+        return self.frozen
+
+    def flush(self):
+        """Writes the frozen memtable, or the active one if none is frozen, as a file of level 0."""
+        flushed = self.last if self.frozen is None else self.frozen
+        refuse_if(flushed == self.version.flushed, "NothingToFlush")
+        number, table = self.version.next_file, Table(entries_of(self.writes, self.version.flushed + 1, flushed))
+        self.tables[number] = table
+        self.append(FLUSH, flushed=flushed, next_file=number + 1, added=(file_meta(number, 0, table),))
+        self.frozen = None
+        return self.version.number, flushed, number
+
+    # Reads.
+
+    def snapshot(self):
+        refuse_if(len(self.snapshots) == SNAPSHOTS, "TooManySnapshots")
+        self.snapshots_made += 1
+        name = Name(self.version.epoch, self.snapshots_made)
+        self.snapshots[name] = self.last
+        return name, self.last
+
+    def release(self, name):
+        refuse_if(name not in self.snapshots, "NoSnapshot")
+        del self.snapshots[name]
+
+    def sequence_at(self, snapshot):
+        """The sequence up to which a read sees writes: at a live snapshot, or at present if none is named."""
+        refuse_if(snapshot is not None and snapshot not in self.snapshots, "NoSnapshot")
+        return self.last if snapshot is None else self.snapshots[snapshot]
+
+    def get(self, key, snapshot):
+        at = self.sequence_at(snapshot)
+        found = answer(self.writes, at, key)
+        assert found == self.looked_up(key, at), "a look-up gives another value than the writes"
+        return found
+
+    def scan(self, low, high, limit, snapshot):
+        at = self.sequence_at(snapshot)
+        found = answers(self.writes, at, low, high, limit)
+        assert all(value == self.looked_up(key, at) for key, value in found), "a look-up gives another value than the writes"
+        return found
+
+    def looked_up(self, key, at):
+        """The value of the first entry that is visible: in the memtables, level 0 by number descending, levels 1 to 6."""
+        for entries in self.sources():
+            found = visible(entries, key, at)
+            if found is not None:
+                return value_of(found)
+        return None
+
+    def sources(self):
+        frozen = self.version.flushed if self.frozen is None else self.frozen
+        yield entries_of(self.writes, frozen + 1, self.last)
+        yield entries_of(self.writes, self.version.flushed + 1, frozen)
+        newest_first = reversed(self.version.level(0))
+        for file in [*newest_first, *(it for level in range(1, LAST_LEVEL + 1) for it in self.version.level(level))]:
+            yield self.tables[file.number].entries
+
+    # Compactions.
+
+    def pick(self):
+        """Claims the next compaction and answers its job, or None."""
+        self.book.refuse_if_full()
+        want = pick(self.version, self.book, self.limits)
+        if want is None:
+            return None
+        points = tuple(sorted(set(self.snapshots.values())))
+        inputs = tuple(self.version.file(it) for it in want.files)
+        deeper = tuple(deeper_ranges(self.version, want.level, want.hull))
+        return Job(self.book.claim(want), want.level, points, inputs, deeper)
+
+    def is_live(self, job):
+        return job in self.book.live
+
+    def give_back(self, job):
+        """Ends a claim without a result, and answers whether it was live."""
+        return self.book.settle(job)
+
+    def install(self, job, tables):
+        """Puts the tables of a live job's result in the place of its inputs, one level deeper, and answers the new file numbers."""
+        want = self.book.live[job]
+        first = self.version.next_file
+        numbers = list(range(first, first + len(tables)))
+        assert all(want.hull[0] <= it.smallest and it.largest <= want.hull[1] for it in tables), "BadResult"
+        self.tables.update(zip(numbers, tables))
+        added = tuple(file_meta(number, want.level + 1, table) for number, table in zip(numbers, tables))
+        self.append(INSTALL, next_file=first + len(tables), removed=want.files, added=added)
+        self.book.settle(job)
+        return self.version.number, numbers
+
+    # What it answers to messages.
+
+    def is_served(self, number):
+        """Whether a file is in some version from the floor on."""
+        return any(it.number == number for version in self.versions[self.floor :] for it in version.files)
+
+    def serve(self, body):
+        """The answer to a message, or None."""
+        if isinstance(body, Fetch):
+            return FetchedTable(body.number, self.tables[body.number]) if self.is_served(body.number) else Gone(body.number)
+        return None

@@ -1,0 +1,142 @@
+"""Events of a schedule and the replies to them, as values."""
+from typing import NamedTuple, Optional
+
+from .claims import Name
+
+
+class Write(NamedTuple):
+    operations: tuple
+
+
+class Freeze(NamedTuple):
+    pass
+
+
+class Flush(NamedTuple):
+    pass
+
+
+class Snap(NamedTuple):
+    pass
+
+
+class Release(NamedTuple):
+    name: Name
+
+
+class Get(NamedTuple):
+    key: bytes
+    snapshot: Optional[Name]
+
+
+class Scan(NamedTuple):
+    low: bytes
+    high: bytes
+    limit: int
+    snapshot: Optional[Name]
+
+
+class Pick(NamedTuple):
+    dispatcher: int
+
+
+class GiveUp(NamedTuple):
+    dispatcher: int
+
+
+class Deliver(NamedTuple):
+    message: int
+
+
+class RestartWorker(NamedTuple):
+    worker: int
+
+
+class Show(NamedTuple):
+    pass
+
+
+class Wrote(NamedTuple):
+    first: int
+    last: int
+
+
+class Froze(NamedTuple):
+    last: int
+
+
+class Flushed(NamedTuple):
+    version: int
+    flushed: int
+    file: int
+
+
+class Snapped(NamedTuple):
+    name: Name
+    at: int
+
+
+class Released(NamedTuple):
+    name: Name
+
+
+class Got(NamedTuple):
+    value: Optional[bytes]
+
+
+class Scanned(NamedTuple):
+    pairs: list
+
+
+class Picked(NamedTuple):
+    job: Name
+    level: int
+    inputs: list
+    sent: range
+
+
+class Idle(NamedTuple):
+    pass
+
+
+class Returned(NamedTuple):
+    job: Name
+
+
+class Stale(NamedTuple):
+    job: Name
+
+
+class Served(NamedTuple):
+    sent: range
+
+
+class Installed(NamedTuple):
+    version: int
+    files: list
+
+
+class Worked(NamedTuple):
+    """What came of a message to a worker, how many tables it is missing if it collects, and the messages sent."""
+
+    change: str
+    missing: Optional[int]
+    sent: range
+
+
+class Ignored(NamedTuple):
+    pass
+
+
+class Restarted(NamedTuple):
+    node: str
+
+
+class Shown(NamedTuple):
+    number: int
+    flushed: int
+    files: list
+
+
+class Refusal(NamedTuple):
+    name: str

@@ -1,0 +1,124 @@
+"""A world: one coordinator, four dispatchers and four workers, and every message that was ever sent.
+
+A step is one event. A message may be delivered at any time after it was sent, any number of times, or never."""
+from . import events
+from .coordinator import Coordinator
+from .limits import NODES, Refused, refuse_if
+from .messages import COORDINATOR, Fetch, Message, Node, Result
+from .worker import Worker
+
+
+class World:
+    def __init__(self, limits):
+        self.coordinator = Coordinator(limits)
+        self.held = {it: None for it in range(1, NODES + 1)}
+        self.workers = {it: Worker() for it in range(1, NODES + 1)}
+        self.messages = []
+
+    def step(self, event):
+        """One event, and its reply."""
+        try:
+            return self.STEPS[type(event)](self, event)
+        except Refused as it:
+            return events.Refusal(it.name)
+
+    def send(self, src, dst, bodies):
+        """Stores the messages of one event together, and answers their numbers, from 1 on."""
+        first = len(self.messages) + 1
+        self.messages += [Message(src, dst, it) for it in bodies]
+        return range(first, first + len(bodies))
+
+    # The coordinator's own events.
+
+    def write(self, event):
+        return events.Wrote(*self.coordinator.write(event.operations))
+
+    def freeze(self, _):
+        return events.Froze(self.coordinator.freeze())
+
+    def flush(self, _):
+        return events.Flushed(*self.coordinator.flush())
+
+    def snap(self, _):
+        return events.Snapped(*self.coordinator.snapshot())
+
+    def release(self, event):
+        self.coordinator.release(event.name)
+        return events.Released(event.name)
+
+    def get(self, event):
+        return events.Got(self.coordinator.get(event.key, event.snapshot))
+
+    def scan(self, event):
+        return events.Scanned(self.coordinator.scan(*event))
+
+    def show(self, _):
+        version = self.coordinator.version
+        return events.Shown(version.number, version.flushed, [(it.level, it.number) for it in version.files])
+
+    # Dispatchers.
+
+    def pick(self, event):
+        """A dispatcher without a claim asks for a job, and sends it to its worker."""
+        refuse_if(self.held[event.dispatcher] is not None, "Busy")
+        job = self.coordinator.pick()
+        if job is None:
+            return events.Idle()
+        self.held[event.dispatcher] = job.name
+        sent = self.send(COORDINATOR, Node("w", event.dispatcher), [job])
+        return events.Picked(job.name, job.level, [it.number for it in job.inputs], sent)
+
+    def give_up(self, event):
+        """A dispatcher gives its claim back."""
+        job = self.held[event.dispatcher]
+        refuse_if(job is None, "NoClaim")
+        self.held[event.dispatcher] = None
+        return events.Returned(job) if self.coordinator.give_back(job) else events.Stale(job)
+
+    # Deliveries.
+
+    def deliver(self, event):
+        """A message, as it was sent, comes to its node."""
+        refuse_if(not 1 <= event.message <= len(self.messages), "NoMessage")
+        message = self.messages[event.message - 1]
+        if message.dst == COORDINATOR:
+            return self.to_coordinator(message)
+        assert message.dst.role == "w"
+        return self.to_worker(message)
+
+    def to_coordinator(self, message):
+        if isinstance(message.body, Fetch):
+            return events.Served(self.send(COORDINATOR, message.src, [self.coordinator.serve(message.body)]))
+        if isinstance(message.body, Result) and message.src.role == "w":
+            return self.take_result(message.src.index, message.body)
+        return events.Ignored()
+
+    def take_result(self, dispatcher, result):
+        """The result of a worker goes to its dispatcher, whose claim it spends."""
+        refuse_if(self.held[dispatcher] != result.job, "NoClaim")
+        self.held[dispatcher] = None
+        refuse_if(not self.coordinator.is_live(result.job), "OldEpoch")
+        return events.Installed(*self.coordinator.install(result.job, result.tables))
+
+    def to_worker(self, message):
+        change, missing, bodies = self.workers[message.dst.index].on_message(message.body)
+        return events.Worked(change, missing, self.send(message.dst, COORDINATOR, bodies))
+
+    def restart_worker(self, event):
+        self.workers[event.worker] = Worker()
+        return events.Restarted(f"w{event.worker}")
+
+    STEPS = {
+        events.Write: write,
+        events.Freeze: freeze,
+        events.Flush: flush,
+        events.Snap: snap,
+        events.Release: release,
+        events.Get: get,
+        events.Scan: scan,
+        events.Show: show,
+        events.Pick: pick,
+        events.GiveUp: give_up,
+        events.Deliver: deliver,
+        events.RestartWorker: restart_worker,
+    }
