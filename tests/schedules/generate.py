@@ -17,6 +17,7 @@ from store import events
 from store.limits import Limits
 from store.lines import line
 from store.messages import Job
+from store.picker import pick
 from store.script import events_of_line
 from store.world import World
 from store.worker import COLLECTING
@@ -25,13 +26,13 @@ from store.worker import COLLECTING
 LIMITS = [(2, 10_485_760), (2, 10_485_760), (1, 1), (1, 1), (1, 100), (1, 10_485_760), (2, 1), (2, 60), (3, 200), (4, 10_485_760)]
 KEYS = ["a", "b", "c", "d", "m", "n", "z", "aa", "a%00", "%00", "%FF", "x%25", "~"]
 # How often each command is tried, of those that a script has in common with a store without jobs, and of all.
-WRITES = {"put": 12, "del": 6, "batch": 3, "freeze": 2, "flush": 9, "snap": 3, "release": 2, "get": 6, "scan": 3, "show": 2}
-ALL = {**WRITES, "pick": 10, "giveup": 2, "deliver": 44, "restart": 1}
+WRITES = {"put": 12, "del": 6, "batch": 3, "freeze": 2, "flush": 11, "snap": 2, "release": 2, "get": 6, "scan": 3, "show": 2}
+ALL = {**WRITES, "pick": 10, "giveup": 3, "deliver": 44, "restart": 1}
 COMMANDS = {"all": ALL, "writes": WRITES}
 # How a delivery chooses its message.
 DELIVERIES = {"oldest": 10, "several": 6, "newest": 2, "any": 3, "again": 4, "unsent": 0.4}
 # Of so many schedules one has values so large that batches and memtables are full and outputs are cut.
-ONE_IN_LARGE = 40
+ONE_IN_LARGE = 60
 
 
 class Schedule:
@@ -45,12 +46,11 @@ class Schedule:
         self.keys = [f"k{it:02d}" for it in range(40)] if self.is_large else self.random.sample(KEYS, self.random.randint(1, 6))
         self.near = self.random.choice(self.keys)
         self.weights = {it: weight * self.random.choice((0.5, 1, 1, 2)) for it, weight in COMMANDS[commands].items()}
+        self.weights.update({"put": 1, "del": 1, "batch": 6, "get": 2, "scan": 1} if self.is_large else {})
         self.world, self.script, self.lines, self.kinds = World(self.limits), [], [], Counter()
         self.undelivered = []
         while len(self.lines) < length:
-            # With no message under way, most deliveries would repeat what is long over.
-            now = self.weights if self.undelivered else {**self.weights, "deliver": self.weights.get("deliver", 0) / 10}
-            self.run(getattr(self, self.chosen(now))())
+            self.run(getattr(self, self.chosen(self.weights_now()))())
 
     @property
     def options(self):
@@ -93,6 +93,19 @@ class Schedule:
 
     # Choices.
 
+    def weights_now(self):
+        """The weights of commands, less for one that would do nothing now, and more for a pick that would give a job."""
+        store, is_held = self.world.coordinator, any(self.world.held.values())
+        factors = {
+            "flush": 1 if store.last > store.version.flushed else 0.1,
+            "freeze": 1 if store.active() else 0.3,
+            "release": 1 if store.snapshots else 0.3,
+            "pick": 3 if pick(store.version, store.book, store.limits) else 0.3,
+            "giveup": 1 if is_held else 0.2,
+            "deliver": 1 if self.undelivered else 0.1,
+        }
+        return {it: weight * factors.get(it, 1) for it, weight in self.weights.items()}
+
     def chosen(self, weights):
         return self.random.choices(list(weights), list(weights.values()))[0]
 
@@ -108,14 +121,14 @@ class Schedule:
 
     def value(self):
         if self.is_large:
-            return "v" * self.random.choice((1, 30_000, 65_536, 65_536, 65_536))
+            return "v" * self.random.choice((1, 65_536, 65_536, 65_536))
         if self.random.random() < 0.002:
             return "v" * 65_537
         return self.random.choice(['""', "%0a", "=", "x" * self.random.randint(1, 60)] + 12 * [str(self.world.coordinator.last + 1)])
 
     def at(self):
         """Where a read is asked: mostly at present."""
-        return "" if self.random.random() < 0.5 else f" @{self.snapshot()}"
+        return f" @{self.snapshot()}" if self.random.random() < (0.6 if self.world.coordinator.snapshots else 0.1) else ""
 
     def snapshot(self):
         made = self.world.coordinator.snapshots_made
@@ -135,7 +148,7 @@ class Schedule:
         return f"del {self.key()}"
 
     def batch(self):
-        operations = self.random.randint(20, 66) if self.is_large else self.random.choice((0, 1, 2, 2, 3, 5))
+        operations = self.random.choice((20, 30, 40)) if self.is_large else self.random.choice((0, 1, 2, 2, 3, 5))
         return " ".join(["batch"] + [self.random.choice((self.put, self.put, self.delete))() for _ in range(operations)])
 
     def freeze(self):
@@ -155,7 +168,7 @@ class Schedule:
         return f"get {self.key()}{self.at()}"
 
     def scan(self):
-        low, high = (self.random.choice([*self.keys, '""', "~~"]) for _ in range(2))
+        low, high = self.often(['""'], self.keys), self.often(["~~"], [*self.keys, '""'])
         return f"scan {low} {high} {self.random.choice((0, 1, 2) if self.is_large else (0, 1, 2, 10, 2**64 - 1))}{self.at()}"
 
     def show(self):
@@ -179,7 +192,8 @@ class Schedule:
         if how == "unsent" or not sent:
             return f"deliver {self.random.choice((0, sent + 1, sent + 2, 2**64 - 1))}"
         if how == "again" or not waiting:
-            return f"deliver {self.random.randint(1, sent)}"
+            jobs = [number for number, it in enumerate(self.world.messages, 1) if isinstance(it.body, Job)]
+            return f"deliver {self.random.choice((self.random.choice(jobs), self.random.randint(1, sent)))}"
         if how == "several":
             return f"deliver {waiting[0]}-{min(waiting[0] + self.random.randint(0, 6), sent + 1)}"
         return f"deliver {dict(oldest=waiting[0], newest=waiting[-1], any=self.random.choice(waiting))[how]}"
@@ -209,9 +223,9 @@ def schedules(seed, count, length, commands):
     return (Schedule(seed, index, length, commands) for index in range(1, count + 1))
 
 
-def add_arguments(arguments):
+def add_arguments(arguments, count=1):
     arguments.add_argument("--seed", type=int, default=1)
-    arguments.add_argument("--count", type=int, default=1)
+    arguments.add_argument("--count", type=int, default=count)
     arguments.add_argument("--length", type=int, default=60, help="events of a schedule; a last range of deliveries may exceed it")
     arguments.add_argument("--commands", choices=sorted(COMMANDS), default="all")
 

@@ -148,7 +148,7 @@ class Coordinator:
 
     def is_served(self, number):
         """Whether a file is in some version from the floor on."""
-        return any(it.number == number for version in self.versions[self.floor :] for it in version.files)
+        return any(it.number == number for version in reversed(self.versions[self.floor :]) for it in version.files)
 
     def serve(self, body):
         """The answer to a message, or None."""

@@ -1,0 +1,102 @@
+"""Worked scripts with the lines that they print: those of the folder rows, which were written by hand, and some that are too long for
+a file, at the limits of a job and of a merge's outputs."""
+import glob
+import os
+import re
+from typing import NamedTuple
+
+FOLDER = os.path.join(os.path.dirname(os.path.abspath(__file__)), "rows")
+
+
+class Row(NamedTuple):
+    """A script with its options, and all that it has to print; `fault` stands on standard error, with status 2."""
+
+    name: str
+    options: list
+    script: bytes
+    lines: str
+    fault: str = ""
+
+
+def stored():
+    """Each file with its lines beside it. A first line that is a comment of options names the options."""
+    for path in sorted(glob.glob(os.path.join(FOLDER, "*.lsm"))):
+        with open(path, "rb") as script, open(path[:-3] + "lines", encoding="ascii") as lines:
+            text = script.read()
+            options = re.match(rb"# (--.*)", text)
+            yield Row(os.path.basename(path), options[1].decode().split() if options else [], text, lines.read())
+
+
+def faults():
+    """Each line of a table: the faulty line's number, the fault, and a script, with escapes."""
+    with open(os.path.join(FOLDER, "faults.txt"), encoding="ascii") as file:
+        for number, fault, script in (it.rstrip("\n").split("\t") for it in file):
+            yield Row(f"the fault of {script}", [], script.encode().decode("unicode_escape").encode("latin-1"), "", f"line {number}: {fault}\n")
+
+
+def row(name, options, pairs):
+    """A row of pairs of commands and their lines."""
+    commands, lines = zip(*pairs)
+    return Row(name, options.split(), "".join(f"{it}\n" for it in commands).encode(), "".join(f"{it}\n" for it in lines))
+
+
+def flushed(number, key="a"):
+    """The first puts of a store, each with its flush, where nothing is installed: the one of this number."""
+    return [(f"put {key} 1", f"seq {number}"), ("flush", f"version {number + 1} flushed {number} file {number}")]
+
+
+def moved_down(number):
+    """One key flushed and merged alone into level 1: the last file of it is of twice the number."""
+    job, key, version, file = 4 * number - 3, f"k{number:04d}", 2 * number, 2 * number - 1
+    return [
+        (f"put {key} 1", f"seq {number}"),
+        ("flush", f"version {version} flushed {number} file {file}"),
+        ("pick 1", f"job 1.{number} level 0 inputs {file} message {job}"),
+        (f"deliver {job}", f"collecting 1 message {job + 1}"),
+        (f"deliver {job + 1}", f"served message {job + 2}"),
+        (f"deliver {job + 2}", f"merged message {job + 3}"),
+        (f"deliver {job + 3}", f"installed version {version + 1} files {file + 1}"),
+    ]
+
+
+def over_all(count):
+    """So many files of level 1, and a file of level 0 that meets all of them."""
+    pairs = [pair for number in range(1, count + 1) for pair in moved_down(number)]
+    pairs.append((f"batch put k0001 2 put k{count:04d} 2", f"seq {count + 1}-{count + 2}"))
+    pairs.append(("flush", f"version {2 * count + 2} flushed {count + 2} file {2 * count + 1}"))
+    return pairs
+
+
+def cut_at(weight):
+    """A merge of one file: keys of that weight, and one key more. An entry weighs 14 beside its key and value."""
+    largest, key = 65_536, 14 + 2
+    lengths = [largest] * (weight // (key + largest))
+    lengths.append(weight - len(lengths) * (key + largest) - key)
+    puts = [f"put {at:02d} {'v' * length}" for at, length in enumerate([*lengths, 1])]
+    files = "2,3" if weight >= 2_000_000 else "2"
+    return [
+        (f"batch {' '.join(puts)}", f"seq 1-{len(puts)}"),
+        ("flush", f"version 2 flushed {len(puts)} file 1"),
+        ("pick 1", "job 1.1 level 0 inputs 1 message 1"),
+        ("deliver 1", "collecting 1 message 2"),
+        ("deliver 2", "served message 3"),
+        ("deliver 3", "merged message 4"),
+        ("deliver 4", f"installed version 3 files {files}"),
+    ]
+
+
+def made():
+    backlog = [pair for number in range(1, 1_026) for pair in flushed(number)]
+    yield row("1,024 files of one key", "--l0 1", backlog[:-2] + [("pick 1", f"job 1.1 level 0 inputs {','.join(map(str, range(1, 1_025)))} message 1")])
+    yield row("1,025 files of one key", "--l0 1", backlog + [("pick 1", "job 1.1 level 0 inputs 1 message 1")])
+    inputs = ",".join(map(str, [*range(2, 2_047, 2), 2_047]))
+    yield row("a file over 1,023 deeper ones", "--l0 1", over_all(1_023) + [("pick 1", f"job 1.1024 level 0 inputs {inputs} message 4093")])
+    yield row("a file over 1,024 deeper ones", "--l0 1", over_all(1_024) + [("pick 1", "refused TooWide")])
+    yield row("an output that is closed", "--l0 1", cut_at(2_000_000))
+    yield row("an output that is not closed", "--l0 1", cut_at(1_999_999))
+
+
+def rows():
+    yield from stored()
+    yield from faults()
+    yield from made()
