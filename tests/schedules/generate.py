@@ -13,6 +13,7 @@ import sys
 from collections import Counter
 
 sys.dont_write_bytecode = True
+from kinds import kind_of, what_it_meets
 from store import events
 from store.limits import Limits
 from store.lines import line
@@ -20,19 +21,25 @@ from store.messages import Job
 from store.picker import pick
 from store.script import events_of_line
 from store.world import World
-from store.worker import COLLECTING
 
 # With few files and bytes to a level, merges go deep within a short schedule.
-LIMITS = [(2, 10_485_760), (2, 10_485_760), (1, 1), (1, 1), (1, 100), (1, 10_485_760), (2, 1), (2, 60), (3, 200), (4, 10_485_760)]
+LIMITS = [(1, 1), (1, 1), (1, 48), (1, 100), (1, 10_485_760), (2, 1), (2, 60), (2, 10_485_760), (3, 200), (4, 10_485_760)]
 KEYS = ["a", "b", "c", "d", "m", "n", "z", "aa", "a%00", "%00", "%FF", "x%25", "~"]
 # How often each command is tried, of those that a script has in common with a store without jobs, and of all.
 WRITES = {"put": 12, "del": 6, "batch": 3, "freeze": 2, "flush": 11, "snap": 2, "release": 2, "get": 6, "scan": 3, "show": 2}
 ALL = {**WRITES, "pick": 10, "giveup": 3, "deliver": 44, "restart": 1}
 COMMANDS = {"all": ALL, "writes": WRITES}
-# How a delivery chooses its message.
-DELIVERIES = {"oldest": 10, "several": 6, "newest": 2, "any": 3, "again": 4, "unsent": 0.4}
+# How a delivery chooses its message, and what of all undelivered messages is lost at each delivery, in a bad and in a good network.
+BAD = {"oldest": 10, "several": 6, "newest": 2, "any": 3, "again": 4, "unsent": 0.4}, 0.03
+GOOD = {"oldest": 10, "several": 20, "newest": 0.5, "any": 0.5, "again": 0.5, "unsent": 0.1}, 0
 # Of so many schedules one has values so large that batches and memtables are full and outputs are cut.
 ONE_IN_LARGE = 60
+# Of so many one is four times as long, so that files go through several levels.
+ONE_IN_LONG = 4
+# Words that mostly make a faulty line of a sound one.
+JUNK = ["x", "0", "1", "4", "5", "04", "-1", "1-", "-", "1-3", "3-1", "1-1001", "18446744073709551615", "18446744073709551616", "0" * 21]
+JUNK += ["1.1", "1.", "1.x", "@1.1", "@", "%", "%zz", "%41", '""', '"', "\x0b", "\x7f", "\xff"]
+JUNK += ["c", "w1", "w5", "f1", "f0", "put", "del", "get", "#"]
 
 
 class Schedule:
@@ -49,7 +56,10 @@ class Schedule:
         self.weights.update({"put": 1, "del": 1, "batch": 6, "get": 2, "scan": 1} if self.is_large else {})
         self.world, self.script, self.lines, self.kinds = World(self.limits), [], [], Counter()
         self.undelivered = []
-        while len(self.lines) < length:
+        self.deliveries, self.loss = self.random.choice((BAD, GOOD))
+        self.eager = self.random.choice((0.5, 3))
+        is_long = not self.is_large and self.random.randrange(ONE_IN_LONG) == 0
+        while len(self.lines) < (4 * length if is_long else length):
             self.run(getattr(self, self.chosen(self.weights_now()))())
 
     @property
@@ -58,38 +68,34 @@ class Schedule:
 
     @property
     def text(self):
-        return "".join(it + "\n" for it in self.script)
+        return "".join(it + "\n" for it in self.script).encode()
 
     @property
     def wanted(self):
         return "".join(it + "\n" for it in self.lines)
 
+    def spoilt(self):
+        """The script with a word of some line replaced, left out or added."""
+        lines = self.script.copy()
+        at = self.random.randrange(len(lines))
+        words = lines[at].split()
+        where = self.random.randrange(len(words)) if self.random.random() < 0.3 else len(words) - 1
+        old, new = self.random.choice(((1, 1), (1, 1), (1, 1), (1, 0), (0, 1)))
+        words[where : where + old] = self.random.sample(JUNK, new)
+        lines[at] = " ".join(words)
+        return "\n".join(lines).encode("latin-1")
+
     def run(self, text):
         self.script.append(text)
         for event in events_of_line(text.encode()):
             sent = len(self.world.messages)
-            kind = self.kind_before(event)
+            met = what_it_meets(self.world, event)
             reply = self.world.step(event)
             self.lines.append(line(reply))
-            self.kinds[kind_of(event, kind, reply)] += 1
+            self.kinds[kind_of(event, met, reply)] += 1
             self.undelivered += range(sent + 1, len(self.world.messages) + 1)
             if isinstance(event, events.Deliver) and event.message in self.undelivered:
                 self.undelivered.remove(event.message)
-
-    def kind_before(self, event):
-        """Of a delivery what its message is, and to a worker what it finds."""
-        if not isinstance(event, events.Deliver) or not 1 <= event.message <= len(self.world.messages):
-            return ""
-        message = self.world.messages[event.message - 1]
-        body = type(message.body).__name__
-        if message.dst.role != "w":
-            return body
-        job = self.world.workers[message.dst.index].job
-        if not isinstance(message.body, Job):
-            return f"{body} to {'an idle' if job is None else 'a collecting'} worker"
-        if job is None:
-            return f"{body} to an idle worker"
-        return f"{body} that is {'the same' if job.name == message.body.name else 'newer' if job.name < message.body.name else 'older'}"
 
     # Choices.
 
@@ -100,7 +106,7 @@ class Schedule:
             "flush": 1 if store.last > store.version.flushed else 0.1,
             "freeze": 1 if store.active() else 0.3,
             "release": 1 if store.snapshots else 0.3,
-            "pick": 3 if pick(store.version, store.book, store.limits) else 0.3,
+            "pick": self.eager if pick(store.version, store.book, store.limits) else 0.2,
             "giveup": 1 if is_held else 0.2,
             "deliver": 1 if self.undelivered else 0.1,
         }
@@ -184,11 +190,11 @@ class Schedule:
         return f"restart w{self.random.randint(1, 4)}"
 
     def deliver(self):
-        """In order, out of order, again, before it was sent; and what is taken out of the undelivered here is mostly never delivered."""
+        """In order, out of order, again, before it was sent; and what is lost is mostly never delivered."""
         sent, waiting = len(self.world.messages), self.undelivered
-        if waiting and self.random.random() < 0.02:
+        if waiting and self.random.random() < self.loss:
             waiting.pop(self.random.randrange(len(waiting)))
-        how = self.chosen(DELIVERIES)
+        how = self.chosen(self.deliveries)
         if how == "unsent" or not sent:
             return f"deliver {self.random.choice((0, sent + 1, sent + 2, 2**64 - 1))}"
         if how == "again" or not waiting:
@@ -202,23 +208,6 @@ class Schedule:
 setattr(Schedule, "del", Schedule.delete)
 
 
-def kind_of(event, before, reply):
-    """The kind of a reply, for the count of them."""
-    if isinstance(reply, events.Refusal):
-        return f"{type(event).__name__}: refused {reply.name}"
-    if isinstance(reply, events.Installed):
-        return f"Deliver: installed {min(len(reply.files), 2)} files{' or more' if len(reply.files) > 1 else ''}"
-    if isinstance(reply, events.Picked):
-        return f"Pick: job of level {reply.level}"
-    if isinstance(reply, events.Worked):
-        return f"Deliver: {reply.change}{' none' if reply.change == COLLECTING and not reply.missing else ''}, {before}"
-    if isinstance(reply, events.Got):
-        return f"Get{' at a snapshot' if event.snapshot else ''}: {'none' if reply.value is None else 'value'}"
-    if isinstance(reply, events.Scanned):
-        return f"Scan{' at a snapshot' if event.snapshot else ''}: {min(len(reply.pairs), 2)} pairs{' or more' if len(reply.pairs) > 1 else ''}"
-    return f"{type(event).__name__}: {type(reply).__name__}{', ' + before if before else ''}"
-
-
 def schedules(seed, count, length, commands):
     return (Schedule(seed, index, length, commands) for index in range(1, count + 1))
 
@@ -226,13 +215,14 @@ def schedules(seed, count, length, commands):
 def add_arguments(arguments, count=1):
     arguments.add_argument("--seed", type=int, default=1)
     arguments.add_argument("--count", type=int, default=count)
-    arguments.add_argument("--length", type=int, default=60, help="events of a schedule; a last range of deliveries may exceed it")
+    arguments.add_argument("--length", type=int, default=60, help="events of a schedule; some have four times as many")
     arguments.add_argument("--commands", choices=sorted(COMMANDS), default="all")
 
 
 def write_case(folder, it):
-    for end, text in (("", it.text), (".args", "\n".join(it.options) + "\n"), (".stdout", it.wanted)):
-        with open(os.path.join(folder, f"schedule-{it.name}{end}"), "w", encoding="ascii") as file:
+    arguments = "".join(f"{word}\n" for word in it.options)
+    for end, text in (("", it.text), (".args", arguments.encode()), (".stdout", it.wanted.encode())):
+        with open(os.path.join(folder, f"schedule-{it.name}{end}"), "wb") as file:
             file.write(text)
 
 
@@ -248,7 +238,7 @@ def main():
         if given.cases:
             write_case(given.cases, it)
         elif not given.stats:
-            print(f"# {' '.join(it.options)}\n# schedule {it.name}\n{it.text}", end="")
+            print(f"# {' '.join(it.options)}\n# schedule {it.name}\n{it.text.decode()}", end="")
     if given.stats:
         for kind, count in sorted(kinds.items()):
             print(f"{count:8} {kind}")

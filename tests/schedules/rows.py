@@ -31,7 +31,8 @@ def faults():
     """Each line of a table: the faulty line's number, the fault, and a script, with escapes."""
     with open(os.path.join(FOLDER, "faults.txt"), encoding="ascii") as file:
         for number, fault, script in (it.rstrip("\n").split("\t") for it in file):
-            yield Row(f"the fault of {script}", [], script.encode().decode("unicode_escape").encode("latin-1"), "", f"line {number}: {fault}\n")
+            text = script.encode().decode("unicode_escape").encode("latin-1")
+            yield Row(f"the fault of {script}", [], text, "", f"line {number}: {fault}\n")
 
 
 def row(name, options, pairs):
@@ -85,13 +86,53 @@ def cut_at(weight):
     ]
 
 
+def of_weight(weight, key="k"):
+    """A batch of puts of one key with that weight."""
+    largest, other = 65_536, 14 + len(key)
+    lengths = [largest] * (weight // (other + largest))
+    lengths.append(weight - len(lengths) * (other + largest) - other)
+    return "batch " + " ".join(f"put {key} {'v' * it}" for it in lengths), len(lengths)
+
+
+def full_memtables():
+    """Two full batches, which fill a memtable."""
+    batch, count = of_weight(4_000_000)
+    too_large, _ = of_weight(4_000_001)
+    return [
+        (too_large, "refused BatchFull"),
+        (batch, f"seq 1-{count}"),
+        (batch, f"seq {count + 1}-{2 * count}"),
+        ("del k", "refused MemtableFull"),
+        ("freeze", f"frozen {2 * count}"),
+        ("del k", f"seq {2 * count + 1}"),
+    ]
+
+
+def moved_twice(pick):
+    """A file of 66 bytes, 31 beside its largest key and its entries of 16 and 17, merged into level 1; and then a pick."""
+    return [
+        ("batch put a 1 put aa 1", "seq 1-2"),
+        ("flush", "version 2 flushed 2 file 1"),
+        ("pick 1", "job 1.1 level 0 inputs 1 message 1"),
+        ("deliver 1", "collecting 1 message 2"),
+        ("deliver 2", "served message 3"),
+        ("deliver 3", "merged message 4"),
+        ("deliver 4", "installed version 3 files 2"),
+        ("pick 1", pick),
+    ]
+
+
 def made():
     backlog = [pair for number in range(1, 1_026) for pair in flushed(number)]
-    yield row("1,024 files of one key", "--l0 1", backlog[:-2] + [("pick 1", f"job 1.1 level 0 inputs {','.join(map(str, range(1, 1_025)))} message 1")])
+    inputs = ",".join(map(str, range(1, 1_025)))
+    yield row("1,024 files of one key", "--l0 1", backlog[:-2] + [("pick 1", f"job 1.1 level 0 inputs {inputs} message 1")])
     yield row("1,025 files of one key", "--l0 1", backlog + [("pick 1", "job 1.1 level 0 inputs 1 message 1")])
     inputs = ",".join(map(str, [*range(2, 2_047, 2), 2_047]))
     yield row("a file over 1,023 deeper ones", "--l0 1", over_all(1_023) + [("pick 1", f"job 1.1024 level 0 inputs {inputs} message 4093")])
     yield row("a file over 1,024 deeper ones", "--l0 1", over_all(1_024) + [("pick 1", "refused TooWide")])
+    yield row("a level of as many bytes as its base", "--l0 1 --base 66", moved_twice("idle"))
+    yield row("a level of a byte more than its base", "--l0 1 --base 65", moved_twice("job 1.2 level 1 inputs 2 message 5"))
+    yield row("full batches and memtables", "", full_memtables())
     yield row("an output that is closed", "--l0 1", cut_at(2_000_000))
     yield row("an output that is not closed", "--l0 1", cut_at(1_999_999))
 
