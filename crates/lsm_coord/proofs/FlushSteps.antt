@@ -30,6 +30,7 @@ use Rattle.lsm_coord.specs.Contract.Shows.{Shows, ShowsStored}
 use Rattle.lsm_coord.proofs.CurrentVersion.{last_flushed-after_flush}
 use Rattle.lsm_coord.proofs.ManifestReplay.{files_are, Folds-push, listed-push}
 use Rattle.lsm_coord.proofs.ReadAnswers.{AreStored, frozen_answers, frozen_reads, frozen_above, frozen_entries_old}
+use Rattle.lsm_coord.proofs.RetiredFiles.{retired-none}
 use Rattle.lsm_coord.proofs.FreezeSteps.{Shows-froze, none_frozen}
 
 take_drop_end : {X : Type 0} (n : ℕ) (xs : List X) → n ≤ length xs → drop n (take n xs) ≡ []
@@ -41,11 +42,12 @@ flushed_to c frozen f t text = record c { active = active_after c.active frozen;
 
 -- what is logged of a flush: the new table is searched first
 pub logged_is : (old : VersionSetValue) (end : ℕ) (f : FileMeta) (t : Opened) (ts : List Opened) (e : Edit) → IsVersion old.served.version → IsServed old.served → IsEdit e → AreAsRecorded e.added ts → apply_fault old.served.version e ≡ None → e ≡ flush_edit old.served.version end f → ts ≡ t ∷ []
-    → after_logging old e ts ≡ record { served = with_flushed old.served end f t; edits = old.edits ++ spelling e ∷ [] }
+    → after_logging old e ts ≡ record old { served = with_flushed old.served end f t; edits = old.edits ++ spelling e ∷ [] }
 logged_is old end f t ts e version served sound recorded applies is one =
     let plain : e.kind ≡ kind.Install → ⊥ = λ h. let no : kind.Flush ≡ kind.Install = sym (ap (λ (x : Edit). x.kind) is) ∙ h in absurd cc in
     let places = places_are old.served e ts version served sound plain recorded applies ∙ (λ i. placed_of (is i).added (one i) ++ old.served.places) in
-    λ i. record { served = record { version = after_apply old.served.version (is i); places = places i }; edits = old.edits ++ spelling e ∷ [] }
+    let retired = retired-none old.retired old.served e.removed (ap (λ (x : Edit). x.removed) is) in
+    λ i. record { served = record { version = after_apply old.served.version (is i); places = places i }; edits = old.edits ++ spelling e ∷ []; retired = retired i; floor = old.floor }
 
 -- ---- a flush of the frozen memtable
 

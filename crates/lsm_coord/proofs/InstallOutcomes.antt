@@ -28,6 +28,7 @@ use Rattle.lsm_coord.specs.declared.snapshot.Snapshot.{Snapshot}
 use Rattle.lsm_coord.specs.Contract.Installing.{AreOutputTables, Became, IsInstallDone, IsLive, install_edit_of}
 use Rattle.lsm_coord.specs.Contract.Manifest.{VersionSetValue, after_logging}
 use Rattle.lsm_coord.specs.Contract.Memory.{IsCoord}
+use Rattle.lsm_coord.specs.Contract.Retention.{retired_after}
 use Rattle.lsm_coord.specs.Contract.Value.{CoordValue}
 use Rattle.lsm_coord.specs.Inner.Putting.{PutsOutputs}
 use Rattle.lsm_coord.proofs.InstallEdits.{recorded_of, records_inside, records_recorded}
@@ -66,9 +67,11 @@ pub with_book : (c : CoordValue) (b : BookValue) → b ≡ c.book → record c {
 with_book c b e = ap (λ (x : BookValue). record c { book = x }) e
 
 pub became_done : (old : CoordValue) (claim live : LiveJob) (made : JobResult) (number : ℕ) (files : List ℕ) (new : VersionSetValue) → IsLive old claim.id live
-    → PutsOutputs (record { served = old.served; edits = old.edits }) live made (record { number = number; files = files }) new → Became old claim made (became.Done number files) (record old { served = new.served; edits = new.edits; book = after_settling old.book claim.id ending.Installed })
+    → PutsOutputs (record { served = old.served; edits = old.edits; retired = old.retired; floor = old.floor }) live made (record { number = number; files = files }) new → Became old claim made (became.Done number files) (record old { served = new.served; edits = new.edits; retired = new.retired; floor = new.floor; book = after_settling old.book claim.id ending.Installed })
 became_done old claim live made number files new h p =
-    let named = (live_is old claim.id live h).1 in (
+    let named = (live_is old claim.id live h).1 in
+    let before : VersionSetValue = record { served = old.served; edits = old.edits; retired = old.retired; floor = old.floor } in
+    let retired = p.new_is ∙ ap (λ (e : Edit). after_logging before e p.tables) p.edit_is in (
       live,
       h,
       p.tables,
@@ -79,7 +82,7 @@ became_done old claim live made number files new h p =
         applies = p.applies;
         text = spelling p.edit;
         spelled = record { sound = p.valid; spelled = refl };
-        new_is = λ i. record old { served = (p.new_is i).served; edits = (p.new_is i).edits; book = after_settling old.book (sym named i) ending.Installed };
+        new_is = λ i. record old { served = (p.new_is i).served; edits = (p.new_is i).edits; retired = (retired i).retired; floor = (p.new_is i).floor; book = after_settling old.book (sym named i) ending.Installed };
       },
       p.number_is,
       p.files_are,
@@ -98,8 +101,8 @@ module _ (old : CoordValue) (live : LiveJob) (ts : List Opened) (new : CoordValu
   pub done_applies : apply_fault old.served.version (install_edit_of old.served.version live.want ts) ≡ None
   done_applies = subst (λ (e : Edit). apply_fault old.served.version e ≡ None) done.edit_is done.applies
 
-  pub done_is : new ≡ record old { served = next_served old.served live.want ts; edits = old.edits ++ done.text ∷ []; book = after_settling old.book live.id ending.Installed }
-  done_is = done.new_is ∙ (λ i. record old { served = after_advance old.served (done.edit_is i) ts; edits = old.edits ++ done.text ∷ []; book = after_settling old.book live.id ending.Installed })
+  pub done_is : new ≡ record old { served = next_served old.served live.want ts; edits = old.edits ++ done.text ∷ []; retired = retired_after old.retired old.served live.want.files; book = after_settling old.book live.id ending.Installed }
+  done_is = done.new_is ∙ (λ i. record old { served = after_advance old.served (done.edit_is i) ts; edits = old.edits ++ done.text ∷ []; retired = retired_after old.retired old.served live.want.files; book = after_settling old.book live.id ending.Installed })
 
 -- ---- what an install keeps
 

@@ -46,6 +46,7 @@ use Rattle.lsm_coord.specs.declared.coord.install.Install.TheVariants as became
 use Rattle.lsm_coord.specs.Contract.Installing.{AreEntriesOf, Became, HasNumbers, HoldsSoundMerge, IsInstallDone, IsLive, install_edit_of, numbers_of, records}
 use Rattle.lsm_coord.specs.Contract.Manifest.{listing_of, place_of, versions_of}
 use Rattle.lsm_coord.specs.Contract.Memory.{AreLegal, AreJobWants, IsJobWant}
+use Rattle.lsm_coord.specs.Contract.Retention.{retired_after}
 use Rattle.lsm_coord.specs.Contract.Shows.{Follows, Shows, ShowsStored}
 use Rattle.lsm_coord.specs.Contract.Sound.{AreWrittenBy, IsSound}
 use Rattle.lsm_coord.specs.Contract.Value.{CoordValue, frozen_entries, stored_entries}
@@ -275,7 +276,7 @@ install_steps old new claim made number files book served version all_legal all_
     let step = is_installed old live ts install.text s h version served legal orderly installs spelled accepted.numbers job of_want sound.snapshots sound.deeper merge.inputs are kept in
     let shown = shows_install old live ts install.text s h version served legal orderly installs spelled accepted.numbers job of_want sound.snapshots sound.deeper merge.inputs are kept in
     let then = after old live ts install.text s h version served legal orderly installs spelled accepted.numbers job of_want sound.snapshots sound.deeper merge.inputs are kept in
-    let made_now : CoordValue = record old { served = next_served old.served live.want ts; edits = old.edits ++ install.text ∷ []; book = after_settling old.book live.id ending.Installed } in (
+    let made_now : CoordValue = record old { served = next_served old.served live.want ts; edits = old.edits ++ install.text ∷ []; retired = retired_after old.retired old.served live.want.files; book = after_settling old.book live.id ending.Installed } in (
       then,
       (refl, subst (λ (n : ℕ). IsInstalled s n files then) (sym b.5) (subst (λ (ns : List ℕ). IsInstalled s (old.served.version.number + 1) ns then) (sym b.6) step)),
       subst (λ (x : CoordValue). Shows x then) (sym (done_is old live ts new install)) (shown made_now refl refl refl refl refl refl refl refl),

@@ -11,6 +11,8 @@ pub mod CurrentVersion
 pub mod SnapshotEffects
 pub mod SnapshotReads
 pub mod ManifestReplay
+pub mod RetiredFiles
+pub mod ServedFiles
 pub mod ReadAnswers
 pub mod ShownStates
 pub mod WriteSteps

@@ -1,6 +1,8 @@
 -- The versions that a list of edits folds to, and one edit more.
-use Rattle.std.proofs.Common.{◌≡◌, ℕ, ◌+◌, List, [], ◌∷◌, ◌++◌, None, length, map, get_or, refl, sym, ap, subst, ◌∙◌, arith, eqb, inl, inr}
+use Rattle.std.proofs.Common.{◌≡◌, ℕ, ◌+◌, List, [], ◌∷◌, ◌++◌, None, Some, length, map, get_or, refl, sym, ap, subst, ◌∙◌, arith, eqb, inl, inr}
+use Rattle.std.specs.List.{slice_get}
 use Rattle.std.proofs.lemmas.Bool.{not-false, eqb-true}
+use Rattle.std.proofs.lemmas.Option.{slice_get-get_or}
 use Rattle.std.proofs.lemmas.List.{map-append, length-map}
 use Rattle.std.proofs.lemmas.Grind.{flat_map-append}
 use Rattle.std.proofs.Math.ListN.{get_or-map}
@@ -60,15 +62,19 @@ Folds-push texts v text e h one fits = record {
   makes = ap (after_edits first_version) (read_edits-push texts text e one) ∙ folded-push first_version (read_edits texts) e ∙ ap (λ (w : VersionValue). after_apply w e) h.makes;
 }
 
+pub versions_of-push : (texts : List (List ℕ)) (v : VersionValue) (text : List ℕ) (e : Edit) → Folds texts v → IsSpelled text e → versions_of (texts ++ text ∷ []) ≡ versions_of texts ++ after_apply v e ∷ []
+versions_of-push texts v text e h one =
+    ap (versions_from first_version) (read_edits-push texts text e one)
+    ∙ versions_from-push first_version (read_edits texts) e
+    ∙ ap (λ (w : VersionValue). versions_of texts ++ after_apply w e ∷ []) h.makes
+
 pub listed-push : (texts : List (List ℕ)) (v : VersionValue) (text : List ℕ) (e : Edit) → Folds texts v → IsSpelled text e → map listing_of (versions_of (texts ++ text ∷ [])) ≡ map listing_of (versions_of texts) ++ listing_of (after_apply v e) ∷ []
 listed-push texts v text e h one =
-    ap (λ (es : List Edit). map listing_of (versions_from first_version es)) (read_edits-push texts text e one)
-    ∙ ap (map listing_of) (versions_from-push first_version (read_edits texts) e) ∙ map-append listing_of (versions_of texts) (after_apply (after_edits first_version (read_edits texts)) e ∷ [])
-    ∙ ap (λ (w : VersionValue). map listing_of (versions_of texts) ++ listing_of (after_apply w e) ∷ []) h.makes
+    ap (map listing_of) (versions_of-push texts v text e h one) ∙ map-append listing_of (versions_of texts) (after_apply v e ∷ [])
 
 -- ---- the current version
 
-length-versions_from : (v : VersionValue) (edits : List Edit) → length (versions_from v edits) ≡ length edits + 1
+pub length-versions_from : (v : VersionValue) (edits : List Edit) → length (versions_from v edits) ≡ length edits + 1
 length-versions_from v [] = refl
 length-versions_from v (e ∷ edits) = let n = length-versions_from (after_apply v e) edits in omega (arith, n)
 
@@ -76,12 +82,30 @@ last_version : (v d : VersionValue) (edits : List Edit) → get_or (versions_fro
 last_version v d [] = refl
 last_version v d (e ∷ edits) = last_version (after_apply v e) d edits
 
-next_number : (v : VersionValue) (e : Edit) → apply_fault v e ≡ None → e.number ≡ v.number + 1
+pub next_number : (v : VersionValue) (e : Edit) → apply_fault v e ≡ None → e.number ≡ v.number + 1
 next_number v e h = let a = none_passed _ _ _ h in eqb-true e.number (v.number + 1) (not-false (eqb e.number (v.number + 1)) a.0)
 
 folded_number : (v : VersionValue) (edits : List Edit) → Apply v edits → (after_edits v edits).number ≡ v.number + length edits
 folded_number v [] h = omega arith
 folded_number v (e ∷ edits) h = let one = next_number v e h.0 in let rest = folded_number (after_apply v e) edits h.1 in omega (arith, one, rest)
+
+-- the current version's number counts those before it
+pub length-versions_of : (texts : List (List ℕ)) (v : VersionValue) → Folds texts v → length (versions_of texts) ≡ v.number + 1
+length-versions_of texts v h =
+    let count = length-versions_from first_version (read_edits texts) in
+    let n = folded_number first_version (read_edits texts) h.apply in
+    let m = ap (λ (w : VersionValue). w.number) h.makes in
+    omega (arith, count, n, m)
+
+-- the current version is the last one
+pub current_at : (texts : List (List ℕ)) (v : VersionValue) → Folds texts v → slice_get (versions_of texts) v.number ≡ Some v
+current_at texts v h =
+    let count = length-versions_of texts v h in
+    let long = length-versions_from first_version (read_edits texts) in
+    let at : v.number ≡ length (read_edits texts) = omega (arith, count, long) in
+    slice_get-get_or (versions_of texts) v.number first_version (omega (arith, count))
+    ∙ ap (λ (i : ℕ). Some (get_or (versions_of texts) i first_version)) at
+    ∙ ap Some (last_version first_version first_version (read_edits texts) ∙ h.makes)
 
 module _ (texts : List (List ℕ)) (served : ServedValue) (s : State) (h : ShowsStored texts served s) where
   count : length s.versions ≡ length (read_edits texts) + 1

@@ -16,7 +16,7 @@ abbrev pub opened : ServedValue
 opened = record { version = after_apply first_version (epoch_edit first_version); places = [] }
 
 pub Shows-new : (limits : Limits) (book : BookValue) (text : List ℕ) → IsSpelled text (epoch_edit first_version) → apply_fault first_version (epoch_edit first_version) ≡ None
-    → Shows (record { limits = limits; active = []; frozen = None; served = opened; edits = text ∷ []; last = 0; snapshots = []; made = 0; floor = 1; book = book }) first_state
+    → Shows (record { limits = limits; active = []; frozen = None; served = opened; edits = text ∷ []; last = 0; snapshots = []; made = 0; floor = 1; retired = []; book = book }) first_state
 Shows-new limits book text spelled fits = record {
   up = refl;
   last = refl;

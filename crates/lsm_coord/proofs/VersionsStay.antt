@@ -18,7 +18,7 @@ grown (y ∷ xs) ys zero x h = h
 grown (y ∷ xs) ys (suc n) x h = grown xs ys n x h
 
 -- an element is one of the former list or the one that was added
-at_grown : {X : Type 0} (xs : List X) (y : X) (n : ℕ) (x : X) → slice_get (xs ++ y ∷ []) n ≡ Some x → slice_get xs n ≡ Some x ⊎ ((n ≡ length xs) × (x ≡ y))
+pub at_grown : {X : Type 0} (xs : List X) (y : X) (n : ℕ) (x : X) → slice_get (xs ++ y ∷ []) n ≡ Some x → slice_get xs n ≡ Some x ⊎ ((n ≡ length xs) × (x ≡ y))
 at_grown [] y zero x h = inr (refl, same_Some x y (sym h))
 at_grown [] y (suc n) x h = absurd cc
 at_grown (z ∷ xs) y zero x h = inl h

@@ -18,7 +18,7 @@ pub use flush::Flushed;
 pub use install::{Install, InstallError};
 use lsm_claim::ClaimBook;
 use lsm_edit::Edit;
-use lsm_key::{Limits, Seq};
+use lsm_key::{Limits, Seq, VersionNumber};
 use lsm_mem::Memtable;
 use std::alloc::{AllocError, Global};
 use std::marker::Model;
@@ -45,7 +45,7 @@ impl Model for Coord {
 
     ghost Value = { CoordValue };
 
-    ghost view = { λ c. record { limits = c.limits; active = c.active; frozen = c.frozen; served = c.versions.served; edits = c.versions.edits; last = c.newest; snapshots = c.live.items; made = c.made; floor = 1; book = c.book } };
+    ghost view = { λ c. record { limits = c.limits; active = c.active; frozen = c.frozen; served = c.versions.served; edits = c.versions.edits; last = c.newest; snapshots = c.live.items; made = c.made; floor = c.versions.floor; retired = c.versions.retired; book = c.book } };
 
     ghost invariant = { λ c. IsCoord c.active c.frozen c.newest c.versions.served c.book c.live.items };
 }
@@ -65,6 +65,8 @@ impl Coord {
         let mut versions = VersionSet::new(alloc);
         let edit = Edit::epoch(alloc, versions.version());
         versions.log_and_apply(&edit, Vec::new(alloc))?;
+        let first = VersionNumber::new(versions.version().number());
+        versions.trim(first)?;
         let book = ClaimBook::new(alloc, versions.version().epoch());
         Ok(Coord {
             alloc,

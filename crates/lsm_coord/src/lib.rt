@@ -20,6 +20,7 @@ mod error;
 mod frozen;
 mod job;
 mod laws;
+mod retired;
 mod snapshot;
 #[cfg(test)]
 mod tests;

@@ -28,6 +28,7 @@ use Rattle.lsm_coord.specs.declared.coord.install.Install.{Install}
 use Rattle.lsm_coord.specs.declared.coord.install.Install.TheVariants as became
 use Rattle.lsm_coord.specs.declared.coord.install.InstallError.{InstallError}
 use Rattle.lsm_coord.specs.declared.coord.install.InstallError.TheVariants.{WrongJob, BadResult, NumbersExhausted, OutOfMemory}
+use Rattle.lsm_coord.specs.Contract.Retention.{retired_after}
 use Rattle.lsm_coord.specs.Contract.Sound.{IsSound}
 use Rattle.lsm_coord.specs.Contract.Value.{CoordValue}
 
@@ -105,8 +106,8 @@ pub record IsAcceptable (v : VersionValue) (live : LiveJob) (made : JobResult) (
   pub outputs : AreOutputTables live.want.hull made.tables ts
   pub numbers : HasNumbers v ts
 
--- The version after an install: the outputs replace the inputs, one level deeper; the edit is the last of the manifest, and the
--- claim is settled.
+-- The version after an install: the outputs replace the inputs, one level deeper, which retire; the edit is the last of the
+-- manifest, and the claim is settled.
 pub record IsInstallDone (old : CoordValue) (live : LiveJob) (ts : List Opened) (new : CoordValue) : Type 0 where
   pub edit : Edit
   pub edit_is : edit ≡ install_edit_of old.served.version live.want ts
@@ -116,6 +117,7 @@ pub record IsInstallDone (old : CoordValue) (live : LiveJob) (ts : List Opened) 
   pub new_is : new ≡ record old {
     served = after_advance old.served edit ts;
     edits = old.edits ++ text ∷ [];
+    retired = retired_after old.retired old.served live.want.files;
     book = after_settling old.book live.id ending.Installed;
   }
 

@@ -1,5 +1,5 @@
 -- The list of edits, and the versions that it replays to (LevelDB, implementation notes: manifest).
-use Rattle.std.specs.Prelude.{◌≡◌, ℕ, ◌+◌, ◌≤◌, List, [], ◌∷◌, ◌++◌, Result, Ok, Err, map}
+use Rattle.std.specs.Prelude.{◌≡◌, ℕ, ◌+◌, ◌≤◌, List, [], ◌∷◌, ◌++◌, Result, Ok, Err, map, max}
 use Rattle.std.specs.List.{flat_map}
 use Rattle.lsm_key.specs.declared.limits.TheConstants.{MAX_NUMBER}
 use Rattle.lsm_key.specs.Sets.{IsIn}
@@ -10,7 +10,9 @@ use Rattle.lsm_edit.specs.Edit.{IsSpelled, edit, read_edit}
 use Rattle.lsm_edit.specs.Edits.{Apply, after_edits, versions_from}
 use Rattle.lsm_edit.specs.Version.{VersionValue, first_version}
 use Rattle.lsm_edit.specs.Served.{ServedValue, after_advance, first_served}
+use Rattle.lsm_coord.specs.declared.retired.Retired.{Retired}
 use Rattle.lsm_coord.specs.Model.State.{Version, Place}
+use Rattle.lsm_coord.specs.Contract.Retention.{AreRetired, kept_from, retired_after}
 
 -- the edit that bytes spell, or none
 abbrev pub ok_items : {X F : Type 0} → Result X F → List X
@@ -38,18 +40,34 @@ pub record Folds (texts : List (List ℕ)) (v : VersionValue) : Type 0 where
   pub apply : Apply first_version (read_edits texts)
   pub makes : after_edits first_version (read_edits texts) ≡ v
 
--- a version with its tables, and the edits that made it
+-- a version with its tables, the edits that made it, and the removed files that are kept from the floor on
 pub record VersionSetValue : Type 0 where
   pub served : ServedValue
   pub edits : List (List ℕ)
+  pub retired : List Retired
+  pub floor : ℕ
 
 -- before the first edit
 abbrev pub first_version_set : VersionSetValue
-first_version_set = record { served = first_served; edits = [] }
+first_version_set = record { served = first_served; edits = []; retired = []; floor = 0 }
 
--- the edit is the last of the manifest, and the version after it stands with the tables of the files that it adds
+-- the manifest replays to the version, and the retired files are those of its versions
+pub record IsVersionSet (v : VersionSetValue) : Type 0 where
+  pub folds : Folds v.edits v.served.version
+  pub retired : AreRetired (versions_of v.edits) v.served.version v.retired v.floor
+
+-- The edit is the last of the manifest, the version after it stands with the tables of the files that it adds, and those that it
+-- removes are retired.
 abbrev pub after_logging : VersionSetValue → Edit → List Opened → VersionSetValue
-after_logging v e tables = record { served = after_advance v.served e tables; edits = v.edits ++ edit e ∷ [] }
+after_logging v e tables = record v {
+  served = after_advance v.served e tables;
+  edits = v.edits ++ edit e ∷ [];
+  retired = retired_after v.retired v.served e.removed;
+}
+
+-- the floor is this number, unless it is higher, and the retired files below it are let go
+abbrev pub after_trimming : VersionSetValue → ℕ → VersionSetValue
+after_trimming v n = record v { floor = max v.floor n; retired = kept_from (max v.floor n) v.retired }
 
 -- the version's number and the next file number fit
 pub record CanNumber (v : VersionValue) : Type 0 where

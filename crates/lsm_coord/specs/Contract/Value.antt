@@ -6,6 +6,7 @@ use Rattle.lsm_key.specs.Places.{all_entries}
 use Rattle.lsm_claim.specs.Book.{BookValue}
 use Rattle.lsm_edit.specs.Served.{ServedValue, tables_of}
 use Rattle.lsm_coord.specs.declared.frozen.Frozen.{Frozen}
+use Rattle.lsm_coord.specs.declared.retired.Retired.{Retired}
 use Rattle.lsm_coord.specs.declared.snapshot.Snapshot.{Snapshot}
 
 pub record CoordValue : Type 0 where
@@ -17,7 +18,8 @@ pub record CoordValue : Type 0 where
   pub last : ℕ  -- the last sequence
   pub snapshots : List Snapshot  -- the live ones
   pub made : ℕ  -- how many snapshots this epoch has made
-  pub floor : ℕ  -- the floor: the least version whose files are to be served to followers
+  pub floor : ℕ  -- the least version whose files are still served
+  pub retired : List Retired  -- the files that a version from the floor on lists and the current one lacks
   pub book : BookValue  -- the claims of this epoch
 
 abbrev pub frozen_entries : Option Frozen → List Entry

@@ -31,4 +31,4 @@ pub record AddsFile (old : VersionSetValue) (end : ℕ) (file : FileMeta) (table
   pub edit_is : edit ≡ flush_edit old.served.version end file
   pub valid : IsEdit edit
   pub applies : apply_fault old.served.version edit ≡ None
-  pub new_is : new ≡ record { served = with_flushed old.served end file table; edits = old.edits ++ edit_bytes edit ∷ [] }
+  pub new_is : new ≡ record old { served = with_flushed old.served end file table; edits = old.edits ++ edit_bytes edit ∷ [] }

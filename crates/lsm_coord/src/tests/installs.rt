@@ -28,7 +28,8 @@ const OF_B: &[u8] =
 
 const BAD: Made = Made::KeptBack(InstallError::BadResult);
 
-// A put and its deletion are merged, which leaves nothing of them; before that, invalid results of the job.
+// A put and its deletion are merged, which leaves nothing of them; before that, invalid results of the job. The files that were
+// merged are served still.
 const BOTH_GO: [(Step, Made); 20] = [
     (Step::Put(b"a", b"1"), Made::Wrote(1, 1)),
     (Step::Flush, Made::Flushed(2, 1, 1)),
@@ -52,7 +53,7 @@ const BOTH_GO: [(Step, Made); 20] = [
     (Step::Holds(1), Made::Holds(0)),
     (Step::Show, Made::Listed(4, 2, 0)),
     (Step::Get(b"a"), Made::Absent),
-    (Step::Fetch(1, None), Made::Is(true)),
+    (Step::Fetch(1, Some(OF_A)), Made::Is(true)),
 ];
 
 const SNAPSHOT: [(Step, Made); 9] = [

@@ -58,7 +58,7 @@ returns-then-is_some-clause-ok c =
       applies = adds.applies;
       text = spelling adds.edit;
       spelled = record { sound = adds.valid; spelled = refl };
-      new_is = λ i. record { limits = m.limits; active = active i; frozen = None; served = with_flushed s (end i) c.args.meta c.args.table; edits = m.versions.edits ++ spelling adds.edit ∷ []; last = m.newest; snapshots = m.live.items; made = m.made; floor = 1; book = m.book };
+      new_is = λ i. record { limits = m.limits; active = active i; frozen = None; served = with_flushed s (end i) c.args.meta c.args.table; edits = m.versions.edits ++ spelling adds.edit ∷ []; last = m.newest; snapshots = m.live.items; made = m.made; floor = m.versions.floor; retired = m.versions.retired; book = m.book };
     })
 
 pub returns-clause-ok : goal.returns-clause-ok
@@ -76,7 +76,7 @@ returns-clause-ok c =
       applies = adds.applies;
       text = spelling adds.edit;
       spelled = record { sound = adds.valid; spelled = refl };
-      new_is = λ i. record { limits = m.limits; active = active i; frozen = none i; served = with_flushed s (end i) c.args.meta c.args.table; edits = m.versions.edits ++ spelling adds.edit ∷ []; last = m.newest; snapshots = m.live.items; made = m.made; floor = 1; book = m.book };
+      new_is = λ i. record { limits = m.limits; active = active i; frozen = none i; served = with_flushed s (end i) c.args.meta c.args.table; edits = m.versions.edits ++ spelling adds.edit ∷ []; last = m.newest; snapshots = m.live.items; made = m.made; floor = m.versions.floor; retired = m.versions.retired; book = m.book };
     })
 
 pub returns-then-is_some-clause-sound : goal.returns-then-is_some-clause-sound

@@ -88,7 +88,7 @@ returns-in-Err-clause-became c =
     let live = (λ i. find (λ (j : LiveJob). same_job_id j.id (sym c.id-id.ensures i)) (sym c.live.ensures.all i)) ∙ found in
     let same = c.in-Err.ensures.err in
     rw (← c.self.view_is)
-    (c.in-Some.job.now, live, refl, c.in-Err.ensures.why, λ i. record { limits = m.limits; active = m.active; frozen = m.frozen; served = (same i).served; edits = (same i).edits; last = m.newest; snapshots = m.live.items; made = m.made; floor = 1; book = m.book })
+    (c.in-Some.job.now, live, refl, c.in-Err.ensures.why, λ i. record { limits = m.limits; active = m.active; frozen = m.frozen; served = (same i).served; edits = (same i).edits; last = m.newest; snapshots = m.live.items; made = m.made; floor = (same i).floor; retired = (same i).retired; book = m.book })
 
 pub returns-in-None-clause-sound : goal.returns-in-None-clause-sound
 returns-in-None-clause-sound c = λ holds. nothing_keeps c.args.self.now _ (returns-in-None-clause-became c).3

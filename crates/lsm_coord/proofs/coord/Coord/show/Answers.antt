@@ -25,10 +25,11 @@ returns-clause-step c =
 
 pub returns-clause-fit : goal.returns-clause-fit
 returns-clause-fit c = subst IsFit c.self.view_is (record {
-  manifest = c.served.ensures.folds;
-  once = removed_by_one _ _ c.served.ensures.folds;
+  manifest = c.served.ensures.set.folds;
+  once = removed_by_one _ _ c.served.ensures.set.folds;
   version = subst (λ (v : ServedValue). IsVersion v.version) c.served.ensures.served c.listing.ensures.sound.1;
   served = subst IsServed c.served.ensures.served c.listing.ensures.sound.0;
+  retired = c.served.ensures.set.retired;
   book = c.live-live.ensures.sound;
   epoch = c.self.invariant.same_epoch;
   legal = c.self.invariant.legal;

@@ -1,0 +1,110 @@
+//! Retired files: those that an earlier version lists and the current one lacks.
+
+ghost use Rattle.std.specs.Prelude.{◌≡◌, ◌+◌, ◌++◌, ◌≤◌, IfOk, length, nat_eq, vec_capacity};
+ghost use Rattle.std.specs.List.{list_any};
+ghost use Rattle.std.specs.List.Sorted.{IsNonDecreasing};
+ghost use Rattle.std.specs.Option.{option_copied};
+ghost use Rattle.lsm_edit.specs.Edit.{IsEdit};
+ghost use Rattle.lsm_edit.specs.Version.{has_number};
+ghost use Rattle.lsm_coord.specs.Contract.Retention.{dropped_below, retire, retired_at, retired_by};
+
+use bytes::Bytes;
+use lsm_edit::{Edit, Placed, Served};
+use lsm_key::{FileNumber, VersionNumber};
+use std::alloc::{AllocError, Global};
+
+/// A file that the current version lacks, and its table.
+#[derive(Debug, Drop)]
+pub(crate) struct Retired {
+    pub number: FileNumber,
+    /// The table.
+    pub bytes: Bytes,
+    /// The last version that lists the file.
+    pub until: VersionNumber,
+}
+
+/// The files that an edit removes from a version, with their tables, whose bytes they share.
+pub(crate) fn retired_by(
+    alloc: Global,
+    served: &Served,
+    edit: &Edit,
+) -> Result<Vec<Retired>, AllocError>
+    requires { IsEdit edit.now }
+    ensures { IfOk result (λ retired. retired.items ≡ retired_by served.now edit.now.removed) }
+{
+    let until = VersionNumber::new(served.version().number());
+    let removed = removed_by(edit);
+    let mut retired = Vec::with_capacity(alloc, removed.len())?;
+    for placed in served.places() {
+        if !is_among(removed, placed.meta.number) {
+            continue;
+        }
+        retired.push(retire(placed, until)?)?;
+    }
+    Ok(retired)
+}
+
+// The numbers of the files that an edit removes.
+fn removed_by(edit: &Edit) -> &[u64]
+    requires { IsEdit edit.now }
+    ensures all { result.now ≡ edit.now.removed }
+    ensures ascending { IsNonDecreasing result.now }
+{
+    edit.removed.as_slice()
+}
+
+// Whether the number is one of these, which ascend.
+fn is_among(numbers: &[u64], number: u64) -> bool
+    requires { IsNonDecreasing numbers.now }
+    ensures { result ≡ list_any (λ n. nat_eq number n) numbers.now }
+{
+    numbers.binary_search(&number).is_ok()
+}
+
+// A file that this version is the last to list.
+fn retire(placed: &Placed, until: VersionNumber) -> Result<Retired, AllocError>
+    ensures { IfOk result (λ retired. retired ≡ retire until placed.now) }
+{
+    let bytes = placed.table.bytes().clone()?;
+    Ok(Retired {
+        number: FileNumber::new(placed.meta.number),
+        bytes,
+        until,
+    })
+}
+
+/// Adds retired files to others, which have room for them.
+pub(crate) fn put_retired(retired: &mut Vec<Retired>, more: Vec<Retired>)
+    requires { length retired.old.items + length more.items ≤ vec_capacity retired.old }
+    ensures { retired.new.items ≡ retired.old.items ++ more.items }
+{
+    let mut more = more;
+    retired.append(&mut more).unwrap();
+}
+
+/// The table of a retired file.
+pub(crate) fn retired_bytes(retired: &[Retired], number: u64) -> Option<&Bytes>
+    ensures { option_copied result ≡ retired_at retired.now number }
+{
+    for file in retired {
+        if file.number.number() == number {
+            return Some(&file.bytes);
+        }
+    }
+    None
+}
+
+/// The numbers of the retired files that no version from the floor on lists.
+pub(crate) fn dropped_below(
+    alloc: Global,
+    retired: &[Retired],
+    floor: VersionNumber,
+) -> Result<Vec<FileNumber>, AllocError>
+    ensures { IfOk result (λ dropped. dropped.items ≡ dropped_below floor retired.now) }
+{
+    retired
+        .iter()
+        .filter(|file| file.until < floor)
+        .map(|file| file.number)
+        .collect(alloc)
+}
