@@ -19,6 +19,7 @@ pub mod WriteSteps
 pub mod FreezeSteps
 pub mod FlushSteps
 pub mod SnapshotSteps
+pub mod TrimSteps
 pub mod SearchAnswers
 pub mod ForcedRefusals
 pub mod ShownWindows

@@ -46,6 +46,8 @@ pub enum Answer {
     Installed(VersionNumber, Items<FileNumber>),
     /// The claim of this name has no live job; carries the current epoch.
     Stale(JobId, u64),
+    /// The floor after a trim, and the numbers of the files that it let go.
+    Trimmed(VersionNumber, Items<FileNumber>),
 }
 
 impl ShownVersion {
@@ -105,6 +107,9 @@ impl Answer {
                 Ok(Answer::Installed(*number, copied_numbers(files, alloc)?))
             }
             Answer::Stale(claim, epoch) => Ok(Answer::Stale(*claim, *epoch)),
+            Answer::Trimmed(floor, files) => {
+                Ok(Answer::Trimmed(*floor, copied_numbers(files, alloc)?))
+            }
         }
     }
 
@@ -128,6 +133,9 @@ impl Answer {
                 a == b && same_file_numbers(f.as_slice(), g.as_slice())
             }
             (Answer::Stale(a, p), Answer::Stale(b, q)) => a == b && p == q,
+            (Answer::Trimmed(a, f), Answer::Trimmed(b, g)) => {
+                a == b && same_file_numbers(f.as_slice(), g.as_slice())
+            }
             _ => false,
         }
     }

@@ -5,7 +5,7 @@ ghost use Rattle.std.specs.Prelude.{◌≡◌, ◌↔◌, IfOk, IsTrue};
 use crate::SnapId;
 use bytes::Bytes;
 use lsm_claim::JobId;
-use lsm_key::{Items, Op};
+use lsm_key::{Items, Op, VersionNumber};
 use lsm_msg::JobResult;
 use std::alloc::{AllocError, Global};
 
@@ -37,6 +37,8 @@ pub enum Call {
     Pick,
     /// Install the result of a job, under the claim of this name.
     Install(JobId, JobResult),
+    /// Raise the floor to a version.
+    Trim(VersionNumber),
 }
 
 impl ScanRange {
@@ -83,6 +85,7 @@ impl Call {
             Call::Show => Ok(Call::Show),
             Call::Pick => Ok(Call::Pick),
             Call::Install(claim, made) => Ok(Call::Install(*claim, made.copy(alloc)?)),
+            Call::Trim(to) => Ok(Call::Trim(*to)),
         }
     }
 
@@ -101,6 +104,7 @@ impl Call {
             (Call::Show, Call::Show) => true,
             (Call::Pick, Call::Pick) => true,
             (Call::Install(a, r), Call::Install(b, s)) => a == b && r.same(s),
+            (Call::Trim(a), Call::Trim(b)) => a == b,
             _ => false,
         }
     }

@@ -8,6 +8,7 @@ mod read;
 mod scan;
 mod serve;
 mod snapshots;
+mod trim;
 mod window;
 mod write;
 

@@ -74,6 +74,13 @@ impl VersionSet {
         self.current.version()
     }
 
+    /// The least version whose files are served.
+    pub(crate) fn floor(&self) -> VersionNumber
+        ensures { result ≡ self.now.floor }
+    {
+        self.floor
+    }
+
     /// Logs and applies the edit of a flush up to a sequence, to a table of level 0. If memory runs out, nothing changes.
     pub(crate) fn add_table(
         &mut self,

@@ -1,5 +1,5 @@
--- What each call of the coordinator refuses and does, on the value that contracts see (LevelDB, db_impl.cc: Write, CompactMemTable, Get, GetSnapshot).
-use Rattle.std.specs.Prelude.{◌≡◌, ℕ, ◌+◌, not, List, ◌++◌, [], ◌∷◌, Option, None, Some, IsSome, MatchOption, length, filter, sum_by, is_none, is_some, nat_eq, nat_lt, nat_le, ◌&&◌, ◌||◌, ◌⊎◌, if◌then◌else◌}
+-- What each call of the coordinator refuses and does, on the value that contracts see (LevelDB, db_impl.cc: Write, CompactMemTable, Get, GetSnapshot, RemoveObsoleteFiles).
+use Rattle.std.specs.Prelude.{◌≡◌, ℕ, ◌+◌, not, List, ◌++◌, [], ◌∷◌, Option, None, Some, IsSome, MatchOption, length, filter, max, sum_by, is_none, is_some, nat_eq, nat_lt, nat_le, ◌&&◌, ◌||◌, ◌⊎◌, if◌then◌else◌}
 use Rattle.std.specs.List.Sorted.{IsPermutation}
 use Rattle.lsm_key.specs.declared.entry.Entry.{Entry}
 use Rattle.lsm_key.specs.declared.op.Op.{Op}
@@ -20,12 +20,13 @@ use Rattle.lsm_edit.specs.Next.{flush_edit}
 use Rattle.lsm_edit.specs.Version.{apply_fault}
 use Rattle.lsm_msg.specs.Installs.{with_flushed}
 use Rattle.lsm_coord.specs.declared.error.CoordError.{CoordError}
-use Rattle.lsm_coord.specs.declared.error.CoordError.TheVariants.{EmptyBatch, SequenceExhausted, MemtableFull, FrozenWaiting, NothingToFreeze, NothingToFlush, TooManySnapshots, NoSnapshot, NumbersExhausted, OutOfMemory}
+use Rattle.lsm_coord.specs.declared.error.CoordError.TheVariants.{EmptyBatch, SequenceExhausted, MemtableFull, FrozenWaiting, NothingToFreeze, NothingToFlush, TooManySnapshots, NoSnapshot, BadFloor, NumbersExhausted, OutOfMemory}
 use Rattle.lsm_coord.specs.declared.frozen.Frozen.{Frozen}
 use Rattle.lsm_coord.specs.declared.snapshot.SnapId.{SnapId}
 use Rattle.lsm_coord.specs.declared.snapshot.Snapshot.{Snapshot}
 use Rattle.lsm_coord.specs.Model.State.{State, same_snapshot_id, snapshot_at}
 use Rattle.lsm_coord.specs.Model.Range.{IsRange}
+use Rattle.lsm_coord.specs.Contract.Retention.{kept_from}
 use Rattle.lsm_coord.specs.Contract.Value.{CoordValue}
 use Rattle.lsm_coord.specs.Contract.Shows.{Shows}
 
@@ -121,6 +122,16 @@ release_fault c id = if is_none (snapshot_at c.snapshots id) then Some NoSnapsho
 -- all snapshots except this one
 abbrev pub after_release : CoordValue → SnapId → CoordValue
 after_release c id = record c { snapshots = filter (λ live. not (same_snapshot_id live.id id)) c.snapshots }
+
+-- ---- trims
+
+-- the floor is at most the current version
+abbrev pub trim_fault : CoordValue → ℕ → Option CoordError
+trim_fault c n = if nat_lt c.served.version.number n then Some BadFloor else None
+
+-- the floor rises, and never falls; the retired files that no version from it on lists are let go
+abbrev pub after_trim : CoordValue → ℕ → CoordValue
+after_trim c n = record c { floor = max c.floor n; retired = kept_from (max c.floor n) c.retired }
 
 -- ---- claims
 

@@ -62,6 +62,10 @@ abbrev pub release_reply : SnapId → Result (Unit {0}) CoordError → Reply
 release_reply id (Ok r) = say.Released id
 release_reply id (Err e) = say.Refused (refusal_of e)
 
+abbrev pub trim_reply : Result (ℕ × List ℕ) CoordError → Reply
+trim_reply (Ok r) = say.Trimmed r.0
+trim_reply (Err e) = say.Refused (refusal_of e)
+
 abbrev pub pick_reply : Result (Option (LiveJob × JobParts)) CoordError → Reply
 pick_reply (Ok picked) = say.Other
 pick_reply (Err e) = say.Refused (refusal_of e)

@@ -1,0 +1,38 @@
+//! Trims: the floor rises, and the tables go that no version from it on lists.
+
+ghost use Rattle.std.specs.Prelude.{◌≡◌, None, IfErr, IfOk, OnErr, OnOk, max};
+ghost use Rattle.lsm_key.specs.Faults.{Refuses};
+ghost use Rattle.lsm_coord.specs.Model.Event.{Trim};
+ghost use Rattle.lsm_coord.specs.Contract.Calls.{after_trim, trim_fault};
+ghost use Rattle.lsm_coord.specs.Contract.Replies.{trim_reply};
+ghost use Rattle.lsm_coord.specs.Contract.Retention.{dropped_below};
+ghost use Rattle.lsm_coord.specs.Contract.Shows.{Follows};
+ghost use Rattle.lsm_coord.specs.Contract.Sound.{KeepsSound};
+
+use super::Coord;
+use crate::CoordError;
+use lsm_key::{FileNumber, Items, VersionNumber};
+
+impl Coord {
+    /// Raises the floor to a version, unless it is higher, and lets the tables go of files that no version from it on
+    /// lists: a fetch of one gets `Gone` from then on. Returns the floor, and the numbers of these files, ascending.
+    /// Refuses a version above the current one. A refusal changes nothing.
+    pub fn trim(
+        &mut self,
+        to: VersionNumber,
+    ) -> Result<(VersionNumber, Items<FileNumber>), CoordError>
+        ensures step { Follows self.old (Trim to) (trim_reply result) self.new }
+        ensures ok { OnOk result ((trim_fault self.old to ≡ None) × (self.new ≡ after_trim self.old to)) }
+        ensures floor { IfOk result (λ trimmed. trimmed.0 ≡ max self.old.floor to) }
+        ensures dropped { IfOk result (λ trimmed. trimmed.1 ≡ dropped_below (max self.old.floor to) self.old.retired) }
+        ensures err { OnErr result (self.new ≡ self.old) }
+        ensures refused { IfErr result (Refuses CoordError.OutOfMemory (trim_fault self.old to)) }
+        ensures sound { KeepsSound self.old self.new }
+    {
+        if to.number() > self.versions.version().number() {
+            return Err(CoordError::BadFloor);
+        }
+        let dropped = self.versions.trim(to)?;
+        Ok((self.versions.floor(), Items::from_vec(dropped)))
+    }
+}
