@@ -11,6 +11,7 @@ pub mod CurrentVersion
 pub mod SnapshotEffects
 pub mod SnapshotReads
 pub mod ManifestReplay
+pub mod RetiredByNumber
 pub mod RetiredFiles
 pub mod ServedFiles
 pub mod ReadAnswers

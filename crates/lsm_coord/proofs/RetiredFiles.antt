@@ -1,26 +1,28 @@
 -- The retired files after one edit more, after a trim, and in a new store.
-use Rattle.std.proofs.Common.{◌≡◌, ℕ, ◌+◌, ◌<◌, ◌≤◌, zero, suc, true, false, not, Bool, List, [], ◌∷◌, ◌++◌, ◌⊎◌, inl, inr, None, Some, refl, sym, ap, subst, ◌∙◌, arith, length, map, filter, max, leb, eqb}
+use Rattle.std.proofs.Common.{◌≡◌, ℕ, ◌+◌, ◌<◌, ◌≤◌, zero, suc, true, false, not, Bool, List, [], ◌∷◌, ◌++◌, ◌⊎◌, inl, inr, None, Some, refl, sym, ap, subst, ◌∙◌, arith, length, map, filter, max, leb, eqb, cond}
 use Rattle.std.specs.List.{list_any, slice_get}
 use Rattle.std.proofs.lemmas.Bool.{true≢false, leb-false, leb-true, le-leb, ltb-false, or_parts, not-true, cases_lt}
-use Rattle.std.proofs.lemmas.List.{length-append, append-nil}
+use Rattle.std.proofs.lemmas.List.{length-append}
 use Rattle.std.proofs.lemmas.Option.{same_Some, slice_get_within}
 use Rattle.lsm_key.specs.Sets.{IsIn}
 use Rattle.lsm_key.proofs.AscendingEntries.{IsIn-filter}
 use Rattle.lsm_key.proofs.Lists.{IsIn-kept, none_is}
-use Rattle.lsm_key.proofs.Membership.{IsIn-append_cases, IsIn-append_left, IsIn-append_right, IsIn-map, IsIn-mapped}
+use Rattle.lsm_key.proofs.Membership.{IsIn-append_cases, IsIn-append_left, IsIn-map, IsIn-mapped}
 use Rattle.lsm_edit.specs.declared.edit.Edit.{Edit}
 use Rattle.lsm_edit.specs.declared.file.FileMeta.{FileMeta}
 use Rattle.lsm_edit.specs.declared.served.Placed.{Placed}
 use Rattle.lsm_edit.specs.Edit.{IsSpelled}
 use Rattle.lsm_edit.specs.Edits.{Apply, after_edits, versions_from}
-use Rattle.lsm_edit.specs.Served.{IsServed, ServedValue}
+use Rattle.lsm_edit.specs.Served.{AreInSearchOrder, IsServed, ServedValue}
 use Rattle.lsm_edit.specs.Version.{IsVersion, VersionValue, after_apply, apply_fault, files_without, first_version, has_number}
-use Rattle.lsm_edit.proofs.ServedPlaces.{file_of, place_of}
+use Rattle.lsm_edit.proofs.SearchOrder.{Before, before_of}
+use Rattle.lsm_edit.proofs.ServedPlaces.{file_of, not_itself, one_place, place_of, whole_place}
 use Rattle.lsm_edit.proofs.VersionLaws.{fresh_added, passes, stays}
 use Rattle.lsm_coord.specs.declared.retired.Retired.{Retired}
 use Rattle.lsm_coord.specs.Contract.Manifest.{Folds, read_edits, versions_of}
-use Rattle.lsm_coord.specs.Contract.Retention.{AreRetired, IsListed, IsRetired, ListsFile, kept_from, retire, retired_after, retired_by}
+use Rattle.lsm_coord.specs.Contract.Retention.{AreRetired, IsListed, IsRetired, ListsFile, NumbersRise, kept_from, put_each, retire, retired_after, retired_by}
 use Rattle.lsm_coord.proofs.ManifestReplay.{current_at, length-versions_of, next_number, versions_of-push, first_is}
+use Rattle.lsm_coord.proofs.RetiredByNumber.{AreApart, IsApart, put_cases, put_new, put_old, rise_each, rising-filter}
 use Rattle.lsm_coord.proofs.VersionsStay.{at_grown, grown}
 
 -- ---- numbers of files
@@ -138,14 +140,48 @@ module _ (texts : List (List ℕ)) (s : ServedValue) (retired : List Retired) (f
       let p = place_of s version_is served_is f m in
       let test = λ (q : Placed). list_any (λ n. has_number n q.meta) e.removed in
       let kept = IsIn-kept test p.0 s.places p.1 (subst (λ (g : FileMeta). list_any (λ n. has_number n g) e.removed ≡ true) p.2 goes) in
-      inr (retire v.number p.0, IsIn-append_right _ retired (retired_by s e.removed) (IsIn-map (retire v.number) p.0 (filter test s.places) kept), ap (λ (g : FileMeta). g.number) (sym p.2))
+      inr (retire v.number p.0, put_new (retired_by s e.removed) retired _ (IsIn-map (retire v.number) p.0 (filter test s.places) kept), ap (λ (g : FileMeta). g.number) (sym p.2))
   goes_or_stays f m false keeps = inl (f, IsIn-append_left f (files_without e.removed v.files) e.added (IsIn-kept (stays e.removed) f v.files m (ap not keeps)), refl)
+
+  -- what retires has numbers of its own
+  apart_from : (r : Retired) → IsIn r (retired_by s e.removed) → IsApart r retired
+  apart_from r m x old same =
+      let p = IsIn-mapped (retire v.number) r _ m in
+      let there = IsIn-filter (λ (q : Placed). list_any (λ n. has_number n q.meta) e.removed) p.0 s.places p.1 in
+      let is = are.each x old in
+      let past = is.past in
+      let before = length-versions_of texts v folds in
+      let number : p.0.meta.number ≡ x.number = ap (λ (y : Retired). y.number) (sym p.2) ∙ sym same in
+      is.last v.number (omega (arith, past, before)) (v, current_at texts v folds, (p.0.meta, file_of s version_is served_is p.0 there.0, number))
+
+  abbrev goes : Placed → Bool
+  goes p = list_any (λ n. has_number n p.meta) e.removed
+
+  first_apart : (p : Placed) (ps : List Placed) → AreInSearchOrder (p ∷ ps) → ((q : Placed) → IsIn q (p ∷ ps) → IsIn q s.places) → IsApart (retire v.number p) (map (retire v.number) (filter goes ps))
+  first_apart p ps up within x m same =
+      let q = IsIn-mapped (retire v.number) x (filter goes ps) m in
+      let there = (IsIn-filter goes q.0 ps q.1).0 in
+      let number : q.0.meta.number ≡ p.meta.number = ap (λ (y : Retired). y.number) (sym q.2) ∙ same in
+      let one : q.0 ≡ p = one_place s version_is served_is q.0 p (within q.0 (inr there)) (within p (inl refl)) number in
+      not_itself p.meta (whole_place s version_is served_is p (within p (inl refl))) (subst (λ (y : Placed). Before p.meta y.meta) one (before_of p.meta q.0.meta (up.0 q.0 there)))
+
+  apart_by : (b : Bool) (p : Placed) (ps : List Placed) → IsApart (retire v.number p) (map (retire v.number) (filter goes ps)) → AreApart (map (retire v.number) (filter goes ps)) → AreApart (map (retire v.number) (cond b (p ∷ filter goes ps) (filter goes ps)))
+  apart_by true p ps first rest = (first, rest)
+  apart_by false p ps first rest = rest
+
+  all_apart : (ps : List Placed) → AreInSearchOrder ps → ((p : Placed) → IsIn p ps → IsIn p s.places) → AreApart (map (retire v.number) (filter goes ps))
+  all_apart [] up within = tt
+  all_apart (p ∷ ps) up within = apart_by (goes p) p ps (first_apart p ps up within) (all_apart ps up.1 (λ q m. within q (inr m)))
+
+  pub rising_after : NumbersRise (retired_after retired s e.removed)
+  rising_after = rise_each (retired_by s e.removed) retired are.rising (all_apart s.places served_is.ordered (λ p m. m)) apart_from
 
   pub retired-push : AreRetired (versions_of (texts ++ text ∷ [])) w (retired_after retired s e.removed) floor
   retired-push =
       rw (versions_of-push texts v text e folds one) (record {
+        rising = rising_after;
         low = let low = are.low in let next = next_number v e fits in omega (arith, low, next);
-        each = λ r m. elim (IsIn-append_cases r retired (retired_by s e.removed) m) [
+        each = λ r m. elim (put_cases (retired_by s e.removed) retired r m) [
           | inl old ↦ stays_retired r (are.each r old)
           | inr new ↦
               let test = λ (q : Placed). list_any (λ n. has_number n q.meta) e.removed in
@@ -153,7 +189,7 @@ module _ (texts : List (List ℕ)) (s : ServedValue) (retired : List Retired) (f
               let there = IsIn-filter test p.0 s.places p.1 in
               subst (IsRetired (vs ++ w ∷ [])) (sym p.2) (retires p.0 there.0 there.1)
         ];
-        served = λ r m. elim (IsIn-append_cases r retired (retired_by s e.removed) m) [
+        served = λ r m. elim (put_cases (retired_by s e.removed) retired r m) [
           | inl old ↦ are.served r old
           | inr new ↦
               let p = IsIn-mapped (retire v.number) r _ new in
@@ -162,7 +198,7 @@ module _ (texts : List (List ℕ)) (s : ServedValue) (retired : List Retired) (f
         whole = λ k n le l. elim (at_grown vs w k l.0 l.1) [
           | inl there ↦ elim (are.whole k n le (l.0, there, l.2)) [
             | inl now ↦ subst (λ (i : ℕ). IsListed w i ⊎ ((r : Retired) × IsIn r (retired_after retired s e.removed) × (r.number ≡ i))) now.2 (goes_or_stays now.0 now.1 _ refl)
-            | inr before ↦ inr (before.0, IsIn-append_left before.0 retired (retired_by s e.removed) before.1, before.2)
+            | inr before ↦ inr (before.0, put_old (retired_by s e.removed) retired before.0 before.1, before.2)
           ]
           | inr new ↦ inl (subst (λ (x : VersionValue). IsListed x n) new.1 l.2)
         ];
@@ -174,7 +210,7 @@ none_goes [] = refl
 none_goes (p ∷ ps) = none_goes ps
 
 pub retired-none : (retired : List Retired) (s : ServedValue) (removed : List ℕ) → removed ≡ [] → retired_after retired s removed ≡ retired
-retired-none retired s removed none = ap (retired_after retired s) none ∙ ap (λ (ps : List Placed). retired ++ map (retire s.version.number) ps) (none_goes s.places) ∙ append-nil retired
+retired-none retired s removed none = ap (retired_after retired s) none ∙ ap (λ (ps : List Placed). put_each (map (retire s.version.number) ps) retired) (none_goes s.places)
 
 -- ---- a trim
 
@@ -182,6 +218,7 @@ pub retired-trimmed : (vs : List VersionValue) (v : VersionValue) (retired : Lis
 retired-trimmed vs v retired floor n are le =
     let low = are.low in
     record {
+      rising = rising-filter (λ (x : Retired). leb (max floor n) x.until) retired are.rising;
       low = omega arith;
       each = λ r m. are.each r (IsIn-filter (λ (x : Retired). leb (max floor n) x.until) r retired m).0;
       served = λ r m. leb-true (max floor n) r.until (IsIn-filter (λ (x : Retired). leb (max floor n) x.until) r retired m).1;
@@ -205,6 +242,7 @@ one_at x y (suc k) h = absurd cc
 
 pub retired-new : AreRetired (versions_of []) first_version [] 0
 retired-new = record {
+  rising = tt;
   low = omega arith;
   each = λ r m. absurd m;
   served = λ r m. absurd m;

@@ -1,12 +1,12 @@
 //! Retired files: those that an earlier version lists and the current one lacks.
 
-ghost use Rattle.std.specs.Prelude.{◌≡◌, ◌+◌, ◌++◌, ◌≤◌, IfOk, length, nat_eq, vec_capacity};
+ghost use Rattle.std.specs.Prelude.{◌≡◌, ◌+◌, ◌≤◌, IfOk, length, nat_eq, vec_capacity};
 ghost use Rattle.std.specs.List.{list_any};
 ghost use Rattle.std.specs.List.Sorted.{IsNonDecreasing};
 ghost use Rattle.std.specs.Option.{option_copied};
 ghost use Rattle.lsm_edit.specs.Edit.{IsEdit};
 ghost use Rattle.lsm_edit.specs.Version.{has_number};
-ghost use Rattle.lsm_coord.specs.Contract.Retention.{dropped_below, retire, retired_at, retired_by};
+ghost use Rattle.lsm_coord.specs.Contract.Retention.{NumbersRise, dropped_below, put_each, retire, retired_at, retired_by};
 
 use bytes::Bytes;
 use lsm_edit::{Edit, Placed, Served};
@@ -73,25 +73,26 @@ fn retire(placed: &Placed, until: VersionNumber) -> Result<Retired, AllocError>
     })
 }
 
-/// Adds retired files to others, which have room for them.
+/// Adds retired files to others, which have room for them, by number. No two have one number.
 pub(crate) fn put_retired(retired: &mut Vec<Retired>, more: Vec<Retired>)
-    requires { length retired.old.items + length more.items ≤ vec_capacity retired.old }
-    ensures { retired.new.items ≡ retired.old.items ++ more.items }
+    requires room { length retired.old.items + length more.items ≤ vec_capacity retired.old }
+    requires rising { NumbersRise (put_each more.items retired.old.items) }
+    ensures { retired.new.items ≡ put_each more.items retired.old.items }
 {
     let mut more = more;
     retired.append(&mut more).unwrap();
+    retired.sort_unstable_by_key(|file| file.number.number());
 }
 
 /// The table of a retired file.
 pub(crate) fn retired_bytes(retired: &[Retired], number: u64) -> Option<&Bytes>
+    requires { NumbersRise retired.now }
     ensures { option_copied result ≡ retired_at retired.now number }
 {
-    for file in retired {
-        if file.number.number() == number {
-            return Some(&file.bytes);
-        }
+    match retired.binary_search_by_key(&number, |file| file.number.number()) {
+        Ok(at) => Some(&retired[at].bytes),
+        Err(_) => None,
     }
-    None
 }
 
 /// The numbers of the retired files that no version from the floor on lists.

@@ -1,5 +1,5 @@
 -- Removed files whose tables are kept while a version from the floor on lists them (LevelDB, version_set.cc: AddLiveFiles; db_impl.cc: RemoveObsoleteFiles).
-use Rattle.std.specs.Prelude.{◌≡◌, ℕ, ◌+◌, ◌<◌, ◌≤◌, ◌⊎◌, List, [], ◌∷◌, ◌++◌, Option, None, Some, length, map, filter, nat_eq, nat_le, nat_lt, slice_get, if◌then◌else◌}
+use Rattle.std.specs.Prelude.{◌≡◌, ℕ, ◌+◌, ◌<◌, ◌≤◌, ◌⊎◌, List, [], ◌∷◌, Option, None, Some, length, map, filter, nat_eq, nat_le, nat_lt, slice_get, if◌then◌else◌}
 use Rattle.std.specs.List.{list_any}
 use Rattle.lsm_key.specs.Sets.{IsIn}
 use Rattle.lsm_table.specs.Tables.{Opened}
@@ -24,9 +24,19 @@ retire until p = record { number = p.meta.number; bytes = p.table.bytes; until =
 abbrev pub retired_by : ServedValue → List ℕ → List Retired
 retired_by s removed = map (retire s.version.number) (filter (λ p. list_any (λ n. has_number n p.meta) removed) s.places)
 
+-- inserted before the first of a greater number
+abbrev pub put_by_number : Retired → List Retired → List Retired
+put_by_number r [] = r ∷ []
+put_by_number r (x ∷ xs) = if nat_lt r.number x.number then r ∷ x ∷ xs else x ∷ put_by_number r xs
+
+-- files inserted among others
+abbrev pub put_each : List Retired → List Retired → List Retired
+put_each [] xs = xs
+put_each (r ∷ rs) xs = put_by_number r (put_each rs xs)
+
 -- the next version lacks the files of these numbers
 abbrev pub retired_after : List Retired → ServedValue → List ℕ → List Retired
-retired_after retired s removed = retired ++ retired_by s removed
+retired_after retired s removed = put_each (retired_by s removed) retired
 
 -- those that a version from the floor on lists
 abbrev pub kept_from : ℕ → List Retired → List Retired
@@ -59,8 +69,14 @@ pub record IsRetired (versions : List VersionValue) (r : Retired) : Type 0 where
   pub past : r.until + 1 < length versions
   pub last : (k : ℕ) → r.until < k → ListsFile versions k r.number → ⊥
 
--- the retired files are exactly those that a version from the floor on lists and the current one lacks
+-- numbers rise from file to file
+abbrev pub NumbersRise : List Retired → Type 0
+NumbersRise [] = Unit {0}
+NumbersRise (r ∷ rs) = ((x : Retired) → IsIn x rs → r.number < x.number) × NumbersRise rs
+
+-- the retired files, by number, are exactly those that a version from the floor on lists and the current one lacks
 pub record AreRetired (versions : List VersionValue) (current : VersionValue) (retired : List Retired) (floor : ℕ) : Type 0 where
+  pub rising : NumbersRise retired
   pub low : floor ≤ current.number
   pub each : (r : Retired) → IsIn r retired → IsRetired versions r
   pub served : (r : Retired) → IsIn r retired → floor ≤ r.until
