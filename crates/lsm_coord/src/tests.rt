@@ -1,10 +1,12 @@
 //! What no clause says: that calls succeed, and the texts of refusals.
 
+mod fetches;
 mod installs;
 mod library;
 mod picks;
 mod records;
 mod steps;
+mod trims;
 
 use super::*;
 use bytes::Bytes;
@@ -93,7 +95,7 @@ const FULL: [(Step, Made); 7] = [
     (Step::Fill(1, 2_764), Made::Wrote(124, 124)),
 ];
 
-const TEXTS: [(CoordError, &str); 12] = [
+const TEXTS: [(CoordError, &str); 13] = [
     (CoordError::SequenceExhausted, "the sequences are exhausted"),
     (CoordError::FrozenWaiting, "a frozen memtable waits"),
     (CoordError::NothingToFreeze, "there is nothing to freeze"),
@@ -106,6 +108,10 @@ const TEXTS: [(CoordError, &str); 12] = [
     (
         CoordError::TooWide,
         "every compaction that no running job blocks exceeds a job size limit",
+    ),
+    (
+        CoordError::BadFloor,
+        "the floor is above the current version",
     ),
     (
         CoordError::NumbersExhausted,

@@ -20,9 +20,9 @@ use lsm_table::Table;
 use std::alloc::{AllocError, Global};
 use std::marker::Model;
 
-/// The current version with its tables, the manifest, which is the bytes of each edit, in order, and the retired files. The
-/// manifest always replays to the current version. The retired files are those that some version from the floor on lists and
-/// the current one lacks.
+/// The current version with its tables; the manifest, the bytes of each edit, in order; and the retired files, by number. The
+/// manifest always replays to the current version, and the retired files are those that some version from the floor on lists
+/// and the current one lacks.
 #[derive(Debug, Drop)]
 pub(crate) struct VersionSet {
     alloc: Global,

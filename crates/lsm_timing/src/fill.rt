@@ -9,7 +9,9 @@ use crate::watch::Watch;
 use bytes::Bytes;
 use lsm_claim::Claim;
 use lsm_coord::{Coord, CoordError, Install};
-use lsm_key::{Batch, DEFAULT_BASE, DEFAULT_L0, FileNumber, Items, Limits, NUM_LEVELS};
+use lsm_key::{
+    Batch, DEFAULT_BASE, DEFAULT_L0, FileNumber, Items, Limits, NUM_LEVELS, VersionNumber,
+};
 use lsm_merge::merge;
 use lsm_msg::{Body, Job, JobResult, Message, Node, NodeIndex};
 use lsm_table::Table;
@@ -181,8 +183,9 @@ impl Store {
         let installed = self.coord.install(claim, made);
         self.watch.end(self.bench, start);
         match installed {
-            Install::Done(_, _) => {
+            Install::Done(number, _) => {
                 self.count(level, bytes_of(made.tables.as_slice()));
+                self.trim(number)?;
                 Ok(true)
             }
             Install::Stale(_, _) => Err(STALE),
@@ -191,6 +194,15 @@ impl Store {
                 Err(TimingError::from(CoordError::from(why)))
             }
         }
+    }
+
+    // Lets the tables of earlier versions go, which nobody reads.
+    fn trim(&mut self, to: VersionNumber) -> Result<(), TimingError> {
+        let start = self.watch.now(self.bench);
+        let trimmed = self.coord.trim(to);
+        self.watch.end(self.bench, start);
+        trimmed?;
+        Ok(())
     }
 
     /// The bytes of a file's table, as a worker fetches them.

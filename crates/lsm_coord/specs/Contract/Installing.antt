@@ -106,7 +106,7 @@ pub record IsAcceptable (v : VersionValue) (live : LiveJob) (made : JobResult) (
   pub outputs : AreOutputTables live.want.hull made.tables ts
   pub numbers : HasNumbers v ts
 
--- The version after an install: the outputs replace the inputs, one level deeper, which retire; the edit is the last of the
+-- The version after an install: the outputs replace the inputs, one level deeper; the inputs retire; the edit is the last of the
 -- manifest, and the claim is settled.
 pub record IsInstallDone (old : CoordValue) (live : LiveJob) (ts : List Opened) (new : CoordValue) : Type 0 where
   pub edit : Edit

@@ -7,7 +7,7 @@ use crate::InstallError;
 use std::test::Fail;
 
 // A put of a at sequence 1.
-const OF_A: &[u8] =
+pub(super) const OF_A: &[u8] =
     b"LSMT\x01\x01\0\0\0\0\0\0\x01\0\0\0\x01\0\0\0\x10\0\x01a\0\0\0\0\0\0\x01\x01\0\x01a\0\0\0\0\0\0\x01\x01\0\0\0\x011";
 
 // The deletion of a at sequence 2 and its put at sequence 1.

@@ -25,7 +25,7 @@ fn write_of_a(alloc: Global) -> Result<Call, AllocError> {
     Ok(Call::Write(Items::from_vec(ops)))
 }
 
-/// Calls, one for each place from 0 to 6, no two of them the same.
+/// Calls, one for each place from 0 to 8, no two of them the same.
 fn call_of(alloc: Global, place: u32) -> Result<Call, AllocError> {
     Ok(match place {
         0 => write_of_a(alloc)?,
@@ -39,15 +39,17 @@ fn call_of(alloc: Global, place: u32) -> Result<Call, AllocError> {
             limit: 10,
         }),
         5 => Call::Pick,
+        6 => Call::Trim(VersionNumber::new(2)),
+        7 => Call::Trim(VersionNumber::new(3)),
         _ => Call::Release(SNAPSHOT),
     })
 }
 
 #[test]
 fn a_copied_call_is_the_same(rt: HostRuntime) -> Result<(), Fail> {
-    for i in 0..7 {
+    for i in 0..9 {
         let copy = call_of(rt.alloc(), i)?.copy(rt.alloc())?;
-        for j in 0..7 {
+        for j in 0..9 {
             let same = copy.same(&call_of(rt.alloc(), j)?);
             assert!(rt; same == (i == j), "call {i} and call {j}");
         }
@@ -62,7 +64,7 @@ fn scan_of_a(alloc: Global) -> Result<Answer, AllocError> {
     Ok(Answer::Scanned(Items::from_vec(pairs)))
 }
 
-/// Answers, one for each place from 0 to 7, no two of them the same.
+/// Answers, one for each place from 0 to 8, no two of them the same.
 fn answer_of(alloc: Global, place: u32) -> Result<Answer, AllocError> {
     Ok(match place {
         0 => Answer::Refused(CoordError::BookFull),
@@ -72,15 +74,16 @@ fn answer_of(alloc: Global, place: u32) -> Result<Answer, AllocError> {
         4 => scan_of_a(alloc)?,
         5 => Answer::Scanned(Items::new(alloc)),
         6 => Answer::Idle,
+        7 => Answer::Trimmed(VersionNumber::new(2), Items::new(alloc)),
         _ => Answer::Stale(JOB, 2),
     })
 }
 
 #[test]
 fn a_copied_answer_is_the_same(rt: HostRuntime) -> Result<(), Fail> {
-    for i in 0..8 {
+    for i in 0..9 {
         let copy = answer_of(rt.alloc(), i)?.copy(rt.alloc())?;
-        for j in 0..8 {
+        for j in 0..9 {
             let same = copy.same(&answer_of(rt.alloc(), j)?);
             assert!(rt; same == (i == j), "answer {i} and answer {j}");
         }

@@ -1,13 +1,14 @@
 //! Calls of a coordinator and what each gives as plain values, so that a test is a table of them.
 
 use super::batch_of;
+use super::fetches::{is_fetched, is_silent};
 use crate::{Coord, CoordError, Desk, Install, InstallError, SnapId};
 use bytes::Bytes;
 use lsm_claim::{Claim, JobId, Settled};
 use lsm_edit::FileMeta;
 use lsm_key::{Batch, FileNumber, Items, Limits, Op, Seq, VersionNumber};
-use lsm_msg::{Body, Job, JobResult, Message, Node, NodeIndex};
-use std::alloc::{AllocError, Global};
+use lsm_msg::{Job, JobResult, NodeIndex};
+use std::alloc::Global;
 use std::mem;
 use std::process::Abort;
 use std::test::Fail;
@@ -41,6 +42,8 @@ pub(super) enum Step {
     Fetch(u64, Option<&'static [u8]>),
     /// Whether a message that is no fetch is not answered.
     Ask,
+    /// Raises the floor to a version.
+    Trim(u64),
 }
 
 /// How many there are, and the first three.
@@ -73,6 +76,8 @@ pub(super) enum Made {
     Installed(u64, u64),
     KeptBack(InstallError),
     Is(bool),
+    /// The floor, how many files were let go, and the first one, or 0 for none.
+    Trimmed(u64, usize, u64),
     /// Nothing that a test asks for.
     Other,
 }
@@ -288,48 +293,16 @@ fn installed(coord: &mut Coord, desk: &mut Desk, index: NodeIndex, made: &JobRes
     }
 }
 
+fn trimmed(coord: &mut Coord, to: u64) -> Made {
+    match coord.trim(VersionNumber::new(to)) {
+        Ok((floor, files)) => Made::Trimmed(floor.number(), files.len(), first_of(&files)),
+        Err(why) => Made::Refused(why),
+    }
+}
+
 fn closed(coord: &mut Coord, desk: &mut Desk) -> Made {
     mem::replace(desk, Desk::new()).close(coord);
     Made::Done
-}
-
-/// The answer to a worker.
-fn served(coord: &Coord, worker: NodeIndex, body: Body) -> Result<Option<Message>, AllocError> {
-    let asked = Message {
-        src: Node::Worker(worker),
-        dst: Node::Coordinator,
-        body,
-    };
-    coord.serve(&asked)
-}
-
-/// Whether it brings this table of a file, or says that the file is gone.
-fn brings(body: &Body, file: u64, table: Option<&[u8]>) -> bool {
-    match body {
-        Body::Table(number, bytes) => number.number() == file && table == Some(bytes.as_slice()),
-        Body::Gone(number) => number.number() == file && table.is_none(),
-        _ => false,
-    }
-}
-
-fn is_fetched(
-    coord: &Coord,
-    worker: NodeIndex,
-    file: u64,
-    table: Option<&[u8]>,
-) -> Result<bool, AllocError> {
-    match served(coord, worker, Body::Fetch(FileNumber::new(file)))? {
-        Some(answer) => Ok(
-            answer.src == Node::Coordinator
-                && answer.dst == Node::Worker(worker)
-                && brings(&answer.body, file, table),
-        ),
-        None => Ok(false),
-    }
-}
-
-fn is_silent(coord: &Coord, worker: NodeIndex) -> Result<bool, AllocError> {
-    Ok(served(coord, worker, Body::Ask(VersionNumber::new(1)))?.is_none())
 }
 
 fn index_of(number: u8) -> Result<NodeIndex, Fail> {
@@ -362,6 +335,7 @@ fn done(alloc: Global, coord: &mut Coord, desk: &mut Desk, step: Step) -> Result
         Step::Close => closed(coord, desk),
         Step::Fetch(file, table) => Made::Is(is_fetched(coord, index_of(1)?, file, table)?),
         Step::Ask => Made::Is(is_silent(coord, index_of(1)?)?),
+        Step::Trim(to) => trimmed(coord, to),
     })
 }
 

@@ -1,0 +1,47 @@
+//! Messages of a worker, and whether they are answered as they should be.
+
+use crate::Coord;
+use lsm_key::{FileNumber, VersionNumber};
+use lsm_msg::{Body, Message, Node, NodeIndex};
+use std::alloc::AllocError;
+
+/// The answer to a worker.
+fn served(coord: &Coord, worker: NodeIndex, body: Body) -> Result<Option<Message>, AllocError> {
+    let asked = Message {
+        src: Node::Worker(worker),
+        dst: Node::Coordinator,
+        body,
+    };
+    coord.serve(&asked)
+}
+
+/// Whether it brings this table of a file, or says that the file is gone.
+fn brings(body: &Body, file: u64, table: Option<&[u8]>) -> bool {
+    match body {
+        Body::Table(number, bytes) => number.number() == file && table == Some(bytes.as_slice()),
+        Body::Gone(number) => number.number() == file && table.is_none(),
+        _ => false,
+    }
+}
+
+/// Whether a fetched file is answered with this table, or reported as gone.
+pub(super) fn is_fetched(
+    coord: &Coord,
+    worker: NodeIndex,
+    file: u64,
+    table: Option<&[u8]>,
+) -> Result<bool, AllocError> {
+    match served(coord, worker, Body::Fetch(FileNumber::new(file)))? {
+        Some(answer) => Ok(
+            answer.src == Node::Coordinator
+                && answer.dst == Node::Worker(worker)
+                && brings(&answer.body, file, table),
+        ),
+        None => Ok(false),
+    }
+}
+
+/// Whether a message that is no fetch is not answered.
+pub(super) fn is_silent(coord: &Coord, worker: NodeIndex) -> Result<bool, AllocError> {
+    Ok(served(coord, worker, Body::Ask(VersionNumber::new(1)))?.is_none())
+}
