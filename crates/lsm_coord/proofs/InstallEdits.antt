@@ -67,10 +67,10 @@ records_end level number [] = omega arith
 records_end level number (t ∷ ts) = let e = records_end level (number + 1) ts in omega (arith, e)
 
 in_turn : (level number least low high : ℕ) (ts : List Opened) → level ≤ 6 → 1 ≤ number → number + length ts ≤ MAX_NUMBER → least ≤ number → low ≤ level → level ≤ high → ((t : Opened) → IsIn t ts → IsTable t.bytes t.entries)
-    → AreInTurn IsFileFrom after_file (least, low, high) (records level number ts)
+    → AreInTurn IsFileFrom after_file (record { least = least; most = MAX_NUMBER; lowest = low; deepest = high }) (records level number ts)
 in_turn level number least low high [] deep some room le a b each = tt
 in_turn level number least low high (t ∷ ts) deep some room le a b each = (
-  (record_file level number t deep some (omega (arith, room)) (each t (inl refl)), le, a, b),
+  (record_file level number t deep some (omega (arith, room)) (each t (inl refl)), le, omega (arith, room), a, b),
   in_turn level (number + 1) (number + 1) level level ts deep (omega arith) (omega (arith, room)) (omega arith) (omega arith) (omega arith) (λ u m. each u (inr m)),
 )
 

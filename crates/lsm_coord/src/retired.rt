@@ -1,15 +1,12 @@
 //! Retired files: those that an earlier version lists and the current one lacks.
 
-ghost use Rattle.std.specs.Prelude.{◌≡◌, ◌+◌, ◌≤◌, IfOk, length, nat_eq, vec_capacity};
-ghost use Rattle.std.specs.List.{list_any};
-ghost use Rattle.std.specs.List.Sorted.{IsNonDecreasing};
+ghost use Rattle.std.specs.Prelude.{◌≡◌, ◌+◌, ◌≤◌, IfOk, length, vec_capacity};
 ghost use Rattle.std.specs.Option.{option_copied};
 ghost use Rattle.lsm_edit.specs.Edit.{IsEdit};
-ghost use Rattle.lsm_edit.specs.Version.{has_number};
 ghost use Rattle.lsm_coord.specs.Contract.Retention.{NumbersRise, dropped_below, put_each, retire, retired_at, retired_by};
 
 use bytes::Bytes;
-use lsm_edit::{Edit, Placed, Served};
+use lsm_edit::{Edit, Placed, Served, is_among, removed_by};
 use lsm_key::{FileNumber, VersionNumber};
 use std::alloc::{AllocError, Global};
 
@@ -42,23 +39,6 @@ pub(crate) fn retired_by(
         retired.push(retire(placed, until)?)?;
     }
     Ok(retired)
-}
-
-// The numbers of the files that an edit removes.
-fn removed_by(edit: &Edit) -> &[u64]
-    requires { IsEdit edit.now }
-    ensures all { result.now ≡ edit.now.removed }
-    ensures ascending { IsNonDecreasing result.now }
-{
-    edit.removed.as_slice()
-}
-
-// Whether the number is one of these, which ascend.
-fn is_among(numbers: &[u64], number: u64) -> bool
-    requires { IsNonDecreasing numbers.now }
-    ensures { result ≡ list_any (λ n. nat_eq number n) numbers.now }
-{
-    numbers.binary_search(&number).is_ok()
 }
 
 // A file that this version is the last to list.

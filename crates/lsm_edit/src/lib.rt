@@ -24,4 +24,4 @@ pub use file::{FileBounds, FileMeta, file_bytes, files_bytes, read_file, same_fi
 pub use format::{FormatError, FormatFault};
 pub use laws::{a_number_names_one_file, no_file_is_removed_twice, worked_edits};
 pub use served::{Listing, Placed, Served};
-pub use version::{ApplyError, Version};
+pub use version::{ApplyError, Version, is_among, removed_by};

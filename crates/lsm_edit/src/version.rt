@@ -262,8 +262,8 @@ impl Version {
     }
 }
 
-// The numbers of the removed files, which ascend.
-pub(crate) fn removed_by(edit: &Edit) -> &[u64]
+/// The numbers of the files that an edit removes, which ascend.
+pub fn removed_by(edit: &Edit) -> &[u64]
     requires { IsEdit edit.now }
     ensures all { result.now ≡ edit.now.removed }
     ensures ascending { IsNonDecreasing result.now }
@@ -271,8 +271,8 @@ pub(crate) fn removed_by(edit: &Edit) -> &[u64]
     edit.removed.as_slice()
 }
 
-// Whether the number is one of these, which ascend.
-pub(crate) fn is_among(numbers: &[u64], number: u64) -> bool
+/// Whether the number is one of these, which ascend.
+pub fn is_among(numbers: &[u64], number: u64) -> bool
     requires { IsNonDecreasing numbers.now }
     ensures { result ≡ list_any (λ n. nat_eq number n) numbers.now }
 {

@@ -16,11 +16,11 @@ use Rattle.lsm_edit.specs.Version.{FileNumbersRise}
 use Rattle.lsm_edit.proofs.Ascending.{IsNumberFrom, removed_of_turn}
 use Rattle.lsm_edit.proofs.ItemsInTurn.{AreInTurn}
 use Rattle.lsm_edit.proofs.VersionLaws.{rise-filter}
-use Rattle.lsm_key.specs.declared.limits.TheConstants.{MAX_INPUTS}
+use Rattle.lsm_key.specs.declared.limits.TheConstants.{MAX_INPUTS, MAX_NUMBER}
 use Rattle.lsm_pick.specs.Closure.{Candidate}
 use Rattle.lsm_pick.specs.Rule.{IsEligible, inputs_of}
 
-in_turn : (least : ℕ) (files : List FileMeta) → FileNumbersRise files → ((f : FileMeta) → IsIn f files → IsFile f) → ((f : FileMeta) → IsIn f files → least ≤ f.number) → AreInTurn IsNumberFrom after_number least (map (λ (f : FileMeta). f.number) files)
+in_turn : (least : ℕ) (files : List FileMeta) → FileNumbersRise files → ((f : FileMeta) → IsIn f files → IsFile f) → ((f : FileMeta) → IsIn f files → least ≤ f.number) → AreInTurn (IsNumberFrom MAX_NUMBER) after_number least (map (λ (f : FileMeta). f.number) files)
 in_turn least [] rise each low = tt
 in_turn least (f ∷ files) rise each low =
     ((low f (inl refl), (each f (inl refl)).last), in_turn (f.number + 1) files rise.1 (λ g m. each g (inr m)) (λ g m. let lt = rise.0 g m in omega (arith, lt)))
@@ -34,4 +34,4 @@ removable files rise each live t want taken =
     let few = leb-true (length inputs) MAX_INPUTS (and_parts _ _ taken.within).0 in
     let some = some_in t.first inputs ((taken.asks).closure).has in
     removed_of_turn Install want.files (omega (arith, some, count)) (omega (arith, few, count))
-    (subst (AreInTurn IsNumberFrom after_number 1) (sym is) (in_turn 1 inputs (rise-filter test files rise) (λ f m. each f (IsIn-filter test f files m).0) (λ f m. (each f (IsIn-filter test f files m).0).first)))
+    (subst (AreInTurn (IsNumberFrom MAX_NUMBER) after_number 1) (sym is) (in_turn 1 inputs (rise-filter test files rise) (λ f m. each f (IsIn-filter test f files m).0) (λ f m. (each f (IsIn-filter test f files m).0).first)))
