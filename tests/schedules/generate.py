@@ -29,7 +29,7 @@ KEYS = ["a", "b", "c", "d", "m", "n", "z", "aa", "a%00", "%00", "%FF", "x%25", "
 WRITES = {"put": 12, "del": 6, "batch": 3, "freeze": 2, "flush": 11, "snap": 2, "release": 2, "get": 6, "scan": 3, "show": 2}
 ALL = {**WRITES, "pick": 10, "giveup": 3, "deliver": 44, "restart": 1}
 COMMANDS = {"all": ALL, "writes": WRITES}
-# How a delivery chooses its message, and what of all undelivered messages is lost at each delivery, in a bad and in a good network.
+# How a delivery chooses its message, and how likely it loses one of the undelivered ones, in a bad and in a good network.
 BAD = {"oldest": 10, "several": 6, "newest": 2, "any": 3, "again": 4, "unsent": 0.4}, 0.03
 GOOD = {"oldest": 10, "several": 20, "newest": 0.5, "any": 0.5, "again": 0.5, "unsent": 0.1}, 0
 # Of so many schedules one has values so large that batches and memtables are full and outputs are cut.

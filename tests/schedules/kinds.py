@@ -1,4 +1,4 @@
-"""Kinds of replies, by which it is counted what random schedules come upon."""
+"""The names under which the replies of random scripts are counted."""
 from store import events
 from store.messages import Job
 from store.worker import COLLECTING

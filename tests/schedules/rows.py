@@ -1,4 +1,4 @@
-"""Worked scripts with the lines that they print: those of the folder rows, which were written by hand, and some that are too long for
+"""Worked scripts with the lines that they print: those of the folder rows, and some that are too long for
 a file, at the limits of a job and of a merge's outputs."""
 import glob
 import os

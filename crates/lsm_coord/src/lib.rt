@@ -4,7 +4,7 @@
 //! state forces, one step, and a run; the laws of runs are proved beside them. `Coord` is one store in memory, and each
 //! call promises that it follows them: from every state that the store shows before, the call and its answer are a step
 //! to a state that it shows after. Jobs are picked, their files served and their results installed; a job stays
-//! installable as long as its claim is live.
+//! installable as long as its claim is live. Tables stay and are served until a trim lets them go.
 //!
 //! It stands on `lsm_key` for writes and entries, `lsm_mem` for memtables, `lsm_table` for tables, `lsm_edit` for versions
 //! and the tables that they serve, `lsm_claim` for claims, `lsm_msg` for jobs and messages, and `lsm_pick` for the rule of a

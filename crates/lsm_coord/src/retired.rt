@@ -1,4 +1,4 @@
-//! Retired files: those that an earlier version lists and the current one lacks.
+//! Retired files: those that a version from the floor on lists and the current one lacks.
 
 ghost use Rattle.std.specs.Prelude.{◌≡◌, ◌+◌, ◌≤◌, IfOk, length, vec_capacity};
 ghost use Rattle.std.specs.Option.{option_copied};

@@ -43,7 +43,7 @@ impl Model for VersionSet {
 }
 
 impl VersionSet {
-    /// Version 0, without edits. The floor is there.
+    /// Version 0, without edits. The floor is 0.
     pub(crate) fn new(alloc: Global) -> VersionSet
         ensures { result ≡ first_version_set }
     {

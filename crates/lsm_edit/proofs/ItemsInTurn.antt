@@ -1,4 +1,4 @@
--- Items that are read one after another, each as the one before it asks for.
+-- Items that are read one after another, each as those before it require.
 use Rattle.std.proofs.Common.{◌≡◌, ℕ, zero, suc, ◌<◌, ◌≤◌, List, [], ◌∷◌, ◌++◌, length, Result, Ok, Err, refl, sym, ap, subst, ◌∙◌, append_assoc, arith}
 use Rattle.std.specs.Int.{Width, to_be_bytes}
 use Rattle.std.specs.List.{flat_map}

@@ -1,4 +1,4 @@
-//! What can be wrong with the bytes of an edit.
+//! What can be wrong with the bytes of an edit or a base.
 
 use lsm_key::Refused;
 

@@ -1,7 +1,8 @@
 //! File records, edits and versions: which tables a store has, and how that changes.
 //!
-//! It promises that an edit and its bytes say the same, that a version is the result of applying its edits in turn, and
-//! that a read of a version with its tables returns the newest visible entry. It stands on the tables and the keys.
+//! It promises that an edit or a whole version and its bytes say the same, that a version is the result of applying its
+//! edits in turn, and that a read of a version with its tables returns the newest visible entry. It stands on the
+//! tables and the keys.
 #![tactic(auto)]
 
 mod base;

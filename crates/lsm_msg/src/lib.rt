@@ -1,11 +1,11 @@
-//! Jobs and messages as plain data, and what a merge keeps.
+//! Jobs and messages, as plain data and as bytes, and what a merge keeps.
 //!
-//! Nodes exchange messages; of these only a job has rules. It promises that every job keeps the rules of its format,
-//! and that a copy is the same value, however often a message was copied on its way. Its definitions say which files
-//! may be merged and which entries the outputs of a job hold; its laws, that the install of such outputs changes no
-//! read, and that neither it nor a flush invalidates other jobs. It stands on `lsm_edit` for versions with their
-//! tables, on `lsm_claim` for the names of jobs, their wants and ranges of keys, and on `lsm_key` for what is visible
-//! in a set of entries.
+//! Nodes exchange messages. It promises that a message and its bytes say the same, that other bytes are refused by
+//! their first fault, that every job keeps the rules of its format, and that a copy is the same value. Its definitions
+//! say which files may be merged and which entries the outputs of a job hold; its laws, that the install of such
+//! outputs changes no read, and that neither it nor a flush invalidates other jobs. It stands on `lsm_edit` for
+//! versions with their tables and for their bytes, on `lsm_claim` for the names of jobs, their wants and ranges of
+//! keys, and on `lsm_key` for fields and for what is visible in a set of entries.
 #![tactic(auto)]
 
 mod fault;

@@ -93,7 +93,8 @@ class Coordinator:
     def scan(self, low, high, limit, snapshot):
         at = self.sequence_at(snapshot)
         found = answers(self.writes, at, low, high, limit)
-        assert all(value == self.looked_up(key, at) for key, value in found), "a look-up gives another value than the writes"
+        written = {it.key for it in self.writes if low <= it.key < high}
+        assert all(answer(self.writes, at, key) == self.looked_up(key, at) for key in written), "a look-up gives another value than the writes"
         return found
 
     def looked_up(self, key, at):

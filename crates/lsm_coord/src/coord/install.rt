@@ -87,7 +87,8 @@ impl Coord {
     /// changes and the claim is handed back: its job is still live, and it still has to be settled.
     ///
     /// Of the outputs' contents it tests only the keys: that they are what a merge keeps of the inputs is the worker's
-    /// responsibility.
+    /// responsibility. The inputs' tables stay in memory, and are served, until `Coord::trim` raises the floor past the
+    /// last version that lists them.
     pub fn install(&mut self, claim: Claim, made: &JobResult) -> Install
         ensures became { Became self.old claim made.now result self.new }
         ensures step { (message : ℕ) → (IsDone result → HoldsSoundMerge self.old claim.id made.now) → Follows self.old (Deliver message) (install_reply result) self.new }

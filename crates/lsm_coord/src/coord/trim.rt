@@ -1,4 +1,4 @@
-//! Trims: the floor rises, and the tables go that no version from it on lists.
+//! Trims: the floor rises, and tables are let go that only versions below it list.
 
 ghost use Rattle.std.specs.Prelude.{◌≡◌, None, IfErr, IfOk, OnErr, OnOk, max};
 ghost use Rattle.lsm_key.specs.Faults.{Refuses};
@@ -14,8 +14,9 @@ use crate::CoordError;
 use lsm_key::{FileNumber, Items, VersionNumber};
 
 impl Coord {
-    /// Raises the floor to a version, unless it is higher, and lets the tables go of files that no version from it on
-    /// lists: a fetch of one gets `Gone` from then on. Returns the floor, and the numbers of these files, ascending.
+    /// Raises the floor to a version, unless it is higher, and lets go of the tables of files that no version from the
+    /// floor on lists: a later fetch of such a file gets `Gone`. Returns the floor, and the numbers of these files,
+    /// ascending.
     /// Refuses a version above the current one. A refusal changes nothing.
     pub fn trim(
         &mut self,
