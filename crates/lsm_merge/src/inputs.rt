@@ -27,7 +27,8 @@ pub(crate) fn are_as_recorded(files: &[FileMeta], tables: &[Table]) -> bool
     true
 }
 
-fn is_as_recorded(file: &FileMeta, table: &Table) -> bool
+/// Whether a table is as its record says: by its least and greatest key, its length in bytes and its number of entries.
+pub fn is_as_recorded(file: &FileMeta, table: &Table) -> bool
     ensures { IsTrue result ↔ IsAsRecorded file.now table.now }
 {
     file.smallest == *table.smallest()

@@ -1,0 +1,3 @@
+pub mod HeldInputs
+pub mod ResultTables
+pub mod Steps
