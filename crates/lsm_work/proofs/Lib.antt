@@ -1,3 +1,4 @@
 pub mod HeldInputs
 pub mod ResultTables
 pub mod Steps
+pub mod LastInput
