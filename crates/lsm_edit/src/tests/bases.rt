@@ -83,7 +83,8 @@ fn is_spelled(alloc: Global, bytes: &[u8], number: u64, files: usize) -> Result<
                 && version.files().len() == files
                 && encode_base(alloc, &version)?.as_slice() == bytes,
         ),
-        Err(_) => Ok(false),
+        Err(Refused::Fault(_)) => Ok(false),
+        Err(Refused::OutOfMemory) => Err("out of memory")?,
     }
 }
 
