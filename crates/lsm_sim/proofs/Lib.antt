@@ -7,8 +7,3 @@ pub mod KnownStreams
 pub mod RunSteps
 pub mod StoppedRuns
 pub mod ToldRefusals
-pub mod ServedTables
-pub mod JobEntries
-pub mod MergedOutputs
-pub mod Compactions
-pub mod CompactionAnswers

@@ -6,4 +6,3 @@ pub mod Script
 pub mod Lines
 pub mod Runs
 pub mod Replies
-pub mod Compacting

@@ -3,7 +3,6 @@
 
 mod batch;
 mod command;
-mod compact;
 mod error;
 mod event;
 mod fault;

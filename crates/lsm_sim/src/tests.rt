@@ -1,8 +1,6 @@
 //! What no contract says: that calls succeed, and streams that fail. What scripts print, the texts of their faults among it, is
 //! tested by the program itself.
 
-mod compact;
-
 use crate::error::RunError;
 use crate::run::run_script;
 use crate::script::parse;

@@ -9,7 +9,7 @@ use Rattle.lsm_edit.specs.declared.served.Placed.{Placed}
 use Rattle.lsm_edit.specs.Served.{AreAsRecorded, IsAsRecorded, IsServed, ServedValue, table_at}
 use Rattle.lsm_edit.specs.Version.{IsVersion}
 use Rattle.lsm_edit.proofs.ServedPlaces.{one_place, place_of}
-use Rattle.lsm_sim.specs.Compacting.{list_of_option, tables_at}
+use Rattle.lsm_store.specs.Compacting.{list_of_option, tables_at}
 
 -- ---- one table
 

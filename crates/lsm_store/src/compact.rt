@@ -14,7 +14,7 @@ ghost use Rattle.lsm_coord.specs.Contract.Shows.{Follows, Shows};
 ghost use Rattle.lsm_coord.specs.Contract.Sound.{KeepsSound};
 ghost use Rattle.lsm_coord.specs.Model.Event.{Deliver, Installed};
 ghost use Rattle.lsm_coord.specs.Model.State.{State};
-ghost use Rattle.lsm_sim.specs.Compacting.{Compacts, CompactionRefuses, IsLeft, IsReached, KeptBack, Merges, tables_at};
+ghost use Rattle.lsm_store.specs.Compacting.{Compacts, CompactionRefuses, IsLeft, IsReached, KeptBack, Merges, tables_at};
 
 use lsm_claim::Claim;
 use lsm_coord::{Coord, CoordError, Install};
@@ -28,7 +28,8 @@ use std::alloc::{AllocError, Global};
 /// Runs the next compaction, if a level needs one: picks its job, merges the tables that the coordinator serves, and
 /// installs the outputs. Returns the number of the new version and its new files, or `None` if nothing is picked.
 /// `None` also if two inputs share an internal key; that cannot happen in a coordinator that represents a valid state.
-/// A refusal leaves the version as it was, and no claim behind.
+/// A refusal leaves the version as it was, and no claim behind. The inputs' tables stay in memory, and are served, until
+/// `Coord::trim` raises the floor past the last version that lists them.
 pub fn compact_once(
     alloc: Global,
     coord: &mut Coord,

@@ -33,9 +33,9 @@ use Rattle.lsm_coord.specs.Contract.Value.{CoordValue}
 use Rattle.lsm_coord.proofs.InstallOutcomes.{held_by}
 use Rattle.lsm_coord.proofs.PickedJobs.{inputs_taken}
 use Rattle.lsm_coord.proofs.GiveBackSteps.{live_before, same_name}
-use Rattle.lsm_sim.specs.Compacting.{IsLeft, Merges, tables_at}
-use Rattle.lsm_sim.proofs.JobEntries.{input_entries, from_input, in_inputs, none_shared}
-use Rattle.lsm_sim.proofs.MergedOutputs.{opened_as, opened_entries, opened_tables, outputs_are}
+use Rattle.lsm_store.specs.Compacting.{IsLeft, Merges, tables_at}
+use Rattle.lsm_store.proofs.JobEntries.{input_entries, from_input, in_inputs, none_shared}
+use Rattle.lsm_store.proofs.MergedOutputs.{opened_as, opened_entries, opened_tables, outputs_are}
 
 -- ---- the last job of a list, whose name no other has
 

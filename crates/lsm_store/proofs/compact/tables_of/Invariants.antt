@@ -1,6 +1,6 @@
 use Rattle.std.proofs.Common.{◌≡◌, ◌++◌, drop}
-use Rattle.lsm_sim.specs.Compacting.{tables_at}
-use Rattle.lsm_sim.proofs.compact.tables_of.Given as goal
+use Rattle.lsm_store.specs.Compacting.{tables_at}
+use Rattle.lsm_store.proofs.compact.tables_of.Given as goal
 
 -- the tables so far, before those of the files that are left
 abbrev pub invariant-loop-file : goal.invariant-loop-file

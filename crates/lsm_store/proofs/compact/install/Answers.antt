@@ -3,7 +3,7 @@ use Rattle.lsm_coord.specs.declared.coord.install.Install.TheVariants as became
 use Rattle.lsm_coord.specs.Contract.Installing.{Became}
 use Rattle.lsm_coord.specs.Contract.Shows.{Follows}
 use Rattle.lsm_coord.specs.Model.Event.{Deliver, Installed}
-use Rattle.lsm_sim.proofs.compact.install.Goals as goal
+use Rattle.lsm_store.proofs.compact.install.Goals as goal
 
 pub returns-in-Done-clause-done : goal.returns-in-Done-clause-done
 returns-in-Done-clause-done c =

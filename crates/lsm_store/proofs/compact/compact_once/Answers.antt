@@ -1,7 +1,7 @@
 use Rattle.lsm_coord.proofs.PickedJobs.{wants_memory}
-use Rattle.lsm_sim.proofs.CompactionAnswers.{answers_left, answers_made, answers_reached, answers_refused, answers_sound}
-use Rattle.lsm_sim.proofs.Compactions.{back_keeps, inputs_of_version, left_again, made_of_inputs, merges_by, named, none_same, picked_by, sound_by}
-use Rattle.lsm_sim.proofs.compact.compact_once.Goals as goal
+use Rattle.lsm_store.proofs.CompactionAnswers.{answers_left, answers_made, answers_reached, answers_refused, answers_sound}
+use Rattle.lsm_store.proofs.Compactions.{back_keeps, inputs_of_version, left_again, made_of_inputs, merges_by, named, none_same, picked_by, sound_by}
+use Rattle.lsm_store.proofs.compact.compact_once.Goals as goal
 
 pub result_of-requires-clause-inputs : goal.result_of-requires-clause-inputs
 result_of-requires-clause-inputs c =

@@ -30,9 +30,9 @@ use Rattle.lsm_coord.specs.Contract.Value.{CoordValue}
 use Rattle.lsm_coord.proofs.PickedJobs.{wants_memory}
 use Rattle.lsm_coord.proofs.StateRefusals.{give_up_may}
 use Rattle.lsm_coord.proofs.GiveBackSteps.{live_before, Shows-with_book}
-use Rattle.lsm_sim.specs.Compacting.{Compacts, CompactionRefuses, IsLeft, IsReached, KeptBack, tables_at}
-use Rattle.lsm_sim.proofs.Compactions.{back_keeps, claim_live, is_held, keeps_then, left_again, made_of_inputs, made_outputs, named, served_is}
-use Rattle.lsm_sim.proofs.MergedOutputs.{opened_as}
+use Rattle.lsm_store.specs.Compacting.{Compacts, CompactionRefuses, IsLeft, IsReached, KeptBack, tables_at}
+use Rattle.lsm_store.proofs.Compactions.{back_keeps, claim_live, is_held, keeps_then, left_again, made_of_inputs, made_outputs, named, served_is}
+use Rattle.lsm_store.proofs.MergedOutputs.{opened_as}
 
 -- what is answered, under whichever allocator
 abbrev pub Answer : Type 0 → Type 0

@@ -15,8 +15,8 @@ use Rattle.lsm_edit.specs.Served.{IsServed, ServedValue, tables_of}
 use Rattle.lsm_edit.specs.Version.{IsVersion, FileNumbersRise}
 use Rattle.lsm_edit.proofs.ServedPlaces.{newer_places, one_first, one_place}
 use Rattle.lsm_merge.specs.Inputs.{HaveSameEntry, lists_of}
-use Rattle.lsm_sim.specs.Compacting.{tables_at}
-use Rattle.lsm_sim.proofs.ServedTables.{at_place, next_table}
+use Rattle.lsm_store.specs.Compacting.{tables_at}
+use Rattle.lsm_store.proofs.ServedTables.{at_place, next_table}
 
 -- all entries of the tables of files
 abbrev pub input_entries : List Placed → List FileMeta → List Entry

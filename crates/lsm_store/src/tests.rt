@@ -1,6 +1,6 @@
 //! Compactions: which version and files they make, and that reads stay.
 
-use crate::compact::compact_once;
+use crate::compact_once;
 use bytes::Bytes;
 use lsm_claim::Claim;
 use lsm_coord::{Coord, CoordError, Desk, SnapId};

@@ -1,0 +1,5 @@
+pub mod ServedTables
+pub mod JobEntries
+pub mod MergedOutputs
+pub mod Compactions
+pub mod CompactionAnswers
