@@ -42,8 +42,8 @@ pub enum Call {
 }
 
 impl ScanRange {
-    // The same range. The keys share the bytes.
-    fn copy(&self) -> Result<ScanRange, AllocError>
+    /// The same range. The keys share the bytes.
+    pub fn copy(&self) -> Result<ScanRange, AllocError>
         ensures { IfOk result (λ copy. copy ≡ self.now) }
     {
         let lo = self.lo.clone()?;

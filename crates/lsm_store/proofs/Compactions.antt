@@ -2,8 +2,7 @@
 use Rattle.std.proofs.Common.{◌≡◌, ◌+◌, ◌≤◌, Bool, true, false, not, cond, List, [], ◌∷◌, ◌++◌, Option, None, Some, refl, sym, ap, subst, ◌∙◌, arith, inl, inr}
 use Rattle.std.specs.Prelude.{◌↔◌, IfSome, find, sum_by}
 use Rattle.std.proofs.lemmas.Bool.{and_parts, eq-eqb, false_from_ne_true, leb-true}
-use Rattle.lsm_key.specs.declared.entry.Entry.{Entry}
-use Rattle.lsm_key.specs.Places.{AreOrdered, all_entries}
+use Rattle.lsm_key.specs.Places.{AreOrdered}
 use Rattle.lsm_key.specs.Sets.{IsIn}
 use Rattle.lsm_key.proofs.Lists.{any_from, any_is}
 use Rattle.lsm_claim.specs.declared.ending.Ending.TheVariants.{Returned}
@@ -20,7 +19,6 @@ use Rattle.lsm_edit.proofs.VersionLaws.{rise-filter}
 use Rattle.lsm_msg.specs.declared.job.JobParts.{JobParts}
 use Rattle.lsm_msg.specs.declared.job.JobResult.{JobResult}
 use Rattle.lsm_msg.specs.Legal.{IsLegal, Takes}
-use Rattle.lsm_msg.specs.Merge.{HoldsKept}
 use Rattle.lsm_merge.specs.Inputs.{HaveSameEntry, lists_of}
 use Rattle.lsm_merge.specs.Outputs as merge
 use Rattle.lsm_coord.specs.Contract.Calls.{after_give_back}
@@ -34,8 +32,9 @@ use Rattle.lsm_coord.proofs.InstallOutcomes.{held_by}
 use Rattle.lsm_coord.proofs.PickedJobs.{inputs_taken}
 use Rattle.lsm_coord.proofs.GiveBackSteps.{live_before, same_name}
 use Rattle.lsm_store.specs.Compacting.{IsLeft, Merges, tables_at}
-use Rattle.lsm_store.proofs.JobEntries.{input_entries, from_input, in_inputs, none_shared}
-use Rattle.lsm_store.proofs.MergedOutputs.{opened_as, opened_entries, opened_tables, outputs_are}
+use Rattle.lsm_store.proofs.JobEntries.{none_shared}
+use Rattle.lsm_store.proofs.MergedOutputs.{opened_as, outputs_are}
+use Rattle.lsm_store.proofs.SoundJobs.{holds_merge}
 
 -- ---- the last job of a list, whose name no other has
 
@@ -154,16 +153,10 @@ module _ (old mid : CoordValue) (claim : LiveJob) (job : JobParts) (ver : IsVers
 
   module _ (made : JobResult) (m : merge.IsMerge (tables_at mid.served.places job.inputs) job made.tables) where
     pub made_of_inputs : HoldsMergeOf mid.served job made
-    made_of_inputs = record {
-      inputs = input_entries mid.served.places job.inputs;
-      are = λ e. (λ n. from_input mid.served mid_ver mid_is job.inputs inputs_of_version e n, λ p. in_inputs mid.served mid_ver mid_is job.inputs inputs_of_version p.0 e p.1 p.2 p.3);
-      tables = opened_as made.tables m.entries;
-      opened = opened_tables made.tables m.entries m.spelled;
-      kept = subst (λ (lists : List (List Entry)). HoldsKept (input_entries mid.served.places job.inputs) job.points job.deeper (all_entries lists)) (sym (opened_entries made.tables m.entries m.spelled)) m.kept;
-    }
+    made_of_inputs = holds_merge mid.served mid_ver mid_is job inputs_of_version made m
 
     pub made_outputs : AreOutputTables claim.want.hull made.tables (opened_as made.tables m.entries)
-    made_outputs = outputs_are mid.served mid_ver mid_is claim.want legal job takes made.tables m inputs_few
+    made_outputs = outputs_are mid.served mid_ver mid_is claim.want legal job takes made.tables m (omega (arith, inputs_few))
 
   -- ---- what is given back
 

@@ -1,14 +1,15 @@
 -- The entries of a job's tables are those of its inputs, no two tables have one, and they are few.
-use Rattle.std.proofs.Common.{◌≡◌, ℕ, ◌+◌, ◌≤◌, List, [], ◌∷◌, ◌++◌, length, refl, sym, ap, subst, ◌∙◌, arith, inl, inr, length-append}
+use Rattle.std.proofs.Common.{◌≡◌, ℕ, ◌+◌, ◌*◌, ◌≤◌, List, [], ◌∷◌, ◌++◌, length, refl, sym, ap, subst, ◌∙◌, arith, inl, inr, length-append}
 use Rattle.std.specs.Prelude.{sum_by}
 use Rattle.std.proofs.lemmas.List.Sums.{sum_by-cons}
 use Rattle.lsm_key.specs.declared.entry.Entry.{Entry}
+use Rattle.lsm_key.specs.Limits.{entry_weight}
 use Rattle.lsm_key.specs.Places.{AreOrdered, all_entries}
 use Rattle.lsm_key.specs.Sets.{IsIn}
 use Rattle.lsm_key.proofs.Membership.{IsIn-append_left, IsIn-append_right, IsIn-append_cases}
 use Rattle.lsm_table.specs.Blocks.{entries}
 use Rattle.lsm_table.specs.Tables.{Opened, header, index, table}
-use Rattle.lsm_table.proofs.TableLaws.{as_long}
+use Rattle.lsm_table.proofs.TableWeights.{entries_weigh}
 use Rattle.lsm_edit.specs.declared.file.FileMeta.{FileMeta}
 use Rattle.lsm_edit.specs.declared.served.Placed.{Placed}
 use Rattle.lsm_edit.specs.Served.{IsServed, ServedValue, tables_of}
@@ -21,6 +22,11 @@ use Rattle.lsm_store.proofs.ServedTables.{at_place, next_table}
 -- all entries of the tables of files
 abbrev pub input_entries : List Placed → List FileMeta → List Entry
 input_entries places files = all_entries (lists_of (tables_at places files))
+
+-- each entry weighs its overhead at least
+overheads : (es : List Entry) → 14 * length es ≤ sum_by entry_weight es
+overheads [] = omega arith
+overheads (e ∷ es) = omega (arith, overheads es, sum_by-cons entry_weight e es)
 
 module _ (s : ServedValue) (ver : IsVersion s.version) (is : IsServed s) where
   -- the files are the version's
@@ -81,7 +87,7 @@ module _ (s : ServedValue) (ver : IsVersion s.version) (is : IsServed s) where
 
   -- ---- how many they are
 
-  pub few_inputs : (files : List FileMeta) → AreOf files → length (input_entries s.places files) ≤ sum_by (λ f. f.bytes) files
+  pub few_inputs : (files : List FileMeta) → AreOf files → 14 * length (input_entries s.places files) ≤ sum_by (λ f. f.bytes) files
   few_inputs [] all = omega arith
   few_inputs (f ∷ files) all =
       let p = first f files all in
@@ -91,4 +97,4 @@ module _ (s : ServedValue) (ver : IsVersion s.version) (is : IsServed s) where
       let size : f.bytes ≡ length (table es) = ap (λ (g : FileMeta). g.bytes) p.2 ∙ (is.recorded p.0 p.1).bytes ∙ ap (λ (bytes : List ℕ). length bytes) is_table.spelled in
       let parts : length (table es) ≡ length (header (length es)) + length (index es ++ entries es) = length-append (header (length es)) (index es ++ entries es) in
       let more : length (index es ++ entries es) ≡ length (index es) + length (entries es) = length-append (index es) (entries es) in
-      omega (arith, total, size, parts, more, as_long es, few_inputs files (λ g n. all g (inr n)), sum_by-cons (λ (g : FileMeta). g.bytes) f files)
+      omega (arith, total, size, parts, more, entries_weigh es, overheads es, few_inputs files (λ g n. all g (inr n)), sum_by-cons (λ (g : FileMeta). g.bytes) f files)

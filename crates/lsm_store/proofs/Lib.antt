@@ -1,5 +1,6 @@
 pub mod ServedTables
 pub mod JobEntries
 pub mod MergedOutputs
+pub mod SoundJobs
 pub mod Compactions
 pub mod CompactionAnswers

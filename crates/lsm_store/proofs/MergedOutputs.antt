@@ -1,5 +1,5 @@
 -- What a merge makes of the inputs of a want may be installed: tables with keys of its hull, one after another, and few.
-use Rattle.std.proofs.Common.{◌≡◌, ℕ, suc, ◌<◌, ◌≤◌, true, ◌⊎◌, List, [], ◌∷◌, length, refl, sym, ap, subst, ◌∙◌, arith, inl, inr, All, AllPairs, length-append}
+use Rattle.std.proofs.Common.{◌≡◌, ℕ, suc, ◌<◌, ◌≤◌, ◌^◌, true, ◌⊎◌, List, [], ◌∷◌, length, refl, sym, ap, subst, ◌∙◌, arith, inl, inr, All, AllPairs, length-append}
 use Rattle.std.specs.Prelude.{◌↔◌, sum_by}
 use Rattle.std.proofs.lemmas.Bool.{and_parts, and_from}
 use Rattle.std.proofs.lemmas.List.Elements.{All-head, All-tail}
@@ -154,14 +154,14 @@ module _ (s : ServedValue) (ver : IsVersion s.version) (is : IsServed s) (want :
       and_from (key_le want.hull.lo (smallest_key t.entries)) (key_le (largest_key t.entries) want.hull.hi)
       (subst (λ (k : List ℕ). key_le want.hull.lo k ≡ true) first.2 low.0) (subst (λ (k : List ℕ). key_le k want.hull.hi ≡ true) last.2 high.1)
 
-  pub outputs_are : sum_by (λ f. f.bytes) job.inputs ≤ 268435456 → AreOutputTables want.hull texts (opened_as texts m.entries)
+  pub outputs_are : sum_by (λ f. f.bytes) job.inputs ≤ 2 ^ 34 → AreOutputTables want.hull texts (opened_as texts m.entries)
   outputs_are most = record {
     few =
         let texts_are = as_many texts m.entries m.spelled in
         let lists = fewer_lists m.entries some in
         let kept = fewer (all_entries m.entries) (input_entries s.places job.inputs) (ascending_falls (all_entries m.entries) m.ascending) kept_in in
         let inputs = few_inputs s ver is job.inputs own in
-        let bound : length texts ≤ 268435456 = omega (arith, texts_are, lists, kept, inputs, most) in
+        let bound : length texts ≤ 1227133514 = omega (arith, texts_are, lists, kept, inputs, most) in
         omega (arith, bound);
     tables = opened_tables texts m.entries m.spelled;
     inside = inside;

@@ -1,5 +1,5 @@
 -- The tables that the coordinator serves.
-use Rattle.std.proofs.Common.{◌≡◌, ℕ, Bool, true, false, cond, List, [], ◌∷◌, ◌++◌, Option, Some, refl, sym, ap, subst, ◌∙◌, inl, inr, unwrap_or, append_assoc}
+use Rattle.std.proofs.Common.{◌≡◌, ℕ, Bool, true, false, cond, List, [], ◌∷◌, ◌++◌, Option, Some, refl, sym, ap, subst, ◌∙◌, inl, inr, map, unwrap_or, append_assoc}
 use Rattle.std.specs.Prelude.{nat_eq}
 use Rattle.std.proofs.lemmas.Bool.{eqb-true, eq-eqb}
 use Rattle.lsm_key.specs.Sets.{IsIn}
@@ -40,6 +40,36 @@ is_there (q ∷ ps) n p m e = there_by q ps n (nat_eq q.meta.number n) refl (λ 
   | inr rest ↦ is_there ps n p rest e
 ])
 
+-- ---- places of which a number names one
+
+abbrev pub NameOne : List Placed → Type 0
+NameOne ps = (p q : Placed) → IsIn p ps → IsIn q ps → p.meta.number ≡ q.meta.number → p ≡ q
+
+one_found : (ps : List Placed) → NameOne ps → (p : Placed) → IsIn p ps → table_at ps p.meta.number ≡ Some p.table
+one_found ps one p m =
+    let t = is_there ps p.meta.number p m refl in
+    let found = found_in ps p.meta.number t.0 t.1 in
+    t.1 ∙ ap (λ (x : Opened). Some x) (sym found.table ∙ ap (λ (q : Placed). q.table) (one found.place p found.member m found.number))
+
+-- the tables of places among others
+pub tables_found : (ps : List Placed) → NameOne ps → (qs : List Placed) → ((q : Placed) → IsIn q qs → IsIn q ps) → tables_at ps (map (λ q. q.meta) qs) ≡ map (λ q. q.table) qs
+tables_found ps one [] among = refl
+tables_found ps one (q ∷ qs) among =
+    let first = one_found ps one q (among q (inl refl)) in
+    let rest = tables_found ps one qs (λ r m. among r (inr m)) in
+    λ i. list_of_option (first i) ++ rest i
+
+-- the tables of files that have a place in both lists
+pub tables_among : (ps qs : List Placed) → NameOne qs → ((p : Placed) → IsIn p ps → IsIn p qs) → (fs : List FileMeta) → ((f : FileMeta) → IsIn f fs → (p : Placed) × IsIn p ps × (p.meta ≡ f)) → tables_at qs fs ≡ tables_at ps fs
+tables_among ps qs one among [] all = refl
+tables_among ps qs one among (f ∷ fs) all =
+    let p = all f (inl refl) in
+    let here = one_found ps (λ x y mx my e. one x y (among x mx) (among y my) e) p.0 p.1 in
+    let both = one_found qs one p.0 (among p.0 p.1) ∙ sym here in
+    let first : table_at qs f.number ≡ table_at ps f.number = subst (λ (g : FileMeta). table_at qs g.number ≡ table_at ps g.number) p.2 both in
+    let rest = tables_among ps qs one among fs (λ g m. all g (inr m)) in
+    λ i. list_of_option (first i) ++ rest i
+
 -- ---- all tables
 
 pub tables_at-append : (ps : List Placed) (fs gs : List FileMeta) → tables_at ps (fs ++ gs) ≡ tables_at ps fs ++ tables_at ps gs
@@ -51,10 +81,7 @@ module _ (s : ServedValue) (ver : IsVersion s.version) (is : IsServed s) where
   pub at_place : (f : FileMeta) → IsIn f s.version.files → (p : Placed) × IsIn p s.places × (f ≡ p.meta) × (table_at s.places f.number ≡ Some p.table)
   at_place f m =
       let own = place_of s ver is f m in
-      let t = is_there s.places f.number own.0 own.1 (ap (λ (g : FileMeta). g.number) (sym own.2)) in
-      let found = found_in s.places f.number t.0 t.1 in
-      let one : found.place ≡ own.0 = one_place s ver is found.place own.0 found.member own.1 (found.number ∙ ap (λ (g : FileMeta). g.number) own.2) in
-      (own.0, own.1, own.2, t.1 ∙ ap (λ (x : Opened). Some x) (sym found.table ∙ ap (λ (p : Placed). p.table) one))
+      (own.0, own.1, own.2, ap (λ (g : FileMeta). table_at s.places g.number) own.2 ∙ one_found s.places (one_place s ver is) own.0 own.1)
 
   pub next_table : (f : FileMeta) (fs : List FileMeta) (t : Opened) → table_at s.places f.number ≡ Some t → tables_at s.places (f ∷ fs) ≡ t ∷ tables_at s.places fs
   next_table f fs t e = ap (λ (o : Option Opened). list_of_option o ++ tables_at s.places fs) e
