@@ -1,0 +1,58 @@
+-- Messages that are delivered by number: a message of the number was sent, and the reply never says that none has it.
+use Rattle.std.proofs.Common.{◌≡◌, ℕ, ◌-◌, Bool, true, false, cond, List, None, Some}
+use Rattle.std.specs.Prelude.{nat_eq}
+use Rattle.lsm_key.specs.Sets.{IsIn}
+use Rattle.lsm_msg.specs.declared.message.Body.{Body}
+use Rattle.lsm_msg.specs.declared.message.Body.TheVariants as body
+use Rattle.lsm_msg.specs.declared.message.Message.{Message}
+use Rattle.lsm_msg.specs.declared.node.Node.{Node}
+use Rattle.lsm_msg.specs.declared.node.Node.TheVariants.{Coordinator, Worker, Follower}
+use Rattle.lsm_msg.specs.Messages.{IsSpelled}
+use Rattle.lsm_coord.specs.declared.coord.install.Install.{Install}
+use Rattle.lsm_coord.specs.declared.coord.install.Install.TheVariants as became
+use Rattle.lsm_work.specs.declared.change.WorkChange.{WorkChange}
+use Rattle.lsm_work.specs.declared.change.WorkChange.TheVariants as change
+use Rattle.lsm_world.specs.declared.refusal.Refusal.TheVariants as why
+use Rattle.lsm_world.specs.declared.reply.Reply.{Reply}
+use Rattle.lsm_world.specs.declared.reply.Reply.TheVariants as reply
+use Rattle.lsm_world.specs.declared.reply.Sent.{Sent}
+use Rattle.lsm_world.specs.Asks.{Delivers, DeliversAt, Receives, install_answer, message_at, worker_reply}
+use Rattle.lsm_world.specs.Nodes.{NodesValue, at_index}
+use Rattle.lsm_world.proofs.WorkersInPlace.{in_place}
+
+-- ---- numbers
+
+pub text_stored : (messages : List (List ℕ)) (number : ℕ) (text : List ℕ) → message_at messages number ≡ Some text → IsIn text messages
+text_stored messages number text at = by (nat_eq number 0) at
+  where
+    by : (zero : Bool) → cond zero None (at_index messages number) ≡ Some text → IsIn text messages
+    by true e = absurd cc
+    by false e = in_place messages (number - 1) text e
+
+-- ---- replies
+
+installs_by_number : (what : Install) → reply.Refused why.NoMessage ≡ install_answer what → ⊥
+installs_by_number (became.Done number files) e = cc
+installs_by_number (became.Stale job epoch) e = cc
+installs_by_number (became.Kept claim error) e = cc
+
+works_by_number : (what : WorkChange) (told : Sent) → reply.Refused why.NoMessage ≡ worker_reply what told → ⊥
+works_by_number (change.Collecting missing) told e = cc
+works_by_number change.Merged told e = cc
+works_by_number change.Dropped told e = cc
+works_by_number change.Ignored told e = cc
+
+module _ (old : NodesValue) (m : Message) (new : NodesValue) where
+  received_by_number : (src : Node) (said : Body) → Receives old m src said (reply.Refused why.NoMessage) new → ⊥
+  received_by_number src (body.Fetch file) is = let e = is.3 in cc
+  received_by_number (Worker d) (body.Result made) is = installs_by_number is.3 is.5
+  received_by_number src said is = let e = is.0 in cc
+
+  delivered_by_number : (dst : Node) → Delivers old m dst (reply.Refused why.NoMessage) new → ⊥
+  delivered_by_number Coordinator is = received_by_number m.src m.body is
+  delivered_by_number (Worker index) is = works_by_number is.outcome.change is.told is.reply_is
+  delivered_by_number (Follower index) is = let e = is.0 in cc
+
+  pub delivers_at : (number : ℕ) (text : List ℕ) (r : Reply) → message_at old.messages number ≡ Some text → IsSpelled text m → Delivers old m m.dst r new → DeliversAt old number r new
+  delivers_at number text (reply.Refused why.NoMessage) at spelled is = absurd (delivered_by_number m.dst is)
+  delivers_at number text r at spelled is = (text, at, m, spelled, is)

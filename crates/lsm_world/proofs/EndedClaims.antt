@@ -1,0 +1,103 @@
+-- Claims that a dispatcher gives up, or that are no longer live.
+use Rattle.std.proofs.Common.{◌≡◌, ℕ, ◌≤◌, Bool, true, false, not, cond, List, Some, refl, sym, ap, subst, ◌∙◌}
+use Rattle.std.specs.Prelude.{nat_eq, slice_get, slice_set}
+use Rattle.std.proofs.lemmas.Bool.{and_from, eq-eqb, true≢false}
+use Rattle.lsm_key.specs.Sets.{IsIn}
+use Rattle.lsm_key.proofs.AscendingEntries.{IsIn-filter}
+use Rattle.lsm_key.proofs.Lists.{any_from, any_is}
+use Rattle.lsm_claim.specs.declared.ending.Ending.{Ending}
+use Rattle.lsm_claim.specs.declared.ending.Ending.TheVariants.{Installed, Returned}
+use Rattle.lsm_claim.specs.declared.job.JobId.{JobId}
+use Rattle.lsm_claim.specs.declared.job.LiveJob.{LiveJob}
+use Rattle.lsm_claim.specs.Book.{BookValue, IsGiven, after_settling, holds, with_ending}
+use Rattle.lsm_claim.specs.Jobs.{same_job_id, without_job}
+use Rattle.lsm_coord.specs.declared.dispatcher.Dispatcher.TheVariants.{Idle, Busy}
+use Rattle.lsm_coord.specs.Contract.Calls.{after_give_back}
+use Rattle.lsm_coord.specs.Contract.Sound.{KeepsSound}
+use Rattle.lsm_coord.specs.Contract.Value.{CoordValue}
+use Rattle.lsm_coord.proofs.GiveBackSteps.{epoch_after, live_before}
+use Rattle.lsm_world.specs.History.{History, IsHistory}
+use Rattle.lsm_world.specs.Nodes.{NodesValue}
+use Rattle.lsm_world.proofs.DeskPlaces.{claims_let_go}
+use Rattle.lsm_world.proofs.QuietCalls.{files_stay}
+
+-- ---- the book after a claim ended
+
+named_itself : (a b : JobId) → a ≡ b → same_job_id a b ≡ true
+named_itself a b same =
+    and_from (nat_eq a.epoch b.epoch) (nat_eq a.number b.number) (eq-eqb a.epoch b.epoch (ap (λ (x : JobId). x.epoch) same)) (eq-eqb a.number b.number (ap (λ (x : JobId). x.number) same))
+
+-- a live claim is held by its name
+pub live_held : (b : BookValue) (j : LiveJob) (id : JobId) → IsIn j b.live → j.id ≡ id → holds b id ≡ true
+live_held b j id m same = any_from (λ (k : LiveJob). same_job_id k.id id) b.live j m (named_itself j.id id same)
+
+-- a name that is live was live, where no claim came
+pub held_before : (old new : BookValue) (id : JobId) → ((j : LiveJob) → IsIn j new.live → IsIn j old.live) → holds new id ≡ true → holds old id ≡ true
+held_before old new id before held = let found = any_is (λ (k : LiveJob). same_job_id k.id id) new.live held in any_from (λ (k : LiveJob). same_job_id k.id id) old.live found.0 (before found.0 found.1) found.2
+
+made_with : (ending : Ending) (b : BookValue) → (with_ending ending b).made ≡ b.made
+made_with Installed b = refl
+made_with Returned b = refl
+
+pub made_after : (b : BookValue) (id : JobId) (ending : Ending) → (after_settling b id ending).made ≡ b.made
+made_after b id ending = by (holds b id)
+  where
+    by : (t : Bool) → (cond t (with_ending ending (record b { live = without_job id b.live })) b).made ≡ b.made
+    by true = made_with ending (record b { live = without_job id b.live })
+    by false = refl
+
+-- the names stay given
+pub given_after : (b : BookValue) (id : JobId) (ending : Ending) (other : JobId) → IsGiven b other → IsGiven (after_settling b id ending) other
+given_after b id ending other given = record {
+  epoch = given.epoch ∙ sym (epoch_after b id ending);
+  first = given.first;
+  last = subst (λ (n : ℕ). other.number ≤ n) (sym (made_after b id ending)) given.last;
+}
+
+live_with : (ending : Ending) (b : BookValue) → (with_ending ending b).live ≡ b.live
+live_with Installed b = refl
+live_with Returned b = refl
+
+-- the claim is not live afterwards
+pub ended : (b : BookValue) (id : JobId) (ending : Ending) (j : LiveJob) → IsIn j (after_settling b id ending).live → j.id ≡ id → ⊥
+ended b id ending j m same = by (holds b id) refl m
+  where
+    by : (t : Bool) → holds b id ≡ t → IsIn j (cond t (with_ending ending (record b { live = without_job id b.live })) b).live → ⊥
+    by true held m =
+        let kept = IsIn-filter (λ (k : LiveJob). not (same_job_id k.id id)) j b.live (subst (λ (js : List LiveJob). IsIn j js) (live_with ending (record b { live = without_job id b.live })) m) in
+        true≢false (sym kept.1 ∙ ap not (named_itself j.id id same))
+    by false held m = true≢false (sym (live_held b j id m same) ∙ held)
+
+-- ---- the nodes
+
+module _ (h : History) (old : NodesValue) (place : ℕ) (claim : LiveJob) (at : slice_get old.desk place ≡ Some (Busy claim)) where
+  -- A CLAIM IS GIVEN BACK, AND ITS DISPATCHER IS IDLE.
+  pub gave_back : (new : CoordValue) → new ≡ after_give_back old.core claim.id → KeepsSound old.core new → IsHistory h old → IsHistory h (record old { core = new; desk = slice_set old.desk place Idle })
+  gave_back new same keeps is =
+      let book : new.book ≡ after_settling old.core.book claim.id Returned = ap (λ (c : CoordValue). c.book) same in
+      let before : (j : LiveJob) → IsIn j new.book.live → IsIn j old.core.book.live = λ j m. live_before old.core.book claim.id Returned j (subst (λ (b : BookValue). IsIn j b.live) book m) in
+      record {
+        files = files_stay h old.core new (ap (λ (c : CoordValue). c.served) same) (ap (λ (c : CoordValue). c.edits) same) (λ r m. subst (λ (c : CoordValue). IsIn r c.retired) same m) is.files;
+        jobs = record {
+          job = is.jobs.job;
+          one = is.jobs.one;
+          given = λ j m. subst (λ (b : BookValue). IsGiven b j.id) (sym book) (given_after old.core.book claim.id Returned j.id (is.jobs.given j m));
+          inputs = is.jobs.inputs;
+          sound = λ j m held. keeps j (is.jobs.sound j m (held_before old.core.book new.book j.id before held)) held;
+        };
+        claims = claims_let_go h old.core.book new.book old.desk place claim at before (λ j m. ended old.core.book claim.id Returned j (subst (λ (b : BookValue). IsIn j b.live) book m)) is.claims;
+        indices = is.indices;
+        tasks = is.tasks;
+        sent = is.sent;
+      }
+
+  -- A dispatcher lets go a claim that is not live.
+  pub put_down : holds old.core.book claim.id ≡ false → IsHistory h old → IsHistory h (record old { desk = slice_set old.desk place Idle })
+  put_down stale is = record {
+    files = is.files;
+    jobs = is.jobs;
+    claims = claims_let_go h old.core.book old.core.book old.desk place claim at (λ j m. m) (λ j m same. true≢false (sym (live_held old.core.book j claim.id m same) ∙ stale)) is.claims;
+    indices = is.indices;
+    tasks = is.tasks;
+    sent = is.sent;
+  }

@@ -1,0 +1,119 @@
+-- A flush: its file is one more of the history.
+use Rattle.std.proofs.Common.{◌≡◌, ◌+◌, ◌<◌, ◌≤◌, List, [], ◌∷◌, ◌++◌, refl, sym, ap, subst, ◌∙◌, arith, inl, inr}
+use Rattle.lsm_key.specs.Sets.{IsIn}
+use Rattle.lsm_key.proofs.Membership.{IsIn-append_cases, IsIn-one}
+use Rattle.lsm_claim.specs.Book.{BookValue}
+use Rattle.lsm_table.specs.Tables.{Opened}
+use Rattle.lsm_edit.specs.declared.edit.Edit.{Edit}
+use Rattle.lsm_edit.specs.declared.file.FileMeta.{FileMeta}
+use Rattle.lsm_edit.specs.declared.served.Placed.{Placed}
+use Rattle.lsm_edit.specs.Version.{VersionValue, after_apply}
+use Rattle.lsm_edit.proofs.ServedPlaces.{file_of, place_of}
+use Rattle.lsm_edit.proofs.VersionLaws.{fresh_added}
+use Rattle.lsm_coord.specs.declared.dispatcher.Dispatcher.{Dispatcher}
+use Rattle.lsm_coord.specs.Contract.Calls.{Adds, AddsTable}
+use Rattle.lsm_coord.specs.Contract.Manifest.{versions_of}
+use Rattle.lsm_coord.specs.Contract.Memory.{IsFit}
+use Rattle.lsm_coord.specs.Contract.Sound.{KeepsSound}
+use Rattle.lsm_coord.specs.Contract.Value.{CoordValue}
+use Rattle.lsm_coord.proofs.ManifestReplay.{versions_of-push}
+use Rattle.lsm_world.specs.History.{History, IsHistory, IsFileOf, AreFiles, AreJobs, AreClaims}
+use Rattle.lsm_world.specs.Nodes.{NodesValue}
+use Rattle.lsm_world.proofs.GrowingHistory.{Grows, file_stays, goes_on, table_stays}
+use Rattle.lsm_world.proofs.QuietCalls.{jobs_stay}
+
+-- the history with one file more
+abbrev with_file : History → Placed → History
+with_file h p = record h { files = p ∷ h.files }
+
+module _ (h : History) (old new : CoordValue) (file : FileMeta) (table : Opened) (fit : IsFit old) (fit_new : IsFit new) (adds : AddsTable old file table new) (is : AreFiles h old) where
+  abbrev place : Placed
+  place = record { meta = file; table = table }
+
+  abbrev more : History
+  more = with_file h place
+
+  places_are : new.served.places ≡ place ∷ old.served.places
+  places_are = ap (λ (c : CoordValue). c.served.places) adds.new_is
+
+  next_is : new.served.version.next_file ≡ old.served.version.next_file + 1
+  next_is = ap (λ (c : CoordValue). c.served.version.next_file) adds.new_is
+
+  version_is : new.served.version ≡ after_apply old.served.version adds.edit
+  version_is = ap (λ (c : CoordValue). c.served.version) adds.new_is ∙ ap (λ (e : Edit). after_apply old.served.version e) (sym adds.edit_is)
+
+  edits_are : versions_of new.edits ≡ versions_of old.edits ++ new.served.version ∷ []
+  edits_are =
+      ap (λ (c : CoordValue). versions_of c.edits) adds.new_is
+      ∙ versions_of-push old.edits old.served.version adds.text adds.edit fit.manifest adds.spelled
+      ∙ ap (λ (v : VersionValue). versions_of old.edits ++ v ∷ []) (sym version_is)
+
+  -- the new file's number was not given before
+  fresh : old.served.version.next_file ≤ file.number
+  fresh = fresh_added old.served.version adds.edit adds.applies file (subst (λ (e : Edit). IsIn file e.added) (sym adds.edit_is) (inl refl))
+
+  here : IsIn place new.served.places
+  here = subst (IsIn place) (sym places_are) (inl refl)
+
+  one_file : (p q : Placed) → IsIn p more.files → IsIn q more.files → p.meta.number ≡ q.meta.number → p ≡ q
+  one_file p q mp mq same = elim mp [
+    | inl first ↦ elim mq [
+      | inl both ↦ first ∙ sym both
+      | inr rest ↦ let low = is.given q rest in let its = ap (λ (x : Placed). x.meta.number) first in let up = fresh in absurd (omega (arith, low, its, up, same))
+    ]
+    | inr rest ↦ elim mq [
+      | inl first ↦ let low = is.given p rest in let its = ap (λ (x : Placed). x.meta.number) first in let up = fresh in absurd (omega (arith, low, its, up, same))
+      | inr both ↦ is.one p q rest both same
+    ]
+  ]
+
+  grows : Grows h more
+  grows = record { files = λ p m. inr m; jobs = λ j m. m; one = one_file }
+
+  served_file : (p : Placed) → IsIn p new.served.places → IsIn p more.files
+  served_file p m = elim (subst (IsIn p) places_are m) [ inl first ↦ inl first | inr rest ↦ inr (is.served p rest) ]
+
+  -- each file of the new version has a place
+  current_file : (f : FileMeta) → IsIn f new.served.version.files → IsFileOf more f
+  current_file f m = let p = place_of new.served fit_new.version fit_new.served f m in (p.0, served_file p.0 p.1, sym p.2)
+
+  flushed_files : AreFiles more new
+  flushed_files = record {
+    one = one_file;
+    recorded = λ p m. elim m [ inl first ↦ fit_new.served.recorded p (subst (λ (x : Placed). IsIn x new.served.places) (sym first) here) | inr rest ↦ is.recorded p rest ];
+    given = λ p m. elim m [
+      | inl first ↦
+          let low = fit_new.version.below place.meta (file_of new.served fit_new.version fit_new.served place here) in
+          subst (λ (x : Placed). x.meta.number < new.served.version.next_file) (sym first) low
+      | inr rest ↦ let low = is.given p rest in let next = next_is in omega (arith, low, next)
+    ];
+    listed = λ v f mv mf. elim (IsIn-append_cases v (versions_of old.edits) (new.served.version ∷ []) (subst (λ (vs : List VersionValue). IsIn v vs) edits_are mv)) [
+      | inl before ↦ file_stays h more grows f (is.listed v f before mf)
+      | inr last ↦ current_file f (subst (λ (x : VersionValue). IsIn f x.files) (IsIn-one v new.served.version last) mf)
+    ];
+    served = served_file;
+    retired = λ r m. table_stays h more grows r.number r.bytes (is.retired r (subst (λ (c : CoordValue). IsIn r c.retired) adds.new_is m));
+  }
+
+-- the jobs are those of the history with one file more
+with_file_jobs : (h : History) (p : Placed) (c : CoordValue) → Grows h (with_file h p) → AreJobs h c → AreJobs (with_file h p) c
+with_file_jobs h p c grows is = record { job = is.job; one = is.one; given = is.given; inputs = λ j f mj mf. file_stays h (with_file h p) grows f (is.inputs j f mj mf); sound = is.sound }
+
+with_file_claims : (h : History) (p : Placed) (book : BookValue) (desk : List Dispatcher) → AreClaims h book desk → AreClaims (with_file h p) book desk
+with_file_claims h p book desk is = record { four = is.four; live = is.live; picked = is.picked; one = is.one }
+
+-- A FLUSH KEEPS THE HISTORY, WITH ITS FILE.
+pub after_flush : (h : History) (old : NodesValue) (new : CoordValue) → IsFit old.core → IsFit new → Adds old.core new → KeepsSound old.core new → IsHistory h old → (more : History) × IsHistory more (record old { core = new })
+after_flush h old new fit fit_new adds keeps is =
+    let file : FileMeta = adds.0 in
+    let table : Opened = adds.1 in
+    let p : Placed = record { meta = file; table = table } in
+    let by : AddsTable old.core file table new = adds.3 in
+    let book : new.book ≡ old.core.book = ap (λ (c : CoordValue). c.book) by.new_is in
+    let more = grows h old.core new file table fit fit_new by is.files in (
+      with_file h p,
+      goes_on h (with_file h p) old new old.desk is more
+          (flushed_files h old.core new file table fit fit_new by is.files)
+          (with_file_jobs h p new more (jobs_stay h old.core new book keeps is.jobs))
+          (with_file_claims h p new.book old.desk (subst (λ (b : BookValue). AreClaims h b old.desk) (sym book) is.claims)),
+    )

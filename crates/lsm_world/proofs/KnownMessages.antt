@@ -1,0 +1,70 @@
+-- Messages that are sent, and the coordinator's answers to fetches.
+use Rattle.std.proofs.Common.{◌≡◌, ℕ, Bool, true, false, cond, List, [], ◌∷◌, ◌++◌, Option, None, Some, refl, ap, subst, ◌∙◌, inl, inr, eqb}
+use Rattle.std.specs.Option.{option_map, option_or}
+use Rattle.std.proofs.lemmas.Bool.{eqb-true}
+use Rattle.std.proofs.lemmas.Option.{same_Some}
+use Rattle.lsm_key.specs.Sets.{IsIn}
+use Rattle.lsm_key.proofs.Membership.{IsIn-append_cases}
+use Rattle.lsm_table.specs.Tables.{Opened}
+use Rattle.lsm_edit.specs.Served.{table_at}
+use Rattle.lsm_msg.specs.declared.message.Body.{Body}
+use Rattle.lsm_msg.specs.declared.message.Body.TheVariants as body
+use Rattle.lsm_msg.specs.declared.message.Message.{Message}
+use Rattle.lsm_coord.specs.declared.retired.Retired.{Retired}
+use Rattle.lsm_coord.specs.Contract.Retention.{retired_at}
+use Rattle.lsm_coord.specs.Contract.Serving.{answer_message, bytes_at, table_body}
+use Rattle.lsm_coord.specs.Contract.Value.{CoordValue}
+use Rattle.lsm_store.proofs.ServedTables.{found_in}
+use Rattle.lsm_world.specs.History.{History, IsHistory, IsKnown, IsNumbered, IsSent, IsTableAt, AreFiles}
+use Rattle.lsm_world.specs.Nodes.{NodesValue}
+
+-- MORE MESSAGES THAT ARE KNOWN KEEP THE HISTORY.
+pub more_sent : (h : History) (old : NodesValue) (more : List (List ℕ)) → ((bytes : List ℕ) → IsIn bytes more → IsSent h bytes) → IsHistory h old → IsHistory h (record old { messages = old.messages ++ more })
+more_sent h old more known is = record {
+  files = is.files;
+  jobs = is.jobs;
+  claims = is.claims;
+  indices = is.indices;
+  tasks = is.tasks;
+  sent = λ bytes m. elim (IsIn-append_cases bytes old.messages more m) [ inl before ↦ is.sent bytes before | inr new ↦ known bytes new ];
+}
+
+-- ---- answers
+
+-- the retired file that bytes are found in
+retired_in : (rs : List Retired) (n : ℕ) (bytes : List ℕ) → retired_at rs n ≡ Some bytes → (r : Retired) × IsIn r rs × (r.number ≡ n) × (r.bytes ≡ bytes)
+retired_in [] n bytes h = absurd cc
+retired_in (r ∷ rs) n bytes h = by (eqb r.number n) refl (retired_in rs n bytes) h
+  where
+    by : (t : Bool) → eqb r.number n ≡ t → (retired_at rs n ≡ Some bytes → (x : Retired) × IsIn x rs × (x.number ≡ n) × (x.bytes ≡ bytes)) → cond t (Some r.bytes) (retired_at rs n) ≡ Some bytes
+        → (x : Retired) × IsIn x (r ∷ rs) × (x.number ≡ n) × (x.bytes ≡ bytes)
+    by true e rest h = (r, inl refl, eqb-true r.number n e, same_Some r.bytes bytes h)
+    by false e rest h = let x = rest h in (x.0, inr x.1, x.2, x.3)
+
+module _ (h : History) (c : CoordValue) (is : AreFiles h c) (n : ℕ) where
+  served_table : (o : Option Opened) (bytes : List ℕ) → table_at c.served.places n ≡ o → option_or (option_map (λ (t : Opened). t.bytes) o) (retired_at c.retired n) ≡ Some bytes → IsTableAt h n bytes
+  served_table None bytes none found =
+      let r = retired_in c.retired n bytes found in
+      subst (λ (k : ℕ). IsTableAt h k bytes) r.2 (subst (IsTableAt h r.0.number) r.3 (is.retired r.0 r.1))
+  served_table (Some t) bytes some found =
+      let at = found_in c.served.places n t some in
+      (at.place, is.served at.place at.member, at.number, ap (λ (x : Opened). x.bytes) at.table ∙ same_Some t.bytes bytes found)
+
+  body_known : (o : Option (List ℕ)) → bytes_at c.served.places c.retired n ≡ o → IsNumbered h n → IsKnown h (table_body n o)
+  body_known None none numbered = numbered
+  body_known (Some bytes) found numbered = served_table (table_at c.served.places n) bytes refl found
+
+-- WHAT THE COORDINATOR ANSWERS IS KNOWN.
+pub answer_known : (h : History) (old : NodesValue) (asked m : Message) → IsHistory h old → IsKnown h asked.body → answer_message old.core asked asked.body ≡ Some m → IsKnown h m.body
+answer_known h old asked m is known answered = by asked.body known answered
+  where
+    by : (b : Body) → IsKnown h b → answer_message old.core asked b ≡ Some m → IsKnown h m.body
+    by (body.Fetch n) k e = subst (λ (x : Message). IsKnown h x.body) (same_Some _ m e) (body_known h old.core is.files n (bytes_at old.core.served.places old.core.retired n) refl k)
+    by (body.Job j) k e = absurd cc
+    by (body.Table n bytes) k e = absurd cc
+    by (body.Gone n) k e = absurd cc
+    by (body.Result r) k e = absurd cc
+    by (body.Ask n) k e = absurd k
+    by (body.Edit d) k e = absurd k
+    by (body.Base v) k e = absurd k
+    by (body.Current n) k e = absurd k

@@ -1,0 +1,161 @@
+-- A pick: its job is one more of the history, and a dispatcher holds its claim.
+use Rattle.std.proofs.Common.{◌≡◌, ℕ, ◌+◌, List, [], ◌∷◌, true, Some, refl, sym, ap, subst, ◌∙◌, arith, inl, inr}
+use Rattle.std.specs.Prelude.{slice_get, slice_set}
+use Rattle.lsm_key.specs.Sets.{IsIn}
+use Rattle.lsm_key.proofs.Lists.{any_from, any_is}
+use Rattle.lsm_key.proofs.Membership.{IsIn-append_cases, IsIn-one}
+use Rattle.lsm_claim.specs.declared.job.JobId.{JobId}
+use Rattle.lsm_claim.specs.declared.job.LiveJob.{LiveJob}
+use Rattle.lsm_claim.specs.Book.{BookValue, IsGiven, after_claim, holds, next_job}
+use Rattle.lsm_claim.specs.Jobs.{same_job_id}
+use Rattle.lsm_edit.specs.declared.file.FileMeta.{FileMeta}
+use Rattle.lsm_edit.specs.Served.{ServedValue}
+use Rattle.lsm_edit.proofs.ServedPlaces.{place_of}
+use Rattle.lsm_msg.specs.declared.job.JobParts.{JobParts}
+use Rattle.lsm_msg.specs.declared.message.Body.TheVariants as body
+use Rattle.lsm_msg.specs.Jobs.{IsJob}
+use Rattle.lsm_coord.specs.declared.dispatcher.Dispatcher.{Dispatcher}
+use Rattle.lsm_coord.specs.declared.dispatcher.Dispatcher.TheVariants.{Idle, Busy}
+use Rattle.lsm_coord.specs.Contract.Memory.{IsFit}
+use Rattle.lsm_coord.specs.Contract.Picking.{IsPicked}
+use Rattle.lsm_coord.specs.Contract.Sound.{IsSound, KeepsSound}
+use Rattle.lsm_coord.specs.Contract.Value.{CoordValue}
+use Rattle.lsm_coord.proofs.GiveBackSteps.{same_name}
+use Rattle.lsm_world.specs.History.{History, IsHistory, IsFileOf, IsKnown, Holds, AreFiles, AreJobs, AreClaims}
+use Rattle.lsm_world.specs.Nodes.{NodesValue}
+use Rattle.lsm_world.proofs.DeskPlaces.{as_many_after, get_set_cases, get_set_here, get_set_there, idle_holds_none, one_at, same_claim}
+use Rattle.lsm_world.proofs.GrowingHistory.{goes_on}
+use Rattle.lsm_world.proofs.QuietCalls.{files_stay}
+
+-- the history with one job more
+abbrev with_job : History → JobParts → History
+with_job h j = record h { jobs = j ∷ h.jobs }
+
+with_job_files : (h : History) (j : JobParts) (c : CoordValue) → AreFiles h c → AreFiles (with_job h j) c
+with_job_files h j c is = record { one = is.one; recorded = is.recorded; given = is.given; listed = is.listed; served = is.served; retired = is.retired }
+
+module _ (h : History) (old new : CoordValue) (claim : LiveJob) (job : JobParts) (fit : IsFit old) (picked : IsPicked old claim job new) (sound : IsSound new job) (keeps : KeepsSound old new) (rules : IsJob job) where
+  abbrev more : History
+  more = with_job h job
+
+  book_is : new.book ≡ after_claim old.book picked.want
+  book_is = ap (λ (c : CoordValue). c.book) picked.new_is
+
+  served_is : new.served ≡ old.served
+  served_is = ap (λ (c : CoordValue). c.served) picked.new_is
+
+  -- the job has the claim's name, which is the next one
+  name_is : job.id ≡ claim.id
+  name_is = picked.job_is.id ∙ ap (λ (j : LiveJob). j.id) (sym picked.claim_is)
+
+  number_is : job.id.number ≡ old.book.made + 1
+  number_is = ap (λ (id : JobId). id.number) picked.job_is.id
+
+  claim_is : claim ≡ next_job old.book picked.want
+  claim_is = picked.claim_is
+
+  -- a name that was given before is another
+  other_name : (id : JobId) → IsGiven old.book id → id ≡ job.id → ⊥
+  other_name id given same =
+      let last = given.last in
+      let number = number_is in
+      let its : id.number ≡ job.id.number = ap (λ (x : JobId). x.number) same in
+      absurd (omega (arith, last, number, its))
+
+  given_still : (id : JobId) → IsGiven old.book id → IsGiven new.book id
+  given_still id given = subst (λ (b : BookValue). IsGiven b id) (sym book_is) (let last = given.last in record { epoch = given.epoch; first = given.first; last = omega (arith, last) })
+
+  given_new : IsGiven new.book job.id
+  given_new = subst (λ (b : BookValue). IsGiven b job.id) (sym book_is) (subst (λ (id : JobId). IsGiven (after_claim old.book picked.want) id) (sym picked.job_is.id) (record { epoch = refl; first = omega arith; last = omega arith }))
+
+  -- another name was live before
+  live_before : (id : JobId) → (id ≡ job.id → ⊥) → holds new.book id ≡ true → holds old.book id ≡ true
+  live_before id other held =
+      let found = any_is (λ (k : LiveJob). same_job_id k.id id) (after_claim old.book picked.want).live (subst (λ (b : BookValue). holds b id ≡ true) book_is held) in
+      elim (IsIn-append_cases found.0 old.book.live (next_job old.book picked.want ∷ []) found.1) [
+        | inl before ↦ any_from (λ (k : LiveJob). same_job_id k.id id) old.book.live found.0 before found.2
+        | inr last ↦ absurd (other (sym (same_name found.0.id id found.2) ∙ ap (λ (k : LiveJob). k.id) (IsIn-one found.0 (next_job old.book picked.want) last) ∙ sym picked.job_is.id))
+      ]
+
+  module _ (files : AreFiles h old) (jobs : AreJobs h old) where
+    -- the inputs are files of the version, which have places
+    input_file : (f : FileMeta) → IsIn f job.inputs → IsFileOf h f
+    input_file f m =
+        let listed : IsIn f new.served.version.files = ((sound.claimed.of_want.inputs f).0 m).0 in
+        let p = place_of old.served fit.version fit.served f (subst (λ (s : ServedValue). IsIn f s.version.files) served_is listed) in
+        (p.0, files.served p.0 p.1, sym p.2)
+
+    jobs_after : AreJobs more new
+    jobs_after = record {
+      job = λ j m. elim m [ inl same ↦ subst IsJob (sym same) rules | inr rest ↦ jobs.job j rest ];
+      one = λ i j mi mj same. elim mi [
+        | inl first ↦ elim mj [
+          | inl both ↦ first ∙ sym both
+          | inr rest ↦ absurd (other_name j.id (jobs.given j rest) (sym same ∙ ap (λ (x : JobParts). x.id) first))
+        ]
+        | inr rest ↦ elim mj [
+          | inl first ↦ absurd (other_name i.id (jobs.given i rest) (same ∙ ap (λ (x : JobParts). x.id) first))
+          | inr both ↦ jobs.one i j rest both same
+        ]
+      ];
+      given = λ j m. elim m [ inl same ↦ subst (λ (x : JobParts). IsGiven new.book x.id) (sym same) given_new | inr rest ↦ given_still j.id (jobs.given j rest) ];
+      inputs = λ j f mj mf. elim mj [ inl same ↦ input_file f (subst (λ (x : JobParts). IsIn f x.inputs) same mf) | inr rest ↦ jobs.inputs j f rest mf ];
+      sound = λ j m held. elim m [
+        | inl same ↦ subst (λ (x : JobParts). IsSound new x) (sym same) sound
+        | inr rest ↦ keeps j (jobs.sound j rest (live_before j.id (other_name j.id (jobs.given j rest)) held)) held
+      ];
+    }
+
+    module _ (desk : List Dispatcher) (place : ℕ) (idle : slice_get desk place ≡ Some Idle) (claims : AreClaims h old.book desk) where
+      abbrev after : List Dispatcher
+      after = slice_set desk place (Busy claim)
+
+      -- a dispatcher that held a claim still holds it
+      held_still : (p : ℕ) (j : LiveJob) → Holds desk p j → Holds after p j
+      held_still p j held = get_set_there desk place p (Busy claim) (λ same. idle_holds_none j (one_at desk place p Idle (Busy j) idle held same)) ∙ held
+
+      -- no claim that was held has this name
+      not_held : (p : ℕ) (j : LiveJob) → Holds desk p j → j.id ≡ claim.id → ⊥
+      not_held p j held same =
+          let of = claims.picked p j held in
+          other_name of.0.id (jobs.given of.0 of.1) (of.2 ∙ same ∙ sym name_is)
+
+      claims_after : AreClaims more new.book after
+      claims_after = record {
+        four = as_many_after desk place (Busy claim) ∙ claims.four;
+        live = λ j m. elim (IsIn-append_cases j old.book.live (next_job old.book picked.want ∷ []) (subst (λ (b : BookValue). IsIn j b.live) book_is m)) [
+          | inl before ↦ let at = claims.live j before in (at.0, held_still at.0 j at.1)
+          | inr last ↦ (place, get_set_here desk place (Busy claim) Idle idle ∙ ap (λ (x : LiveJob). Some (Busy x)) (claim_is ∙ sym (IsIn-one j (next_job old.book picked.want) last)))
+        ];
+        picked = λ p j now. elim (get_set_cases desk place p (Busy claim) (Busy j) now) [
+          | inl here ↦ (job, inl refl, name_is ∙ ap (λ (x : LiveJob). x.id) (same_claim claim j here.1))
+          | inr there ↦ let of = claims.picked p j there.1 in (of.0, inr of.1, of.2)
+        ];
+        one = λ a b j k x y same. elim (get_set_cases desk place a (Busy claim) (Busy j) x) [
+          | inl here ↦ elim (get_set_cases desk place b (Busy claim) (Busy k) y) [
+            | inl both ↦ here.0 ∙ sym both.0
+            | inr there ↦ absurd (not_held b k there.1 (sym same ∙ ap (λ (z : LiveJob). z.id) (sym (same_claim claim j here.1))))
+          ]
+          | inr there ↦ elim (get_set_cases desk place b (Busy claim) (Busy k) y) [
+            | inl here ↦ absurd (not_held a j there.1 (same ∙ ap (λ (z : LiveJob). z.id) (sym (same_claim claim k here.1))))
+            | inr both ↦ claims.one a b j k there.1 both.1 same
+          ]
+        ];
+      }
+
+-- A PICK KEEPS THE HISTORY, WITH ITS JOB.
+pub after_pick : (h : History) (old : NodesValue) (new : CoordValue) (claim : LiveJob) (job : JobParts) → IsFit old.core → IsPicked old.core claim job new → IsSound new job → KeepsSound old.core new → IsJob job
+    → (place : ℕ) → slice_get old.desk place ≡ Some Idle → IsHistory h old
+    → (more : History) × IsHistory more (record old { core = new; desk = slice_set old.desk place (Busy claim) }) × IsKnown more (body.Job job)
+after_pick h old new claim job fit picked sound keeps rules place idle is =
+    let same = picked.new_is in
+    let files : AreFiles h new =
+    files_stay h old.core new (ap (λ (c : CoordValue). c.served) same) (ap (λ (c : CoordValue). c.edits) same) (λ r m. subst (λ (c : CoordValue). IsIn r c.retired) same m) is.files in (
+      with_job h job,
+      goes_on h (with_job h job) old new (slice_set old.desk place (Busy claim)) is
+          (record { files = λ p m. m; jobs = λ j m. inr m; one = is.files.one })
+          (with_job_files h job new files)
+          (jobs_after h old.core new claim job fit picked sound keeps rules is.files is.jobs)
+          (claims_after h old.core new claim job fit picked sound keeps rules is.files is.jobs old.desk place idle is.claims),
+      inl refl,
+    )

@@ -1,0 +1,78 @@
+-- One event more at the end of a schedule.
+use Rattle.std.proofs.Common.{◌≡◌, ◌⊎◌, List, [], ◌∷◌, ◌++◌, map, refl, sym, ap, subst, inl, inr}
+use Rattle.std.proofs.lemmas.List.{map-append}
+use Rattle.lsm_key.specs.declared.limits.Limits.{Limits}
+use Rattle.lsm_coord.specs.Contract.Shows.{Follows}
+use Rattle.lsm_coord.specs.Model.Event as say
+use Rattle.lsm_coord.specs.Model.Run.{Run}
+use Rattle.lsm_coord.specs.Model.State.{State, first_state}
+use Rattle.lsm_coord.specs.Model.Step.{Step}
+use Rattle.lsm_coord.proofs.RunInvariants.{run_then}
+use Rattle.lsm_world.specs.declared.event.Event.{Event}
+use Rattle.lsm_world.specs.declared.refusal.Refusal.TheVariants as why
+use Rattle.lsm_world.specs.declared.reply.Reply.{Reply}
+use Rattle.lsm_world.specs.declared.reply.Reply.TheVariants as reply
+use Rattle.lsm_world.specs.Asks.{Asks}
+use Rattle.lsm_world.specs.Events.{event_of}
+use Rattle.lsm_world.specs.Nodes.{NodesValue}
+use Rattle.lsm_world.specs.Replies.{reply_of}
+use Rattle.lsm_world.specs.Schedules.{AreNew, AskedAll, IsReached, IsTaken, IsTraced, RunsTo, WorldValue}
+
+-- ---- what was asked
+
+pub asked_none : (n : NodesValue) → AskedAll n [] [] n
+asked_none n = refl
+
+pub asked_more : (old mid new : NodesValue) (es : List Event) (rs : List Reply) (e : Event) (r : Reply) → AskedAll old es rs mid → Asks mid e r new → AskedAll old (es ++ e ∷ []) (rs ++ r ∷ []) new
+asked_more old mid new [] [] e r asked one = (new, subst (λ (n : NodesValue). Asks n e r new) asked one, refl)
+asked_more old mid new [] (q ∷ rs) e r asked one = absurd asked
+asked_more old mid new (d ∷ es) [] e r asked one = absurd asked
+asked_more old mid new (d ∷ es) (q ∷ rs) e r asked one = (asked.0, asked.1, asked_more asked.0 mid new es rs e r asked.2 one)
+
+-- ---- the events as a run
+
+run_more : (s m t : State) (es : List Event) (rs : List Reply) (e : Event) (r : Reply) → Run s (map event_of es) (map reply_of rs) m → Step m (event_of e) (reply_of r) t → Run s (map event_of (es ++ e ∷ [])) (map reply_of (rs ++ r ∷ [])) t
+run_more s m t es rs e r run step =
+    subst (λ (events : List say.Event). Run s events (map reply_of (rs ++ r ∷ [])) t) (sym (map-append event_of es (e ∷ [])))
+    (subst (λ (replies : List say.Reply). Run s (map event_of es ++ event_of e ∷ []) replies t) (sym (map-append reply_of rs (r ∷ [])))
+    (run_then s (map event_of es) (event_of e ∷ []) (map reply_of rs) (reply_of r ∷ []) m t run (t, step, refl)))
+
+pub runs_none : (n : NodesValue) → RunsTo n [] [] n
+runs_none n s shown = (s, refl, shown)
+
+pub runs_more : (old mid new : NodesValue) (es : List Event) (rs : List Reply) (e : Event) (r : Reply) → RunsTo old es rs mid → Follows mid.core (event_of e) (reply_of r) new.core → RunsTo old (es ++ e ∷ []) (rs ++ r ∷ []) new
+runs_more old mid new es rs e r runs follows s shown =
+    let first = runs s shown in
+    let then = follows first.0 first.2 in
+    (then.0, run_more s first.0 then.0 es rs e r first.1 then.1, then.2)
+
+-- ---- the trace
+
+pub traced_none : (trace : List Event) → IsTraced trace [] [] trace
+traced_none trace = refl
+
+pub taken_or_not : (old new : WorldValue) (e : Event) (r : Reply) → IsTaken old e r new → (new.trace ≡ old.trace ++ e ∷ []) ⊎ ((new.trace ≡ old.trace) × (r ≡ reply.Refused why.OutOfMemory))
+taken_or_not old new e r (inl taken) = inl taken
+taken_or_not old new e r (inr lost) = inr (ap (λ (w : WorldValue). w.trace) lost.0, lost.1)
+
+pub traced_more : (old mid new : List Event) (es : List Event) (rs : List Reply) (e : Event) (r : Reply) → IsTraced old es rs mid → (new ≡ mid ++ e ∷ []) ⊎ ((new ≡ mid) × (r ≡ reply.Refused why.OutOfMemory)) → IsTraced old (es ++ e ∷ []) (rs ++ r ∷ []) new
+traced_more old mid new [] [] e r traced one = elim one [
+  | inl taken ↦ inl (subst (λ (es : List Event). new ≡ es ++ e ∷ []) traced taken)
+  | inr lost ↦ inr (lost.1, subst (λ (es : List Event). new ≡ es) traced lost.0)
+]
+traced_more old mid new [] (q ∷ rs) e r traced one = absurd traced
+traced_more old mid new (d ∷ es) [] e r traced one = absurd traced
+traced_more old mid new (d ∷ es) (q ∷ rs) e r traced one = elim traced [
+  | inl taken ↦ inl (traced_more (old ++ d ∷ []) mid new es rs e r taken one)
+  | inr lost ↦ inr (lost.0, traced_more old mid new es rs e r lost.1 one)
+]
+
+-- ---- the states that are reached
+
+pub reached_first : (due : Limits) (n : NodesValue) → AreNew due n → IsReached (record { nodes = n; trace = [] })
+reached_first due n is = record { replies = []; state = first_state; run = refl; shown = is.shown }
+
+pub reached_more : (old new : NodesValue) (es : List Event) (e : Event) (r : Reply) → IsReached (record { nodes = old; trace = es }) → Follows old.core (event_of e) (reply_of r) new.core → IsReached (record { nodes = new; trace = es ++ e ∷ [] })
+reached_more old new es e r is follows =
+    let then = follows is.state is.shown in
+    record { replies = is.replies ++ r ∷ []; state = then.0; run = run_more first_state is.state then.0 es is.replies e r is.run then.1; shown = then.2 }

@@ -1,0 +1,195 @@
+-- What a worker does with a message that is known: its task is of the history again, and what it sends is known.
+use Rattle.std.proofs.Common.{◌≡◌, ℕ, zero, suc, Bool, true, false, cond, List, [], ◌∷◌, Option, None, Some, map, ◌⊎◌, refl, sym, ap, subst, ◌∙◌, inl, inr}
+use Rattle.std.proofs.lemmas.Option.{same_Some}
+use Rattle.std.specs.Prelude.{not, nat_lt, filter, slice_get, slice_set}
+use Rattle.lsm_key.specs.Sets.{IsIn}
+use Rattle.lsm_key.proofs.AscendingEntries.{IsIn-filter}
+use Rattle.lsm_key.proofs.Membership.{IsIn-append_cases, IsIn-mapped}
+use Rattle.lsm_claim.specs.Jobs.{same_job_id}
+use Rattle.lsm_table.specs.Tables.{IsTable, Opened}
+use Rattle.lsm_table.proofs.TableContents.{table_one}
+use Rattle.lsm_edit.specs.declared.file.FileMeta.{FileMeta}
+use Rattle.lsm_edit.specs.declared.served.Placed.{Placed}
+use Rattle.lsm_msg.specs.declared.job.JobParts.{JobParts}
+use Rattle.lsm_msg.specs.declared.message.Body.{Body}
+use Rattle.lsm_msg.specs.declared.message.Body.TheVariants as body
+use Rattle.lsm_msg.specs.declared.message.Message.{Message}
+use Rattle.lsm_merge.specs.Outputs.{IsMerge}
+use Rattle.lsm_coord.specs.Contract.Value.{CoordValue}
+use Rattle.lsm_store.specs.Compacting.{tables_at}
+use Rattle.lsm_store.proofs.ServedTables.{tables_found}
+use Rattle.lsm_work.specs.Workers.{IsAwaited, IsComplete, Merges, Outcome, Proceeds, TakesTable, TaskValue, WorkerValue, Works, after_gone, after_job, drops, fetches, fetching, ignores, is_among, is_later, missing, new_task, numbers_of, tables_of, to_coordinator, with_input}
+use Rattle.lsm_world.specs.History.{AreFiles, AreJobs, History, IsHistory, IsKnown, IsNumbered, IsTableAt, IsTaskOf}
+use Rattle.lsm_world.specs.Nodes.{NodesValue}
+
+-- the task that is left is of the history, and each message that is sent is known
+abbrev pub Keeps : History → Outcome → Type 0
+Keeps h o = IsTaskOf h o.worker.task × ((m : Message) → IsIn m o.sent → IsKnown h m.body)
+
+-- one of two outcomes
+by_test : (P : Outcome → Type 0) (b : Bool) (x y : Outcome) → P x → P y → P (cond b x y)
+by_test P true x y px py = px
+by_test P false x y px py = py
+
+module _ (h : History) (c : CoordValue) (files : AreFiles h c) (jobs : AreJobs h c) where
+  -- ---- jobs, and files that are gone
+
+  input_numbered : (t : TaskValue) → IsTaskOf h (Some t) → (f : FileMeta) → IsIn f t.job.inputs → IsNumbered h f.number
+  input_numbered t own f m = let p = jobs.inputs t.job f own.0 m in (p.0, p.1, ap (λ (g : FileMeta). g.number) p.2)
+
+  fetched : (index : ℕ) (fs : List FileMeta) → ((f : FileMeta) → IsIn f fs → IsNumbered h f.number) → (m : Message) → IsIn m (fetches index fs) → IsKnown h m.body
+  fetched index fs all m sent =
+      let f = IsIn-mapped (λ (g : FileMeta). to_coordinator index (body.Fetch g.number)) m fs sent in
+      subst (λ (x : Message). IsKnown h x.body) (sym f.2) (all f.0 f.1)
+
+  -- a missing input is one of the job's
+  is_input : (t : TaskValue) (f : FileMeta) → IsIn f (missing t) → IsIn f t.job.inputs
+  is_input t f m = (IsIn-filter (λ (g : FileMeta). not (is_among (numbers_of t.received) g.number)) f t.job.inputs m).0
+
+  fetching_keeps : (w : WorkerValue) (t : TaskValue) → IsTaskOf h (Some t) → Keeps h (fetching w t)
+  fetching_keeps w t own = (own, fetched w.index (missing t) (λ f m. input_numbered t own f (is_input t f m)))
+
+  ignores_keeps : (w : WorkerValue) → IsTaskOf h w.task → Keeps h (ignores w)
+  ignores_keeps w own = (own, λ m sent. absurd sent)
+
+  drops_keeps : (w : WorkerValue) → Keeps h (drops w)
+  drops_keeps w = (tt, λ m sent. absurd sent)
+
+  new_of : (j : JobParts) → IsIn j h.jobs → IsTaskOf h (Some (new_task j))
+  new_of j m = (m, λ p none. absurd none)
+
+  job_keeps : (w : WorkerValue) (j : JobParts) (t : Option TaskValue) → IsTaskOf h w.task → IsTaskOf h t → IsIn j h.jobs → Keeps h (after_job w j t)
+  job_keeps w j None own has m = fetching_keeps w (new_task j) (new_of j m)
+  job_keeps w j (Some t) own has m =
+      by_test (Keeps h) (same_job_id j.id t.job.id) (fetching w t) (cond (is_later j.id t.job.id) (fetching w (new_task j)) (ignores w)) (fetching_keeps w t has)
+      (by_test (Keeps h) (is_later j.id t.job.id) (fetching w (new_task j)) (ignores w) (fetching_keeps w (new_task j) (new_of j m)) (ignores_keeps w own))
+
+  gone_keeps : (w : WorkerValue) (number : ℕ) (t : Option TaskValue) → IsTaskOf h w.task → Keeps h (after_gone w number t)
+  gone_keeps w number None own = ignores_keeps w own
+  gone_keeps w number (Some t) own = by_test (Keeps h) (is_among (map (λ f. f.number) (missing t)) number) (drops w) (ignores w) (drops_keeps w) (ignores_keeps w own)
+
+  -- ---- tables
+
+  module _ (t : TaskValue) (own : IsTaskOf h (Some t)) where
+    -- what is awaited is a file with its table: numbers name one file, and bytes have one list of entries
+    awaited_is : (number : ℕ) (bytes : List ℕ) (p : Placed) → IsTableAt h number bytes → IsAwaited t number bytes p → IsIn p h.files
+    awaited_is number bytes p known awaited =
+        let q = jobs.inputs t.job p.meta own.0 (is_input t p.meta awaited.input) in
+        let one : q.0 ≡ known.0 = files.one q.0 known.0 q.1 known.1 (ap (λ (f : FileMeta). f.number) q.2 ∙ awaited.number ∙ sym known.2) in
+        let text : q.0.table.bytes ≡ p.table.bytes = ap (λ (x : Placed). x.table.bytes) one ∙ known.3 ∙ sym awaited.bytes in
+        let is_table = subst (λ (bs : List ℕ). IsTable bs q.0.table.entries) text (files.recorded q.0 q.1).table in
+        let entries = table_one p.table.bytes q.0.table.entries p.table.entries is_table awaited.recorded.table in
+        subst (λ (x : Placed). IsIn x h.files) (λ i. record { meta = q.2 i; table = record { bytes = text i; entries = entries i } }) q.1
+
+    more_of : (p : Placed) → IsIn p h.files → IsIn p.meta t.job.inputs → IsTaskOf h (Some (with_input p t))
+    more_of p there input = (
+      own.0,
+      λ q m. elim (IsIn-append_cases q (filter (λ x. nat_lt x.meta.number p.meta.number) t.received) (p ∷ filter (λ x. nat_lt p.meta.number x.meta.number) t.received) m) [
+        | inl below ↦ own.1 q (IsIn-filter (λ (x : Placed). nat_lt x.meta.number p.meta.number) q t.received below).0
+        | inr (inl same) ↦ subst (λ (x : Placed). IsIn x h.files × IsIn x.meta t.job.inputs) (sym same) (there, input)
+        | inr (inr above) ↦ own.1 q (IsIn-filter (λ (x : Placed). nat_lt p.meta.number x.meta.number) q t.received above).0
+      ],
+    )
+
+    -- the tables of a complete task are those of the job's inputs
+    tables_are : IsComplete t → tables_of t ≡ tables_at h.files t.job.inputs
+    tables_are whole = sym (tables_found h.files files.one t.received (λ p m. (own.1 p m).0)) ∙ ap (tables_at h.files) whole
+
+    merges_keeps : (w : WorkerValue) (o : Outcome) → IsComplete t → Merges w t o → Keeps h o
+    merges_keeps w o whole (inl made) = subst (Keeps h) (sym made.3) (
+      tt,
+      λ m sent. elim sent [
+        | inl same ↦ subst (λ (x : Message). IsKnown h x.body) (sym same) (t.job, own.0, refl, subst (λ (ts : List Opened). IsMerge ts t.job made.0) (tables_are whole) made.2)
+        | inr none ↦ absurd none
+      ],
+    )
+    merges_keeps w o whole (inr same) = subst (Keeps h) (sym same.1) (drops_keeps w)
+
+    proceeds_keeps : (w : WorkerValue) (fs : List FileMeta) (o : Outcome) → Proceeds w t fs o → Keeps h o
+    proceeds_keeps w [] o goes = merges_keeps w o goes.0 goes.1
+    proceeds_keeps w (f ∷ fs) o goes = subst (Keeps h) (sym goes) (own, λ m sent. absurd sent)
+
+  table_keeps : (w : WorkerValue) (number : ℕ) (bytes : List ℕ) (t : Option TaskValue) (o : Outcome) → IsTaskOf h w.task → IsTaskOf h t → IsTableAt h number bytes → TakesTable w number bytes t o → Keeps h o
+  table_keeps w number bytes None o own has known goes = subst (Keeps h) (sym goes) (ignores_keeps w own)
+  table_keeps w number bytes (Some t) o own has known (inl taken) =
+      let p = taken.0 in
+      let there = awaited_is t has number bytes p known taken.1 in
+      proceeds_keeps (with_input p t) (more_of t has p there (is_input t p.meta taken.1.input)) w (missing (with_input p t)) o taken.2
+  table_keeps w number bytes (Some t) o own has known (inr other) = subst (Keeps h) (sym other.1) (ignores_keeps w own)
+
+  -- ---- any message
+
+  -- A WORKER KEEPS THE HISTORY.
+  pub works_known : (w : WorkerValue) (said : Body) (o : Outcome) → IsTaskOf h w.task → IsKnown h said → Works w said o → Keeps h o
+  works_known w (body.Job j) o own known works = subst (Keeps h) (sym works) (job_keeps w j w.task own own known)
+  works_known w (body.Table number bytes) o own known works = table_keeps w number bytes w.task o own own known works
+  works_known w (body.Gone number) o own known works = subst (Keeps h) (sym works) (gone_keeps w number w.task own)
+  works_known w (body.Fetch number) o own known works = subst (Keeps h) (sym works) (ignores_keeps w own)
+  works_known w (body.Result made) o own known works = subst (Keeps h) (sym works) (ignores_keeps w own)
+  works_known w (body.Ask number) o own known works = absurd known
+  works_known w (body.Edit edit) o own known works = absurd known
+  works_known w (body.Base version) o own known works = absurd known
+  works_known w (body.Current number) o own known works = absurd known
+
+-- ---- the worker that is left
+
+job_index : (w : WorkerValue) (j : JobParts) (t : Option TaskValue) → (after_job w j t).worker.index ≡ w.index
+job_index w j None = refl
+job_index w j (Some t) =
+    by_test (λ o. o.worker.index ≡ w.index) (same_job_id j.id t.job.id) (fetching w t) (cond (is_later j.id t.job.id) (fetching w (new_task j)) (ignores w)) refl
+    (by_test (λ o. o.worker.index ≡ w.index) (is_later j.id t.job.id) (fetching w (new_task j)) (ignores w) refl refl)
+
+gone_index : (w : WorkerValue) (number : ℕ) (t : Option TaskValue) → (after_gone w number t).worker.index ≡ w.index
+gone_index w number None = refl
+gone_index w number (Some t) = by_test (λ o. o.worker.index ≡ w.index) (is_among (map (λ f. f.number) (missing t)) number) (drops w) (ignores w) refl refl
+
+merges_index : (w : WorkerValue) (t : TaskValue) (o : Outcome) → Merges w t o → o.worker.index ≡ w.index
+merges_index w t o (inl made) = ap (λ (x : Outcome). x.worker.index) made.3
+merges_index w t o (inr same) = ap (λ (x : Outcome). x.worker.index) same.1
+
+proceeds_index : (w : WorkerValue) (t : TaskValue) (fs : List FileMeta) (o : Outcome) → Proceeds w t fs o → o.worker.index ≡ w.index
+proceeds_index w t [] o goes = merges_index w t o goes.1
+proceeds_index w t (f ∷ fs) o goes = ap (λ (x : Outcome). x.worker.index) goes
+
+table_index : (w : WorkerValue) (number : ℕ) (bytes : List ℕ) (t : Option TaskValue) (o : Outcome) → TakesTable w number bytes t o → o.worker.index ≡ w.index
+table_index w number bytes None o goes = ap (λ (x : Outcome). x.worker.index) goes
+table_index w number bytes (Some t) o (inl taken) = proceeds_index w (with_input taken.0 t) (missing (with_input taken.0 t)) o taken.2
+table_index w number bytes (Some t) o (inr other) = ap (λ (x : Outcome). x.worker.index) other.1
+
+pub works_index : (w : WorkerValue) (said : Body) (o : Outcome) → Works w said o → o.worker.index ≡ w.index
+works_index w (body.Job j) o works = ap (λ (x : Outcome). x.worker.index) works ∙ job_index w j w.task
+works_index w (body.Table number bytes) o works = table_index w number bytes w.task o works
+works_index w (body.Gone number) o works = ap (λ (x : Outcome). x.worker.index) works ∙ gone_index w number w.task
+works_index w (body.Fetch number) o works = ap (λ (x : Outcome). x.worker.index) works
+works_index w (body.Result made) o works = ap (λ (x : Outcome). x.worker.index) works
+works_index w (body.Ask number) o works = ap (λ (x : Outcome). x.worker.index) works
+works_index w (body.Edit edit) o works = ap (λ (x : Outcome). x.worker.index) works
+works_index w (body.Base version) o works = ap (λ (x : Outcome). x.worker.index) works
+works_index w (body.Current number) o works = ap (λ (x : Outcome). x.worker.index) works
+
+-- ---- one worker in the place of another
+
+same_indices : (ws : List WorkerValue) (place : ℕ) (w new : WorkerValue) → slice_get ws place ≡ Some w → new.index ≡ w.index → map (λ x. x.index) (slice_set ws place new) ≡ map (λ x. x.index) ws
+same_indices [] place w new at same = refl
+same_indices (x ∷ ws) zero w new at same =
+    let first : new.index ≡ x.index = same ∙ ap (λ (y : WorkerValue). y.index) (sym (same_Some x w at)) in
+    λ i. first i ∷ map (λ (y : WorkerValue). y.index) ws
+same_indices (x ∷ ws) (suc place) w new at same = ap (λ (ns : List ℕ). x.index ∷ ns) (same_indices ws place w new at same)
+
+set_cases : (ws : List WorkerValue) (place : ℕ) (new x : WorkerValue) → IsIn x (slice_set ws place new) → (x ≡ new) ⊎ IsIn x ws
+set_cases [] place new x m = absurd m
+set_cases (y ∷ ws) zero new x m = elim m [ inl here ↦ inl here | inr later ↦ inr (inr later) ]
+set_cases (y ∷ ws) (suc place) new x m = elim m [
+  | inl first ↦ inr (inl first)
+  | inr later ↦ elim (set_cases ws place new x later) [ inl here ↦ inl here | inr there ↦ inr (inr there) ]
+]
+
+pub with_worker : (h : History) (old : NodesValue) (place : ℕ) (w new : WorkerValue) → slice_get old.workers place ≡ Some w → new.index ≡ w.index → IsTaskOf h new.task → IsHistory h old → IsHistory h (record old { workers = slice_set old.workers place new })
+with_worker h old place w new at same task is = record {
+  files = is.files;
+  jobs = is.jobs;
+  claims = is.claims;
+  indices = same_indices old.workers place w new at same ∙ is.indices;
+  tasks = λ x m. elim (set_cases old.workers place new x m) [ inl here ↦ subst (λ (y : WorkerValue). IsTaskOf h y.task) (sym here) task | inr before ↦ is.tasks x before ];
+  sent = is.sent;
+}

@@ -1,0 +1,203 @@
+-- What an event makes of the nodes: it asks one node, whose own answer is the reply, and what that node sends is stored (RocksDB wiki, Remote Compaction: the primary schedules a job, a worker runs it, the primary installs its result).
+use Rattle.std.specs.Prelude.{◌≡◌, ◌⊎◌, ℕ, ◌+◌, List, [], ◌∷◌, ◌++◌, Option, None, Some, length, map, nat_eq, if◌then◌else◌}
+use Rattle.lsm_key.specs.Faults.{Refuses}
+use Rattle.lsm_key.specs.Limits.{batch_fault}
+use Rattle.lsm_claim.specs.declared.ending.Settled.TheVariants.{Live, Stale}
+use Rattle.lsm_claim.specs.declared.job.LiveJob.{LiveJob}
+use Rattle.lsm_claim.specs.declared.job.JobId.{JobId}
+use Rattle.lsm_claim.specs.Book.{settle_answer}
+use Rattle.lsm_msg.specs.declared.job.JobParts.{JobParts}
+use Rattle.lsm_msg.specs.declared.job.JobResult.{JobResult}
+use Rattle.lsm_msg.specs.declared.message.Body.{Body}
+use Rattle.lsm_msg.specs.declared.message.Body.TheVariants as body
+use Rattle.lsm_msg.specs.declared.message.Message.{Message}
+use Rattle.lsm_msg.specs.declared.node.Node.{Node}
+use Rattle.lsm_msg.specs.declared.node.Node.TheVariants.{Coordinator, Worker, Follower}
+use Rattle.lsm_msg.specs.Messages.{IsSpelled}
+use Rattle.lsm_coord.specs.declared.coord.install.Install.{Install}
+use Rattle.lsm_coord.specs.declared.coord.install.Install.TheVariants as became
+use Rattle.lsm_coord.specs.declared.dispatcher.Dispatcher.{Dispatcher}
+use Rattle.lsm_coord.specs.declared.dispatcher.Dispatcher.TheVariants.{Idle, Busy}
+use Rattle.lsm_coord.specs.declared.error.CoordError.TheVariants as error
+use Rattle.lsm_coord.specs.Contract.Calls.{write_fault, IsWritten, freeze_fault, after_freezing, flush_fault, Adds, snapshot_fault, after_snapshot, release_fault, after_release, after_give_back, GetRefuses, ScanRefuses}
+use Rattle.lsm_coord.specs.Contract.Desks.{dispatcher_of, with_dispatcher}
+use Rattle.lsm_coord.specs.Contract.Installing.{Became}
+use Rattle.lsm_coord.specs.Contract.Picking.{IsPicked, Picks, PickRefuses}
+use Rattle.lsm_coord.specs.Contract.Replies.{error_of}
+use Rattle.lsm_coord.specs.Contract.Serving.{answer_message}
+use Rattle.lsm_coord.specs.Contract.Value.{CoordValue}
+use Rattle.lsm_work.specs.declared.change.WorkChange.{WorkChange}
+use Rattle.lsm_work.specs.declared.change.WorkChange.TheVariants as change
+use Rattle.lsm_work.specs.Workers.{Outcome, WorkerValue, Works}
+use Rattle.lsm_world.specs.declared.event.Event.{Event}
+use Rattle.lsm_world.specs.declared.event.Event.TheVariants as event
+use Rattle.lsm_world.specs.declared.refusal.Refusal.TheVariants as why
+use Rattle.lsm_world.specs.declared.reply.PickedJob.{PickedJob}
+use Rattle.lsm_world.specs.declared.reply.Reply.{Reply}
+use Rattle.lsm_world.specs.declared.reply.Reply.TheVariants as reply
+use Rattle.lsm_world.specs.declared.reply.Sent.{Sent}
+use Rattle.lsm_world.specs.declared.reply.Sent.TheVariants as sent
+use Rattle.lsm_world.specs.Nodes.{NodesValue, at_index, with_index}
+
+-- ---- messages
+
+-- the bytes of the message of a number, which counts from 1
+abbrev pub message_at : List (List ℕ) → ℕ → Option (List ℕ)
+message_at messages number = if nat_eq number 0 then None else at_index messages number
+
+-- each text is that of a message, one by one
+abbrev pub AreSpelled : List (List ℕ) → List Message → Type 0
+AreSpelled [] [] = Unit {0}
+AreSpelled (bytes ∷ texts) (m ∷ ms) = IsSpelled bytes m × AreSpelled texts ms
+AreSpelled [] (m ∷ ms) = ⊥
+AreSpelled (bytes ∷ texts) [] = ⊥
+
+-- messages are stored all together under the next numbers, or are lost together and use none
+abbrev pub Sends : List (List ℕ) → List Message → Sent → List (List ℕ) → Type 0
+Sends old [] told new = (told ≡ sent.Nothing) × (new ≡ old)
+Sends old (m ∷ ms) sent.Nothing new = ⊥
+Sends old (m ∷ ms) sent.Lost new = new ≡ old
+Sends old (m ∷ ms) (sent.Messages first last) new =
+    (texts : List (List ℕ)) × AreSpelled texts (m ∷ ms) × (new ≡ old ++ texts) × (first ≡ length old + 1) × (last ≡ length new)
+
+-- ---- what the coordinator is asked
+
+-- The coordinator's call for each of its events: what it makes of the coordinator, and when it refuses. A refusal changes nothing.
+-- Which value a read returns, and which sequences a write gets, is what a step says.
+abbrev pub Calls : CoordValue → Event → Reply → CoordValue → Type 0
+Calls old (event.Write ops) (reply.Wrote first last) new = (batch_fault ops ≡ None) × (write_fault old ops ≡ None) × IsWritten old ops new
+Calls old (event.Write ops) (reply.Refused (why.Key e)) new = (batch_fault ops ≡ Some e) × (new ≡ old)
+Calls old (event.Write ops) (reply.Refused (why.Coord e)) new = (batch_fault ops ≡ None) × Refuses error.OutOfMemory (write_fault old ops) e × (new ≡ old)
+Calls old event.Freeze (reply.Froze seq) new = (freeze_fault old ≡ None) × (new ≡ after_freezing old)
+Calls old event.Freeze (reply.Refused (why.Coord e)) new = (freeze_fault old ≡ Some e) × (new ≡ old)
+Calls old event.Flush (reply.Flushed f) new = (flush_fault old ≡ None) × Adds old new
+Calls old event.Flush (reply.Refused (why.Coord e)) new = Refuses error.OutOfMemory (flush_fault old) e × (new ≡ old)
+Calls old event.Snap (reply.Snapped id seq) new = (snapshot_fault old ≡ None) × (new ≡ after_snapshot old)
+Calls old event.Snap (reply.Refused (why.Coord e)) new = Refuses error.OutOfMemory (snapshot_fault old) e × (new ≡ old)
+Calls old (event.Release id) (reply.Released which) new = (release_fault old id ≡ None) × (which ≡ id) × (new ≡ after_release old id)
+Calls old (event.Release id) (reply.Refused (why.Coord e)) new = (release_fault old id ≡ Some e) × (new ≡ old)
+Calls old (event.Get key at) (reply.Got value) new = new ≡ old
+Calls old (event.Get key at) (reply.Refused (why.Coord e)) new = GetRefuses old key at e × (new ≡ old)
+Calls old (event.Scan range) (reply.Scanned pairs) new = new ≡ old
+Calls old (event.Scan range) (reply.Refused (why.Coord e)) new = ScanRefuses old range.at e × (new ≡ old)
+Calls old event.Show (reply.Shown v) new =
+    (v.number ≡ old.served.version.number) × (v.flushed ≡ old.served.version.flushed) × (v.files ≡ old.served.version.files) × (new ≡ old)
+Calls old e r new = ⊥
+
+-- ---- what a dispatcher is asked
+
+-- the job goes from the coordinator to the dispatcher's worker
+abbrev pub job_message : ℕ → JobParts → Message
+job_message d job = record { src = Coordinator; dst = Worker d; body = body.Job job }
+
+-- the reply names the job, its level and its inputs
+abbrev pub TellsJob : PickedJob → JobParts → Type 0
+TellsJob told job = (told.id ≡ job.id) × (told.level ≡ job.level) × (told.inputs ≡ map (λ f. f.number) job.inputs)
+
+-- a dispatcher that has no job picks one, if one is due, holds its claim and sends it
+abbrev pub Dispatches : NodesValue → ℕ → Reply → NodesValue → Type 0
+Dispatches old d (reply.Refused why.Busy) new = ((claim : LiveJob) × (dispatcher_of old.desk d ≡ Busy claim)) × (new ≡ old)
+Dispatches old d (reply.Refused (why.Coord e)) new = (dispatcher_of old.desk d ≡ Idle) × PickRefuses old.core e × (new ≡ old)
+Dispatches old d reply.Idle new = (dispatcher_of old.desk d ≡ Idle) × Picks old.core old.core None × (new ≡ old)
+Dispatches old d (reply.Picked told sent) new =
+    (dispatcher_of old.desk d ≡ Idle) × (claim : LiveJob) × (job : JobParts) × IsPicked old.core claim job new.core × TellsJob told job
+    × Sends old.messages (job_message d job ∷ []) sent new.messages
+    × (new ≡ record old { core = new.core; desk = with_dispatcher old.desk d (Busy claim); messages = new.messages })
+Dispatches old d r new = ⊥
+
+-- a dispatcher gives back the claim that it holds
+abbrev pub GivesUp : NodesValue → ℕ → Reply → NodesValue → Type 0
+GivesUp old d (reply.Refused why.NoClaim) new = (dispatcher_of old.desk d ≡ Idle) × (new ≡ old)
+GivesUp old d (reply.Returned id) new = (claim : LiveJob) × (dispatcher_of old.desk d ≡ Busy claim) × (id ≡ claim.id) × (settle_answer old.core.book id ≡ Live) × (new ≡ record old { core = after_give_back old.core id; desk = with_dispatcher old.desk d Idle })
+GivesUp old d (reply.StaleClaim id) new = (claim : LiveJob) × (dispatcher_of old.desk d ≡ Busy claim) × (id ≡ claim.id) × (settle_answer old.core.book id ≡ Stale) × (new ≡ record old { core = after_give_back old.core id; desk = with_dispatcher old.desk d Idle })
+GivesUp old d r new = ⊥
+
+-- ---- what a message does
+
+-- the dispatcher holds the claim of the job
+abbrev pub HoldsJob : List Dispatcher → ℕ → JobId → Type 0
+HoldsJob desk d id = (claim : LiveJob) × (dispatcher_of desk d ≡ Busy claim) × (claim.id ≡ id)
+
+abbrev pub install_answer : Install → Reply
+install_answer (became.Done number files) = reply.Installed number files
+install_answer (became.Stale job epoch) = reply.Refused why.OldEpoch
+install_answer (became.Kept claim e) = reply.Refused (why.Coord (error_of e))
+
+-- a claim that is handed back is held again
+abbrev pub desk_after : List Dispatcher → ℕ → Install → List Dispatcher
+desk_after desk d (became.Done number files) = with_dispatcher desk d Idle
+desk_after desk d (became.Stale job epoch) = with_dispatcher desk d Idle
+desk_after desk d (became.Kept claim e) = desk
+
+-- A result goes to the dispatcher of its worker, which installs it under the claim that it holds, if that is the result's job.
+abbrev pub TakesResult : NodesValue → ℕ → JobResult → Reply → NodesValue → Type 0
+TakesResult old d made (reply.Refused why.NoClaim) new = (HoldsJob old.desk d made.job → ⊥) × (new ≡ old)
+TakesResult old d made r new =
+    (claim : LiveJob) × (dispatcher_of old.desk d ≡ Busy claim) × (claim.id ≡ made.job)
+    × (what : Install) × Became old.core claim made what new.core × (r ≡ install_answer what)
+    × (new ≡ record old { core = new.core; desk = desk_after old.desk d what })
+
+-- nothing is done
+abbrev pub Ignores : NodesValue → Reply → NodesValue → Type 0
+Ignores old r new = (r ≡ reply.Ignored) × (new ≡ old)
+
+-- The coordinator serves a fetch. It takes a result from a worker, and nothing else.
+abbrev pub Receives : NodesValue → Message → Node → Body → Reply → NodesValue → Type 0
+Receives old m src (body.Fetch file) r new =
+    (answer : Message) × (answer_message old.core m m.body ≡ Some answer)
+    × (told : Sent) × (r ≡ reply.Served told) × Sends old.messages (answer ∷ []) told new.messages × (new ≡ record old { messages = new.messages })
+Receives old m (Worker d) (body.Result made) r new = TakesResult old d made r new
+Receives old m src said r new = Ignores old r new
+
+abbrev pub worker_reply : WorkChange → Sent → Reply
+worker_reply (change.Collecting missing) told = reply.Collecting missing told
+worker_reply change.Merged told = reply.Merged told
+worker_reply change.Dropped told = reply.Dropped
+worker_reply change.Ignored told = reply.Ignored
+
+-- what the worker of this index does with a message, and what it sends
+pub record IsWork (old : NodesValue) (index : ℕ) (said : Body) (r : Reply) (new : NodesValue) : Type 0 where
+  pub worker : WorkerValue
+  pub is_there : at_index old.workers index ≡ Some worker
+  pub outcome : Outcome
+  pub works : Works worker said outcome
+  pub told : Sent
+  pub reply_is : r ≡ worker_reply outcome.change told
+  pub sends : Sends old.messages outcome.sent told new.messages
+  pub new_is : new ≡ record old { workers = with_index old.workers index outcome.worker; messages = new.messages }
+
+-- by its receiver; nothing is sent to a follower yet
+abbrev pub Delivers : NodesValue → Message → Node → Reply → NodesValue → Type 0
+Delivers old m Coordinator r new = Receives old m m.src m.body r new
+Delivers old m (Worker index) r new = IsWork old index m.body r new
+Delivers old m (Follower index) r new = Ignores old r new
+
+-- a number that no message has, or a message that is delivered, for the first time or once more
+abbrev pub DeliversAt : NodesValue → ℕ → Reply → NodesValue → Type 0
+DeliversAt old number (reply.Refused why.NoMessage) new = (message_at old.messages number ≡ None) × (new ≡ old)
+DeliversAt old number r new =
+    (text : List ℕ) × (message_at old.messages number ≡ Some text) × (m : Message) × IsSpelled text m × Delivers old m m.dst r new
+
+-- ---- each event
+
+-- memory ran out, and nothing was done
+abbrev pub LacksMemory : {X : Type 0} → X → Reply → X → Type 0
+LacksMemory old r new = (r ≡ reply.Refused why.OutOfMemory) × (new ≡ old)
+
+-- a worker is idle again
+abbrev pub StartsAnew : NodesValue → ℕ → Reply → NodesValue → Type 0
+StartsAnew old index r new =
+    (r ≡ reply.RestartedWorker index) × (w : WorkerValue) × (at_index old.workers index ≡ Some w)
+    × (new ≡ record old { workers = with_index old.workers index (record w { task = None }) })
+
+-- which node an event asks
+abbrev pub AsksNode : NodesValue → Event → Reply → NodesValue → Type 0
+AsksNode old (event.Pick d) r new = Dispatches old d r new
+AsksNode old (event.GiveUp d) r new = GivesUp old d r new
+AsksNode old (event.Deliver number) r new = DeliversAt old number r new
+AsksNode old (event.RestartWorker index) r new = StartsAnew old index r new
+AsksNode old e r new = Calls old.core e r new.core × (new ≡ record old { core = new.core })
+
+-- an event asks its node, unless memory runs out
+abbrev pub Asks : NodesValue → Event → Reply → NodesValue → Type 0
+Asks old e r new = LacksMemory old r new ⊎ AsksNode old e r new

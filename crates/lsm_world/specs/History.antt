@@ -1,0 +1,116 @@
+-- What the nodes of a store have made so far, and what each of them, and each message, may have of it (RocksDB wiki, Remote Compaction: a job names its inputs, and its result stands for them; LevelDB, implementation notes: file numbers are not reused).
+use Rattle.std.specs.Prelude.{◌≡◌, ℕ, ◌∷◌, ◌<◌, List, [], Option, None, Some, length, true, map, slice_get}
+use Rattle.lsm_key.specs.Sets.{IsIn}
+use Rattle.lsm_claim.specs.declared.job.LiveJob.{LiveJob}
+use Rattle.lsm_claim.specs.Book.{BookValue, IsGiven, holds}
+use Rattle.lsm_edit.specs.declared.file.FileMeta.{FileMeta}
+use Rattle.lsm_edit.specs.declared.served.Placed.{Placed}
+use Rattle.lsm_edit.specs.Served.{AllRecorded}
+use Rattle.lsm_edit.specs.Version.{VersionValue}
+use Rattle.lsm_msg.specs.declared.job.JobParts.{JobParts}
+use Rattle.lsm_msg.specs.declared.job.JobResult.{JobResult}
+use Rattle.lsm_msg.specs.declared.message.Body.{Body}
+use Rattle.lsm_msg.specs.declared.message.Body.TheVariants as body
+use Rattle.lsm_msg.specs.declared.message.Message.{Message}
+use Rattle.lsm_msg.specs.Jobs.{IsJob}
+use Rattle.lsm_msg.specs.Messages.{IsSpelled}
+use Rattle.lsm_merge.specs.Outputs.{IsMerge}
+use Rattle.lsm_coord.specs.declared.dispatcher.Dispatcher.{Dispatcher}
+use Rattle.lsm_coord.specs.declared.dispatcher.Dispatcher.TheVariants.{Busy}
+use Rattle.lsm_coord.specs.declared.retired.Retired.{Retired}
+use Rattle.lsm_coord.specs.Contract.Manifest.{versions_of}
+use Rattle.lsm_coord.specs.Contract.Sound.{IsSound}
+use Rattle.lsm_coord.specs.Contract.Value.{CoordValue}
+use Rattle.lsm_store.specs.Compacting.{tables_at}
+use Rattle.lsm_work.specs.Workers.{TaskValue, WorkerValue}
+use Rattle.lsm_world.specs.Nodes.{NodesValue}
+
+pub record History : Type 0 where
+  pub files : List Placed  -- each file that a version ever listed, with its table
+  pub jobs : List JobParts  -- each job that was picked
+
+-- ---- files
+
+-- the record is that of a file
+abbrev pub IsFileOf : History → FileMeta → Type 0
+IsFileOf h f = (p : Placed) × IsIn p h.files × (p.meta ≡ f)
+
+-- a file has this number
+abbrev pub IsNumbered : History → ℕ → Type 0
+IsNumbered h number = (p : Placed) × IsIn p h.files × (p.meta.number ≡ number)
+
+-- the bytes are those of the table of this number
+abbrev pub IsTableAt : History → ℕ → List ℕ → Type 0
+IsTableAt h number bytes = (p : Placed) × IsIn p h.files × (p.meta.number ≡ number) × (p.table.bytes ≡ bytes)
+
+-- Each number that was given names one file with one table, which is as the file's record says. Each file that a version ever
+-- listed, that the coordinator serves or has retired is such a file.
+pub record AreFiles (h : History) (c : CoordValue) : Type 0 where
+  pub one : (p q : Placed) → IsIn p h.files → IsIn q h.files → p.meta.number ≡ q.meta.number → p ≡ q
+  pub recorded : AllRecorded h.files
+  pub given : (p : Placed) → IsIn p h.files → p.meta.number < c.served.version.next_file
+  pub listed : (v : VersionValue) (f : FileMeta) → IsIn v (versions_of c.edits) → IsIn f v.files → IsFileOf h f
+  pub served : (p : Placed) → IsIn p c.served.places → IsIn p h.files
+  pub retired : (r : Retired) → IsIn r c.retired → IsTableAt h r.number r.bytes
+
+-- ---- jobs
+
+-- Each job is within the rules of its format, has a name of its own that was given, merges files of the history, and is sound
+-- while its claim is live.
+pub record AreJobs (h : History) (c : CoordValue) : Type 0 where
+  pub job : (j : JobParts) → IsIn j h.jobs → IsJob j
+  pub one : (i j : JobParts) → IsIn i h.jobs → IsIn j h.jobs → i.id ≡ j.id → i ≡ j
+  pub given : (j : JobParts) → IsIn j h.jobs → IsGiven c.book j.id
+  pub inputs : (j : JobParts) (f : FileMeta) → IsIn j h.jobs → IsIn f j.inputs → IsFileOf h f
+  pub sound : (j : JobParts) → IsIn j h.jobs → holds c.book j.id ≡ true → IsSound c j
+
+-- the dispatcher at this place of a desk, from 0, holds this claim
+abbrev pub Holds : List Dispatcher → ℕ → LiveJob → Type 0
+Holds desk place claim = slice_get desk place ≡ Some (Busy claim)
+
+-- Each live claim is held by one of four dispatchers, each claim that is held is that of a job, and no two dispatchers hold one.
+pub record AreClaims (h : History) (book : BookValue) (desk : List Dispatcher) : Type 0 where
+  pub four : length desk ≡ 4
+  pub live : (claim : LiveJob) → IsIn claim book.live → (place : ℕ) × Holds desk place claim
+  pub picked : (place : ℕ) (claim : LiveJob) → Holds desk place claim → (j : JobParts) × IsIn j h.jobs × (j.id ≡ claim.id)
+  pub one : (a b : ℕ) (claim other : LiveJob) → Holds desk a claim → Holds desk b other → claim.id ≡ other.id → a ≡ b
+
+-- ---- workers and messages
+
+-- the tables of a worker's task are those of inputs of its job
+abbrev pub IsTaskOf : History → Option TaskValue → Type 0
+IsTaskOf h None = Unit {0}
+IsTaskOf h (Some t) = IsIn t.job h.jobs × ((p : Placed) → IsIn p t.received → IsIn p h.files × IsIn p.meta t.job.inputs)
+
+-- the result is, table for table, the merge of its job's inputs
+abbrev pub IsResultOf : History → JobResult → Type 0
+IsResultOf h r = (j : JobParts) × IsIn j h.jobs × (r.job ≡ j.id) × IsMerge (tables_at h.files j.inputs) j r.tables
+
+-- What a message says was so when it was sent. Nobody asks for versions, or sends them.
+abbrev pub IsKnown : History → Body → Type 0
+IsKnown h (body.Job j) = IsIn j h.jobs
+IsKnown h (body.Fetch number) = IsNumbered h number
+IsKnown h (body.Table number bytes) = IsTableAt h number bytes
+IsKnown h (body.Gone number) = IsNumbered h number
+IsKnown h (body.Result r) = IsResultOf h r
+IsKnown h (body.Ask number) = ⊥
+IsKnown h (body.Edit e) = ⊥
+IsKnown h (body.Base v) = ⊥
+IsKnown h (body.Current number) = ⊥
+
+-- the bytes are those of a message that is known
+abbrev pub IsSent : History → List ℕ → Type 0
+IsSent h bytes = (m : Message) × IsSpelled bytes m × IsKnown h m.body
+
+-- the indices of the workers
+abbrev pub first_indices : List ℕ
+first_indices = 1 ∷ 2 ∷ 3 ∷ 4 ∷ []
+
+-- what every schedule keeps of its nodes
+pub record IsHistory (h : History) (n : NodesValue) : Type 0 where
+  pub files : AreFiles h n.core
+  pub jobs : AreJobs h n.core
+  pub claims : AreClaims h n.core.book n.desk
+  pub indices : map (λ w. w.index) n.workers ≡ first_indices
+  pub tasks : (w : WorkerValue) → IsIn w n.workers → IsTaskOf h w.task
+  pub sent : (bytes : List ℕ) → IsIn bytes n.messages → IsSent h bytes

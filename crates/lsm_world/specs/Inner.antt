@@ -1,0 +1,3 @@
+pub mod Upkeep
+pub mod Handing
+pub mod Working

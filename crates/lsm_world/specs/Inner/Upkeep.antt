@@ -1,0 +1,24 @@
+-- What the coordinator's calls leave of its files and claims (the store's own).
+use Rattle.std.specs.Prelude.{◌≡◌, ◌⊎◌}
+use Rattle.lsm_coord.specs.Contract.Calls.{Adds}
+use Rattle.lsm_coord.specs.Contract.Memory.{IsFit}
+use Rattle.lsm_coord.specs.Contract.Sound.{KeepsSound}
+use Rattle.lsm_coord.specs.Contract.Value.{CoordValue}
+
+-- the files, the edits and the claims are as before
+pub record HasSameFiles (old new : CoordValue) : Type 0 where
+  pub served : new.served ≡ old.served
+  pub edits : new.edits ≡ old.edits
+  pub retired : new.retired ≡ old.retired
+  pub book : new.book ≡ old.book
+
+-- a table more, from a memtable
+pub record HasOneMore (old new : CoordValue) : Type 0 where
+  pub before : IsFit old
+  pub after : IsFit new
+  pub adds : Adds old new
+
+-- jobs stay sound, and the files are as before or one more
+pub record KeepsFiles (old new : CoordValue) : Type 0 where
+  pub sound : KeepsSound old new
+  pub files : HasSameFiles old new ⊎ HasOneMore old new

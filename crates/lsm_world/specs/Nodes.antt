@@ -1,0 +1,22 @@
+-- What contracts see of the nodes of a store and of what they sent (RocksDB wiki, Remote Compaction: a primary, its workers, and what they exchange).
+use Rattle.std.specs.Prelude.{ℕ, ◌-◌, List, slice_get, slice_set, Option}
+use Rattle.lsm_coord.specs.declared.dispatcher.Dispatcher.{Dispatcher}
+use Rattle.lsm_coord.specs.Contract.Value.{CoordValue}
+use Rattle.lsm_work.specs.Workers.{WorkerValue}
+
+pub record NodesValue : Type 0 where
+  pub core : CoordValue  -- the coordinator
+  pub desk : List Dispatcher  -- by index from 1
+  pub workers : List WorkerValue  -- by index from 1
+  pub messages : List (List ℕ)  -- the encoding of each message sent, from message 1
+
+-- one of those that are counted from 1
+abbrev pub at_index : {X : Type 0} → List X → ℕ → Option X
+at_index xs index = slice_get xs (index - 1)
+
+-- another one in its place
+abbrev pub with_index : {X : Type 0} → List X → ℕ → X → List X
+with_index xs index x = slice_set xs (index - 1) x
+
+abbrev pub nodes_of : CoordValue → List Dispatcher → List WorkerValue → List (List ℕ) → NodesValue
+nodes_of core desk workers messages = record { core = core; desk = desk; workers = workers; messages = messages }

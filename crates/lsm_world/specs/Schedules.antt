@@ -1,0 +1,87 @@
+-- Schedules: lists of events, each with its reply, of the nodes of one store (the store's own).
+use Rattle.std.specs.Prelude.{◌≡◌, ◌⊎◌, ℕ, List, [], ◌∷◌, ◌++◌, None, map}
+use Rattle.lsm_claim.specs.Book.{new_book}
+use Rattle.lsm_key.specs.declared.limits.Limits.{Limits}
+use Rattle.lsm_coord.specs.declared.error.CoordError.TheVariants as error
+use Rattle.lsm_coord.specs.Contract.Desks.{new_desk}
+use Rattle.lsm_coord.specs.Contract.Memory.{IsFit}
+use Rattle.lsm_coord.specs.Contract.Shows.{Shows}
+use Rattle.lsm_coord.specs.Model.Run.{Run}
+use Rattle.lsm_coord.specs.Model.State.{State, first_state}
+use Rattle.lsm_work.specs.Workers.{WorkerValue}
+use Rattle.lsm_world.specs.declared.event.Event.{Event}
+use Rattle.lsm_world.specs.declared.refusal.Refusal.TheVariants as why
+use Rattle.lsm_world.specs.declared.reply.Reply.{Reply}
+use Rattle.lsm_world.specs.declared.reply.Reply.TheVariants as reply
+use Rattle.lsm_world.specs.Asks.{Asks}
+use Rattle.lsm_world.specs.Events.{event_of}
+use Rattle.lsm_world.specs.History.{History, IsHistory, first_indices}
+use Rattle.lsm_world.specs.Nodes.{NodesValue}
+use Rattle.lsm_world.specs.Replies.{reply_of}
+
+pub record WorldValue : Type 0 where
+  pub nodes : NodesValue
+  pub trace : List Event  -- the events that were taken
+
+-- an idle worker
+abbrev pub idle_worker : ℕ → WorkerValue
+idle_worker index = record { index = index; task = None }
+
+-- the nodes of a new store with these limits, of which none was asked
+pub record AreNew (due : Limits) (n : NodesValue) : Type 0 where
+  pub shown : Shows n.core first_state
+  pub limits : n.core.limits ≡ due
+  pub book : n.core.book ≡ new_book 1
+  pub desk : n.desk ≡ new_desk
+  pub workers : n.workers ≡ map idle_worker first_indices
+  pub messages : n.messages ≡ []
+
+-- and no event was taken
+abbrev pub IsNew : Limits → WorldValue → Type 0
+IsNew due w = AreNew due w.nodes × (w.trace ≡ [])
+
+-- each event asked its node, and got the reply
+abbrev pub AskedAll : NodesValue → List Event → List Reply → NodesValue → Type 0
+AskedAll old [] [] new = new ≡ old
+AskedAll old (e ∷ es) (r ∷ rs) new = (next : NodesValue) × Asks old e r next × AskedAll next es rs new
+AskedAll old [] (r ∷ rs) new = ⊥
+AskedAll old (e ∷ es) [] new = ⊥
+
+-- from each state that is shown before, the events and their replies are a run to one that is shown after
+abbrev pub RunsTo : NodesValue → List Event → List Reply → NodesValue → Type 0
+RunsTo old es rs new = (s : State) → Shows old.core s → (t : State) × Run s (map event_of es) (map reply_of rs) t × Shows new.core t
+
+-- the event is taken, or there is no memory for it, and nothing happens
+abbrev pub IsTaken : WorldValue → Event → Reply → WorldValue → Type 0
+IsTaken old e r new = (new.trace ≡ old.trace ++ e ∷ []) ⊎ ((new ≡ old) × (r ≡ reply.Refused why.OutOfMemory))
+
+-- those that are taken follow on the trace, in order
+abbrev pub IsTraced : List Event → List Event → List Reply → List Event → Type 0
+IsTraced old [] [] new = new ≡ old
+IsTraced old (e ∷ es) (r ∷ rs) new = IsTraced (old ++ e ∷ []) es rs new ⊎ ((r ≡ reply.Refused why.OutOfMemory) × IsTraced old es rs new)
+IsTraced old [] (r ∷ rs) new = ⊥
+IsTraced old (e ∷ es) [] new = ⊥
+
+-- no manifest is bad, no table is missing, no device fails, and no result is of another job or not its merge
+abbrev pub IsPlain : Reply → Type 0
+IsPlain (reply.Refused (why.Coord error.BadManifest)) = ⊥
+IsPlain (reply.Refused (why.Coord error.MissingTable)) = ⊥
+IsPlain (reply.Refused (why.Coord error.Device)) = ⊥
+IsPlain (reply.Refused (why.Coord error.WrongJob)) = ⊥
+IsPlain (reply.Refused (why.Coord error.BadResult)) = ⊥
+IsPlain r = Unit {0}
+
+-- the events that were taken, with replies, led from a new store to a state that the coordinator shows
+pub record IsReached (w : WorldValue) : Type 0 where
+  pub replies : List Reply
+  pub state : State
+  pub run : Run first_state (map event_of w.trace) (map reply_of replies) state
+  pub shown : Shows w.nodes.core state
+
+-- What every world is: its trace led to what its coordinator shows; what each job, result and table says of the history is so; and no
+-- file is removed by two edits.
+pub record IsWorld (w : WorldValue) : Type 0 where
+  pub reached : IsReached w
+  pub history : History
+  pub known : IsHistory history w.nodes
+  pub fit : IsFit w.nodes.core

@@ -1,0 +1,175 @@
+//! What the coordinator answers to its events.
+
+ghost use Rattle.std.specs.Prelude.{◌≡◌, ◌⊎◌};
+ghost use Rattle.lsm_coord.specs.Contract.Memory.{IsFit};
+ghost use Rattle.lsm_coord.specs.Contract.Shows.{Follows, Shows};
+ghost use Rattle.lsm_coord.specs.Model.State.{State};
+ghost use Rattle.lsm_world.specs.declared.event.Event.TheVariants.{Flush, Freeze, Get, Release, Scan, Show, Snap, Write};
+ghost use Rattle.lsm_world.specs.Asks.{Calls, LacksMemory};
+ghost use Rattle.lsm_world.specs.Events.{event_of};
+ghost use Rattle.lsm_world.specs.Inner.Handing.{IsOfCoordinator};
+ghost use Rattle.lsm_world.specs.Inner.Upkeep.{KeepsFiles};
+ghost use Rattle.lsm_world.specs.Replies.{reply_of};
+ghost use Rattle.lsm_world.specs.Schedules.{IsPlain};
+
+use crate::event::Event;
+use crate::refusal::Refusal;
+use crate::reply::Reply;
+use bytes::Bytes;
+use lsm_coord::{Coord, ScanRange, ShownVersion, SnapId};
+use lsm_key::{Batch, Items, Op};
+use std::alloc::Global;
+
+/// Answers one of its events.
+pub(crate) fn answer(alloc: Global, coord: &mut Coord, event: &Event) -> Reply
+    requires own { IsOfCoordinator event.now }
+    requires shown { (s : State) × Shows coord.old s }
+    ensures calls { LacksMemory coord.old result coord.new ⊎ Calls coord.old event.now result coord.new }
+    ensures follows { Follows coord.old (event_of event.now) (reply_of result) coord.new }
+    ensures files { KeepsFiles coord.old coord.new }
+    ensures plain { IsPlain result }
+{
+    match event {
+        Event::Write(ops) => write(alloc, coord, ops),
+        Event::Freeze => freeze(coord),
+        Event::Flush => flush(coord),
+        Event::Snap => snapshot(coord),
+        Event::Release(id) => release(coord, *id),
+        Event::Get(key, at) => get(coord, key, *at),
+        Event::Scan(range) => scan(coord, range),
+        Event::Show => show(alloc, coord),
+        _ => unreachable!(),
+    }
+}
+
+// Applies the operations as one batch.
+fn write(alloc: Global, coord: &mut Coord, ops: &Items<Op>) -> Reply
+    ensures calls { LacksMemory coord.old result coord.new ⊎ Calls coord.old (Write ops.now) result coord.new }
+    ensures follows { Follows coord.old (event_of (Write ops.now)) (reply_of result) coord.new }
+    ensures files { KeepsFiles coord.old coord.new }
+    ensures plain { IsPlain result }
+{
+    match ops.as_slice().to_vec(alloc) {
+        Err(_) => Reply::Refused(Refusal::OutOfMemory),
+        Ok(ops) => write_batch(coord, ops),
+    }
+}
+
+// The same of operations that are handed over.
+fn write_batch(coord: &mut Coord, ops: Vec<Op>) -> Reply
+    ensures calls { Calls coord.old (Write ops.items) result coord.new }
+    ensures follows { Follows coord.old (event_of (Write ops.items)) (reply_of result) coord.new }
+    ensures files { KeepsFiles coord.old coord.new }
+    ensures plain { IsPlain result }
+{
+    match Batch::from_vec(ops) {
+        Err(error) => Reply::Refused(Refusal::Key(error)),
+        Ok(batch) => match coord.write(&batch) {
+            Err(error) => Reply::Refused(Refusal::Coord(error)),
+            Ok((first, last)) => Reply::Wrote(first, last),
+        },
+    }
+}
+
+// Freezes the memtable.
+fn freeze(coord: &mut Coord) -> Reply
+    ensures calls { Calls coord.old Freeze result coord.new }
+    ensures follows { Follows coord.old (event_of Freeze) (reply_of result) coord.new }
+    ensures files { KeepsFiles coord.old coord.new }
+    ensures plain { IsPlain result }
+{
+    match coord.freeze() {
+        Err(error) => Reply::Refused(Refusal::Coord(error)),
+        Ok(seq) => Reply::Froze(seq),
+    }
+}
+
+// Writes a memtable as a table.
+fn flush(coord: &mut Coord) -> Reply
+    ensures calls { Calls coord.old Flush result coord.new }
+    ensures follows { Follows coord.old (event_of Flush) (reply_of result) coord.new }
+    ensures files { KeepsFiles coord.old coord.new }
+    ensures plain { IsPlain result }
+{
+    // Proof hint: the coordinator's invariant, before and after.
+    know_fit(coord);
+    let flushed = coord.flush();
+    know_fit(coord);
+    match flushed {
+        Err(error) => Reply::Refused(Refusal::Coord(error)),
+        Ok(flushed) => Reply::Flushed(flushed),
+    }
+}
+
+// Makes a snapshot.
+fn snapshot(coord: &mut Coord) -> Reply
+    requires shown { (s : State) × Shows coord.old s }
+    ensures calls { Calls coord.old Snap result coord.new }
+    ensures follows { Follows coord.old (event_of Snap) (reply_of result) coord.new }
+    ensures files { KeepsFiles coord.old coord.new }
+    ensures plain { IsPlain result }
+{
+    match coord.snapshot() {
+        Err(error) => Reply::Refused(Refusal::Coord(error)),
+        Ok((id, seq)) => Reply::Snapped(id, seq),
+    }
+}
+
+// Releases a snapshot.
+fn release(coord: &mut Coord, id: SnapId) -> Reply
+    ensures calls { Calls coord.old (Release id) result coord.new }
+    ensures follows { Follows coord.old (event_of (Release id)) (reply_of result) coord.new }
+    ensures files { KeepsFiles coord.old coord.new }
+    ensures plain { IsPlain result }
+{
+    match coord.release(id) {
+        Err(error) => Reply::Refused(Refusal::Coord(error)),
+        Ok(()) => Reply::Released(id),
+    }
+}
+
+// Reads a key.
+fn get(coord: &mut Coord, key: &Bytes, at: Option<SnapId>) -> Reply
+    ensures calls { Calls coord.old (Get key.now at) result coord.new }
+    ensures follows { Follows coord.old (event_of (Get key.now at)) (reply_of result) coord.new }
+    ensures files { KeepsFiles coord.old coord.new }
+    ensures plain { IsPlain result }
+{
+    match coord.get(key.as_slice(), at) {
+        Err(error) => Reply::Refused(Refusal::Coord(error)),
+        Ok(value) => Reply::Got(value),
+    }
+}
+
+// Reads a range of keys.
+fn scan(coord: &mut Coord, range: &ScanRange) -> Reply
+    ensures calls { Calls coord.old (Scan range.now) result coord.new }
+    ensures follows { Follows coord.old (event_of (Scan range.now)) (reply_of result) coord.new }
+    ensures files { KeepsFiles coord.old coord.new }
+    ensures plain { IsPlain result }
+{
+    match coord.scan(&range.lo, &range.hi, range.at, range.limit) {
+        Err(error) => Reply::Refused(Refusal::Coord(error)),
+        Ok(pairs) => Reply::Scanned(Items::from_vec(pairs)),
+    }
+}
+
+// Lists the coordinator's version.
+fn show(alloc: Global, coord: &mut Coord) -> Reply
+    ensures calls { LacksMemory coord.old result coord.new ⊎ Calls coord.old Show result coord.new }
+    ensures follows { Follows coord.old (event_of Show) (reply_of result) coord.new }
+    ensures files { KeepsFiles coord.old coord.new }
+    ensures plain { IsPlain result }
+{
+    match ShownVersion::of(alloc, coord.show()) {
+        Err(_) => Reply::Refused(Refusal::OutOfMemory),
+        Ok(version) => Reply::Shown(version),
+    }
+}
+
+// Proof hint: what a coordinator keeps is fit.
+pub(crate) fn know_fit(coord: &Coord)
+    ensures { IsFit coord.now }
+{
+    let _listing = coord.show();
+}

@@ -1,0 +1,144 @@
+//! Dispatchers: how they pick jobs, and give them back.
+
+ghost use Rattle.std.specs.Prelude.{◌≡◌, ◌≤◌, [], All, vec_capacity, ◌<◌, ◌^◌};
+ghost use Rattle.lsm_key.specs.declared.limits.TheConstants.{MAX_INPUTS};
+ghost use Rattle.lsm_coord.specs.declared.dispatcher.Dispatcher.TheVariants.{Idle, Busy};
+ghost use Rattle.lsm_coord.specs.Contract.Desks.{dispatcher_of, with_dispatcher};
+ghost use Rattle.lsm_coord.specs.Contract.Shows.{Follows};
+ghost use Rattle.lsm_msg.specs.Messages.{AreSequences, IsMessage};
+ghost use Rattle.lsm_world.specs.declared.event.Event.TheVariants.{GiveUp, Pick};
+ghost use Rattle.lsm_world.specs.Asks.{Asks, TellsJob, job_message};
+ghost use Rattle.lsm_world.specs.Events.{event_of};
+ghost use Rattle.lsm_world.specs.Inner.Handing.{TellsPicked, settled_reply};
+ghost use Rattle.lsm_world.specs.Replies.{reply_of};
+ghost use Rattle.lsm_world.specs.Schedules.{IsPlain};
+
+use super::Nodes;
+use crate::coordinator::know_fit;
+use crate::messages::Messages;
+use crate::refusal::Refusal;
+use crate::reply::{PickedJob, Reply};
+use lsm_claim::{Claim, JobId, Settled};
+use lsm_coord::Desk;
+use lsm_key::{FileNumber, Items, MAX_INPUTS, Seq};
+use lsm_msg::{Body, Job, Message, Node, NodeIndex};
+
+impl Nodes {
+    /// Lets a dispatcher pick a job and send it to its worker. What the reply takes is reserved before the pick, so that a
+    /// refusal leaves no claim.
+    pub(super) fn pick(&mut self, dispatcher: NodeIndex) -> Reply
+        ensures asks { Asks self.old (Pick dispatcher) result self.new }
+        ensures follows { Follows self.old.core (event_of (Pick dispatcher)) (reply_of result) self.new.core }
+        ensures plain { IsPlain result }
+    {
+        if self.desk.dispatcher(dispatcher).id().is_some() {
+            return Reply::Refused(Refusal::Busy);
+        }
+        let Ok(inputs) = Vec::with_capacity(self.alloc, MAX_INPUTS) else {
+            return Reply::Refused(Refusal::OutOfMemory);
+        };
+        know_fit(&self.coord);
+        match self.coord.pick() {
+            Err(error) => Reply::Refused(Refusal::Coord(error)),
+            Ok(None) => Reply::Idle,
+            Ok(Some((claim, job))) => hand_out(
+                &mut self.desk,
+                &mut self.messages,
+                dispatcher,
+                claim,
+                job,
+                inputs,
+            ),
+        }
+    }
+
+    /// Lets a dispatcher give its claim back.
+    pub(super) fn give_up(&mut self, dispatcher: NodeIndex) -> Reply
+        ensures asks { Asks self.old (GiveUp dispatcher) result self.new }
+        ensures follows { Follows self.old.core (event_of (GiveUp dispatcher)) (reply_of result) self.new.core }
+        ensures plain { IsPlain result }
+    {
+        if !self.desk.dispatcher(dispatcher).id().is_some() {
+            return Reply::Refused(Refusal::NoClaim);
+        }
+        let Some(claim) = self.desk.take(dispatcher) else {
+            unreachable!()
+        };
+        let id = claim.id();
+        returned(id, self.coord.give_back(claim))
+    }
+}
+
+// What is told of a claim that was given back.
+fn returned(id: JobId, settled: Settled) -> Reply
+    ensures { result ≡ settled_reply id settled }
+{
+    match settled {
+        Settled::Live => Reply::Returned(id),
+        Settled::Stale => Reply::StaleClaim(id),
+    }
+}
+
+// Lets an idle dispatcher hold a claim, and sends its job.
+fn hand_out(
+    desk: &mut Desk,
+    messages: &mut Messages,
+    dispatcher: NodeIndex,
+    claim: Claim,
+    job: Job,
+    inputs: Vec<FileNumber>,
+) -> Reply
+    requires idle { dispatcher_of desk.old dispatcher ≡ Idle }
+    requires empty { inputs.items ≡ [] }
+    requires room { MAX_INPUTS ≤ vec_capacity inputs }
+    ensures desk { desk.new ≡ with_dispatcher desk.old dispatcher (Busy claim) }
+    ensures reply { TellsPicked messages.old dispatcher job result messages.new }
+    ensures job { IsMessage (job_message dispatcher job) }
+{
+    let told = picked_job(&job, inputs);
+    match desk.hold(dispatcher, claim) {
+        None => {}
+        Some(_before) => unreachable!(),
+    }
+    let sent = messages.send_one(&job_message(dispatcher, job));
+    Reply::Picked(told, sent)
+}
+
+// The message that takes a job to the dispatcher's worker.
+fn job_message(dispatcher: NodeIndex, job: Job) -> Message
+    ensures all { result ≡ job_message dispatcher job }
+    ensures sound { IsMessage result }
+{
+    know_sequences(job.points());
+    Message {
+        src: Node::Coordinator,
+        dst: Node::Worker(dispatcher),
+        body: Body::Job(job),
+    }
+}
+
+// What a reply says of a job. Takes no memory.
+fn picked_job(job: &Job, inputs: Vec<FileNumber>) -> PickedJob
+    requires empty { inputs.items ≡ [] }
+    requires room { MAX_INPUTS ≤ vec_capacity inputs }
+    ensures { TellsJob result job.now }
+{
+    let mut inputs = inputs;
+    for file in job.inputs() {
+        inputs.push_reserved(FileNumber::new(file.number));
+    }
+    PickedJob {
+        id: job.id(),
+        level: job.level(),
+        inputs: Items::from_vec(inputs),
+    }
+}
+
+// Proof hint: sequences are below 2^56. There are at most 64.
+fn know_sequences(points: &[Seq])
+    ensures { AreSequences points.now }
+{
+    for point in points {
+        let _number = point.number();
+    }
+}

@@ -1,0 +1,31 @@
+//! Why an event is refused.
+
+use lsm_coord::CoordError;
+use lsm_key::KeyError;
+use thiserror::Error;
+
+/// Why an event is refused. Nothing changes then, but for a stale claim, which is spent.
+#[derive(Clone, Copy, Debug, PartialEq, Eq, Error)]
+pub enum Refusal {
+    /// A batch refuses an operation.
+    #[error("{0}")]
+    Key(KeyError),
+    /// The coordinator refuses the call.
+    #[error("{0}")]
+    Coord(CoordError),
+    /// The dispatcher has a job already.
+    #[error("the dispatcher has a job already")]
+    Busy,
+    /// The dispatcher has no job, or the result is of another one.
+    #[error("the dispatcher does not have this job")]
+    NoClaim,
+    /// The claim of the job was no longer live.
+    #[error("the claim of the job is no longer live")]
+    OldEpoch,
+    /// No message has this number.
+    #[error("no message has this number")]
+    NoMessage,
+    /// Memory ran out outside a call of the coordinator.
+    #[error("out of memory")]
+    OutOfMemory,
+}

@@ -1,0 +1,68 @@
+//! What is answered to an event.
+
+use crate::refusal::Refusal;
+use bytes::Bytes;
+use lsm_claim::JobId;
+use lsm_coord::{Flushed, ShownVersion, SnapId};
+use lsm_key::{FileNumber, Items, Seq, VersionNumber};
+use lsm_msg::NodeIndex;
+
+/// What became of the messages of an event.
+#[derive(Clone, Copy, Debug, PartialEq, Eq)]
+pub enum Sent {
+    /// There was none.
+    Nothing,
+    /// They were lost: they could not be encoded or stored. They have no number.
+    Lost,
+    /// They are under the numbers from the first to the last.
+    Messages(u64, u64),
+}
+
+/// A job that was picked.
+#[derive(Debug, Drop)]
+pub struct PickedJob {
+    pub id: JobId,
+    /// It merges files of this level into the next one.
+    pub level: u8,
+    /// By number.
+    pub inputs: Items<FileNumber>,
+}
+
+/// What is answered to an event.
+#[derive(Debug, Drop)]
+pub enum Reply {
+    /// The first and the last sequence of a batch.
+    Wrote(Seq, Seq),
+    /// The last sequence of the frozen memtable.
+    Froze(Seq),
+    Flushed(Flushed),
+    /// A new snapshot, and the sequence that it reads at.
+    Snapped(SnapId, Seq),
+    Released(SnapId),
+    Got(Option<Bytes>),
+    /// The keys of a range, each with its value.
+    Scanned(Items<(Bytes, Bytes)>),
+    Shown(ShownVersion),
+    /// The job that a dispatcher sends to its worker.
+    Picked(PickedJob, Sent),
+    /// No job was picked.
+    Idle,
+    /// The job of a claim that was given back.
+    Returned(JobId),
+    /// The job of a claim that was given back, but was no longer live.
+    StaleClaim(JobId),
+    /// The coordinator answered a fetch.
+    Served(Sent),
+    /// The version that an install made, and its new files.
+    Installed(VersionNumber, Items<FileNumber>),
+    /// The message changed nothing.
+    Ignored,
+    /// A worker lacks so many inputs.
+    Collecting(u32, Sent),
+    /// A worker merged its inputs, and sends the result.
+    Merged(Sent),
+    /// A worker gave its job up.
+    Dropped,
+    RestartedWorker(NodeIndex),
+    Refused(Refusal),
+}
