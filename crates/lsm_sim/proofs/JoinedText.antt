@@ -4,6 +4,10 @@ use Rattle.std.proofs.lemmas.List.{map-append}
 use Rattle.std.specs.List.{flat_map, join_with_byte}
 use Rattle.std.specs.Fmt.{decimal}
 
+-- one piece after another
+pub joined : (old mid new first last : List ℕ) → mid ≡ old ++ first → new ≡ mid ++ last → new ≡ old ++ (first ++ last)
+joined old mid new first last before after = after ∙ ap (λ (t : List ℕ). t ++ last) before ∙ append_assoc old first last
+
 -- a further number of a list
 abbrev pub after_comma : ℕ → List ℕ
 after_comma number = 44 ∷ decimal number

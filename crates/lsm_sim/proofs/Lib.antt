@@ -6,4 +6,3 @@ pub mod JoinedText
 pub mod KnownStreams
 pub mod RunSteps
 pub mod StoppedRuns
-pub mod ToldRefusals

@@ -1,18 +1,15 @@
 -- How the events of a script grow by a line, and the operations of a batch by one.
-use Rattle.std.proofs.Common.{◌≡◌, ℕ, ◌+◌, ◌≤◌, List, [], ◌∷◌, ◌++◌, length, Some, None, Result, Ok, Err, refl, sym, ap, ◌∙◌, append_assoc, append-nil, arith, map}
-use Rattle.std.proofs.lemmas.List.{map-append}
+use Rattle.std.proofs.Common.{◌≡◌, ℕ, ◌+◌, ◌≤◌, List, [], ◌∷◌, ◌++◌, length, Result, Ok, Err, refl, sym, ap, ◌∙◌, append_assoc, append-nil, arith}
 use Rattle.std.proofs.lemmas.List.Splits.{length-slice_split}
 use Rattle.std.proofs.lemmas.List.Sums.{count_by-le-length}
 use Rattle.lsm_key.specs.declared.op.Op.{Op}
 use Rattle.lsm_key.specs.declared.refused.Refused.{Refused}
 use Rattle.lsm_key.specs.declared.refused.Refused.TheVariants as refused
 use Rattle.lsm_key.specs.Reading.{◌>>=◌, Fails}
-use Rattle.lsm_sim.specs.declared.event.Event.{Event}
 use Rattle.lsm_sim.specs.declared.fault.Reason.{Reason}
 use Rattle.lsm_sim.specs.Text.{lines, words, is_line_feed}
-use Rattle.lsm_sim.specs.Events.{event_of}
 use Rattle.lsm_coord.specs.Model.Event as say
-use Rattle.lsm_sim.specs.Script.{event, events_from, with_first, operations, batch}
+use Rattle.lsm_sim.specs.Script.{events_of_words, events_from, with_first, operations, batch}
 
 abbrev good : {A F : Type 0} → List A → Result (List A) F
 good items = Ok items
@@ -29,24 +26,17 @@ after_after : {A F : Type 0} (done : List A) (one : List A) (rest : Result (List
 after_after done one (Ok items) = ap good (sym (append_assoc done one items))
 after_after done one (Err fault) = refl
 
-pub skipped : (n : ℕ) (line : List ℕ) (ls : List (List ℕ)) → event (words line) ≡ Ok None → events_from n (line ∷ ls) ≡ events_from (n + 1) ls
+pub one_line : (n : ℕ) (line : List ℕ) (ls : List (List ℕ)) (done asked : List say.Event) → events_of_words (words line) ≡ Ok asked → after done (events_from n (line ∷ ls)) ≡ after (done ++ asked) (events_from (n + 1) ls)
 unfolding events_from
-skipped n line ls e = rw e (after_none (events_from (n + 1) ls))
+one_line n line ls done asked is = rw is (after_after done asked (events_from (n + 1) ls))
 
-pub one_more : (n : ℕ) (line : List ℕ) (ls : List (List ℕ)) (done : List say.Event) (e : say.Event) → event (words line) ≡ Ok (Some e) → after done (events_from n (line ∷ ls)) ≡ after (done ++ e ∷ []) (events_from (n + 1) ls)
-unfolding events_from
-one_more n line ls done e is = rw is (after_after done (e ∷ []) (events_from (n + 1) ls))
-
-pub at_fault : (n : ℕ) (line : List ℕ) (ls : List (List ℕ)) (done : List say.Event) (reason : Reason) → event (words line) ≡ Err reason → after done (events_from n (line ∷ ls)) ≡ Err (record { line = n; reason = reason })
+pub at_fault : (n : ℕ) (line : List ℕ) (ls : List (List ℕ)) (done : List say.Event) (reason : Reason) → events_of_words (words line) ≡ Err reason → after done (events_from n (line ∷ ls)) ≡ Err (record { line = n; reason = reason })
 unfolding events_from
 at_fault n line ls done reason is = rw is refl
 
 pub at_end : (n : ℕ) (done : List say.Event) → after done (events_from n []) ≡ Ok done
 unfolding events_from
 at_end n done = ap good (append-nil done)
-
-pub events-push : (events : List Event) (e : Event) → map event_of (events ++ e ∷ []) ≡ map event_of events ++ event_of e ∷ []
-events-push events e = map-append event_of events (e ∷ [])
 
 -- an operation is read, and goes to the end of those that are done
 pub one_operation : (done : List Op) (op : Op) (all rest : Result (List Op) Reason) → all ≡ with_first op rest → after done all ≡ after (done ++ op ∷ []) rest

@@ -1,8 +1,9 @@
 pub mod Text
 pub mod Numbers
 pub mod Tokens
-pub mod Events
+pub mod Nodes
+pub mod Deliveries
 pub mod Script
 pub mod Lines
-pub mod Runs
 pub mod Replies
+pub mod Runs

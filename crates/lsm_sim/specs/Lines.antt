@@ -2,9 +2,13 @@
 use Rattle.std.specs.Prelude.{ℕ, ◌+◌, ◌/◌, ◌%◌, ◌==◌, ◌&&◌, ◌||◌, not, Bool, List, [], ◌∷◌, ◌++◌, Option, None, Some, codes, length, map, filter, nat_lt, if◌then◌else◌}
 use Rattle.std.specs.List.{flat_map, join_with_byte}
 use Rattle.std.specs.Fmt.{decimal}
+use Rattle.lsm_claim.specs.declared.job.JobId.{JobId}
 use Rattle.lsm_coord.specs.declared.snapshot.SnapId.{SnapId}
 use Rattle.lsm_coord.specs.Model.State.{Place}
 use Rattle.lsm_coord.specs.Model.Event as say
+use Rattle.lsm_world.specs.declared.reply.PickedJob.{PickedJob}
+use Rattle.lsm_world.specs.declared.reply.Sent.{Sent}
+use Rattle.lsm_world.specs.declared.reply.Sent.TheVariants as sent
 use Rattle.lsm_sim.specs.Tokens.{is_between}
 
 -- a hexadecimal digit, in lower case
@@ -32,15 +36,19 @@ flushed_text number seq file = codes "version " ++ decimal number ++ codes " flu
 abbrev pub froze_text : ℕ → List ℕ
 froze_text seq = codes "frozen " ++ decimal seq
 
--- a snapshot's epoch and number, with a point between them
-abbrev pub snapshot_text : SnapId → List ℕ
-snapshot_text id = decimal id.epoch ++ codes "." ++ decimal id.number
+-- numbers with commas between them
+abbrev pub numbers_text : List ℕ → List ℕ
+numbers_text numbers = join_with_byte 44 (map decimal numbers)
+
+-- an epoch and a number, with a point between them: the name of a snapshot or a job
+abbrev pub name_text : ℕ → ℕ → List ℕ
+name_text epoch number = decimal epoch ++ codes "." ++ decimal number
 
 abbrev pub snapped_text : SnapId → ℕ → List ℕ
-snapped_text id seq = codes "snapshot " ++ snapshot_text id ++ codes " at " ++ decimal seq
+snapped_text id seq = codes "snapshot " ++ name_text id.epoch id.number ++ codes " at " ++ decimal seq
 
 abbrev pub released_text : SnapId → List ℕ
-released_text id = codes "released " ++ snapshot_text id
+released_text id = codes "released " ++ name_text id.epoch id.number
 
 abbrev pub got_text : Option (List ℕ) → List ℕ
 got_text None = codes "none"
@@ -61,7 +69,7 @@ files_of level places = map (λ p. p.file) (filter (λ p. p.level == level) plac
 -- a level with files: its digit and their numbers
 abbrev pub level_text : ℕ → List ℕ → List ℕ
 level_text level [] = []
-level_text level (file ∷ files) = codes " L" ++ decimal level ++ codes " " ++ join_with_byte 44 (map decimal (file ∷ files))
+level_text level (file ∷ files) = codes " L" ++ decimal level ++ codes " " ++ numbers_text (file ∷ files)
 
 -- these levels, in turn
 abbrev pub levels_text : List Place → List ℕ → List ℕ
@@ -70,6 +78,44 @@ levels_text places levels = flat_map (λ level. level_text level (files_of level
 abbrev pub shown_text : ℕ → ℕ → List Place → List ℕ
 shown_text number seq places =
     codes "show " ++ decimal number ++ codes " flushed " ++ decimal seq ++ levels_text places (0 ∷ 1 ∷ 2 ∷ 3 ∷ 4 ∷ 5 ∷ 6 ∷ [])
+
+-- the messages of an event: none, one, more, or that they were lost
+abbrev pub sent_text : Sent → List ℕ
+sent_text sent.Nothing = []
+sent_text sent.Lost = codes " message lost"
+sent_text (sent.Messages first last) =
+    if first == last then codes " message " ++ decimal first
+    else codes " messages " ++ decimal first ++ codes "-" ++ decimal last
+
+abbrev pub picked_text : PickedJob → Sent → List ℕ
+picked_text job told =
+    codes "job " ++ name_text job.id.epoch job.id.number ++ codes " level " ++ decimal job.level ++ codes " inputs " ++ numbers_text job.inputs ++ sent_text told
+
+abbrev pub returned_text : JobId → List ℕ
+returned_text id = codes "returned " ++ name_text id.epoch id.number
+
+abbrev pub stale_text : JobId → List ℕ
+stale_text id = codes "stale " ++ name_text id.epoch id.number
+
+abbrev pub served_text : Sent → List ℕ
+served_text told = codes "served" ++ sent_text told
+
+-- the files that a merge made
+abbrev pub made_text : List ℕ → List ℕ
+made_text [] = codes "none"
+made_text (file ∷ files) = numbers_text (file ∷ files)
+
+abbrev pub installed_text : ℕ → List ℕ → List ℕ
+installed_text number files = codes "installed version " ++ decimal number ++ codes " files " ++ made_text files
+
+abbrev pub collecting_text : ℕ → Sent → List ℕ
+collecting_text missing told = codes "collecting " ++ decimal missing ++ sent_text told
+
+abbrev pub merged_text : Sent → List ℕ
+merged_text told = codes "merged" ++ sent_text told
+
+abbrev pub restarted_text : ℕ → List ℕ
+restarted_text worker = codes "restarted w" ++ decimal worker
 
 abbrev pub name_of : say.Refusal → List ℕ
 name_of say.EmptyKey = codes "EmptyKey"

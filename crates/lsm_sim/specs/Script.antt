@@ -1,5 +1,5 @@
 -- What a script says: the events of its lines, or its first fault (the store's own script format, one command a line).
-use Rattle.std.specs.Prelude.{◌≡◌, ℕ, ◌+◌, ◌==◌, ◌&&◌, Bool, false, List, [], ◌∷◌, ◌++◌, Option, None, Some, Result, Ok, Err, codes, option_to_list, nat_le, take, drop, position, if◌then◌else◌}
+use Rattle.std.specs.Prelude.{◌≡◌, ℕ, ◌+◌, ◌==◌, Bool, false, List, [], ◌∷◌, ◌++◌, Option, None, Some, Result, Ok, Err, codes, take, drop, position, if◌then◌else◌}
 use Rattle.std.specs.Str.{bytes_eq}
 use Rattle.lsm_key.specs.declared.op.Op.{Op}
 use Rattle.lsm_key.specs.declared.op.Op.TheVariants as op
@@ -13,6 +13,8 @@ use Rattle.lsm_sim.specs.declared.fault.Fault.{Fault}
 use Rattle.lsm_sim.specs.Text.{lines, words}
 use Rattle.lsm_sim.specs.Numbers.{number}
 use Rattle.lsm_sim.specs.Tokens.{token}
+use Rattle.lsm_sim.specs.Nodes.{index_of, index_or_fault, worker_index, is_follower}
+use Rattle.lsm_sim.specs.Deliveries.{deliver}
 use Rattle.lsm_coord.specs.declared.snapshot.SnapId.{SnapId}
 use Rattle.lsm_coord.specs.Model.Event as say
 
@@ -29,6 +31,10 @@ read_command word =
     else if bytes_eq word (codes "get") then Some command.Get
     else if bytes_eq word (codes "scan") then Some command.Scan
     else if bytes_eq word (codes "show") then Some command.Show
+    else if bytes_eq word (codes "pick") then Some command.Pick
+    else if bytes_eq word (codes "giveup") then Some command.GiveUp
+    else if bytes_eq word (codes "deliver") then Some command.Deliver
+    else if bytes_eq word (codes "restart") then Some command.Restart
     else None
 
 -- a line that begins with a number sign is a comment
@@ -39,15 +45,6 @@ is_comment (byte ∷ word) = byte == 35
 -- a key or value word
 abbrev pub key_or_value : List ℕ → Result (List ℕ) Reason
 key_or_value word = elim (token word) [ None ↦ Err BadToken | Some bytes ↦ Ok bytes ]
-
-abbrev pub is_from_one_to_four : Option ℕ → Bool
-is_from_one_to_four None = false
-is_from_one_to_four (Some n) = nat_le 1 n && nat_le n 4
-
--- the name of a follower: an f and its number
-abbrev pub is_follower : List ℕ → Bool
-is_follower [] = false
-is_follower (byte ∷ digits) = byte == 102 && is_from_one_to_four (number digits)
 
 abbrev pub is_point : ℕ → Bool
 is_point byte = byte == 46
@@ -191,26 +188,50 @@ show (node ∷ []) =
     else Err BadName
 show args = Err WrongWordCount
 
-abbrev pub event_of_command : Option Command → List (List ℕ) → Result say.Event Reason
-event_of_command None args = Err UnknownCommand
-event_of_command (Some command.Put) args = put args
-event_of_command (Some command.Delete) args = delete args
-event_of_command (Some command.Batch) args = batch args
-event_of_command (Some command.Freeze) args = freeze args
-event_of_command (Some command.Flush) args = flush args
-event_of_command (Some command.Snap) args = snap args
-event_of_command (Some command.Release) args = release args
-event_of_command (Some command.Get) args = get args
-event_of_command (Some command.Scan) args = scan args
-event_of_command (Some command.Show) args = show args
+abbrev pub pick : List (List ℕ) → Result say.Event Reason
+pick (dispatcher ∷ []) = do
+  index ← index_or_fault (index_of (number dispatcher))
+  Ok (say.Pick index)
+pick args = Err WrongWordCount
 
-abbrev pub some_event : Result say.Event Reason → Result (Option say.Event) Reason
-some_event asks = asks >>= λ event. Ok (Some event)
+abbrev pub give_up : List (List ℕ) → Result say.Event Reason
+give_up (dispatcher ∷ []) = do
+  index ← index_or_fault (index_of (number dispatcher))
+  Ok (say.GiveUp index)
+give_up args = Err WrongWordCount
 
--- the event of a line's words: a line without words, and a comment, have none
-unfoldable pub event : List (List ℕ) → Result (Option say.Event) Reason
-event [] = Ok None
-event (word ∷ args) = if is_comment word then Ok None else some_event (event_of_command (read_command word) args)
+-- restarts of the coordinator and of followers are not there yet
+abbrev pub other_restart : List ℕ → Result say.Event Reason
+other_restart node = if bytes_eq node (codes "c") then Err UnknownCommand else if is_follower node then Err UnknownCommand else Err BadName
+
+abbrev pub restart : List (List ℕ) → Result say.Event Reason
+restart (node ∷ []) = elim (worker_index node) [ None ↦ other_restart node | Some index ↦ Ok (say.Restart (say.Worker index)) ]
+restart args = Err WrongWordCount
+
+abbrev pub one_event : Result say.Event Reason → Result (List say.Event) Reason
+one_event asks = asks >>= λ event. Ok (event ∷ [])
+
+abbrev pub events_of_command : Option Command → List (List ℕ) → Result (List say.Event) Reason
+events_of_command None args = Err UnknownCommand
+events_of_command (Some command.Put) args = one_event (put args)
+events_of_command (Some command.Delete) args = one_event (delete args)
+events_of_command (Some command.Batch) args = one_event (batch args)
+events_of_command (Some command.Freeze) args = one_event (freeze args)
+events_of_command (Some command.Flush) args = one_event (flush args)
+events_of_command (Some command.Snap) args = one_event (snap args)
+events_of_command (Some command.Release) args = one_event (release args)
+events_of_command (Some command.Get) args = one_event (get args)
+events_of_command (Some command.Scan) args = one_event (scan args)
+events_of_command (Some command.Show) args = one_event (show args)
+events_of_command (Some command.Pick) args = one_event (pick args)
+events_of_command (Some command.GiveUp) args = one_event (give_up args)
+events_of_command (Some command.Deliver) args = deliver args
+events_of_command (Some command.Restart) args = one_event (restart args)
+
+-- the events of a line's words: a line without words, and a comment, have none
+unfoldable pub events_of_words : List (List ℕ) → Result (List say.Event) Reason
+events_of_words [] = Ok []
+events_of_words (word ∷ args) = if is_comment word then Ok [] else events_of_command (read_command word) args
 
 abbrev pub at_line : {A : Type 0} → ℕ → Result A Reason → Result A Fault
 at_line n (Ok x) = Ok x
@@ -220,9 +241,9 @@ at_line n (Err reason) = Err (record { line = n; reason = reason })
 unfoldable pub events_from : ℕ → List (List ℕ) → Result (List say.Event) Fault
 events_from n [] = Ok []
 events_from n (line ∷ lines) = do
-  event ← at_line n (event (words line))
+  asked ← at_line n (events_of_words (words line))
   events ← events_from (n + 1) lines
-  Ok (option_to_list event ++ events)
+  Ok (asked ++ events)
 
 abbrev pub script : List ℕ → Result (List say.Event) Fault
 script text = events_from 1 (lines text)

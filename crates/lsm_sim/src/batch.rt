@@ -3,15 +3,15 @@
 
 ghost use Rattle.std.specs.Prelude.{◌∷◌, ◌≤◌, length};
 ghost use Rattle.lsm_key.specs.Reading.{Gives};
-ghost use Rattle.lsm_sim.specs.Events.{event_of};
+ghost use Rattle.lsm_world.specs.Events.{event_of};
 ghost use Rattle.lsm_sim.specs.Text.{words};
 ghost use Rattle.lsm_sim.specs.Script.{batch, operations, after_put, after_delete, GivesFirst};
 
-use crate::event::Event;
 use crate::fault::Reason;
 use crate::token::key_or_value;
 use crate::words::Words;
-use lsm_key::{Op, Refused};
+use lsm_key::{Items, Op, Refused};
+use lsm_world::Event;
 use std::alloc::Global;
 
 /// `batch`, and any number of `put K V` and `del K`. No operation is no fault here, nor are too many for a batch: the
@@ -24,7 +24,7 @@ pub fn batch(alloc: Global, mut args: Words<'_>) -> Result<Event, Refused<Reason
         let op = operation(alloc, name, &mut args)?;
         ops.push(op)?;
     }
-    Ok(Event::Write(ops))
+    Ok(Event::Write(Items::from_vec(ops)))
 }
 
 /// The operation of this name, with its words. Leaves the words after them.

@@ -16,4 +16,8 @@ pub enum Command {
     Get,
     Scan,
     Show,
+    Pick,
+    GiveUp,
+    Deliver,
+    Restart,
 }

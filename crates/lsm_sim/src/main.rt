@@ -1,18 +1,21 @@
-//! The program `lsmsim`: runs a script of writes, flushes and reads against the store and prints each reply.
+//! The program `lsmsim`: runs a script of events against a store and its nodes, and prints each reply.
 #![tactic(auto)]
 
 mod batch;
 mod command;
+mod deliver;
 mod error;
-mod event;
 mod fault;
+mod jobs;
 mod lines;
+mod listing;
 mod names;
 mod number;
 mod options;
-mod reply;
+mod refusals;
 mod run;
 mod scan;
+mod schedule;
 mod script;
 mod streams;
 #[cfg(test)]
@@ -20,7 +23,6 @@ mod tests;
 mod text;
 mod token;
 mod words;
-mod world;
 
 use error::{REFUSED, RunError, code_of};
 use options::limits_of;

@@ -1,11 +1,14 @@
 //! Which words name commands and nodes.
 
 ghost use Rattle.std.specs.Prelude.{◌≡◌, position};
-ghost use Rattle.lsm_sim.specs.Script.{read_command, is_comment, is_follower, is_point, snapshot_from, read_snapshot, reading_at};
+ghost use Rattle.lsm_sim.specs.Numbers.{number};
+ghost use Rattle.lsm_sim.specs.Nodes.{index_of, node_index, worker_index, is_follower};
+ghost use Rattle.lsm_sim.specs.Script.{read_command, is_comment, is_point, snapshot_from, read_snapshot, reading_at};
 
 use crate::command::Command;
 use crate::number::read_number;
 use lsm_coord::SnapId;
+use lsm_msg::NodeIndex;
 
 /// The command of this name.
 #[tactic(auto, unfolding(crate::specs::Script::read_command))]
@@ -32,6 +35,14 @@ pub fn read_command(word: &[u8]) -> Option<Command>
         Some(Command::Scan)
     } else if word == b"show".as_slice() {
         Some(Command::Show)
+    } else if word == b"pick".as_slice() {
+        Some(Command::Pick)
+    } else if word == b"giveup".as_slice() {
+        Some(Command::GiveUp)
+    } else if word == b"deliver".as_slice() {
+        Some(Command::Deliver)
+    } else if word == b"restart".as_slice() {
+        Some(Command::Restart)
     } else {
         None
     }
@@ -85,12 +96,35 @@ pub fn reading_at(word: &[u8]) -> Option<SnapId>
     read_snapshot(name)
 }
 
-/// Whether the word is `f` and a number from 1 to 4.
+/// The index of a dispatcher, a worker or a follower.
+pub fn read_index(word: &[u8]) -> Option<NodeIndex>
+    ensures { result ≡ index_of (number word.now) }
+{
+    let number = u8::try_from(read_number(word)?).ok()?;
+    NodeIndex::new(number)
+}
+
+/// The index of a node that this letter and an index name.
+fn node_index(letter: u8, word: &[u8]) -> Option<NodeIndex>
+    ensures { result ≡ node_index letter word.now }
+{
+    let (first, digits) = word.split_first()?;
+    if *first != letter {
+        return None;
+    }
+    read_index(digits)
+}
+
+/// The index of the worker of this name.
+pub fn worker_index(word: &[u8]) -> Option<NodeIndex>
+    ensures { result ≡ worker_index word.now }
+{
+    node_index(b'w', word)
+}
+
+/// Whether the word is the name of a follower.
 pub fn is_follower(word: &[u8]) -> bool
     ensures { result ≡ is_follower word.now }
 {
-    let Some((first, digits)) = word.split_first() else {
-        return false;
-    };
-    *first == b'f' && matches!(read_number(digits), Some(1..=4))
+    node_index(b'f', word).is_some()
 }

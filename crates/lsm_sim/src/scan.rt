@@ -2,18 +2,19 @@
 
 ghost use Rattle.std.specs.Prelude.{Ok, None};
 ghost use Rattle.lsm_key.specs.Reading.{Gives};
-ghost use Rattle.lsm_sim.specs.Events.{event_of};
+ghost use Rattle.lsm_world.specs.Events.{event_of};
 ghost use Rattle.lsm_sim.specs.Text.{words};
 ghost use Rattle.lsm_sim.specs.Script.{number_or_fault, name_or_fault, reading_at, scan, scan_at, some_name};
 
-use crate::event::Event;
 use crate::fault::Reason;
 use crate::names::reading_at;
 use crate::number::read_number;
 use crate::script::named;
 use crate::token::key_or_value;
 use crate::words::Words;
+use lsm_coord::ScanRange;
 use lsm_key::Refused;
+use lsm_world::Event;
 use std::alloc::Global;
 
 /// `scan LO HI LIMIT`, or `scan LO HI LIMIT @E.N`
@@ -37,7 +38,8 @@ fn scan_now(alloc: Global, lo: &[u8], hi: &[u8], limit: &[u8]) -> Result<Event, 
     let lo = key_or_value(alloc, lo)?;
     let hi = key_or_value(alloc, hi)?;
     let limit = counted(read_number(limit))?;
-    Ok(Event::Scan(lo, hi, None, limit))
+    let at = None;
+    Ok(Event::Scan(ScanRange { lo, hi, at, limit }))
 }
 
 // At the snapshot of this name.
@@ -53,8 +55,8 @@ fn scan_then(
     let lo = key_or_value(alloc, lo)?;
     let hi = key_or_value(alloc, hi)?;
     let limit = counted(read_number(limit))?;
-    let id = named(reading_at(name))?;
-    Ok(Event::Scan(lo, hi, Some(id), limit))
+    let at = Some(named(reading_at(name))?);
+    Ok(Event::Scan(ScanRange { lo, hi, at, limit }))
 }
 
 /// The number that a word must be.

@@ -1,23 +1,24 @@
 //! Scripts: one command a line, words between spaces, tabs or carriage returns. A line without words and a comment, which
 //! begins with `#`, are skipped and counted.
 
-ghost use Rattle.std.specs.Prelude.{◌≡◌, ◌∷◌, [], map, IfOk};
-ghost use Rattle.std.specs.Option.{option_map};
+ghost use Rattle.std.specs.Prelude.{◌≡◌, ◌∷◌, [], Ok, map};
 ghost use Rattle.lsm_key.specs.Reading.{Gives};
-ghost use Rattle.lsm_sim.specs.Events.{event_of};
+ghost use Rattle.lsm_world.specs.Events.{event_of};
 ghost use Rattle.lsm_sim.specs.Text.{words};
-ghost use Rattle.lsm_sim.specs.Script.{event_of_command, name_or_fault, event, script, put, delete, freeze, flush, snap, release, get, show};
+ghost use Rattle.lsm_sim.specs.Script.{events_of_command, name_or_fault, events_of_words, script, put, delete, freeze, flush, snap, release, get, show};
 
 use crate::batch::batch;
 use crate::command::Command;
-use crate::event::Event;
+use crate::deliver::deliver;
 use crate::fault::{Fault, Reason};
 use crate::names::{is_comment, is_follower, read_command, read_snapshot, reading_at};
 use crate::scan::scan;
+use crate::schedule::{give_up, pick, restart};
 use crate::token::key_or_value;
 use crate::words::{Lines, Words};
 use lsm_coord::SnapId;
-use lsm_key::{Op, Refused};
+use lsm_key::{Items, Op, Refused};
+use lsm_world::Event;
 use std::alloc::Global;
 
 /// `put K V`
@@ -29,7 +30,8 @@ fn put(alloc: Global, mut args: Words<'_>) -> Result<Event, Refused<Reason>>
     };
     let key = key_or_value(alloc, key)?;
     let value = key_or_value(alloc, value)?;
-    Ok(Event::Write(vec![in alloc; Op::Put(key, value)]?))
+    let ops = vec![in alloc; Op::Put(key, value)]?;
+    Ok(Event::Write(Items::from_vec(ops)))
 }
 
 /// `del K`
@@ -40,7 +42,8 @@ fn delete(alloc: Global, mut args: Words<'_>) -> Result<Event, Refused<Reason>>
         return Err(Refused::Fault(Reason::WrongWordCount));
     };
     let key = key_or_value(alloc, key)?;
-    Ok(Event::Write(vec![in alloc; Op::Delete(key)]?))
+    let ops = vec![in alloc; Op::Delete(key)]?;
+    Ok(Event::Write(Items::from_vec(ops)))
 }
 
 /// The snapshot that a word must name.
@@ -130,38 +133,53 @@ fn show(mut args: Words<'_>) -> Result<Event, Refused<Reason>>
     }
 }
 
-/// The event of a command with these arguments.
-fn asked(alloc: Global, command: Option<Command>, args: Words<'_>) -> Result<Event, Refused<Reason>>
-    ensures { Gives event_of result (event_of_command command (words args.entry.rest.now)) }
+/// One event.
+fn one(alloc: Global, event: Event) -> Result<Vec<Event>, Refused<Reason>>
+    ensures { Gives (λ events. map event_of events.items) result (Ok (event_of event ∷ [])) }
+{
+    Ok(vec![in alloc; event]?)
+}
+
+/// The events of a command with these arguments.
+fn asked(
+    alloc: Global,
+    command: Option<Command>,
+    args: Words<'_>,
+) -> Result<Vec<Event>, Refused<Reason>>
+    ensures { Gives (λ events. map event_of events.items) result (events_of_command command (words args.entry.rest.now)) }
 {
     match command {
         None => Err(Refused::Fault(Reason::UnknownCommand)),
-        Some(Command::Put) => put(alloc, args),
-        Some(Command::Delete) => delete(alloc, args),
-        Some(Command::Batch) => batch(alloc, args),
-        Some(Command::Freeze) => freeze(args),
-        Some(Command::Flush) => flush(args),
-        Some(Command::Snap) => snap(args),
-        Some(Command::Release) => release(args),
-        Some(Command::Get) => get(alloc, args),
-        Some(Command::Scan) => scan(alloc, args),
-        Some(Command::Show) => show(args),
+        Some(Command::Put) => one(alloc, put(alloc, args)?),
+        Some(Command::Delete) => one(alloc, delete(alloc, args)?),
+        Some(Command::Batch) => one(alloc, batch(alloc, args)?),
+        Some(Command::Freeze) => one(alloc, freeze(args)?),
+        Some(Command::Flush) => one(alloc, flush(args)?),
+        Some(Command::Snap) => one(alloc, snap(args)?),
+        Some(Command::Release) => one(alloc, release(args)?),
+        Some(Command::Get) => one(alloc, get(alloc, args)?),
+        Some(Command::Scan) => one(alloc, scan(alloc, args)?),
+        Some(Command::Show) => one(alloc, show(args)?),
+        Some(Command::Pick) => one(alloc, pick(args)?),
+        Some(Command::GiveUp) => one(alloc, give_up(args)?),
+        Some(Command::Deliver) => deliver(alloc, args),
+        Some(Command::Restart) => one(alloc, restart(args)?),
     }
 }
 
-/// The event of a line, if it has one.
-#[tactic(auto, unfolding(crate::specs::Script::event))]
-fn event_in(alloc: Global, line: &[u8]) -> Result<Option<Event>, Refused<Reason>>
-    ensures { Gives (option_map event_of) result (event (words line.now)) }
+/// The events of a line.
+#[tactic(auto, unfolding(crate::specs::Script::events_of_words))]
+fn events_in(alloc: Global, line: &[u8]) -> Result<Vec<Event>, Refused<Reason>>
+    ensures { Gives (λ events. map event_of events.items) result (events_of_words (words line.now)) }
 {
     let mut words = Words::new(line);
     let Some(word) = words.next() else {
-        return Ok(None);
+        return Ok(Vec::new(alloc));
     };
     if is_comment(word) {
-        return Ok(None);
+        return Ok(Vec::new(alloc));
     }
-    asked(alloc, read_command(word), words).map(Some)
+    asked(alloc, read_command(word), words)
 }
 
 /// The events of a script, or its first fault. One pass over the text.
@@ -172,9 +190,8 @@ pub fn parse(alloc: Global, text: &[u8]) -> Result<Vec<Event>, Refused<Fault>>
     let mut line_number = 0;
     for line in Lines::new(text) {
         line_number += 1;
-        match event_in(alloc, line) {
-            Ok(None) => {}
-            Ok(Some(event)) => events.push(event)?,
+        match events_in(alloc, line) {
+            Ok(mut asked) => events.append(&mut asked)?,
             Err(Refused::OutOfMemory) => return Err(Refused::OutOfMemory),
             Err(Refused::Fault(reason)) => {
                 let line = line_number;

@@ -1,10 +1,10 @@
 //! Pieces of lines: text, numbers, keys and values, appended to a buffer.
 
-ghost use Rattle.std.specs.Prelude.{◌≡◌, ◌++◌, ◌∷◌, [], ◌<◌, OnOk, length, map};
+ghost use Rattle.std.specs.Prelude.{◌≡◌, ◌++◌, ◌∷◌, [], ◌<◌, OnOk, length};
 ghost use Rattle.std.specs.Fmt.{decimal};
-ghost use Rattle.std.specs.List.{join_with_byte};
-ghost use Rattle.lsm_sim.specs.Lines.{hex_digit, prints_as_itself, byte_text, bytes_text};
+ghost use Rattle.lsm_sim.specs.Lines.{hex_digit, prints_as_itself, byte_text, bytes_text, numbers_text, name_text};
 
+use lsm_key::FileNumber;
 use std::alloc::AllocError;
 use std::io::Write;
 
@@ -20,6 +20,15 @@ pub fn write_number(out: &mut Vec<u8>, number: u64) -> Result<(), AllocError>
     ensures { OnOk result (out.new.items ≡ out.old.items ++ decimal number) }
 {
     write!(out, "{number}").map_err(|_| AllocError)
+}
+
+/// Appends an epoch and a number with a point between them.
+pub fn write_name(out: &mut Vec<u8>, epoch: u64, number: u64) -> Result<(), AllocError>
+    ensures { OnOk result (out.new.items ≡ out.old.items ++ name_text epoch number) }
+{
+    write_number(out, epoch)?;
+    write_text(out, ".")?;
+    write_number(out, number)
 }
 
 /// Appends the end of a line.
@@ -75,17 +84,17 @@ pub fn write_bytes(out: &mut Vec<u8>, bytes: &[u8]) -> Result<(), AllocError>
     Ok(())
 }
 
-/// Appends numbers with commas between them.
-pub fn write_numbers(out: &mut Vec<u8>, numbers: &[u64]) -> Result<(), AllocError>
-    ensures { OnOk result (out.new.items ≡ out.old.items ++ join_with_byte 44 (map decimal numbers.now)) }
+/// Appends the numbers of files with commas between them.
+pub fn write_numbers(out: &mut Vec<u8>, numbers: &[FileNumber]) -> Result<(), AllocError>
+    ensures { OnOk result (out.new.items ≡ out.old.items ++ numbers_text numbers.now) }
 {
     let Some((first, others)) = numbers.split_first() else {
         return Ok(());
     };
-    write_number(out, *first)?;
+    write_number(out, first.number())?;
     for number in others {
         out.push(b',')?;
-        write_number(out, *number)?;
+        write_number(out, number.number())?;
     }
     Ok(())
 }

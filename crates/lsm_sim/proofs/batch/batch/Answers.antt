@@ -26,4 +26,4 @@ returns-in_err-op c =
 pub returns : goal.returns
 returns c =
     let none : words c.loop-name.args.rest.now ≡ [] = c.in_default.ensures.steps.0 in
-    batch_ends (words c.args.args.rest.now) (words c.loop-name.args.rest.now) c.loop-name.ops.items c.loop-name.invariant none
+    rw c.from_vec.ensures (batch_ends (words c.args.args.rest.now) (words c.loop-name.args.rest.now) c.loop-name.ops.items c.loop-name.invariant none)

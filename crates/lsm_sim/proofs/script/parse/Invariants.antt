@@ -1,7 +1,7 @@
 -- the events so far, before those of the lines that are left
 use Rattle.std.proofs.Common.{◌≡◌, ◌+◌, ◌≤◌, map, length}
 use Rattle.lsm_sim.specs.Text.{lines_left}
-use Rattle.lsm_sim.specs.Events.{event_of}
+use Rattle.lsm_world.specs.Events.{event_of}
 use Rattle.lsm_sim.specs.Script.{script, events_from}
 use Rattle.lsm_sim.proofs.ScriptSteps.{after}
 use Rattle.lsm_sim.proofs.script.parse.Given as goal

@@ -1,0 +1,69 @@
+//! The commands of dispatchers and workers.
+
+ghost use Rattle.std.specs.Prelude.{◌≡◌};
+ghost use Rattle.lsm_key.specs.Reading.{Gives};
+ghost use Rattle.lsm_world.specs.Events.{event_of};
+ghost use Rattle.lsm_sim.specs.Text.{words};
+ghost use Rattle.lsm_sim.specs.Nodes.{index_of, index_or_fault};
+ghost use Rattle.lsm_sim.specs.Numbers.{number};
+ghost use Rattle.lsm_sim.specs.Script.{pick, give_up, restart, other_restart};
+
+use crate::fault::Reason;
+use crate::names::{is_follower, read_index, worker_index};
+use crate::words::Words;
+use lsm_key::Refused;
+use lsm_msg::NodeIndex;
+use lsm_world::Event;
+
+/// `pick D`
+pub fn pick(mut args: Words<'_>) -> Result<Event, Refused<Reason>>
+    ensures { Gives event_of result (pick (words args.entry.rest.now)) }
+{
+    let (Some(word), None) = (args.next(), args.next()) else {
+        return Err(Refused::Fault(Reason::WrongWordCount));
+    };
+    let dispatcher = indexed(read_index(word))?;
+    Ok(Event::Pick(dispatcher))
+}
+
+/// `giveup D`
+pub fn give_up(mut args: Words<'_>) -> Result<Event, Refused<Reason>>
+    ensures { Gives event_of result (give_up (words args.entry.rest.now)) }
+{
+    let (Some(word), None) = (args.next(), args.next()) else {
+        return Err(Refused::Fault(Reason::WrongWordCount));
+    };
+    let dispatcher = indexed(read_index(word))?;
+    Ok(Event::GiveUp(dispatcher))
+}
+
+/// `restart wD`
+pub fn restart(mut args: Words<'_>) -> Result<Event, Refused<Reason>>
+    ensures { Gives event_of result (restart (words args.entry.rest.now)) }
+{
+    let (Some(node), None) = (args.next(), args.next()) else {
+        return Err(Refused::Fault(Reason::WrongWordCount));
+    };
+    match worker_index(node) {
+        Some(worker) => Ok(Event::RestartWorker(worker)),
+        None => Err(Refused::Fault(no_restart(node))),
+    }
+}
+
+// Why this node is not started anew.
+fn no_restart(node: &[u8]) -> Reason
+    ensures { other_restart node.now ≡ Err result }
+{
+    if node == b"c".as_slice() || is_follower(node) {
+        Reason::UnknownCommand
+    } else {
+        Reason::BadName
+    }
+}
+
+/// The index that a word must be.
+fn indexed(index: Option<NodeIndex>) -> Result<NodeIndex, Refused<Reason>>
+    ensures { Gives (λ i. i) result (index_or_fault index) }
+{
+    index.ok_or(Refused::Fault(Reason::BadNumber))
+}
