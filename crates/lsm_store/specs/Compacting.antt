@@ -1,5 +1,6 @@
 -- What a compaction is: a pick, the merge of its job, and the install of what the merge makes (LevelDB, db_impl.cc: BackgroundCompaction, DoCompactionWork, InstallCompactionResults).
 use Rattle.std.specs.Prelude.{◌≡◌, ℕ, ◌+◌, ◌⊎◌, List, [], ◌∷◌, ◌++◌, Option, None, Some, Result, Ok, Err, Vec}
+use Rattle.lsm_key.specs.Sets.{IsIn}
 use Rattle.lsm_claim.specs.declared.job.LiveJob.{LiveJob}
 use Rattle.lsm_table.specs.Tables.{Opened}
 use Rattle.lsm_edit.specs.declared.file.FileMeta.{FileMeta}
@@ -34,6 +35,10 @@ list_of_option (Some t) = t ∷ []
 abbrev pub tables_at : List Placed → List FileMeta → List Opened
 tables_at places [] = []
 tables_at places (f ∷ fs) = list_of_option (table_at places f.number) ++ tables_at places fs
+
+-- the version lists each of the job's inputs
+abbrev pub AreServed : CoordValue → JobParts → Type 0
+AreServed c job = (f : FileMeta) → IsIn f job.inputs → IsIn f c.served.version.files
 
 -- a merge of the tables makes this result, or two of them share an entry
 abbrev pub Merges : List Opened → JobParts → Option JobResult → Type 0

@@ -1,11 +1,7 @@
 //! Compactions: one that is due, from its pick to its install.
 
 ghost use Rattle.std.specs.Prelude.{◌≡◌, ℕ, false, IfErr, IfOk, IfSome, None, OnErr};
-ghost use Rattle.lsm_key.specs.Sets.{IsIn};
 ghost use Rattle.lsm_claim.specs.Book.{holds};
-ghost use Rattle.lsm_edit.specs.declared.file.FileMeta.{FileMeta};
-ghost use Rattle.lsm_edit.specs.Served.{IsServed};
-ghost use Rattle.lsm_edit.specs.Version.{IsVersion};
 ghost use Rattle.lsm_coord.specs.declared.coord.install.Install.TheVariants as became;
 ghost use Rattle.lsm_coord.specs.Contract.Calls.{after_give_back};
 ghost use Rattle.lsm_coord.specs.Model.Changes.{IsIndex};
@@ -14,7 +10,7 @@ ghost use Rattle.lsm_coord.specs.Contract.Shows.{Follows, Shows};
 ghost use Rattle.lsm_coord.specs.Contract.Sound.{KeepsSound};
 ghost use Rattle.lsm_coord.specs.Model.Event.{Deliver, Installed};
 ghost use Rattle.lsm_coord.specs.Model.State.{State};
-ghost use Rattle.lsm_store.specs.Compacting.{Compacts, CompactionRefuses, IsLeft, IsReached, KeptBack, Merges, tables_at};
+ghost use Rattle.lsm_store.specs.Compacting.{AreServed, Compacts, CompactionRefuses, IsLeft, IsReached, KeptBack, Merges, tables_at};
 
 use lsm_claim::Claim;
 use lsm_coord::{Coord, CoordError, Install};
@@ -83,14 +79,13 @@ fn install(
     }
 }
 
-/// The result of a job's merge, or `None` if the merge refuses the tables.
-#[tactic(auto, using(crate::proofs::ServedTables::are_recorded))]
-fn result_of(alloc: Global, coord: &Coord, job: &Job) -> Result<Option<JobResult>, AllocError>
-    requires version { IsVersion coord.now.served.version }
-    requires served { IsServed coord.now.served }
-    requires inputs { (f : FileMeta) → IsIn f job.now.inputs → IsIn f coord.now.served.version.files }
-    ensures { IfOk result (Merges (tables_at coord.now.served.places job.now.inputs) job.now) }
+/// The result of a job's merge, from the tables that the coordinator serves: none is read again. `None` if two inputs
+/// share an internal key, or if the version does not list all inputs any more.
+pub fn result_of(alloc: Global, coord: &Coord, job: &Job) -> Result<Option<JobResult>, AllocError>
+    ensures { IfOk result (λ made. AreServed coord.now job.now → Merges (tables_at coord.now.served.places job.now.inputs) job.now made) }
 {
+    // Proof hint: the coordinator's invariant.
+    let _listing = coord.show();
     let tables = tables_of(alloc, coord, job.inputs())?;
     match merge(alloc, tables.as_slice(), job) {
         Ok(outputs) => Ok(Some(JobResult {
@@ -98,7 +93,7 @@ fn result_of(alloc: Global, coord: &Coord, job: &Job) -> Result<Option<JobResult
             tables: Items::from_vec(outputs),
         })),
         Err(MergeError::OutOfMemory) => Err(AllocError),
-        // Unreachable: the tables served are the inputs.
+        // A file of the job is gone.
         Err(MergeError::WrongInputs) => Ok(None),
         Err(MergeError::SameEntry) => Ok(None),
     }

@@ -8,4 +8,4 @@ mod compact;
 #[cfg(test)]
 mod tests;
 
-pub use compact::compact_once;
+pub use compact::{compact_once, result_of};

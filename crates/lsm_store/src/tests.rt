@@ -1,6 +1,6 @@
 //! Compactions: which version and files they make, and that reads stay.
 
-use crate::compact_once;
+use crate::{compact_once, result_of};
 use bytes::Bytes;
 use lsm_claim::Claim;
 use lsm_coord::{Coord, CoordError, Desk, SnapId};
@@ -106,6 +106,19 @@ fn pick(coord: &mut Coord) -> Result<Option<Claim>, CoordError> {
 
 fn give_back(coord: &mut Coord, claim: Claim) {
     coord.give_back(claim);
+}
+
+/// How many tables the result of the next job has. Its claim is given back.
+fn tables_made(alloc: Global, coord: &mut Coord) -> Result<Option<usize>, Fail> {
+    let Some((claim, job)) = coord.pick()? else {
+        return Ok(None);
+    };
+    let made = result_of(alloc, coord, &job);
+    give_back(coord, claim);
+    match made? {
+        Some(made) => Ok(Some(made.tables.len())),
+        None => Ok(None),
+    }
 }
 
 /// The number of the version.
@@ -254,6 +267,14 @@ fn a_compaction_is_made_after_want_of_memory(rt: HostRuntime) -> Result<(), Fail
 fn a_new_store_has_nothing_to_compact(rt: HostRuntime) -> Result<(), Fail> {
     let mut coord = store_due(rt.alloc(), 1, 1)?;
     see(&rt, rt.alloc(), &mut coord, &[Step::Idle])
+}
+
+#[test]
+fn a_picked_job_has_a_result(rt: HostRuntime) -> Result<(), Fail> {
+    let mut coord = store_due(rt.alloc(), 1, 1)?;
+    flush_op(rt.alloc(), &mut coord, put(b"a", b"1"))?;
+    assert_eq!(rt; tables_made(rt.alloc(), &mut coord)?, Some(1));
+    Ok(())
 }
 
 /// Gives a claim to a dispatcher, which holds none yet.

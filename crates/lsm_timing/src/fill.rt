@@ -12,8 +12,8 @@ use lsm_coord::{Coord, CoordError, Install};
 use lsm_key::{
     Batch, DEFAULT_BASE, DEFAULT_L0, FileNumber, Items, Limits, NUM_LEVELS, VersionNumber,
 };
-use lsm_merge::merge;
 use lsm_msg::{Body, Job, JobResult, Message, Node, NodeIndex};
+use lsm_store::result_of;
 use lsm_table::Table;
 use std::io;
 
@@ -136,21 +136,7 @@ impl Store {
 
     // The result of a job.
     fn result_of(&self, job: &Job) -> Result<JobResult, TimingError> {
-        let tables = self.inputs_of(job)?;
-        let outputs = merge(self.bench.alloc(), &tables, job)?;
-        Ok(JobResult {
-            job: job.id(),
-            tables: Items::from_vec(outputs),
-        })
-    }
-
-    // The tables of a job's inputs, which share what the store serves: none is read again.
-    fn inputs_of(&self, job: &Job) -> Result<Vec<Table>, TimingError> {
-        let mut tables = Vec::with_capacity(self.bench.alloc(), job.inputs().len())?;
-        for input in job.inputs() {
-            tables.push(self.table(input.number)?)?;
-        }
-        Ok(tables)
+        result_of(self.bench.alloc(), &self.coord, job)?.ok_or(GONE)
     }
 
     /// A file's table, which shares what the store serves.

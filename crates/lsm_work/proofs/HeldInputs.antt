@@ -356,17 +356,3 @@ remove_inserted {X} (y ∷ xs) x (suc k) le = ap (λ (ys : List X). y ∷ ys) (r
 
 pub remove_insert : {X : Type 0} (xs : List X) (x : X) (k : ℕ) → k ≤ length xs → take k (take k xs ++ x ∷ drop k xs) ++ drop (k + 1) (take k xs ++ x ∷ drop k xs) ≡ xs
 remove_insert xs x k le = let next : k + 1 ≡ suc k = omega arith in ap (λ (j : ℕ). take k (take k xs ++ x ∷ drop k xs) ++ drop j (take k xs ++ x ∷ drop k xs)) next ∙ remove_inserted xs x k le
-
--- a number names one file
-pub same_file : (files : List FileMeta) → FileNumbersRise files → (f g : FileMeta) → IsIn f files → IsIn g files → f.number ≡ g.number → f ≡ g
-same_file [] up f g m n same = absurd m
-same_file (h ∷ files) up f g m n same = elim m [
-  | inl e ↦ elim n [
-    | inl d ↦ e ∙ sym d
-    | inr k ↦ let more = up.0 g k in let own = ap (λ (x : FileMeta). x.number) e in absurd (omega (arith, more, own, same))
-  ]
-  | inr k ↦ elim n [
-    | inl d ↦ let more = up.0 f k in let own = ap (λ (x : FileMeta). x.number) d in absurd (omega (arith, more, own, same))
-    | inr l ↦ same_file files up.1 f g k l same
-  ]
-]

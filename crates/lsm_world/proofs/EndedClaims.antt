@@ -16,6 +16,7 @@ use Rattle.lsm_coord.specs.Contract.Calls.{after_give_back}
 use Rattle.lsm_coord.specs.Contract.Sound.{KeepsSound}
 use Rattle.lsm_coord.specs.Contract.Value.{CoordValue}
 use Rattle.lsm_coord.proofs.GiveBackSteps.{epoch_after, live_before}
+use Rattle.lsm_store.proofs.Compactions.{fewer_held}
 use Rattle.lsm_world.specs.History.{History, IsHistory}
 use Rattle.lsm_world.specs.Nodes.{NodesValue}
 use Rattle.lsm_world.proofs.DeskPlaces.{claims_let_go}
@@ -30,10 +31,6 @@ named_itself a b same =
 -- a live claim is held by its name
 pub live_held : (b : BookValue) (j : LiveJob) (id : JobId) → IsIn j b.live → j.id ≡ id → holds b id ≡ true
 live_held b j id m same = any_from (λ (k : LiveJob). same_job_id k.id id) b.live j m (named_itself j.id id same)
-
--- a name that is live was live, where no claim came
-pub held_before : (old new : BookValue) (id : JobId) → ((j : LiveJob) → IsIn j new.live → IsIn j old.live) → holds new id ≡ true → holds old id ≡ true
-held_before old new id before held = let found = any_is (λ (k : LiveJob). same_job_id k.id id) new.live held in any_from (λ (k : LiveJob). same_job_id k.id id) old.live found.0 (before found.0 found.1) found.2
 
 made_with : (ending : Ending) (b : BookValue) → (with_ending ending b).made ≡ b.made
 made_with Installed b = refl
@@ -83,7 +80,7 @@ module _ (h : History) (old : NodesValue) (place : ℕ) (claim : LiveJob) (at : 
           one = is.jobs.one;
           given = λ j m. subst (λ (b : BookValue). IsGiven b j.id) (sym book) (given_after old.core.book claim.id Returned j.id (is.jobs.given j m));
           inputs = is.jobs.inputs;
-          sound = λ j m held. keeps j (is.jobs.sound j m (held_before old.core.book new.book j.id before held)) held;
+          sound = λ j m held. keeps j (is.jobs.sound j m (fewer_held old.core.book new.book j.id before held)) held;
         };
         claims = claims_let_go h old.core.book new.book old.desk place claim at before (λ j m. ended old.core.book claim.id Returned j (subst (λ (b : BookValue). IsIn j b.live) book m)) is.claims;
         indices = is.indices;

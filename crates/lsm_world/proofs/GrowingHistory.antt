@@ -13,7 +13,7 @@ use Rattle.lsm_merge.specs.Outputs.{IsMerge}
 use Rattle.lsm_coord.specs.declared.dispatcher.Dispatcher.{Dispatcher}
 use Rattle.lsm_coord.specs.Contract.Value.{CoordValue}
 use Rattle.lsm_store.specs.Compacting.{list_of_option, tables_at}
-use Rattle.lsm_store.proofs.ServedTables.{found_in, is_there}
+use Rattle.lsm_store.proofs.ServedTables.{tables_among}
 use Rattle.lsm_work.specs.Workers.{TaskValue}
 use Rattle.lsm_world.specs.History.{History, IsFileOf, IsNumbered, IsTableAt, IsResultOf, IsKnown, IsSent, IsTaskOf, IsHistory, AreFiles, AreJobs, AreClaims}
 use Rattle.lsm_world.specs.Nodes.{NodesValue}
@@ -27,23 +27,8 @@ pub record Grows (h more : History) : Type 0 where
 -- ---- tables of files that both have
 
 module _ (h more : History) (grows : Grows h more) where
-  same_table : (n : ℕ) (p : Placed) → IsIn p h.files → p.meta.number ≡ n → table_at more.files n ≡ table_at h.files n
-  same_table n p m e =
-      let old = is_there h.files n p m e in
-      let new = is_there more.files n p (grows.files p m) e in
-      let here = found_in h.files n old.0 old.1 in
-      let there = found_in more.files n new.0 new.1 in
-      let same : there.place ≡ here.place = grows.one there.place here.place there.member (grows.files here.place here.member) (there.number ∙ sym here.number) in
-      let table : new.0 ≡ old.0 = sym there.table ∙ ap (λ (x : Placed). x.table) same ∙ here.table in
-      new.1 ∙ ap (λ (t : Opened). Some t) table ∙ sym old.1
-
   pub same_tables : (fs : List FileMeta) → ((f : FileMeta) → IsIn f fs → IsFileOf h f) → tables_at more.files fs ≡ tables_at h.files fs
-  same_tables [] all = refl
-  same_tables (f ∷ fs) all =
-      let p = all f (inl refl) in
-      let first = same_table f.number p.0 p.1 (ap (λ (g : FileMeta). g.number) p.2) in
-      let rest = same_tables fs (λ g m. all g (inr m)) in
-      λ i. list_of_option (first i) ++ rest i
+  same_tables = tables_among h.files more.files grows.one grows.files
 
   -- ---- what stays
 

@@ -33,10 +33,11 @@ use Rattle.lsm_coord.proofs.InstallOutcomes.{done_is, done_spelled, live_is}
 use Rattle.lsm_coord.proofs.ManifestReplay.{versions_of-push}
 use Rattle.lsm_coord.proofs.OpenedOutputs.{tables_each}
 use Rattle.lsm_coord.proofs.RetiredByNumber.{put_cases}
+use Rattle.lsm_store.proofs.Compactions.{fewer_held}
 use Rattle.lsm_world.specs.History.{AreClaims, AreFiles, AreJobs, History, IsFileOf, IsHistory, IsTableAt}
 use Rattle.lsm_world.specs.Nodes.{NodesValue}
 use Rattle.lsm_world.proofs.DeskPlaces.{claims_let_go}
-use Rattle.lsm_world.proofs.EndedClaims.{ended, given_after, held_before}
+use Rattle.lsm_world.proofs.EndedClaims.{ended, given_after}
 use Rattle.lsm_world.proofs.GrowingHistory.{Grows, file_stays, goes_on, table_stays}
 
 -- ---- records with their tables
@@ -173,7 +174,7 @@ after_install h old new claim made number files place fit fit_new done keeps at 
       one = is.jobs.one;
       given = λ j m. subst (λ (b : BookValue). IsGiven b j.id) (sym book) (given_after c.book claim.id ending.Installed j.id (is.jobs.given j m));
       inputs = λ j f mj mf. file_stays h more larger f (is.jobs.inputs j f mj mf);
-      sound = λ j m held. keeps j (is.jobs.sound j m (held_before c.book new.book j.id before held)) held;
+      sound = λ j m held. keeps j (is.jobs.sound j m (fewer_held c.book new.book j.id before held)) held;
     } in
     let left = claims_let_go h c.book new.book old.desk place claim at before (λ j m. ended c.book claim.id ending.Installed j (subst (λ (b : BookValue). IsIn j b.live) book m)) is.claims in
     let claims : AreClaims more new.book (slice_set old.desk place Idle) = record { four = left.four; live = left.live; picked = left.picked; one = left.one } in

@@ -19,6 +19,8 @@ def commas(numbers):
 
 def messages(sent):
     """What is said of the messages that an event sent."""
+    if sent is None:
+        return " message lost"
     if not sent:
         return ""
     return f" message {sent[0]}" if len(sent) == 1 else f" messages {sent[0]}-{sent[-1]}"

@@ -14,16 +14,20 @@ class World:
         self.held = {it: None for it in range(1, NODES + 1)}
         self.workers = {it: Worker() for it in range(1, NODES + 1)}
         self.messages = []
+        self.loses = False
 
-    def step(self, event):
-        """One event, and its reply."""
+    def step(self, event, loses=False):
+        """One event, and its reply. An event that loses what it sends stores no message."""
+        self.loses = loses
         try:
             return self.STEPS[type(event)](self, event)
         except Refused as it:
             return events.Refusal(it.name)
 
     def send(self, src, dst, bodies):
-        """Stores the messages of one event together, and answers their numbers, from 1 on."""
+        """Stores the messages of one event together, and answers their numbers, from 1 on; or None for messages that are lost."""
+        if self.loses and bodies:
+            return None
         first = len(self.messages) + 1
         self.messages += [Message(src, dst, it) for it in bodies]
         return range(first, first + len(bodies))

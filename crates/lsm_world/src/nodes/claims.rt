@@ -58,7 +58,7 @@ impl Nodes {
         ensures follows { Follows self.old.core (event_of (GiveUp dispatcher)) (reply_of result) self.new.core }
         ensures plain { IsPlain result }
     {
-        if !self.desk.dispatcher(dispatcher).id().is_some() {
+        if self.desk.dispatcher(dispatcher).id().is_none() {
             return Reply::Refused(Refusal::NoClaim);
         }
         let Some(claim) = self.desk.take(dispatcher) else {

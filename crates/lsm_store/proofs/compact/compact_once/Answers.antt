@@ -3,11 +3,6 @@ use Rattle.lsm_store.proofs.CompactionAnswers.{answers_left, answers_made, answe
 use Rattle.lsm_store.proofs.Compactions.{back_keeps, inputs_of_version, left_again, made_of_inputs, merges_by, named, none_same, picked_by, sound_by}
 use Rattle.lsm_store.proofs.compact.compact_once.Goals as goal
 
-pub result_of-requires-clause-inputs : goal.result_of-requires-clause-inputs
-result_of-requires-clause-inputs c =
-    let know = c.show-listing.ensures.fit in
-    inputs_of_version _ _ c.in-Some.claim c.in-Some.job know.version know.served know.book (picked_by _ _ _ _ _ c.in-Some.is c.in_ok-claim.ensures.ok)
-
 pub returns-clause-err : goal.returns-clause-err
 returns-clause-err c =
     let know = c.show-listing.ensures.fit in
@@ -26,7 +21,7 @@ returns-in-Ok-None-clause-ok c =
     let know = c.show-listing.ensures.fit in
     let picked = picked_by _ _ _ _ _ c.in-Some.is c.in_ok-claim.ensures.ok in (
       left_again _ _ c.in-Some.claim c.in-Some.job know.version know.served know.book picked _ c.give_back.ensures.book,
-      λ s h. absurd (none_same _ _ c.in-Some.claim c.in-Some.job know.version know.served know.book picked s h (merges_by _ _ _ _ c.in-Ok-None.field-0-is c.in-Ok-None.ensures)),
+      λ s h. absurd (none_same _ _ c.in-Some.claim c.in-Some.job know.version know.served know.book picked s h (merges_by _ _ _ _ c.in-Ok-None.field-0-is (c.in-Ok-None.ensures (inputs_of_version _ _ c.in-Some.claim c.in-Some.job know.version know.served know.book picked)))),
     )
 
 pub returns-in-Ok-None-clause-sound : goal.returns-in-Ok-None-clause-sound
@@ -42,19 +37,19 @@ returns-in-Ok-Some-clause-err c =
 pub returns-in-Ok-Some-clause-ok : goal.returns-in-Ok-Some-clause-ok
 returns-in-Ok-Some-clause-ok c =
     let know = c.show-listing.ensures.fit in
-    let merge = merges_by _ _ _ _ c.in-Ok-Some.field-0-is c.in-Ok-Some.ensures in
+    let merge = merges_by _ _ _ _ c.in-Ok-Some.field-0-is (c.in-Ok-Some.ensures (inputs_of_version _ _ c.in-Some.claim c.in-Some.job know.version know.served know.book (picked_by _ _ _ _ _ c.in-Some.is c.in_ok-claim.ensures.ok))) in
     answers_made _ _ _ c.in-Some.claim c.in-Some.job know.version know.served know.book (picked_by _ _ _ _ _ c.in-Some.is c.in_ok-claim.ensures.ok) _ merge.0 merge.1 c.install.result c.install.ensures.done c.install.ensures.stale
 
 pub returns-in-Ok-Some-clause-refused : goal.returns-in-Ok-Some-clause-refused
 returns-in-Ok-Some-clause-refused c =
     let know = c.show-listing.ensures.fit in
-    let merge = merges_by _ _ _ _ c.in-Ok-Some.field-0-is c.in-Ok-Some.ensures in
+    let merge = merges_by _ _ _ _ c.in-Ok-Some.field-0-is (c.in-Ok-Some.ensures (inputs_of_version _ _ c.in-Some.claim c.in-Some.job know.version know.served know.book (picked_by _ _ _ _ _ c.in-Some.is c.in_ok-claim.ensures.ok))) in
     answers_refused _ _ c.install.new.coord c.in-Some.claim c.in-Some.job know.version know.served know.book (picked_by _ _ _ _ _ c.in-Some.is c.in_ok-claim.ensures.ok) _ merge.0 merge.1 c.install.result c.install.ensures.refused
 
 pub returns-in-Ok-Some-clause-sound : goal.returns-in-Ok-Some-clause-sound
 returns-in-Ok-Some-clause-sound c =
     let know = c.show-listing.ensures.fit in
-    let merge = merges_by _ _ _ _ c.in-Ok-Some.field-0-is c.in-Ok-Some.ensures in
+    let merge = merges_by _ _ _ _ c.in-Ok-Some.field-0-is (c.in-Ok-Some.ensures (inputs_of_version _ _ c.in-Some.claim c.in-Some.job know.version know.served know.book (picked_by _ _ _ _ _ c.in-Some.is c.in_ok-claim.ensures.ok))) in
     let picked = picked_by _ _ _ _ _ c.in-Some.is c.in_ok-claim.ensures.ok in
     let sound = sound_by _ _ _ _ c.in-Some.is c.in_ok-claim.ensures.job in
     let second = c.install.ensures.sound (c.in-Some.job, named _ _ _ _ know.version know.served know.book picked, sound, made_of_inputs _ _ _ _ know.version know.served know.book picked _ merge.1) in
@@ -63,7 +58,7 @@ returns-in-Ok-Some-clause-sound c =
 pub returns-in-Ok-Some-clause-step : goal.returns-in-Ok-Some-clause-step
 returns-in-Ok-Some-clause-step c = λ dispatcher message index s h.
     let know = c.show-listing.ensures.fit in
-    let merge = merges_by _ _ _ _ c.in-Ok-Some.field-0-is c.in-Ok-Some.ensures in
+    let merge = merges_by _ _ _ _ c.in-Ok-Some.field-0-is (c.in-Ok-Some.ensures (inputs_of_version _ _ c.in-Some.claim c.in-Some.job know.version know.served know.book (picked_by _ _ _ _ _ c.in-Some.is c.in_ok-claim.ensures.ok))) in
     let picked = picked_by _ _ _ _ _ c.in-Some.is c.in_ok-claim.ensures.ok in
     let sound = sound_by _ _ _ _ c.in-Some.is c.in_ok-claim.ensures.job in
     let steps = c.install.ensures.step message (c.in-Some.job, named _ _ _ _ know.version know.served know.book picked, sound, made_of_inputs _ _ _ _ know.version know.served know.book picked _ merge.1) in

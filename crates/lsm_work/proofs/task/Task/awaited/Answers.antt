@@ -9,9 +9,10 @@ use Rattle.lsm_key.proofs.Lists.{none_is}
 use Rattle.lsm_key.proofs.Membership.{IsIn-at}
 use Rattle.lsm_edit.specs.declared.file.FileMeta.{FileMeta}
 use Rattle.lsm_edit.specs.Version.{FileNumbersRise}
+use Rattle.lsm_edit.proofs.ServedPlaces.{one_number}
 use Rattle.lsm_work.specs.Held.{IsSpot}
 use Rattle.lsm_work.specs.Workers.{TaskValue, numbers_of, is_among, missing}
-use Rattle.lsm_work.proofs.HeldInputs.{numbers_held, missing_from, missing_if, numbers_ascend, inputs_rise, among_found, file_found, spot_found, same_file}
+use Rattle.lsm_work.proofs.HeldInputs.{numbers_held, missing_from, missing_if, numbers_ascend, inputs_rise, among_found, file_found, spot_found}
 use Rattle.lsm_work.proofs.task.Task.awaited.Goals as goal
 
 pub returns-in_default-clause-none : goal.returns-in_default-clause-none
@@ -65,4 +66,4 @@ returns-in-Err-clause-only c = λ g m same_number.
     let same : f.number ≡ c.args.number = ap (λ (g : FileMeta). g.number) c.index-inputs-at.is ∙ ranked (get_or c.inputs-inputs.result.now c.in-Ok.at f).number c.args.number _ (sym (by_number f)) in
     let member = subst (λ (fs : List FileMeta). IsIn f fs) c.inputs-inputs.ensures.all (subst (λ (g : FileMeta). IsIn g c.inputs-inputs.result.now) (sym c.index-inputs-at.is) (IsIn-at c.inputs-inputs.result.now c.in-Ok.at f c.in-Ok.ensures.bound)) in
     let from = missing_from inside.job inside.numbers.items inside.tables.items held g (subst (λ (t : TaskValue). IsIn g (missing t)) (sym c.self.view_is) m) in
-    same_file inside.job.inputs (inputs_rise inside.job inside.numbers.items inside.tables.items held) g f from.0 member (same_number ∙ sym same)
+    one_number inside.job.inputs (inputs_rise inside.job inside.numbers.items inside.tables.items held) g f from.0 member (same_number ∙ sym same)
