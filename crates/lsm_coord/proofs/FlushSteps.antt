@@ -12,25 +12,26 @@ use Rattle.lsm_key.specs.Places.{IsAbove, entries_after}
 use Rattle.lsm_edit.specs.declared.file.FileMeta.{FileMeta}
 use Rattle.lsm_edit.specs.declared.edit.Edit.{Edit}
 use Rattle.lsm_edit.specs.declared.edit.EditKind.TheVariants as kind
-use Rattle.lsm_edit.specs.Edit.{IsEdit, IsSpelled, edit as spelling}
+use Rattle.lsm_edit.specs.Edit.{IsEdit, IsSpelledEdit, edit as spelling}
 use Rattle.lsm_edit.specs.Served.{AreAsRecorded, IsServed, placed_of}
 use Rattle.lsm_edit.specs.Next.{flush_edit}
 use Rattle.lsm_edit.specs.Version.{IsVersion, VersionValue, apply_fault, after_apply, files_after}
 use Rattle.lsm_table.specs.Tables.{Opened}
 use Rattle.lsm_edit.proofs.AdvancedPlaces.{places_are}
 use Rattle.lsm_edit.proofs.VersionLaws.{files_after-is}
+use Rattle.lsm_versions.specs.Manifest.{VersionSetValue, after_logging, versions_of}
+use Rattle.lsm_versions.proofs.ManifestReplay.{Folds-push}
+use Rattle.lsm_versions.proofs.RetiredFiles.{retired-none}
 use Rattle.lsm_coord.specs.declared.frozen.Frozen.{Frozen}
 use Rattle.lsm_coord.specs.Model.State.{State, Version, Place, last_seq, last_flushed, active_start, current_files}
 use Rattle.lsm_coord.specs.Model.Changes.{after_flush, flush_end, flushed_version, with_version}
-use Rattle.lsm_coord.specs.Contract.Manifest.{VersionSetValue, after_logging, listing_of, place_of, versions_of}
+use Rattle.lsm_coord.specs.Contract.Shows.{listing_of, place_of, Shows, ShowsStored}
 use Rattle.lsm_coord.specs.Contract.Value.{CoordValue, frozen_entries, stored_entries}
 use Rattle.lsm_msg.specs.Installs.{with_flushed}
 use Rattle.lsm_coord.specs.Contract.Calls.{flush_source_of, active_after, after_freezing}
-use Rattle.lsm_coord.specs.Contract.Shows.{Shows, ShowsStored}
 use Rattle.lsm_coord.proofs.CurrentVersion.{last_flushed-after_flush}
-use Rattle.lsm_coord.proofs.ManifestReplay.{files_are, Folds-push, listed-push}
+use Rattle.lsm_coord.proofs.ShownVersions.{files_are, listed-push}
 use Rattle.lsm_coord.proofs.ReadAnswers.{AreStored, frozen_answers, frozen_reads, frozen_above, frozen_entries_old}
-use Rattle.lsm_coord.proofs.RetiredFiles.{retired-none}
 use Rattle.lsm_coord.proofs.FreezeSteps.{Shows-froze, none_frozen}
 
 take_drop_end : {X : Type 0} (n : ℕ) (xs : List X) → n ≤ length xs → drop n (take n xs) ≡ []
@@ -42,12 +43,12 @@ flushed_to c frozen f t text = record c { active = active_after c.active frozen;
 
 -- what is logged of a flush: the new table is searched first
 pub logged_is : (old : VersionSetValue) (end : ℕ) (f : FileMeta) (t : Opened) (ts : List Opened) (e : Edit) → IsVersion old.served.version → IsServed old.served → IsEdit e → AreAsRecorded e.added ts → apply_fault old.served.version e ≡ None → e ≡ flush_edit old.served.version end f → ts ≡ t ∷ []
-    → after_logging old e ts ≡ record old { served = with_flushed old.served end f t; edits = old.edits ++ spelling e ∷ [] }
+    → after_logging old e ts ≡ record old { served = with_flushed old.served end f t; edits = old.edits ++ spelling e ∷ []; kept = (after_logging old e ts).kept }
 logged_is old end f t ts e version served sound recorded applies is one =
     let plain : e.kind ≡ kind.Install → ⊥ = λ h. let no : kind.Flush ≡ kind.Install = sym (ap (λ (x : Edit). x.kind) is) ∙ h in absurd cc in
     let places = places_are old.served e ts version served sound plain recorded applies ∙ (λ i. placed_of (is i).added (one i) ++ old.served.places) in
     let retired = retired-none old.retired old.served e.removed (ap (λ (x : Edit). x.removed) is) in
-    λ i. record { served = record { version = after_apply old.served.version (is i); places = places i }; edits = old.edits ++ spelling e ∷ []; retired = retired i; floor = old.floor }
+    λ i. record { served = record { version = after_apply old.served.version (is i); places = places i }; edits = old.edits ++ spelling e ∷ []; retired = retired i; floor = old.floor; kept = (after_logging old e ts).kept; failures = old.failures }
 
 -- ---- a flush of the frozen memtable
 
@@ -68,7 +69,7 @@ module _ (c : CoordValue) (z : Frozen) (s : State) (h : Shows c s) (frozen : c.f
   entries_are = ap frozen_entries frozen
 
   module _ (f : FileMeta) (t : Opened) (text : List ℕ) (whole : t.entries ≡ z.memtable) (number : f.number ≡ c.served.version.next_file) (level : f.level ≡ 0)
-      (one : IsSpelled text (flush_edit c.served.version z.end f)) (fits : apply_fault c.served.version (flush_edit c.served.version z.end f) ≡ None) where
+      (one : IsSpelledEdit text (flush_edit c.served.version z.end f)) (fits : apply_fault c.served.version (flush_edit c.served.version z.end f) ≡ None) where
     table_is : frozen_entries c.frozen ≡ t.entries
     table_is = entries_are ∙ sym whole
 
@@ -145,7 +146,7 @@ end_of c (Some z) s h e = end_is c z s h e
 
 -- A FLUSH SHOWS ITS STEP.
 pub shows_after : (c : CoordValue) (frozen : Option Frozen) (s : State) (f : FileMeta) (t : Opened) (text : List ℕ) → Shows c s → c.frozen ≡ frozen → t.entries ≡ (flush_source_of c.active c.last frozen).memtable
-    → f.number ≡ c.served.version.next_file → f.level ≡ 0 → IsSpelled text (flush_edit c.served.version (flush_source_of c.active c.last frozen).end f)
+    → f.number ≡ c.served.version.next_file → f.level ≡ 0 → IsSpelledEdit text (flush_edit c.served.version (flush_source_of c.active c.last frozen).end f)
     → apply_fault c.served.version (flush_edit c.served.version (flush_source_of c.active c.last frozen).end f) ≡ None → Shows (flushed_to c frozen f t text) (after_flush s)
 shows_after c (Some z) s f t text h e whole number level one fits = Shows-flushed c z s h e f t text whole number level one fits
 shows_after c None s f t text h e whole number level one fits =

@@ -18,7 +18,7 @@ use Rattle.lsm_coord.specs.Contract.Value.{CoordValue}
 use Rattle.lsm_coord.specs.Contract.Calls.{write_fault, freeze_fault, flush_fault, snapshot_fault, release_fault}
 use Rattle.lsm_coord.specs.Contract.Replies.{refusal_of}
 use Rattle.lsm_coord.specs.Contract.Shows.{Shows}
-use Rattle.lsm_coord.proofs.ManifestReplay.{version_count}
+use Rattle.lsm_coord.proofs.ShownVersions.{version_count}
 use Rattle.lsm_coord.proofs.WriteSteps.{active_weight, active_count}
 use Rattle.lsm_coord.proofs.FreezeSteps.{start_at_flushed}
 

@@ -15,20 +15,21 @@ use Rattle.lsm_claim.specs.Conflicts.{conflicts}
 use Rattle.lsm_claim.specs.Jobs.{same_job_id, without_job}
 use Rattle.lsm_table.specs.Tables.{Opened}
 use Rattle.lsm_edit.specs.declared.edit.Edit.{Edit}
-use Rattle.lsm_edit.specs.Edit.{IsSpelled, edit as spelling}
+use Rattle.lsm_edit.specs.Edit.{IsSpelledEdit, edit as spelling}
 use Rattle.lsm_edit.specs.Served.{IsServed, ServedValue, after_advance}
 use Rattle.lsm_edit.specs.Version.{IsVersion, apply_fault}
 use Rattle.lsm_msg.specs.declared.job.JobResult.{JobResult}
 use Rattle.lsm_msg.specs.Installs.{Installs}
 use Rattle.lsm_msg.specs.Legal.{IsLegal}
 use Rattle.lsm_msg.proofs.OtherJobs.{installs_keep_jobs}
+use Rattle.lsm_versions.specs.Manifest.{VersionSetValue, after_logging}
+use Rattle.lsm_versions.specs.Kept.{Kept}
+use Rattle.lsm_versions.specs.Retention.{retired_after}
 use Rattle.lsm_coord.specs.declared.coord.install.Install.TheVariants as became
 use Rattle.lsm_coord.specs.declared.frozen.Frozen.{Frozen}
 use Rattle.lsm_coord.specs.declared.snapshot.Snapshot.{Snapshot}
 use Rattle.lsm_coord.specs.Contract.Installing.{AreOutputTables, Became, IsInstallDone, IsLive, install_edit_of}
-use Rattle.lsm_coord.specs.Contract.Manifest.{VersionSetValue, after_logging}
 use Rattle.lsm_coord.specs.Contract.Memory.{IsCoord}
-use Rattle.lsm_coord.specs.Contract.Retention.{retired_after}
 use Rattle.lsm_coord.specs.Contract.Value.{CoordValue}
 use Rattle.lsm_coord.specs.Inner.Putting.{PutsOutputs}
 use Rattle.lsm_coord.proofs.InstallEdits.{recorded_of, records_inside, records_recorded}
@@ -66,11 +67,11 @@ unheld_after b id h = ap (λ (held : Bool). cond held (with_ending ending.Instal
 pub with_book : (c : CoordValue) (b : BookValue) → b ≡ c.book → record c { book = b } ≡ c
 with_book c b e = ap (λ (x : BookValue). record c { book = x }) e
 
-pub became_done : (old : CoordValue) (claim live : LiveJob) (made : JobResult) (number : ℕ) (files : List ℕ) (new : VersionSetValue) → IsLive old claim.id live
-    → PutsOutputs (record { served = old.served; edits = old.edits; retired = old.retired; floor = old.floor }) live made (record { number = number; files = files }) new → Became old claim made (became.Done number files) (record old { served = new.served; edits = new.edits; retired = new.retired; floor = new.floor; book = after_settling old.book claim.id ending.Installed })
-became_done old claim live made number files new h p =
+pub became_done : (old : CoordValue) (claim live : LiveJob) (made : JobResult) (number : ℕ) (files : List ℕ) (kept : Kept) (failures : ℕ) (new : VersionSetValue) → IsLive old claim.id live
+    → PutsOutputs (record { served = old.served; edits = old.edits; retired = old.retired; floor = old.floor; kept = kept; failures = failures }) live made (record { number = number; files = files }) new → Became old claim made (became.Done number files) (record old { served = new.served; edits = new.edits; retired = new.retired; floor = new.floor; book = after_settling old.book claim.id ending.Installed })
+became_done old claim live made number files kept failures new h p =
     let named = (live_is old claim.id live h).1 in
-    let before : VersionSetValue = record { served = old.served; edits = old.edits; retired = old.retired; floor = old.floor } in
+    let before : VersionSetValue = record { served = old.served; edits = old.edits; retired = old.retired; floor = old.floor; kept = kept; failures = failures } in
     let retired = p.new_is ∙ ap (λ (e : Edit). after_logging before e p.tables) p.edit_is in (
       live,
       h,
@@ -95,8 +96,8 @@ abbrev pub next_served : ServedValue → Want → List Opened → ServedValue
 next_served s want ts = after_advance s (install_edit_of s.version want ts) ts
 
 module _ (old : CoordValue) (live : LiveJob) (ts : List Opened) (new : CoordValue) (done : IsInstallDone old live ts new) where
-  pub done_spelled : IsSpelled done.text (install_edit_of old.served.version live.want ts)
-  done_spelled = subst (IsSpelled done.text) done.edit_is done.spelled
+  pub done_spelled : IsSpelledEdit done.text (install_edit_of old.served.version live.want ts)
+  done_spelled = subst (IsSpelledEdit done.text) done.edit_is done.spelled
 
   pub done_applies : apply_fault old.served.version (install_edit_of old.served.version live.want ts) ≡ None
   done_applies = subst (λ (e : Edit). apply_fault old.served.version e ≡ None) done.edit_is done.applies
@@ -108,7 +109,7 @@ module _ (old : CoordValue) (live : LiveJob) (ts : List Opened) (new : CoordValu
 
 -- outputs of a live job make an install
 pub installs_of : (s : ServedValue) (want : Want) (texts : List (List ℕ)) (text : List ℕ) (ts : List Opened) → IsLegal s.version.files want → AreOutputTables want.hull texts ts
-    → IsSpelled text (install_edit_of s.version want ts) → apply_fault s.version (install_edit_of s.version want ts) ≡ None → Installs s want (install_edit_of s.version want ts) ts
+    → IsSpelledEdit text (install_edit_of s.version want ts) → apply_fault s.version (install_edit_of s.version want ts) ≡ None → Installs s want (install_edit_of s.version want ts) ts
 installs_of s want texts text ts legal outputs spelled applies = record {
   sound = spelled.sound;
   applies = applies;
@@ -144,7 +145,7 @@ after_install active frozen last old new book id live made number files snapshot
     let served = old.served in
     let e = install_edit_of served.version live.want p.tables in
     let r = found_some (λ j. same_job_id j.id id) book.live live h in
-    let spelled : IsSpelled (spelling p.edit) e = subst (IsSpelled (spelling p.edit)) p.edit_is (record { sound = p.valid; spelled = refl }) in
+    let spelled : IsSpelledEdit (spelling p.edit) e = subst (IsSpelledEdit (spelling p.edit)) p.edit_is (record { sound = p.valid; spelled = refl }) in
     let applies : apply_fault served.version e ≡ None = subst (λ (x : Edit). apply_fault served.version x ≡ None) p.edit_is p.applies in
     let installs = installs_of served live.want made.tables (spelling p.edit) p.tables (is.legal live r.0) p.accepted.outputs spelled applies in
     let new_is : new ≡ after_logging old e p.tables = p.new_is ∙ ap (λ (x : Edit). after_logging old x p.tables) p.edit_is in

@@ -16,7 +16,7 @@ use Rattle.lsm_coord.specs.Contract.Shows.{Follows, Shows}
 use Rattle.lsm_coord.specs.Model.State.{State}
 use Rattle.lsm_coord.specs.Model.Step.{Leaves}
 use Rattle.lsm_coord.specs.Contract.Value.{CoordValue}
-use Rattle.lsm_coord.proofs.ManifestReplay.{version_count}
+use Rattle.lsm_coord.proofs.ShownVersions.{version_count}
 use Rattle.lsm_coord.proofs.OpenedOutputs.{tables_length}
 
 one_is_over : (a b most : ℕ) → ((a ≤ most) × (b ≤ most) → ⊥) → (most < a) ⊎ (most < b)

@@ -21,7 +21,7 @@ use Rattle.lsm_claim.specs.Book.{IsBook, after_settling}
 use Rattle.lsm_claim.specs.Jobs.{JobNumbersRise}
 use Rattle.lsm_table.specs.Tables.{Opened}
 use Rattle.lsm_edit.specs.declared.file.FileMeta.{FileMeta}
-use Rattle.lsm_edit.specs.Edit.{IsSpelled}
+use Rattle.lsm_edit.specs.Edit.{IsSpelledEdit}
 use Rattle.lsm_edit.specs.Next.{number_after}
 use Rattle.lsm_edit.specs.declared.served.Placed.{Placed}
 use Rattle.lsm_edit.specs.Served.{IsServed, ServedValue}
@@ -37,23 +37,24 @@ use Rattle.lsm_msg.specs.Merge.{HoldsKept}
 use Rattle.lsm_msg.proofs.LegalInputs.{is_listed, listed_is}
 use Rattle.lsm_msg.proofs.InstallReads.{installs_keep_reads, kept_adds_no_entry}
 use Rattle.lsm_msg.proofs.PlacesAfterInstall.{installs_add_no_entry, installs_keep_order}
+use Rattle.lsm_versions.specs.Manifest.{versions_of}
+use Rattle.lsm_versions.specs.Retention.{retired_after}
+use Rattle.lsm_versions.proofs.ManifestReplay.{Folds-push}
 use Rattle.lsm_coord.specs.declared.snapshot.Snapshot.{Snapshot}
 use Rattle.lsm_coord.specs.Model.State.{State, Version, Place, active_start, current_files, last_flushed}
 use Rattle.lsm_coord.specs.Model.Changes.{IsInstalled, at_level, same_place, with_version}
 use Rattle.lsm_coord.specs.Model.Changes as change
 use Rattle.lsm_coord.specs.Model.Event as say
 use Rattle.lsm_coord.specs.declared.coord.install.Install.TheVariants as became
-use Rattle.lsm_coord.specs.Contract.Installing.{AreEntriesOf, Became, HasNumbers, HoldsSoundMerge, IsInstallDone, IsLive, install_edit_of, numbers_of, records}
-use Rattle.lsm_coord.specs.Contract.Manifest.{listing_of, place_of, versions_of}
+use Rattle.lsm_coord.specs.Contract.Installing.{AreEntriesOf, Became, HasNumbers, HoldsSoundMerge, IsInstallDone, IsLive, install_edit_of, output_numbers, records}
+use Rattle.lsm_coord.specs.Contract.Shows.{listing_of, place_of, Follows, Shows, ShowsStored}
 use Rattle.lsm_coord.specs.Contract.Memory.{AreLegal, AreJobWants, IsJobWant}
-use Rattle.lsm_coord.specs.Contract.Retention.{retired_after}
-use Rattle.lsm_coord.specs.Contract.Shows.{Follows, Shows, ShowsStored}
 use Rattle.lsm_coord.specs.Contract.Sound.{AreWrittenBy, IsSound}
 use Rattle.lsm_coord.specs.Contract.Value.{CoordValue, frozen_entries, stored_entries}
 use Rattle.lsm_coord.proofs.InstallEdits.{records_end, records_length}
 use Rattle.lsm_coord.proofs.InstallOutcomes.{done_applies, done_is, done_spelled, installs_of, live_is, next_served}
 use Rattle.lsm_coord.proofs.OpenedOutputs.{tables_one}
-use Rattle.lsm_coord.proofs.ManifestReplay.{Folds-push, files_are, flushed_is, listed-push, version_count}
+use Rattle.lsm_coord.proofs.ShownVersions.{files_are, flushed_is, listed-push, version_count}
 use Rattle.lsm_coord.proofs.VersionsStay.{tip-grown}
 
 -- ---- listings
@@ -100,11 +101,11 @@ numbers_range level number (t ∷ ts) = ap (λ (ns : List ℕ). number ∷ ns) (
 
 module _ (c : CoordValue) (live : LiveJob) (ts : List Opened) (text : List ℕ) (s : State) (h : Shows c s) (version_is : IsVersion c.served.version) (served_is : IsServed c.served)
     (legal : IsLegal c.served.version.files live.want) (orderly : IsJobWant live.want) (installs : Installs c.served live.want (install_edit_of c.served.version live.want ts) ts)
-    (spelled : IsSpelled text (install_edit_of c.served.version live.want ts)) (fit : HasNumbers c.served.version ts)
+    (spelled : IsSpelledEdit text (install_edit_of c.served.version live.want ts)) (fit : HasNumbers c.served.version ts)
     (job : JobParts) (of_want : IsJobOf c.served.version.files live.want job) (points : (x : Snapshot) → IsIn x c.snapshots → IsIn x.at job.points ⊎ AreWrittenBy c.served job x.at) (deeper : KnowsDeeper c.served.places job)
     (inputs : List Entry) (are : AreInputsOf c.served.places live.want inputs) (kept : HoldsKept inputs job.points job.deeper (entries_of ts)) where
   abbrev numbers : List ℕ
-  numbers = numbers_of c.served.version live.want ts
+  numbers = output_numbers c.served.version live.want ts
 
   abbrev next_version : Version
   next_version = record { flushed = last_flushed s; files = change.without_inputs (input_places c.served.version.files live.want.files) (current_files s) ++ at_level (live.want.level + 1) numbers }

@@ -10,9 +10,7 @@ pub mod StateRefusals
 pub mod CurrentVersion
 pub mod SnapshotEffects
 pub mod SnapshotReads
-pub mod ManifestReplay
-pub mod RetiredByNumber
-pub mod RetiredFiles
+pub mod ShownVersions
 pub mod ServedFiles
 pub mod ReadAnswers
 pub mod ShownStates

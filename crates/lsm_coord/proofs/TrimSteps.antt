@@ -2,12 +2,12 @@
 use Rattle.std.proofs.Common.{ℕ, refl, ap, max}
 use Rattle.lsm_coord.specs.Model.State.{State}
 use Rattle.lsm_coord.specs.Model.Changes as change
-use Rattle.lsm_coord.specs.Contract.Calls.{after_trim}
+use Rattle.lsm_coord.specs.Contract.Calls.{with_floor}
 use Rattle.lsm_coord.specs.Contract.Shows.{Shows}
 use Rattle.lsm_coord.specs.Contract.Value.{CoordValue}
 use Rattle.lsm_coord.proofs.ShownStates.{stored_same}
 
-pub Shows-trimmed : (c : CoordValue) (s : State) (n : ℕ) → Shows c s → Shows (after_trim c n) (change.after_trim s n)
+pub Shows-trimmed : (c : CoordValue) (s : State) (n : ℕ) → Shows c s → Shows (with_floor c n) (change.after_trim s n)
 Shows-trimmed c s n h =
     let m = h.memtables in
     record {

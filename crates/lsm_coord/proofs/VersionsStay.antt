@@ -1,28 +1,18 @@
 -- Versions stay once they are there, and so do the writes that they hold.
-use Rattle.std.proofs.Common.{◌≡◌, ℕ, zero, suc, ◌-◌, ◌≤◌, ◌<◌, List, [], ◌∷◌, ◌++◌, Option, None, Some, refl, sym, ap, ◌∙◌, inl, inr, ◌⊎◌, arith, length, take, get_or, length-append}
+use Rattle.std.proofs.Common.{◌≡◌, ℕ, zero, suc, ◌-◌, ◌≤◌, ◌<◌, List, [], ◌∷◌, ◌++◌, Option, None, Some, refl, sym, ap, ◌∙◌, inl, inr, arith, length, take, get_or, length-append}
 use Rattle.std.specs.List.{slice_get}
 use Rattle.std.specs.Option.{unwrap_or}
 use Rattle.std.proofs.Math.Seq.{get_or-append_seam}
 use Rattle.std.proofs.lemmas.List.{take-append-le, take-take, length-take-le}
 use Rattle.std.proofs.lemmas.Option.{same_Some, slice_get_within, slice_get-get_or}
+use Rattle.lsm_key.proofs.Lists.{slice_get-front}
+use Rattle.lsm_versions.proofs.GrownLists.{at_grown}
 use Rattle.lsm_coord.specs.Model.State.{State, Version, empty_version, first_state}
 use Rattle.lsm_coord.specs.Model.Event.{Event, Reply}
 use Rattle.lsm_coord.specs.Model.Run.{Run}
 use Rattle.lsm_coord.proofs.StepEffects.{Effect, stays, wrote, froze, flushed, installed, fell, rose, effect}
 
 -- ---- lists of versions
-
-pub grown : {X : Type 0} (xs ys : List X) (n : ℕ) (x : X) → slice_get xs n ≡ Some x → slice_get (xs ++ ys) n ≡ Some x
-grown [] ys n x h = absurd cc
-grown (y ∷ xs) ys zero x h = h
-grown (y ∷ xs) ys (suc n) x h = grown xs ys n x h
-
--- an element is one of the former list or the one that was added
-pub at_grown : {X : Type 0} (xs : List X) (y : X) (n : ℕ) (x : X) → slice_get (xs ++ y ∷ []) n ≡ Some x → slice_get xs n ≡ Some x ⊎ ((n ≡ length xs) × (x ≡ y))
-at_grown [] y zero x h = inr (refl, same_Some x y (sym h))
-at_grown [] y (suc n) x h = absurd cc
-at_grown (z ∷ xs) y zero x h = inl h
-at_grown (z ∷ xs) y (suc n) x h = elim (at_grown xs y n x h) [ inl a ↦ inl a | inr b ↦ inr (ap suc b.0, b.1) ]
 
 -- the flushed sequence of the last one
 abbrev pub tip : List Version → ℕ
@@ -106,10 +96,10 @@ pub step_versions : (s : State) (e : Event) (t : State) → Effect s e t → (n 
 step_versions s e t (stays a b c) n v h = rw b h
 step_versions s e t (wrote ops k a b c) n v h = rw b h
 step_versions s e t (froze a b c) n v h = rw b h
-step_versions s e t (flushed x k a b c) n v h = rw b (grown s.versions (x ∷ []) n v h)
-step_versions s e t (installed x k a b c) n v h = rw b (grown s.versions (x ∷ []) n v h)
+step_versions s e t (flushed x k a b c) n v h = rw b (slice_get-front s.versions (x ∷ []) n v h)
+step_versions s e t (installed x k a b c) n v h = rw b (slice_get-front s.versions (x ∷ []) n v h)
 step_versions s e t (fell k a b c) n v h = rw b h
-step_versions s e t (rose x k f a b c) n v h = rw b (grown s.versions (x ∷ []) n v h)
+step_versions s e t (rose x k f a b c) n v h = rw b (slice_get-front s.versions (x ∷ []) n v h)
 
 pub run_versions : (s : State) (es : List Event) (rs : List Reply) (t : State) → Run s es rs t → (n : ℕ) (v : Version) → slice_get s.versions n ≡ Some v → slice_get t.versions n ≡ Some v
 run_versions s [] [] t h n v q = rw h q

@@ -1,7 +1,5 @@
 -- What the contracts of the coordinator's calls say beside the model: the value of a coordinator, which states it represents, and
 -- what each call refuses and makes.
-pub mod Retention
-pub mod Manifest
 pub mod Value
 pub mod Shows
 pub mod Replies

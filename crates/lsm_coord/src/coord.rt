@@ -1,4 +1,4 @@
-//! The coordinator: one store, over tables in memory.
+//! The coordinator: one store, over a vault in memory.
 
 mod claims;
 mod flush;
@@ -14,23 +14,24 @@ mod write;
 
 use crate::frozen::Frozen;
 use crate::snapshot::Snapshot;
-use crate::version_set::VersionSet;
 pub use flush::Flushed;
 pub use install::{Install, InstallError};
 use lsm_claim::ClaimBook;
 use lsm_edit::Edit;
 use lsm_key::{Limits, Seq, VersionNumber};
 use lsm_mem::Memtable;
+use lsm_vault::MemoryVault;
+use lsm_versions::VersionSet;
 use std::alloc::{AllocError, Global};
 use std::marker::Model;
 
 /// One store: its memtables, its version set, its live snapshots, and the claims of this epoch.
-#[derive(Debug, Drop)]
+#[derive(Drop)]
 pub struct Coord {
     alloc: Global,
     // When its levels need compaction.
     limits: Limits,
-    versions: VersionSet,
+    versions: VersionSet<MemoryVault>,
     active: Memtable,
     frozen: Option<Frozen>,
     newest: Seq,
@@ -63,9 +64,9 @@ impl Coord {
         ensures limits { IfOk result (λ c. c.limits ≡ limits) }
         ensures book { IfOk result (λ c. c.book ≡ new_book 1) }
     {
-        let mut versions = VersionSet::new(alloc);
+        let mut versions = VersionSet::new(alloc, MemoryVault::new(alloc));
         let edit = Edit::epoch(alloc, versions.version());
-        versions.log_and_apply(&edit, Vec::new(alloc))?;
+        versions.log_in_memory(&edit, Vec::new(alloc))?;
         let first = VersionNumber::new(versions.version().number());
         versions.trim(first)?;
         let book = ClaimBook::new(alloc, versions.version().epoch());

@@ -7,8 +7,8 @@
 //! installable as long as its claim is live. Tables stay and are served until a trim lets them go.
 //!
 //! It stands on `lsm_key` for writes and entries, `lsm_mem` for memtables, `lsm_table` for tables, `lsm_edit` for versions
-//! and the tables that they serve, `lsm_claim` for claims, `lsm_msg` for jobs and messages, and `lsm_pick` for the rule of a
-//! pick.
+//! and the tables that they serve, `lsm_versions` for the version set, `lsm_vault` for a vault in memory, `lsm_claim` for
+//! claims, `lsm_msg` for jobs and messages, and `lsm_pick` for the rule of a pick.
 #![tactic(auto)]
 
 mod answer;
@@ -20,11 +20,9 @@ mod error;
 mod frozen;
 mod job;
 mod laws;
-mod retired;
 mod snapshot;
 #[cfg(test)]
 mod tests;
-mod version_set;
 
 pub use answer::{Answer, ShownVersion};
 pub use call::{Call, ScanRange};

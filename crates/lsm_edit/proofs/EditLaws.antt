@@ -9,7 +9,7 @@ use Rattle.std.specs.Prelude.{IfOk}
 use Rattle.lsm_key.specs.declared.refused.Refused.{Refused}
 use Rattle.lsm_key.specs.Reading.{◌>>=◌, number_at, ranged_number_at, Gives}
 use Rattle.lsm_key.proofs.FieldLaws.{IsBytes, Takes, bind_ok, guard_held, ok_is, wide8, wide32, wide64, number_takes, number_again}
-use Rattle.lsm_key.proofs.ReaderLaws.{Reads, Goes, field, field_as, done, whole, within_reads}
+use Rattle.lsm_key.proofs.ReaderLaws.{Reads, Goes, field, field_as, done, whole, within_reads, reads_as}
 use Rattle.lsm_edit.specs.declared.file.FileMeta.{FileMeta}
 use Rattle.lsm_edit.specs.declared.edit.Edit.{Edit}
 use Rattle.lsm_edit.specs.declared.edit.EditKind.{EditKind}
@@ -17,49 +17,49 @@ use Rattle.lsm_edit.specs.declared.edit.EditKind.TheVariants.{Flush, Install, Ep
 use Rattle.lsm_edit.specs.declared.format.FormatFault.{FormatFault}
 use Rattle.lsm_edit.specs.declared.format.FormatFault.TheVariants.{Truncated, BadField, TrailingBytes}
 use Rattle.lsm_edit.specs.File.{IsFile, file, file_at}
-use Rattle.lsm_edit.specs.Edit.{IsEdit, IsSpelled, AreRemoved, AreAdded, after_number, after_file, added_bytes, removed_bytes, edit, kind_code, shape, kind_from, kind_at, removed_at, added_at, edit_at, read_edit}
+use Rattle.lsm_edit.specs.Edit.{IsEdit, IsSpelledEdit, AreRemoved, AreAdded, after_number, after_file, added_bytes, removed_bytes, edit, edit_kind_code, shape, edit_kind_from, edit_kind_at, removed_at, added_at, edit_at, read_edit}
 use Rattle.lsm_edit.proofs.Ascending.{IsFileFrom, IsNumberFrom, added_bounds, added_of_turn, removed_of_turn, turn_of_added, turn_of_removed}
 use Rattle.lsm_edit.proofs.FileLaws.{AreBounds, file_reads}
-use Rattle.lsm_edit.proofs.ItemsInTurn.{counted_reads, reads_as}
+use Rattle.lsm_edit.proofs.ItemsInTurn.{counted_reads}
 
 -- ---- the kind
 
 module _ {F : Type 0} (short bad : F) where
-  kind_from-is : (n : ℕ) (k : EditKind) → kind_from bad n ≡ Ok k → n ≡ kind_code k
-  kind_from-is n k e = elim (cases_Bool (eqb n 1)) [
-    | inl one ↦ eqb-true n 1 one ∙ ap kind_code (ok_is {F = F} Flush k (ap (λ b. cond b (Ok Flush) (cond (eqb n 2) (Ok Install) (cond (eqb n 3) (Ok Epoch) (Err bad)))) (sym one) ∙ e))
+  edit_kind_from-is : (n : ℕ) (k : EditKind) → edit_kind_from bad n ≡ Ok k → n ≡ edit_kind_code k
+  edit_kind_from-is n k e = elim (cases_Bool (eqb n 1)) [
+    | inl one ↦ eqb-true n 1 one ∙ ap edit_kind_code (ok_is {F = F} Flush k (ap (λ b. cond b (Ok Flush) (cond (eqb n 2) (Ok Install) (cond (eqb n 3) (Ok Epoch) (Err bad)))) (sym one) ∙ e))
     | inr no_one ↦ by_two (ap (λ b. cond b (Ok Flush) (cond (eqb n 2) (Ok Install) (cond (eqb n 3) (Ok Epoch) (Err bad)))) (sym no_one) ∙ e)
   ]
     where
-      by_three : cond (eqb n 3) (Ok Epoch) (Err bad) ≡ Ok k → n ≡ kind_code k
-      by_three h = let g = guard_held (eqb n 3) bad (Ok Epoch) k h in eqb-true n 3 g.0 ∙ ap kind_code (ok_is {F = F} Epoch k g.1)
+      by_three : cond (eqb n 3) (Ok Epoch) (Err bad) ≡ Ok k → n ≡ edit_kind_code k
+      by_three h = let g = guard_held (eqb n 3) bad (Ok Epoch) k h in eqb-true n 3 g.0 ∙ ap edit_kind_code (ok_is {F = F} Epoch k g.1)
 
-      by_two : cond (eqb n 2) (Ok Install) (cond (eqb n 3) (Ok Epoch) (Err bad)) ≡ Ok k → n ≡ kind_code k
+      by_two : cond (eqb n 2) (Ok Install) (cond (eqb n 3) (Ok Epoch) (Err bad)) ≡ Ok k → n ≡ edit_kind_code k
       by_two h = elim (cases_Bool (eqb n 2)) [
-        | inl two ↦ eqb-true n 2 two ∙ ap kind_code (ok_is {F = F} Install k (ap (λ b. cond b (Ok Install) (cond (eqb n 3) (Ok Epoch) (Err bad))) (sym two) ∙ h))
+        | inl two ↦ eqb-true n 2 two ∙ ap edit_kind_code (ok_is {F = F} Install k (ap (λ b. cond b (Ok Install) (cond (eqb n 3) (Ok Epoch) (Err bad))) (sym two) ∙ h))
         | inr no_two ↦ by_three (ap (λ b. cond b (Ok Install) (cond (eqb n 3) (Ok Epoch) (Err bad))) (sym no_two) ∙ h)
       ]
 
-  kind_from-again : (k : EditKind) → kind_from bad (kind_code k) ≡ Ok k
-  kind_from-again Flush = refl
-  kind_from-again Install = refl
-  kind_from-again Epoch = refl
+  edit_kind_from-again : (k : EditKind) → edit_kind_from bad (edit_kind_code k) ≡ Ok k
+  edit_kind_from-again Flush = refl
+  edit_kind_from-again Install = refl
+  edit_kind_from-again Epoch = refl
 
-  code_small : (k : EditKind) → kind_code k < 2 ^ 8
+  code_small : (k : EditKind) → edit_kind_code k < 2 ^ 8
   code_small Flush = omega arith
   code_small Install = omega arith
   code_small Epoch = omega arith
 
-  kind_reads : Reads (kind_at short bad) (λ k. to_be_bytes w8 (kind_code k)) (λ k. Unit {0})
+  kind_reads : Reads (edit_kind_at short bad) (λ k. to_be_bytes w8 (edit_kind_code k)) (λ k. Unit {0})
   kind_reads = record {
     takes = λ bytes k fits e.
-        let a = bind_ok (number_at short w8 bytes) (λ code. kind_from bad code.0 >>= λ kind. Ok (kind, code.1)) k e in
-        let b = bind_ok (kind_from bad a.0.0) (λ kind. Ok (kind, a.0.1)) k a.2 in
+        let a = bind_ok (number_at short w8 bytes) (λ code. edit_kind_from bad code.0 >>= λ kind. Ok (kind, code.1)) k e in
+        let b = bind_ok (edit_kind_from bad a.0.0) (λ kind. Ok (kind, a.0.1)) k a.2 in
         let same = ok_is {F = F} (b.0, a.0.1) k b.2 in
         let t = number_takes short w8 (2 ^ 8) wide8 bytes a.0.0 a.0.1 fits a.1 in
-        let text : Takes bytes (to_be_bytes w8 (kind_code b.0)) a.0.1 = subst (λ n. Takes bytes (to_be_bytes w8 n) a.0.1) (kind_from-is a.0.0 b.0 b.1) t.0 in
-        (subst (λ (p : EditKind × List ℕ). Takes bytes (to_be_bytes w8 (kind_code p.0)) p.1) same text, tt);
-    again = λ k rest is. rw (number_again short w8 (2 ^ 8) wide8 (kind_code k) rest (code_small k), kind_from-again k) refl;
+        let text : Takes bytes (to_be_bytes w8 (edit_kind_code b.0)) a.0.1 = subst (λ n. Takes bytes (to_be_bytes w8 n) a.0.1) (edit_kind_from-is a.0.0 b.0 b.1) t.0 in
+        (subst (λ (p : EditKind × List ℕ). Takes bytes (to_be_bytes w8 (edit_kind_code p.0)) p.1) same text, tt);
+    again = λ k rest is. rw (number_again short w8 (2 ^ 8) wide8 (edit_kind_code k) rest (code_small k), edit_kind_from-again k) refl;
   }
 
 -- ---- the files that are removed and added
@@ -100,7 +100,7 @@ added_files kind files is = is.2
 
 abbrev fields_spelled : Edit → List ℕ
 fields_spelled e =
-    to_be_bytes w64 e.number ++ (to_be_bytes w8 (kind_code e.kind) ++ (to_be_bytes w64 e.flushed ++ (to_be_bytes w64 e.epoch ++ (to_be_bytes w64 e.next_file
+    to_be_bytes w64 e.number ++ (to_be_bytes w8 (edit_kind_code e.kind) ++ (to_be_bytes w64 e.flushed ++ (to_be_bytes w64 e.epoch ++ (to_be_bytes w64 e.next_file
     ++ (removed_bytes e.removed ++ (added_bytes e.added ++ []))))))
 
 abbrev FieldRules : Edit → Type 0
@@ -129,7 +129,7 @@ module _ {F : Type 0} (short bad : F) where
       (λ e is. ((is.first, is.last), (tt, ((omega arith, (let h = is.flushed in omega arith)), ((is.some_epoch, is.epoch), ((is.some_file, is.next_file), (is.removed, (is.added, tt))))))))
       edit_goes
 
-pub edit_takes : (bytes : List ℕ) (e : Edit) → IsBytes bytes → read_edit bytes ≡ Ok e → IsSpelled bytes e
+pub edit_takes : (bytes : List ℕ) (e : Edit) → IsBytes bytes → read_edit bytes ≡ Ok e → IsSpelledEdit bytes e
 unfolding read_edit
 edit_takes bytes e fits h =
     let a = bind_ok (edit_at Truncated BadField bytes) (λ x. cond (eqb (length x.1) 0) (Ok x.0) (Err TrailingBytes)) e h in
@@ -137,14 +137,14 @@ edit_takes bytes e fits h =
     let t = (edit_reads Truncated BadField).takes bytes a.0 fits a.1 in
     let none : a.0.1 ≡ [] = nil_from_length a.0.1 (eqb-true _ _ g.0) in
     let same = ok_is {F = FormatFault} a.0.0 e g.1 in
-    subst (λ (x : Edit). IsSpelled bytes x) same (record { sound = t.1; spelled = t.0.parts ∙ ap (λ (rest : List ℕ). edit a.0.0 ++ rest) none ∙ append-nil (edit a.0.0) })
+    subst (λ (x : Edit). IsSpelledEdit bytes x) same (record { sound = t.1; spelled = t.0.parts ∙ ap (λ (rest : List ℕ). edit a.0.0 ++ rest) none ∙ append-nil (edit a.0.0) })
 
-pub edit_again : (bytes : List ℕ) (e : Edit) → IsSpelled bytes e → read_edit bytes ≡ Ok e
+pub edit_again : (bytes : List ℕ) (e : Edit) → IsSpelledEdit bytes e → read_edit bytes ≡ Ok e
 unfolding read_edit
 edit_again bytes e is =
     let a : edit_at Truncated BadField bytes ≡ Ok (e, []) = ap (edit_at Truncated BadField) (is.spelled ∙ sym (append-nil (edit e))) ∙ (edit_reads Truncated BadField).again e [] is.sound in
     rw a refl
 
-pub is_found : (bytes : List ℕ) (r : Result Edit (Refused FormatFault)) → IsBytes bytes → Gives (λ b. b) r (read_edit bytes) → IfOk r (λ e. IsSpelled bytes e)
+pub is_found : (bytes : List ℕ) (r : Result Edit (Refused FormatFault)) → IsBytes bytes → Gives (λ b. b) r (read_edit bytes) → IfOk r (λ e. IsSpelledEdit bytes e)
 is_found bytes (Ok e) fits given = edit_takes bytes e fits given
 is_found bytes (Err f) fits given = tt

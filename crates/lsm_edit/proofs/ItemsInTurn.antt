@@ -10,13 +10,6 @@ use Rattle.lsm_key.proofs.FieldLaws.{IsBytes, Takes, Takes-then, bind_ok, ok_is,
 use Rattle.lsm_key.proofs.ReaderLaws.{Reads, within_reads}
 use Rattle.lsm_edit.specs.Edit.{items_at}
 
--- the same reader, by an equivalent property of what it reads
-pub reads_as : {Z F : Type 0} {read : List ℕ → Result (Z × List ℕ) F} {spell : Z → List ℕ} {IsZ AsZ : Z → Type 0} → ((z : Z) → IsZ z → AsZ z) → ((z : Z) → AsZ z → IsZ z) → Reads read spell IsZ → Reads read spell AsZ
-reads_as to from reads = record {
-  takes = λ bytes z fits e. let t = reads.takes bytes z fits e in (t.0, to z.0 t.1);
-  again = λ z rest is. reads.again z rest (from z is);
-}
-
 -- each item is as the one before it requires
 abbrev pub AreInTurn : {S X : Type 0} → (S → X → Type 0) → (S → X → S) → S → List X → Type 0
 AreInTurn Is next s [] = Unit {0}

@@ -9,7 +9,7 @@ use Rattle.lsm_key.proofs.AscendingEntries.{IsIn-filter}
 use Rattle.lsm_edit.specs.declared.file.FileMeta.{FileMeta}
 use Rattle.lsm_edit.specs.declared.edit.Edit.{Edit}
 use Rattle.lsm_edit.specs.Version.{VersionValue, IsVersion, apply_fault, after_apply, files_after, has_number, files_without}
-use Rattle.lsm_edit.specs.Edits.{Apply, IsHistory, RemovedOnce, versions_from}
+use Rattle.lsm_edit.specs.Edits.{Apply, IsEditHistory, RemovedOnce, versions_from}
 use Rattle.lsm_edit.specs.Laws.{NoFileIsRemovedTwice, ANumberNamesOneFile}
 use Rattle.lsm_edit.proofs.ServedPlaces.{one_number}
 use Rattle.lsm_edit.proofs.VersionLaws.{passes, stays, fresh_added, applied_is}
@@ -108,7 +108,7 @@ from_the_first v es is ok w m f g i k same = elim (since v es ok w m g k) [
   | inr new ↦ let lt = is.below f i in absurd (omega (arith, lt, new, same))
 ]
 
-rest_of : (v : VersionValue) (e : Edit) (es : List Edit) → IsHistory v (e ∷ es) → IsHistory (after_apply v e) es
+rest_of : (v : VersionValue) (e : Edit) (es : List Edit) → IsEditHistory v (e ∷ es) → IsEditHistory (after_apply v e) es
 rest_of v e es h = record {
   start = applied_is v e h.start (h.each e (inl refl)) h.apply.0;
   each = λ x m. h.each x (inr m);

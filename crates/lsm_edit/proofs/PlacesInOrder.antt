@@ -1,8 +1,7 @@
 -- The files of a version with their tables, put in the order of a search.
-use Rattle.std.proofs.Common.{◌≡◌, ℕ, suc, ◌<◌, Bool, true, false, cond, List, [], ◌∷◌, ◌++◌, length, length-append, append_assoc, map, drop, get_or, reverse, refl, sym, ap, subst, ◌∙◌, arith, inl, inr, ◌⊎◌}
+use Rattle.std.proofs.Common.{◌≡◌, suc, Bool, true, false, cond, List, [], ◌∷◌, ◌++◌, length, map, refl, sym, ap, subst, ◌∙◌, arith, inl, inr, ◌⊎◌}
 use Rattle.std.specs.List.{list_any}
 use Rattle.std.proofs.lemmas.Bool.{or_parts}
-use Rattle.std.proofs.lemmas.List.{reverse-append}
 use Rattle.lsm_key.specs.Sets.{IsIn, SameMembers}
 use Rattle.lsm_key.proofs.Membership.{IsIn-map, IsIn-mapped}
 use Rattle.lsm_key.specs.Order.{key_le}
@@ -135,56 +134,28 @@ rebased v ts is rec =
       recorded = λ p m. placed_recorded v.files ts rec p ((in_order-members ps p).0 m);
     }
 
--- ---- from the last file to the first
-
--- one more file with its table
-pub one_more_place : (fs : List FileMeta) (ts us : List Opened) (t : Opened) (f : FileMeta) → AreAsRecorded fs (ts ++ t ∷ us) → f ≡ get_or fs (length ts) f
-    → drop (length ts) (placed_of fs (ts ++ t ∷ us)) ≡ record { meta = f; table = t } ∷ drop (suc (length ts)) (placed_of fs (ts ++ t ∷ us))
-one_more_place [] [] us t f rec is = absurd rec
-one_more_place [] (x ∷ ts) us t f rec is = absurd rec
-one_more_place (g ∷ fs) [] us t f rec is = ap (λ (h : FileMeta). record { meta = h; table = t } ∷ placed_of fs us) (sym is)
-one_more_place (g ∷ fs) (x ∷ ts) us t f rec is = one_more_place fs ts us t f rec.1 is
-
 pub as_many : (fs : List FileMeta) (ts : List Opened) → AreAsRecorded fs ts → length fs ≡ length ts
 as_many [] [] rec = refl
 as_many [] (t ∷ ts) rec = absurd rec
 as_many (f ∷ fs) [] rec = absurd rec
 as_many (f ∷ fs) (t ∷ ts) rec = ap suc (as_many fs ts rec.1)
 
-pub none_left : (fs : List FileMeta) (ts : List Opened) → drop (length ts) (placed_of fs ts) ≡ []
-none_left [] [] = refl
-none_left [] (t ∷ ts) = refl
-none_left (f ∷ fs) [] = refl
-none_left (f ∷ fs) (t ∷ ts) = none_left fs ts
-
--- a place less: the last table is taken
-module _ (fs : List FileMeta) (all ts rest us : List Opened) (t : Opened) (rec : AreAsRecorded fs all) (whole : all ≡ ts ++ us) (popped : ts ≡ rest ++ t ∷ []) where
-  pub split_there : all ≡ rest ++ t ∷ us
-  split_there = whole ∙ ap (λ (xs : List Opened). xs ++ us) popped ∙ append_assoc rest (t ∷ []) us
-
-  pub is_shorter : length rest < length fs
-  is_shorter = omega (arith, as_many fs all rec, ap length split_there, length-append rest (t ∷ us))
-
-  pub place_more : (n : ℕ) (f : FileMeta) (old new : List Placed) → n ≡ length rest → f ≡ get_or fs n f → old ≡ reverse (drop (length ts) (placed_of fs all)) → new ≡ old ++ record { meta = f; table = t } ∷ []
-      → new ≡ reverse (drop (length rest) (placed_of fs all))
-  place_more n f old new len is before put =
-      let p : Placed = record { meta = f; table = t } in
-      let there : f ≡ get_or fs (length rest) f = subst (λ (i : ℕ). f ≡ get_or fs i f) len is in
-      let at : drop (length rest) (placed_of fs (rest ++ t ∷ us)) ≡ p ∷ drop (suc (length rest)) (placed_of fs (rest ++ t ∷ us)) = one_more_place fs rest us t f (subst (AreAsRecorded fs) split_there rec) there in
-      let longer : length ts ≡ suc (length rest) = omega (arith, ap length popped, length-append rest (t ∷ [])) in
-      let after : drop (length ts) (placed_of fs all) ≡ drop (suc (length rest)) (placed_of fs (rest ++ t ∷ us)) =
-      ap (λ (i : ℕ). drop i (placed_of fs all)) longer ∙ ap (λ (xs : List Opened). drop (suc (length rest)) (placed_of fs xs)) split_there in
-      put
-      ∙ ap (λ (ps : List Placed). ps ++ p ∷ []) (before ∙ ap reverse after)
-      ∙ sym (reverse-append (p ∷ []) (drop (suc (length rest)) (placed_of fs (rest ++ t ∷ us))))
-      ∙ ap reverse (sym at)
-      ∙ ap (λ (xs : List Opened). reverse (drop (length rest) (placed_of fs xs))) (sym split_there)
-
 -- ---- places put one after another
 
 pub put_all-last : (ps : List Placed) (p : Placed) (qs : List Placed) → put_all (ps ++ p ∷ []) qs ≡ put_all ps (put_in_order p qs)
 put_all-last [] p qs = refl
 put_all-last (x ∷ ps) p qs = ap (put_in_order x) (put_all-last ps p qs)
+
+placed_last : (fs : List FileMeta) (ts : List Opened) (f : FileMeta) (t : Opened) → length fs ≡ length ts → placed_of (fs ++ f ∷ []) (ts ++ t ∷ []) ≡ placed_of fs ts ++ record { meta = f; table = t } ∷ []
+placed_last [] [] f t same = refl
+placed_last [] (u ∷ ts) f t same = absurd (omega (arith, same))
+placed_last (g ∷ fs) [] f t same = absurd (omega (arith, same))
+placed_last (g ∷ fs) (u ∷ ts) f t same = ap (λ (ps : List Placed). record { meta = g; table = u } ∷ ps) (placed_last fs ts f t (omega (arith, same)))
+
+-- the last file and its table are put first
+pub put_last : (fs : List FileMeta) (ts : List Opened) (f : FileMeta) (t : Opened) (qs : List Placed) → length fs ≡ length ts
+    → put_all (placed_of (fs ++ f ∷ []) (ts ++ t ∷ [])) qs ≡ put_all (placed_of fs ts) (put_in_order (record { meta = f; table = t }) qs)
+put_last fs ts f t qs same = ap (λ (ps : List Placed). put_all ps qs) (placed_last fs ts f t same) ∙ put_all-last (placed_of fs ts) (record { meta = f; table = t }) qs
 
 put_length-if : (b : Bool) (p q : Placed) (qs rs : List Placed) → length rs ≡ suc (length qs) → length (cond b (p ∷ q ∷ qs) (q ∷ rs)) ≡ suc (suc (length qs))
 put_length-if true p q qs rs h = refl

@@ -14,10 +14,10 @@ use Rattle.lsm_edit.specs.declared.format.FormatFault.{FormatFault}
 use Rattle.lsm_edit.specs.declared.format.FormatFault.TheVariants.{Truncated, BadField, TrailingBytes}
 use Rattle.lsm_edit.specs.File.{IsFile, file, file_at}
 
-abbrev pub kind_code : EditKind → ℕ
-kind_code Flush = 1
-kind_code Install = 2
-kind_code Epoch = 3
+abbrev pub edit_kind_code : EditKind → ℕ
+edit_kind_code Flush = 1
+edit_kind_code Install = 2
+edit_kind_code Epoch = 3
 
 -- a flush adds one file to level 0, an install replaces files by ones of a deeper level, an opening does neither
 abbrev pub shape : EditKind → Shape
@@ -59,23 +59,23 @@ added_bytes files = to_be_bytes w32 (length files) ++ flat_map file files
 
 -- all but the files that are added
 abbrev pub head : Edit → List ℕ
-head e = to_be_bytes w64 e.number ++ to_be_bytes w8 (kind_code e.kind) ++ to_be_bytes w64 e.flushed ++ to_be_bytes w64 e.epoch ++ to_be_bytes w64 e.next_file ++ removed_bytes e.removed
+head e = to_be_bytes w64 e.number ++ to_be_bytes w8 (edit_kind_code e.kind) ++ to_be_bytes w64 e.flushed ++ to_be_bytes w64 e.epoch ++ to_be_bytes w64 e.next_file ++ removed_bytes e.removed
 
 abbrev pub edit : Edit → List ℕ
 edit e = head e ++ added_bytes e.added
 
 -- the bytes are those of this edit
-pub record IsSpelled (bytes : List ℕ) (e : Edit) : Type 0 where
+pub record IsSpelledEdit (bytes : List ℕ) (e : Edit) : Type 0 where
   pub sound : IsEdit e
   pub spelled : bytes ≡ edit e
 
-abbrev pub kind_from : {F : Type 0} → F → ℕ → Result EditKind F
-kind_from bad n = if n == 1 then Ok Flush else if n == 2 then Ok Install else if n == 3 then Ok Epoch else Err bad
+abbrev pub edit_kind_from : {F : Type 0} → F → ℕ → Result EditKind F
+edit_kind_from bad n = if n == 1 then Ok Flush else if n == 2 then Ok Install else if n == 3 then Ok Epoch else Err bad
 
-abbrev pub kind_at : {F : Type 0} → F → F → List ℕ → Result (EditKind × List ℕ) F
-kind_at short bad bytes = do
+abbrev pub edit_kind_at : {F : Type 0} → F → F → List ℕ → Result (EditKind × List ℕ) F
+edit_kind_at short bad bytes = do
   code ← number_at short w8 bytes
-  kind ← kind_from bad code.0
+  kind ← edit_kind_from bad code.0
   Ok (kind, code.1)
 
 -- n items, each read as those before it require
@@ -116,7 +116,7 @@ added_at short bad kind bytes = do
 unfoldable pub edit_at : {F : Type 0} → F → F → List ℕ → Result (Edit × List ℕ) F
 edit_at short bad bytes = do
   number ← ranged_number_at short bad w64 1 MAX_NUMBER bytes
-  kind ← kind_at short bad number.1
+  kind ← edit_kind_at short bad number.1
   flushed ← ranged_number_at short bad w64 0 (2 ^ 56 - 1) kind.1
   epoch ← ranged_number_at short bad w64 1 MAX_NUMBER flushed.1
   next_file ← ranged_number_at short bad w64 1 MAX_NUMBER epoch.1

@@ -26,7 +26,7 @@ RemovedOnce [] = Unit {0}
 RemovedOnce (edit ∷ edits) = ((n : ℕ) → IsIn n edit.removed → (later : Edit) → IsIn later edits → IsIn n later.removed → ⊥) × RemovedOnce edits
 
 -- edits within the grammar that apply in turn to a version
-pub record IsHistory (v : VersionValue) (edits : List Edit) : Type 0 where
+pub record IsEditHistory (v : VersionValue) (edits : List Edit) : Type 0 where
   pub start : IsVersion v
   pub each : (edit : Edit) → IsIn edit edits → IsEdit edit
   pub apply : Apply v edits

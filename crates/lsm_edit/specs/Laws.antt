@@ -6,7 +6,7 @@ use Rattle.lsm_edit.specs.declared.edit.Edit.{Edit}
 use Rattle.lsm_edit.specs.declared.edit.EditKind.TheVariants.{Flush, Install, Epoch}
 use Rattle.lsm_edit.specs.declared.version.ApplyError.TheVariants.{NoSuchFile, FileExists}
 use Rattle.lsm_edit.specs.Version.{VersionValue, IsVersion, first_version, apply_fault}
-use Rattle.lsm_edit.specs.Edits.{Apply, IsHistory, RemovedOnce, after_edits, versions_from}
+use Rattle.lsm_edit.specs.Edits.{Apply, IsEditHistory, RemovedOnce, after_edits, versions_from}
 
 -- from any version on, as from the first
 abbrev pub NoFileIsRemovedTwice : Type 0
@@ -14,7 +14,7 @@ NoFileIsRemovedTwice = (v : VersionValue) (edits : List Edit) → IsVersion v �
 
 -- files of one number, in two versions or in one, are the same
 abbrev pub ANumberNamesOneFile : Type 0
-ANumberNamesOneFile = (v : VersionValue) (edits : List Edit) → IsHistory v edits
+ANumberNamesOneFile = (v : VersionValue) (edits : List Edit) → IsEditHistory v edits
     → (one other : VersionValue) → IsIn one (versions_from v edits) → IsIn other (versions_from v edits)
     → (f g : FileMeta) → IsIn f one.files → IsIn g other.files → f.number ≡ g.number → f ≡ g
 

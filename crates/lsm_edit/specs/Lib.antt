@@ -5,4 +5,5 @@ pub mod Base
 pub mod Edits
 pub mod Laws
 pub mod Served
+pub mod Prepared
 pub mod Next

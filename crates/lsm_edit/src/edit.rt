@@ -7,7 +7,7 @@ ghost use Rattle.std.specs.Prelude.{◌≡◌, ◌≤◌, ◌<◌, ◌^◌, ◌+
 ghost use Rattle.lsm_edit.specs.File.{IsFile, size};
 ghost use Rattle.lsm_key.specs.Reading.{Gives};
 ghost use Rattle.lsm_edit.specs.declared.edit.Edit.{Edit};
-ghost use Rattle.lsm_edit.specs.Edit.{IsEdit, IsSpelled, edit, head, read_edit, edit_at, kind_at, kind_code, shape, removed_bytes, added_bytes, removed_at, added_at, numbers_at, files_at};
+ghost use Rattle.lsm_edit.specs.Edit.{IsEdit, IsSpelledEdit, edit, head, read_edit, edit_at, edit_kind_at, edit_kind_code, shape, removed_bytes, added_bytes, removed_at, added_at, numbers_at, files_at};
 
 use crate::file::{FileBounds, files_bytes, read_file, same_files, write_file};
 use crate::{FileMeta, FormatError, FormatFault};
@@ -94,7 +94,7 @@ pub(crate) struct Shape {
 impl EditKind {
     /// Its code in an edit.
     fn code(self) -> u8
-        ensures { result ≡ kind_code self }
+        ensures { result ≡ edit_kind_code self }
     {
         match self {
             EditKind::Flush => 1,
@@ -142,7 +142,7 @@ pub fn same_numbers(numbers: &[u64], others: &[u64]) -> bool
 }
 
 fn read_kind<F: Copy>(rest: &mut Bytes, short: F, bad: F) -> Result<EditKind, Refused<F>>
-    ensures { Gives (λ k. (k, rest.new)) result (kind_at short bad rest.old) }
+    ensures { Gives (λ k. (k, rest.new)) result (edit_kind_at short bad rest.old) }
 {
     match read_u8(rest, short)? {
         1 => Ok(EditKind::Flush),
@@ -152,9 +152,9 @@ fn read_kind<F: Copy>(rest: &mut Bytes, short: F, bad: F) -> Result<EditKind, Re
     }
 }
 
-/// `count` ascending numbers from the front, the first at least `least` and none above `most`, which is below
-/// `u64::MAX`.
-pub fn read_numbers<F: Copy>(
+// `count` ascending numbers from the front, the first at least `least` and none above `most`, which is below
+// `u64::MAX`.
+fn read_numbers<F: Copy>(
     alloc: Global,
     count: u32,
     least: u64,
@@ -272,9 +272,9 @@ pub fn read_edit<F: Copy>(
 /// The edit that the bytes encode, all of the bytes, or the first fault.
 pub fn decode_edit(alloc: Global, bytes: Bytes) -> Result<Edit, FormatError>
     // What is decoded encodes to these bytes.
-    ensures found { IfOk result (λ e. IsSpelled bytes e) }
+    ensures found { IfOk result (λ e. IsSpelledEdit bytes e) }
     // What encodes to these bytes is decoded, unless memory runs out.
-    ensures only { (e : Edit) → IsSpelled bytes e → Gives (λ x. x) result (Ok e) }
+    ensures only { (e : Edit) → IsSpelledEdit bytes e → Gives (λ x. x) result (Ok e) }
     // The fault is the first one.
     ensures exact { Gives (λ x. x) result (read_edit bytes) }
 {
@@ -330,7 +330,7 @@ fn write_numbers(out: &mut BytesMut, numbers: &[u64]) -> Result<(), AllocError>
 }
 
 /// Appends a count of files, and the record of each.
-pub fn write_files(out: &mut BytesMut, files: &[FileMeta]) -> Result<(), AllocError>
+pub(crate) fn write_files(out: &mut BytesMut, files: &[FileMeta]) -> Result<(), AllocError>
     requires sound { All IsFile files.now }
     requires few { length files.now < 2 ^ 32 }
     ensures { OnOk result (out.new.items ≡ out.old.items ++ added_bytes files.now) }

@@ -109,8 +109,8 @@ pub fn write_file(out: &mut BytesMut, meta: &FileMeta) -> Result<(), AllocError>
     Ok(())
 }
 
-/// How many bytes a record has.
-pub fn file_bytes(meta: &FileMeta) -> usize
+// How many bytes a record has.
+fn file_bytes(meta: &FileMeta) -> usize
     requires { IsFile meta.now }
     ensures { result ≡ length (file meta.now) }
 {

@@ -18,11 +18,10 @@ mod version;
 
 pub use base::{base_bytes, decode_base, encode_base, read_base, write_base};
 pub use edit::{
-    Edit, EditKind, decode_edit, edit_bytes, encode_edit, read_edit, read_numbers, same_numbers,
-    write_edit, write_files,
+    Edit, EditKind, decode_edit, edit_bytes, encode_edit, read_edit, same_numbers, write_edit,
 };
-pub use file::{FileBounds, FileMeta, file_bytes, files_bytes, read_file, same_files, write_file};
+pub use file::{FileBounds, FileMeta, files_bytes, read_file, same_files, write_file};
 pub use format::{FormatError, FormatFault};
 pub use laws::{a_number_names_one_file, no_file_is_removed_twice, worked_edits};
-pub use served::{Listing, Placed, Served};
+pub use served::{Listing, Placed, Prepared, Served};
 pub use version::{ApplyError, Version, is_among, removed_by};

@@ -1,8 +1,9 @@
 //! A version with its open tables, and reads of it.
 
+mod prepared;
 mod range;
 
-ghost use Rattle.std.specs.Prelude.{◌≡◌, ◌+◌, ◌<◌, ◌≤◌, ◌++◌, ◌∷◌, length, take, drop, slice_index_or, vec_capacity, true, false, not, filter, OnOk, OnErr, IfOk, IfErr, IfSome, IfNone, None};
+ghost use Rattle.std.specs.Prelude.{◌≡◌, ◌+◌, ◌<◌, ◌≤◌, ◌++◌, ◌∷◌, length, take, drop, vec_capacity, true, false, not, filter, OnOk, OnErr, IfOk, IfErr, IfSome, IfNone, None};
 ghost use Rattle.std.specs.List.Sorted.{IsPartitionPoint};
 ghost use Rattle.std.specs.Option.{option_map, option_copied, option_to_list};
 ghost use Rattle.lsm_key.specs.Faults.{Refuses};
@@ -14,10 +15,11 @@ ghost use Rattle.lsm_edit.specs.Edit.{IsEdit};
 ghost use Rattle.lsm_edit.specs.Version.{apply_fault};
 ghost use Rattle.lsm_edit.specs.Served.{AllRecorded, AreAsRecorded, AreInSearchOrder, UpperShowNone, comes_left, IsAsRecorded, is_before, is_covered, placed_of, put_in_order, put_all, in_order, tables_of};
 
-use crate::version::{is_among, removed_by};
+use crate::version::copies_of;
 use crate::{ApplyError, Edit, FileMeta, Version};
 use lsm_key::{EntryRef, MAX_LEVEL, Seq, VersionNumber};
 use lsm_table::Table;
+pub use prepared::Prepared;
 use std::alloc::{AllocError, Global};
 use std::marker::Model;
 
@@ -112,26 +114,13 @@ impl Served {
             Some(fault) => return Err(fault),
             None => {}
         }
-        self.advance_valid(edit, tables)?;
-        Ok(())
-    }
-
-    /// The same by an edit that is known to apply. If memory runs out, nothing changes.
-    pub fn advance_valid(&mut self, edit: &Edit, tables: Vec<Table>) -> Result<(), AllocError>
-        requires sound { IsEdit edit.now }
-        requires recorded { AreAsRecorded edit.now.added tables.items }
-        requires applies { apply_fault self.old.version edit.now ≡ None }
-        ensures ok { OnOk result (self.new ≡ after_advance self.old edit.now tables.items) }
-        ensures err { OnErr result (self.new ≡ self.old) }
-    {
-        let added = placed_for(self.current.alloc(), edit.added.as_slice(), tables)?;
-        self.placed.reserve(added.len())?;
-        self.current.apply_valid(edit)?;
-        let removed = removed_by(edit);
-        self.placed
-            .retain(|placed| !is_among(removed, placed.meta.number));
-        put_each(&mut self.placed, added);
-        Ok(())
+        match self.prepare(edit, tables) {
+            Ok(prepared) => {
+                self.take_up(prepared);
+                Ok(())
+            }
+            Err(_) => Err(ApplyError::OutOfMemory),
+        }
     }
 
     /// Becomes another version, with a table for each of its files, by number. A refusal changes nothing.
@@ -188,25 +177,6 @@ impl Served {
     }
 }
 
-// The files with their tables.
-fn placed_for(
-    alloc: Global,
-    files: &[FileMeta],
-    tables: Vec<Table>,
-) -> Result<Vec<Placed>, AllocError>
-    requires { AreAsRecorded files.now tables.items }
-    ensures { IfOk result (λ placed. placed.items ≡ placed_of files.now tables.items) }
-{
-    let mut tables = tables;
-    let mut placed = Vec::with_capacity(alloc, files.len())?;
-    while let Some(table) = tables.pop() {
-        let meta = copy_at(files, tables.len())?;
-        placed.push(Placed { meta, table })?;
-    }
-    placed.reverse();
-    Ok(placed)
-}
-
 // The files with their tables, in search order.
 fn places_of(
     alloc: Global,
@@ -217,28 +187,25 @@ fn places_of(
     requires ordered { AreInSearchOrder (in_order (placed_of files.now tables.items)) }
     ensures { IfOk result (λ places. places.items ≡ in_order (placed_of files.now tables.items)) }
 {
-    let placed = placed_for(alloc, files, tables)?;
-    let mut places = Vec::with_capacity(alloc, placed.len())?;
-    put_each(&mut places, placed);
+    let copies = copies_of(alloc, files)?;
+    let mut places = Vec::with_capacity(alloc, tables.len())?;
+    put_each(&mut places, copies, tables);
     Ok(places)
 }
 
-fn copy_at(files: &[FileMeta], index: usize) -> Result<FileMeta, AllocError>
-    requires { index < length files.now }
-    ensures { IfOk result (λ file. file ≡ slice_index_or files.now index file) }
+// Inserts files with their tables among others, which have room for them, in search order.
+fn put_each(places: &mut Vec<Placed>, files: Vec<FileMeta>, tables: Vec<Table>)
+    requires room { length places.old.items + length tables.items ≤ vec_capacity places.old }
+    requires recorded { AreAsRecorded files.items tables.items }
+    requires ordered { AreInSearchOrder (put_all (placed_of files.items tables.items) places.old.items) }
+    ensures { places.new.items ≡ put_all (placed_of files.items tables.items) places.old.items }
 {
-    files[index].clone()
-}
-
-// Inserts files among others, which have room for them, in search order.
-fn put_each(places: &mut Vec<Placed>, placed: Vec<Placed>)
-    requires room { length places.old.items + length placed.items ≤ vec_capacity places.old }
-    requires ordered { AreInSearchOrder (put_all placed.items places.old.items) }
-    ensures { places.new.items ≡ put_all placed.items places.old.items }
-{
-    let mut left = placed;
-    while let Some(placed) = left.pop() {
-        put_in(places, placed);
+    let (mut files, mut tables) = (files, tables);
+    while let Some(table) = tables.pop() {
+        let Some(meta) = files.pop() else {
+            unreachable!()
+        };
+        put_in(places, Placed { meta, table });
     }
 }
 

@@ -375,7 +375,8 @@ fn is_miscounted(kind: EditKind, old: u64, new: u64) -> bool
     }
 }
 
-fn copies_of(alloc: Global, files: &[FileMeta]) -> Result<Vec<FileMeta>, AllocError>
+// Copies of the files. Their keys share the bytes.
+pub(crate) fn copies_of(alloc: Global, files: &[FileMeta]) -> Result<Vec<FileMeta>, AllocError>
     ensures { IfOk result (λ copies. copies.items ≡ files.now) }
 {
     let mut copies = Vec::with_capacity(alloc, files.len())?;

@@ -1,6 +1,6 @@
 -- What a test says of the members of a list, and what it keeps of them.
-use Rattle.std.proofs.Common.{◌≡◌, ◌≤◌, Bool, true, false, cond, List, [], ◌∷◌, length, inl, inr, refl, sym, ap, ◌∙◌, arith}
-use Rattle.std.specs.List.{filter, list_any}
+use Rattle.std.proofs.Common.{◌≡◌, ◌≤◌, ℕ, zero, suc, Bool, true, false, cond, List, [], ◌∷◌, ◌++◌, Some, length, inl, inr, refl, sym, ap, ◌∙◌, arith}
+use Rattle.std.specs.List.{filter, list_any, slice_get}
 use Rattle.std.proofs.lemmas.Bool.{false≢true, or_cases, or_from, or_left, or_parts, or_right}
 use Rattle.lsm_key.specs.Sets.{IsIn}
 
@@ -38,3 +38,9 @@ module _ {X : Type 0} (p : X → Bool) where
 pub some_in : {X : Type 0} (x : X) (xs : List X) → IsIn x xs → 1 ≤ length xs
 some_in x [] m = absurd m
 some_in x (y ∷ xs) m = omega arith
+
+-- what stands in a list stands at the same place of a longer one
+pub slice_get-front : {X : Type 0} (xs ys : List X) (n : ℕ) (x : X) → slice_get xs n ≡ Some x → slice_get (xs ++ ys) n ≡ Some x
+slice_get-front [] ys n x h = absurd cc
+slice_get-front (z ∷ xs) ys zero x h = h
+slice_get-front (z ∷ xs) ys (suc n) x h = slice_get-front xs ys n x h

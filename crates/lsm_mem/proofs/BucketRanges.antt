@@ -12,6 +12,7 @@ use Rattle.std.proofs.lemmas.List.Concat.{flat_map-append}
 use Rattle.std.proofs.lemmas.List.Elements.{filter-append}
 use Rattle.lsm_key.specs.Sets.{IsIn}
 use Rattle.lsm_key.specs.Order.{key_between, key_le}
+use Rattle.lsm_key.proofs.Lists.{slice_get-front}
 use Rattle.lsm_mem.specs.declared.bucket.Bucket.{Bucket}
 use Rattle.lsm_mem.specs.Prefix.{prefix_of}
 use Rattle.lsm_mem.specs.Chains.{Chain, chains_between, entries_in, keys_in}
@@ -139,11 +140,6 @@ module _ (front : List ℕ) (a : ℕ) (lo : List ℕ) (from : HasPrefix front a 
 
 -- ---- the key at a place, bucket after bucket
 
-at_front : {X : Type 0} (xs ys : List X) (n : ℕ) (x : X) → slice_get xs n ≡ Some x → slice_get (xs ++ ys) n ≡ Some x
-at_front [] ys n x h = absurd cc
-at_front (z ∷ xs) ys zero x h = h
-at_front (z ∷ xs) ys (suc n) x h = at_front xs ys n x h
-
 past_front : {X : Type 0} (xs ys : List X) (n m : ℕ) → m + length xs ≡ n → slice_get (xs ++ ys) n ≡ slice_get ys m
 past_front [] ys n m h = ap (slice_get ys) (let e : n ≡ m = omega (arith, h) in e)
 past_front (z ∷ xs) ys zero m h = absurd (omega (arith, h))
@@ -151,7 +147,7 @@ past_front (z ∷ xs) ys (suc n) m h = past_front xs ys n m (omega (arith, h))
 
 -- it is in this bucket
 pub key_here : (lo : List ℕ) (p : Pair) (ps : List Pair) (n : ℕ) (key : List ℕ) → slice_get (keys_from lo (chains_in p.1)) n ≡ Some key → slice_get (keys_from lo (chains_of_buckets (p ∷ ps))) n ≡ Some key
-key_here lo p ps n key h = ap (λ (keys : List (List ℕ)). slice_get keys n) (keys_append lo (chains_in p.1) (chains_of_buckets ps)) ∙ at_front (keys_from lo (chains_in p.1)) (keys_from lo (chains_of_buckets ps)) n key h
+key_here lo p ps n key h = ap (λ (keys : List (List ℕ)). slice_get keys n) (keys_append lo (chains_in p.1) (chains_of_buckets ps)) ∙ slice_get-front (keys_from lo (chains_in p.1)) (keys_from lo (chains_of_buckets ps)) n key h
 
 -- or in a later one
 pub key_later : (lo : List ℕ) (p : Pair) (ps : List Pair) (n left : ℕ) → left + length (keys_from lo (chains_in p.1)) ≡ n → slice_get (keys_from lo (chains_of_buckets (p ∷ ps))) n ≡ slice_get (keys_from lo (chains_of_buckets ps)) left

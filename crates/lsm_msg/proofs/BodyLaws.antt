@@ -6,10 +6,9 @@ use Rattle.std.proofs.lemmas.List.{append-nil}
 use Rattle.lsm_key.specs.declared.limits.TheConstants.{MAX_NUMBER, MAX_TABLE_BYTES}
 use Rattle.lsm_key.specs.Reading.{◌>>=◌, ranged_number_at, piece_at}
 use Rattle.lsm_key.proofs.FieldLaws.{IsBytes, Takes, Takes-then, bind_ok, ok_is, piece_takes, piece_again, wide32, wide64}
-use Rattle.lsm_key.proofs.ReaderLaws.{Reads, field, done, whole, within_reads}
+use Rattle.lsm_key.proofs.ReaderLaws.{Reads, field, done, whole, within_reads, reads_as}
 use Rattle.lsm_edit.proofs.BaseLaws.{base_reads}
 use Rattle.lsm_edit.proofs.EditLaws.{edit_reads}
-use Rattle.lsm_edit.proofs.ItemsInTurn.{reads_as}
 use Rattle.lsm_msg.specs.declared.fault.MsgFault.{MsgFault}
 use Rattle.lsm_msg.specs.declared.fault.MsgFault.TheVariants.{Truncated, BadField}
 use Rattle.lsm_msg.specs.declared.job.JobResult.{JobResult}
@@ -18,7 +17,7 @@ use Rattle.lsm_msg.specs.declared.kind.MessageKind.TheVariants as kind
 use Rattle.lsm_msg.specs.declared.message.Body.{Body}
 use Rattle.lsm_msg.specs.declared.message.Body.TheVariants as body
 use Rattle.lsm_msg.specs.Messages.{AreTableBytes, IsBody, body_text, job_id, kind_of, sized, tables}
-use Rattle.lsm_msg.specs.MessageReading.{as_body, body_at, file_number_at, result_at, sized_at, table_at, tables_at}
+use Rattle.lsm_msg.specs.MessageReading.{as_body, body_at, file_number_at, result_at, sized_at, table_body_at, result_tables_at}
 use Rattle.lsm_msg.specs.Rules.{IsJobId}
 use Rattle.lsm_msg.proofs.EachInTurn.{counted_each}
 use Rattle.lsm_msg.proofs.JobLaws.{job_reads, job_id_reads}
@@ -45,8 +44,8 @@ sized_reads = record {
 abbrev AreCounted : List (List ℕ) → Type 0
 AreCounted ts = All AreTableBytes ts × (length ts < 2 ^ 32)
 
-tables_reads : Reads tables_at tables AreCounted
-unfolding tables_at
+tables_reads : Reads result_tables_at tables AreCounted
+unfolding result_tables_at
 tables_reads = reads_as (λ ts is. (is.2, (let h = is.1 in omega (arith, h)))) (λ ts is. (omega arith, (let h = is.1 in omega (arith, h)), is.0))
     (counted_each AreTableBytes sized_at sized sized_reads 0 4294967295 (omega arith))
 
@@ -102,8 +101,8 @@ number_reads low = within_reads Truncated BadField w64 (2 ^ 64) wide64 low MAX_N
 abbrev IsNumbered : ℕ × List ℕ → Type 0
 IsNumbered p = ((1 ≤ p.0) × (p.0 ≤ MAX_NUMBER)) × AreTableBytes p.1
 
-table_takes : (bytes : List ℕ) (z : Body × List ℕ) → IsBytes bytes → table_at bytes ≡ Ok z → Takes bytes (body_text z.0) z.1 × IsOfKind kind.Table z.0
-unfolding table_at
+table_takes : (bytes : List ℕ) (z : Body × List ℕ) → IsBytes bytes → table_body_at bytes ≡ Ok z → Takes bytes (body_text z.0) z.1 × IsOfKind kind.Table z.0
+unfolding table_body_at
 table_takes bytes z fits e =
     let a = bind_ok (file_number_at bytes) (λ number. sized_at number.1 >>= λ table. Ok (body.Table number.0 table.0, table.1)) z e in
     let b = bind_ok (sized_at a.0.1) (λ table. Ok (body.Table a.0.0 table.0, table.1)) z a.2 in
@@ -112,8 +111,8 @@ table_takes bytes z fits e =
     subst (λ (y : Body × List ℕ). Takes bytes (body_text y.0) y.1 × IsOfKind kind.Table y.0) (ok_is {F = MsgFault} (body.Table a.0.0 b.0.0, b.0.1) z b.2)
     (Takes-then bytes (to_be_bytes w64 a.0.0) a.0.1 (sized b.0.0) b.0.1 t.0 u.0, ((t.1, u.1), tt, refl))
 
-table_again : (n : ℕ) (b rest : List ℕ) → (1 ≤ n) × (n ≤ MAX_NUMBER) → AreTableBytes b → table_at ((to_be_bytes w64 n ++ sized b) ++ rest) ≡ Ok (body.Table n b, rest)
-unfolding table_at
+table_again : (n : ℕ) (b rest : List ℕ) → (1 ≤ n) × (n ≤ MAX_NUMBER) → AreTableBytes b → table_body_at ((to_be_bytes w64 n ++ sized b) ++ rest) ≡ Ok (body.Table n b, rest)
+unfolding table_body_at
 table_again n b rest number bytes =
     ap (λ (z : List ℕ). file_number_at z >>= λ number. sized_at number.1 >>= λ table. Ok (body.Table number.0 table.0, table.1)) (append_assoc (to_be_bytes w64 n) (sized b) rest)
     ∙ ap (λ (r : Result (ℕ × List ℕ) MsgFault). r >>= λ number. sized_at number.1 >>= λ table. Ok (body.Table number.0 table.0, table.1)) ((number_reads 1).again n (sized b ++ rest) number)

@@ -4,8 +4,8 @@ use Rattle.std.specs.Int.{w32, to_be_bytes}
 use Rattle.std.specs.List.{All, flat_map}
 use Rattle.lsm_key.specs.Reading.{◌>>=◌, ranged_number_at}
 use Rattle.lsm_key.proofs.FieldLaws.{wide32}
-use Rattle.lsm_key.proofs.ReaderLaws.{Reads}
-use Rattle.lsm_edit.proofs.ItemsInTurn.{AreInTurn, counted_reads, reads_as}
+use Rattle.lsm_key.proofs.ReaderLaws.{Reads, reads_as}
+use Rattle.lsm_edit.proofs.ItemsInTurn.{AreInTurn, counted_reads}
 use Rattle.lsm_msg.specs.declared.fault.MsgFault.{MsgFault}
 use Rattle.lsm_msg.specs.declared.fault.MsgFault.TheVariants.{Truncated, BadField}
 use Rattle.lsm_msg.specs.MessageReading.{each_at}

@@ -9,14 +9,14 @@ use Rattle.lsm_key.specs.declared.range.KeyRange.{KeyRange}
 use Rattle.lsm_key.specs.Order.{key_le}
 use Rattle.lsm_key.specs.Reading.{◌>>=◌, ranged_number_at}
 use Rattle.lsm_key.proofs.FieldLaws.{Takes, Takes-then, bind_ok, wide8, wide16, wide32, wide64}
-use Rattle.lsm_key.proofs.ReaderLaws.{Reads, Goes, field, field_as, unless, done, whole, within_reads, key_reads}
+use Rattle.lsm_key.proofs.ReaderLaws.{Reads, Goes, field, field_as, unless, done, whole, within_reads, key_reads, reads_as}
 use Rattle.lsm_claim.specs.declared.job.JobId.{JobId}
 use Rattle.lsm_edit.specs.declared.file.FileMeta.{FileMeta}
 use Rattle.lsm_edit.specs.File.{file, file_at}
 use Rattle.lsm_edit.specs.Edit.{after_number}
 use Rattle.lsm_edit.proofs.Ascending.{IsFileFrom, IsNumberFrom, numbers_each, numbers_ascend, numbers_in_turn}
 use Rattle.lsm_edit.proofs.FileLaws.{file_reads}
-use Rattle.lsm_edit.proofs.ItemsInTurn.{counted_reads, items_again, items_takes, reads_as}
+use Rattle.lsm_edit.proofs.ItemsInTurn.{counted_reads, items_again, items_takes}
 use Rattle.lsm_msg.specs.declared.fault.MsgFault.{MsgFault}
 use Rattle.lsm_msg.specs.declared.fault.MsgFault.TheVariants.{Truncated, BadField}
 use Rattle.lsm_msg.specs.declared.job.JobParts.{JobParts}

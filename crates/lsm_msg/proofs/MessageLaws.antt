@@ -17,14 +17,14 @@ use Rattle.lsm_msg.specs.declared.message.Message.{Message}
 use Rattle.lsm_msg.specs.declared.message.TheConstants.{MAX_MESSAGE_BYTES}
 use Rattle.lsm_msg.specs.declared.node.Node.{Node}
 use Rattle.lsm_msg.specs.declared.node.Node.TheVariants.{Coordinator, Worker, Follower}
-use Rattle.lsm_msg.specs.Messages.{IsBody, IsMessage, IsNode, IsSpelled, body_text, kind_code, kind_of, message, message_magic, node}
-use Rattle.lsm_msg.specs.MessageReading.{kind_at, kind_from, message_at, node_at, node_from, read_message}
+use Rattle.lsm_msg.specs.Messages.{IsBody, IsMessage, IsNode, IsSpelled, body_text, message_kind_code, kind_of, message, message_magic, node}
+use Rattle.lsm_msg.specs.MessageReading.{message_kind_at, message_kind_from, message_at, node_at, node_from, read_message}
 use Rattle.lsm_msg.proofs.BodyLaws.{IsCounted, body_reads}
 use Rattle.lsm_msg.proofs.MessageSizes.{body_short, counted_of}
 
 -- ---- kinds
 
-other_kind : (n : ℕ) → 10 ≤ n → kind_from n ≡ Err BadKind
+other_kind : (n : ℕ) → 10 ≤ n → message_kind_from n ≡ Err BadKind
 other_kind n high = rw (
   ne_eqb n 1 (λ z. omega (arith, z, high)),
   ne_eqb n 2 (λ z. omega (arith, z, high)),
@@ -40,31 +40,31 @@ other_kind n high = rw (
 no_value : (k : MessageKind) → Err BadKind ≡ Ok k → ⊥
 no_value k e = absurd cc
 
-kind_from-is : (n : ℕ) (k : MessageKind) → kind_from n ≡ Ok k → n ≡ kind_code k
-kind_from-is zero k e = absurd cc
-kind_from-is (suc zero) k e = ap kind_code (ok_is {F = MsgFault} kind.Job k e)
-kind_from-is (suc (suc zero)) k e = ap kind_code (ok_is {F = MsgFault} kind.Fetch k e)
-kind_from-is (suc (suc (suc zero))) k e = ap kind_code (ok_is {F = MsgFault} kind.Table k e)
-kind_from-is (suc (suc (suc (suc zero)))) k e = ap kind_code (ok_is {F = MsgFault} kind.Gone k e)
-kind_from-is (suc (suc (suc (suc (suc zero))))) k e = ap kind_code (ok_is {F = MsgFault} kind.Result k e)
-kind_from-is (suc (suc (suc (suc (suc (suc zero)))))) k e = ap kind_code (ok_is {F = MsgFault} kind.Ask k e)
-kind_from-is (suc (suc (suc (suc (suc (suc (suc zero))))))) k e = ap kind_code (ok_is {F = MsgFault} kind.Edit k e)
-kind_from-is (suc (suc (suc (suc (suc (suc (suc (suc zero)))))))) k e = ap kind_code (ok_is {F = MsgFault} kind.Base k e)
-kind_from-is (suc (suc (suc (suc (suc (suc (suc (suc (suc zero))))))))) k e = ap kind_code (ok_is {F = MsgFault} kind.Current k e)
-kind_from-is (suc (suc (suc (suc (suc (suc (suc (suc (suc (suc n)))))))))) k e = absurd (no_value k (sym (other_kind (suc (suc (suc (suc (suc (suc (suc (suc (suc (suc n)))))))))) (omega arith)) ∙ e))
+message_kind_from-is : (n : ℕ) (k : MessageKind) → message_kind_from n ≡ Ok k → n ≡ message_kind_code k
+message_kind_from-is zero k e = absurd cc
+message_kind_from-is (suc zero) k e = ap message_kind_code (ok_is {F = MsgFault} kind.Job k e)
+message_kind_from-is (suc (suc zero)) k e = ap message_kind_code (ok_is {F = MsgFault} kind.Fetch k e)
+message_kind_from-is (suc (suc (suc zero))) k e = ap message_kind_code (ok_is {F = MsgFault} kind.Table k e)
+message_kind_from-is (suc (suc (suc (suc zero)))) k e = ap message_kind_code (ok_is {F = MsgFault} kind.Gone k e)
+message_kind_from-is (suc (suc (suc (suc (suc zero))))) k e = ap message_kind_code (ok_is {F = MsgFault} kind.Result k e)
+message_kind_from-is (suc (suc (suc (suc (suc (suc zero)))))) k e = ap message_kind_code (ok_is {F = MsgFault} kind.Ask k e)
+message_kind_from-is (suc (suc (suc (suc (suc (suc (suc zero))))))) k e = ap message_kind_code (ok_is {F = MsgFault} kind.Edit k e)
+message_kind_from-is (suc (suc (suc (suc (suc (suc (suc (suc zero)))))))) k e = ap message_kind_code (ok_is {F = MsgFault} kind.Base k e)
+message_kind_from-is (suc (suc (suc (suc (suc (suc (suc (suc (suc zero))))))))) k e = ap message_kind_code (ok_is {F = MsgFault} kind.Current k e)
+message_kind_from-is (suc (suc (suc (suc (suc (suc (suc (suc (suc (suc n)))))))))) k e = absurd (no_value k (sym (other_kind (suc (suc (suc (suc (suc (suc (suc (suc (suc (suc n)))))))))) (omega arith)) ∙ e))
 
-kind_from-again : (k : MessageKind) → kind_from (kind_code k) ≡ Ok k
-kind_from-again kind.Job = refl
-kind_from-again kind.Fetch = refl
-kind_from-again kind.Table = refl
-kind_from-again kind.Gone = refl
-kind_from-again kind.Result = refl
-kind_from-again kind.Ask = refl
-kind_from-again kind.Edit = refl
-kind_from-again kind.Base = refl
-kind_from-again kind.Current = refl
+message_kind_from-again : (k : MessageKind) → message_kind_from (message_kind_code k) ≡ Ok k
+message_kind_from-again kind.Job = refl
+message_kind_from-again kind.Fetch = refl
+message_kind_from-again kind.Table = refl
+message_kind_from-again kind.Gone = refl
+message_kind_from-again kind.Result = refl
+message_kind_from-again kind.Ask = refl
+message_kind_from-again kind.Edit = refl
+message_kind_from-again kind.Base = refl
+message_kind_from-again kind.Current = refl
 
-code_small : (k : MessageKind) → kind_code k < 2 ^ 8
+code_small : (k : MessageKind) → message_kind_code k < 2 ^ 8
 code_small kind.Job = omega arith
 code_small kind.Fetch = omega arith
 code_small kind.Table = omega arith
@@ -75,16 +75,16 @@ code_small kind.Edit = omega arith
 code_small kind.Base = omega arith
 code_small kind.Current = omega arith
 
-kind_reads : Reads kind_at (λ k. to_be_bytes w8 (kind_code k)) (λ k. Unit {0})
+kind_reads : Reads message_kind_at (λ k. to_be_bytes w8 (message_kind_code k)) (λ k. Unit {0})
 kind_reads = record {
   takes = λ bytes k fits e.
-      let a = bind_ok (number_at Truncated w8 bytes) (λ code. kind_from code.0 >>= λ kind. Ok (kind, code.1)) k e in
-      let b = bind_ok (kind_from a.0.0) (λ kind. Ok (kind, a.0.1)) k a.2 in
+      let a = bind_ok (number_at Truncated w8 bytes) (λ code. message_kind_from code.0 >>= λ kind. Ok (kind, code.1)) k e in
+      let b = bind_ok (message_kind_from a.0.0) (λ kind. Ok (kind, a.0.1)) k a.2 in
       let same = ok_is {F = MsgFault} (b.0, a.0.1) k b.2 in
       let t = number_takes Truncated w8 (2 ^ 8) wide8 bytes a.0.0 a.0.1 fits a.1 in
-      let text : Takes bytes (to_be_bytes w8 (kind_code b.0)) a.0.1 = subst (λ n. Takes bytes (to_be_bytes w8 n) a.0.1) (kind_from-is a.0.0 b.0 b.1) t.0 in
-      (subst (λ (p : MessageKind × List ℕ). Takes bytes (to_be_bytes w8 (kind_code p.0)) p.1) same text, tt);
-  again = λ k rest is. rw (number_again Truncated w8 (2 ^ 8) wide8 (kind_code k) rest (code_small k), kind_from-again k) refl;
+      let text : Takes bytes (to_be_bytes w8 (message_kind_code b.0)) a.0.1 = subst (λ n. Takes bytes (to_be_bytes w8 n) a.0.1) (message_kind_from-is a.0.0 b.0 b.1) t.0 in
+      (subst (λ (p : MessageKind × List ℕ). Takes bytes (to_be_bytes w8 (message_kind_code p.0)) p.1) same text, tt);
+  again = λ k rest is. rw (number_again Truncated w8 (2 ^ 8) wide8 (message_kind_code k) rest (code_small k), message_kind_from-again k) refl;
 }
 
 -- ---- nodes
@@ -158,7 +158,7 @@ constant {Z} {Known} {tail} {IsZ} k bad w limit wide n small then = record {
 }
 
 abbrev fields_spelled : Message → List ℕ
-fields_spelled m = to_be_bytes w32 message_magic ++ (to_be_bytes w8 1 ++ (to_be_bytes w8 (kind_code (kind_of m.body)) ++ (node m.src ++ (node m.dst ++ (body_text m.body ++ [])))))
+fields_spelled m = to_be_bytes w32 message_magic ++ (to_be_bytes w8 1 ++ (to_be_bytes w8 (message_kind_code (kind_of m.body)) ++ (node m.src ++ (node m.dst ++ (body_text m.body ++ [])))))
 
 abbrev FieldRules : Message → Type 0
 FieldRules m = Unit {0} × (IsNode m.src × (IsNode m.dst × ((IsBody m.body × IsCounted m.body) × Unit {0})))

@@ -28,8 +28,8 @@ use Rattle.lsm_msg.specs.Messages.{message_magic}
 
 -- ---- kinds and nodes
 
-abbrev pub kind_from : ℕ → Result MessageKind MsgFault
-kind_from n =
+abbrev pub message_kind_from : ℕ → Result MessageKind MsgFault
+message_kind_from n =
     if n == 1 then Ok kind.Job
     else if n == 2 then Ok kind.Fetch
     else if n == 3 then Ok kind.Table
@@ -41,10 +41,10 @@ kind_from n =
     else if n == 9 then Ok kind.Current
     else Err BadKind
 
-abbrev pub kind_at : List ℕ → Result (MessageKind × List ℕ) MsgFault
-kind_at bytes = do
+abbrev pub message_kind_at : List ℕ → Result (MessageKind × List ℕ) MsgFault
+message_kind_at bytes = do
   code ← number_at Truncated w8 bytes
-  kind ← kind_from code.0
+  kind ← message_kind_from code.0
   Ok (kind, code.1)
 
 -- the coordinator has the number 0, others have 1 to MAX_NODES
@@ -122,15 +122,15 @@ sized_at bytes = do
   n ← ranged_number_at Truncated BadField w32 1 MAX_TABLE_BYTES bytes
   piece_at Truncated n.0 n.1
 
-unfoldable pub tables_at : List ℕ → Result (List (List ℕ) × List ℕ) MsgFault
-tables_at bytes = do
+unfoldable pub result_tables_at : List ℕ → Result (List (List ℕ) × List ℕ) MsgFault
+result_tables_at bytes = do
   count ← ranged_number_at Truncated BadField w32 0 4294967295 bytes
   each_at sized_at count.0 count.1
 
 unfoldable pub result_at : List ℕ → Result (JobResult × List ℕ) MsgFault
 result_at bytes = do
   id ← job_id_at bytes
-  tables ← tables_at id.1
+  tables ← result_tables_at id.1
   Ok (record { job = id.0; tables = tables.0 }, tables.1)
 
 -- ---- whole messages
@@ -142,8 +142,8 @@ abbrev pub version_number_at : List ℕ → Result (ℕ × List ℕ) MsgFault
 version_number_at bytes = ranged_number_at Truncated BadField w64 0 MAX_NUMBER bytes
 
 -- a number and a table
-unfoldable pub table_at : List ℕ → Result (Body × List ℕ) MsgFault
-table_at bytes = do
+unfoldable pub table_body_at : List ℕ → Result (Body × List ℕ) MsgFault
+table_body_at bytes = do
   number ← file_number_at bytes
   table ← sized_at number.1
   Ok (body.Table number.0 table.0, table.1)
@@ -156,7 +156,7 @@ as_body make (Err e) = Err e
 abbrev pub body_at : MessageKind → List ℕ → Result (Body × List ℕ) MsgFault
 body_at kind.Job bytes = as_body (λ j. body.Job j) (job_at bytes)
 body_at kind.Fetch bytes = as_body (λ n. body.Fetch n) (file_number_at bytes)
-body_at kind.Table bytes = table_at bytes
+body_at kind.Table bytes = table_body_at bytes
 body_at kind.Gone bytes = as_body (λ n. body.Gone n) (file_number_at bytes)
 body_at kind.Result bytes = as_body (λ r. body.Result r) (result_at bytes)
 body_at kind.Ask bytes = as_body (λ n. body.Ask n) (version_number_at bytes)
@@ -169,7 +169,7 @@ unfoldable pub message_at : List ℕ → Result (Message × List ℕ) MsgFault
 message_at bytes = do
   a ← fixed_at Truncated BadMagic w32 message_magic bytes
   b ← fixed_at Truncated BadVersion w8 1 a
-  kind ← kind_at b
+  kind ← message_kind_at b
   src ← node_at kind.1
   dst ← node_at src.1
   body ← body_at kind.0 dst.1

@@ -105,16 +105,16 @@ kind_of (body.Edit e) = kind.Edit
 kind_of (body.Base v) = kind.Base
 kind_of (body.Current n) = kind.Current
 
-abbrev pub kind_code : MessageKind → ℕ
-kind_code kind.Job = 1
-kind_code kind.Fetch = 2
-kind_code kind.Table = 3
-kind_code kind.Gone = 4
-kind_code kind.Result = 5
-kind_code kind.Ask = 6
-kind_code kind.Edit = 7
-kind_code kind.Base = 8
-kind_code kind.Current = 9
+abbrev pub message_kind_code : MessageKind → ℕ
+message_kind_code kind.Job = 1
+message_kind_code kind.Fetch = 2
+message_kind_code kind.Table = 3
+message_kind_code kind.Gone = 4
+message_kind_code kind.Result = 5
+message_kind_code kind.Ask = 6
+message_kind_code kind.Edit = 7
+message_kind_code kind.Base = 8
+message_kind_code kind.Current = 9
 
 abbrev pub body_text : Body → List ℕ
 body_text (body.Job j) = job j
@@ -129,7 +129,7 @@ body_text (body.Current n) = to_be_bytes w64 n
 
 -- magic, version 1, the kind, sender, receiver, body
 abbrev pub message : Message → List ℕ
-message m = to_be_bytes w32 message_magic ++ to_be_bytes w8 1 ++ to_be_bytes w8 (kind_code (kind_of m.body)) ++ node m.src ++ node m.dst ++ body_text m.body
+message m = to_be_bytes w32 message_magic ++ to_be_bytes w8 1 ++ to_be_bytes w8 (message_kind_code (kind_of m.body)) ++ node m.src ++ node m.dst ++ body_text m.body
 
 -- the bytes are those of this message, and not too many
 pub record IsSpelled (bytes : List ℕ) (m : Message) : Type 0 where

@@ -2,8 +2,8 @@
 
 ghost use Rattle.std.specs.Prelude.{◌≡◌};
 ghost use Rattle.lsm_key.specs.Reading.{Gives};
-ghost use Rattle.lsm_msg.specs.Messages.{kind_code, kind_of};
-ghost use Rattle.lsm_msg.specs.MessageReading.{kind_at};
+ghost use Rattle.lsm_msg.specs.Messages.{message_kind_code, kind_of};
+ghost use Rattle.lsm_msg.specs.MessageReading.{message_kind_at};
 
 use crate::fault::{MsgError, MsgFault};
 use crate::message::Body;
@@ -44,7 +44,7 @@ impl MessageKind {
 
     /// Its code in a message.
     pub(crate) fn code(self) -> u8
-        ensures { result ≡ kind_code self }
+        ensures { result ≡ message_kind_code self }
     {
         match self {
             MessageKind::Job => 1,
@@ -62,7 +62,7 @@ impl MessageKind {
 
 /// A kind from the front.
 pub(crate) fn read_kind(rest: &mut Bytes) -> Result<MessageKind, MsgError>
-    ensures { Gives (λ k. (k, rest.new)) result (kind_at rest.old) }
+    ensures { Gives (λ k. (k, rest.new)) result (message_kind_at rest.old) }
 {
     match read_u8(rest, MsgFault::Truncated)? {
         1 => Ok(MessageKind::Job),

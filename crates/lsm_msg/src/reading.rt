@@ -12,7 +12,7 @@ ghost use Rattle.std.specs.Prelude.{◌≡◌, IfOk, Ok};
 ghost use Rattle.lsm_key.specs.Reading.{Gives};
 ghost use Rattle.lsm_msg.specs.declared.message.Message.{Message};
 ghost use Rattle.lsm_msg.specs.Messages.{IsSpelled};
-ghost use Rattle.lsm_msg.specs.MessageReading.{node_from, node_at, file_number_at, version_number_at, table_at, body_at, message_at, read_message};
+ghost use Rattle.lsm_msg.specs.MessageReading.{node_from, node_at, file_number_at, version_number_at, table_body_at, body_at, message_at, read_message};
 
 use crate::fault::{MsgError, MsgFault};
 use crate::kind::{MessageKind, read_kind};
@@ -130,9 +130,9 @@ fn read_body(alloc: Global, kind: MessageKind, rest: &mut Bytes) -> Result<Body,
 }
 
 // A file's number and its table from the front.
-#[tactic(auto, unfolding(crate::specs::MessageReading::table_at))]
+#[tactic(auto, unfolding(crate::specs::MessageReading::table_body_at))]
 fn read_table(rest: &mut Bytes) -> Result<Body, MsgError>
-    ensures { Gives (λ b. (b, rest.new)) result (table_at rest.old) }
+    ensures { Gives (λ b. (b, rest.new)) result (table_body_at rest.old) }
 {
     let number = read_file_number(rest)?;
     let table = read_sized(rest)?;

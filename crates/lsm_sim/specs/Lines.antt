@@ -63,8 +63,8 @@ abbrev pub scanned_text : List (List ℕ × List ℕ) → List ℕ
 scanned_text pairs = codes "range " ++ decimal (length pairs) ++ flat_map pair_text pairs
 
 -- the files of a level, in the order of the listing
-abbrev pub files_of : ℕ → List Place → List ℕ
-files_of level places = map (λ p. p.file) (filter (λ p. p.level == level) places)
+abbrev pub level_files : ℕ → List Place → List ℕ
+level_files level places = map (λ p. p.file) (filter (λ p. p.level == level) places)
 
 -- a level with files: its digit and their numbers
 abbrev pub level_text : ℕ → List ℕ → List ℕ
@@ -73,7 +73,7 @@ level_text level (file ∷ files) = codes " L" ++ decimal level ++ codes " " ++ 
 
 -- these levels, in turn
 abbrev pub levels_text : List Place → List ℕ → List ℕ
-levels_text places levels = flat_map (λ level. level_text level (files_of level places)) levels
+levels_text places levels = flat_map (λ level. level_text level (level_files level places)) levels
 
 abbrev pub shown_text : ℕ → ℕ → List Place → List ℕ
 shown_text number seq places =

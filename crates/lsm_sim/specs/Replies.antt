@@ -1,7 +1,7 @@
 -- The lines that replies print.
 use Rattle.std.specs.Prelude.{List, ℕ, map, codes}
 use Rattle.std.specs.List.{flat_map}
-use Rattle.lsm_coord.specs.Contract.Manifest.{place_of}
+use Rattle.lsm_coord.specs.Contract.Shows.{place_of}
 use Rattle.lsm_world.specs.declared.reply.Reply.{Reply}
 use Rattle.lsm_world.specs.declared.reply.Reply.TheVariants as reply
 use Rattle.lsm_world.specs.Replies.{why_of}

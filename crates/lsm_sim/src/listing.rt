@@ -1,8 +1,8 @@
 //! The line of a listing.
 
 ghost use Rattle.std.specs.Prelude.{◌≡◌, ◌++◌, OnOk, IfOk, map};
-ghost use Rattle.lsm_coord.specs.Contract.Manifest.{place_of};
-ghost use Rattle.lsm_sim.specs.Lines.{files_of, level_text, levels_text, shown_text};
+ghost use Rattle.lsm_coord.specs.Contract.Shows.{place_of};
+ghost use Rattle.lsm_sim.specs.Lines.{level_files, level_text, levels_text, shown_text};
 
 use crate::text::{write_number, write_numbers, write_text};
 use lsm_coord::ShownVersion;
@@ -24,8 +24,8 @@ fn write_level(out: &mut Vec<u8>, level: u64, files: &[FileNumber]) -> Result<()
 }
 
 /// The files of a level, in the order of the listing.
-fn files_of(alloc: Global, level: u8, files: &[FileMeta]) -> Result<Vec<FileNumber>, AllocError>
-    ensures { IfOk result (λ numbers. numbers.items ≡ files_of level (map place_of files.now)) }
+fn level_files(alloc: Global, level: u8, files: &[FileMeta]) -> Result<Vec<FileNumber>, AllocError>
+    ensures { IfOk result (λ numbers. numbers.items ≡ level_files level (map place_of files.now)) }
 {
     let mut numbers = Vec::new(alloc);
     for file in files {
@@ -46,7 +46,7 @@ fn write_levels(
     ensures { OnOk result (out.new.items ≡ out.old.items ++ levels_text (map place_of files.now) levels.now) }
 {
     for level in levels {
-        let numbers = files_of(alloc, *level, files)?;
+        let numbers = level_files(alloc, *level, files)?;
         write_level(out, u64::from(*level), &numbers)?;
     }
     Ok(())

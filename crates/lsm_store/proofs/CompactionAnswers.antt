@@ -30,7 +30,7 @@ use Rattle.lsm_coord.specs.Contract.Value.{CoordValue}
 use Rattle.lsm_coord.proofs.PickedJobs.{wants_memory}
 use Rattle.lsm_coord.proofs.StateRefusals.{give_up_may}
 use Rattle.lsm_coord.proofs.GiveBackSteps.{live_before, Shows-with_book}
-use Rattle.lsm_store.specs.Compacting.{Compacts, CompactionRefuses, IsLeft, IsReached, KeptBack, tables_at}
+use Rattle.lsm_store.specs.Compacting.{Compacts, CompactionRefuses, IsLeft, IsCompacted, KeptBack, tables_at}
 use Rattle.lsm_store.proofs.Compactions.{back_keeps, claim_live, is_held, keeps_then, left_again, made_of_inputs, made_outputs, named, served_is}
 use Rattle.lsm_store.proofs.MergedOutputs.{opened_as}
 
@@ -97,7 +97,7 @@ module _ (old mid new : CoordValue) (claim : LiveJob) (job : JobParts) (ver : Is
     -- ---- the steps
 
     pub answers_reached : {Z : Type 0} (r : Answer Z) (dispatcher message : ℕ) → IsIndex dispatcher → (s : State) → (t : State) × Step s (say.Pick dispatcher) say.Other t × Shows mid t → IfOk r (λ a. IfSome a (λ v. Follows mid (say.Deliver message) (say.Installed v.0 v.1.items) new))
-        → IfOk r (λ a. a ≡ None → holds mid.book claim.id ≡ false) → OnErr r (new ≡ after_give_back mid claim.id) → IsReached dispatcher message s r new
+        → IfOk r (λ a. a ≡ None → holds mid.book claim.id ≡ false) → OnErr r (new ≡ after_give_back mid claim.id) → IsCompacted dispatcher message s r new
     answers_reached (Ok None) dispatcher message index s pick steps stale back = absurd (never_stale (stale refl))
     answers_reached (Ok (Some v)) dispatcher message index s pick steps stale back =
         let u = steps pick.0 pick.2 in

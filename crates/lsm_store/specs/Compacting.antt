@@ -104,7 +104,7 @@ Leads dispatcher message s (Err e) t =
     ⊎ Run s (say.Pick dispatcher ∷ say.GiveUp dispatcher ∷ []) (say.Other ∷ say.Other ∷ []) t
 
 -- a state that shows the same writes and snapshots, so that every read is answered as before
-pub record IsReached {Z : Type 0} (dispatcher message : ℕ) (s : State) (result : Result (Option (ℕ × Vec ℕ Z)) CoordError) (new : CoordValue) : Type 0 where
+pub record IsCompacted {Z : Type 0} (dispatcher message : ℕ) (s : State) (result : Result (Option (ℕ × Vec ℕ Z)) CoordError) (new : CoordValue) : Type 0 where
   pub after : State
   pub leads : Leads dispatcher message s result after
   pub shown : Shows new after

@@ -10,7 +10,7 @@ ghost use Rattle.lsm_coord.specs.Contract.Shows.{Follows, Shows};
 ghost use Rattle.lsm_coord.specs.Contract.Sound.{KeepsSound};
 ghost use Rattle.lsm_coord.specs.Model.Event.{Deliver, Installed};
 ghost use Rattle.lsm_coord.specs.Model.State.{State};
-ghost use Rattle.lsm_store.specs.Compacting.{AreServed, Compacts, CompactionRefuses, IsLeft, IsReached, KeptBack, Merges, tables_at};
+ghost use Rattle.lsm_store.specs.Compacting.{AreServed, Compacts, CompactionRefuses, IsLeft, IsCompacted, KeptBack, Merges, tables_at};
 
 use lsm_claim::Claim;
 use lsm_coord::{Coord, CoordError, Install};
@@ -33,7 +33,7 @@ pub fn compact_once(
     ensures ok { IfOk result (Compacts coord.old coord.new) }
     ensures err { OnErr result (IsLeft coord.old coord.new) }
     ensures refused { IfErr result (CompactionRefuses coord.old) }
-    ensures step { (dispatcher message : ℕ) → IsIndex dispatcher → (s : State) → Shows coord.old s → IsReached dispatcher message s result coord.new }
+    ensures step { (dispatcher message : ℕ) → IsIndex dispatcher → (s : State) → Shows coord.old s → IsCompacted dispatcher message s result coord.new }
     ensures sound { KeepsSound coord.old coord.new }
 {
     // Proof hint: the coordinator's invariant.

@@ -22,7 +22,7 @@ use Rattle.lsm_edit.proofs.NumberSearch.{searched, files_rise}
 use Rattle.lsm_edit.proofs.PlacesInOrder.{as_many}
 use Rattle.lsm_msg.specs.declared.job.JobParts.{JobParts}
 use Rattle.lsm_msg.specs.Jobs.{IsJob}
-use Rattle.lsm_work.specs.Workers.{TaskValue, new_task, is_among, numbers_of, missing, tables_of, with_input, IsComplete}
+use Rattle.lsm_work.specs.Workers.{TaskValue, new_task, is_among, numbers_of, missing, received_tables, with_input, IsComplete}
 use Rattle.lsm_work.specs.Held.{files_of, task_of, AreHeld, IsSpot, StandsAt}
 
 -- ---- files with their tables
@@ -257,8 +257,8 @@ module _ (job : JobParts) (ns : List ℕ) (ts : List Opened) (held : AreHeld job
   pub task_more : task_of job more_numbers more_tables ≡ with_input p (task_of job ns ts)
   task_more = ap (λ (ps : List Placed). record { job = job; received = ps }) received_more
 
-  pub tables_more : tables_of (with_input p (task_of job ns ts)) ≡ more_tables
-  tables_more = ap (λ (t : TaskValue). tables_of t) (sym task_more) ∙ tables_placed (files_of more_numbers job.inputs) more_tables held_more.recorded
+  pub tables_more : received_tables (with_input p (task_of job ns ts)) ≡ more_tables
+  tables_more = ap (λ (t : TaskValue). received_tables t) (sym task_more) ∙ tables_placed (files_of more_numbers job.inputs) more_tables held_more.recorded
 
   pub one_less : length (missing (with_input p (task_of job ns ts))) + 1 ≡ length (missing (task_of job ns ts))
   one_less =
@@ -282,7 +282,7 @@ module _ (job : JobParts) (ns : List ℕ) (ts : List Opened) (held : AreHeld job
     pub complete_more : IsComplete (with_input p (task_of job ns ts))
     complete_more = ap (λ (t : TaskValue). map (λ q. q.meta) t.received) (sym task_more) ∙ metas_placed (files_of more_numbers job.inputs) more_tables held_more.recorded ∙ files_all
 
-    pub recorded_all : AreAsRecorded job.inputs (tables_of (with_input p (task_of job ns ts)))
+    pub recorded_all : AreAsRecorded job.inputs (received_tables (with_input p (task_of job ns ts)))
     recorded_all = subst (λ (us : List Opened). AreAsRecorded job.inputs us) (sym tables_more) (subst (λ (fs : List FileMeta). AreAsRecorded fs more_tables) files_all held_more.recorded)
 
 -- ---- no input yet

@@ -7,7 +7,7 @@ use Rattle.lsm_edit.specs.declared.served.Placed.{Placed}
 use Rattle.lsm_edit.specs.Served.{IsAsRecorded, AreAsRecorded}
 use Rattle.lsm_msg.specs.declared.job.JobParts.{JobParts}
 use Rattle.lsm_work.specs.Held.{AreHeld, IsSpot, StandsAt, task_of}
-use Rattle.lsm_work.specs.Workers.{IsAwaited, IsComplete, TaskValue, missing, numbers_of, tables_of, with_input}
+use Rattle.lsm_work.specs.Workers.{IsAwaited, IsComplete, TaskValue, missing, numbers_of, received_tables, with_input}
 use Rattle.lsm_work.proofs.HeldInputs.{missing_count, one_less, complete_more, recorded_all}
 
 -- a table that was asked for, with its file and its place
@@ -42,5 +42,5 @@ module _ (job : JobParts) (ns : List ℕ) (ts : List Opened) (held : AreHeld job
     pub all_come : IsComplete (with_input p t)
     all_come = subst (λ (u : TaskValue). IsComplete (with_input p u)) seen (complete_more job ns ts held p place inner (let many = missing_count job ns ts held in omega (arith, many, last)))
 
-    pub all_recorded : AreAsRecorded t.job.inputs (tables_of (with_input p t))
-    all_recorded = subst (λ (u : TaskValue). AreAsRecorded u.job.inputs (tables_of (with_input p u))) seen (recorded_all job ns ts held p place inner (let many = missing_count job ns ts held in omega (arith, many, last)))
+    pub all_recorded : AreAsRecorded t.job.inputs (received_tables (with_input p t))
+    all_recorded = subst (λ (u : TaskValue). AreAsRecorded u.job.inputs (received_tables (with_input p u))) seen (recorded_all job ns ts held p place inner (let many = missing_count job ns ts held in omega (arith, many, last)))

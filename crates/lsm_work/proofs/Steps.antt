@@ -12,7 +12,7 @@ use Rattle.std.proofs.lemmas.List.Elements.{All-cons, filter_more}
 use Rattle.lsm_edit.specs.declared.file.FileMeta.{FileMeta}
 use Rattle.lsm_msg.specs.declared.message.Body.TheVariants as body
 use Rattle.lsm_msg.specs.declared.message.Message.{Message}
-use Rattle.lsm_work.specs.Workers.{WorkerValue, TaskValue, Outcome, IsComplete, Merges, Proceeds, collects, fetches, is_among, to_coordinator}
+use Rattle.lsm_work.specs.Workers.{WorkerValue, TaskValue, Outcome, IsComplete, MergesInputs, Proceeds, collects, fetches, is_among, to_coordinator}
 
 pub All-one : {X : Type 0} (P : X → Type 0) (x : X) → P x → All P (x ∷ [])
 All-one P x h = All-cons P x [] h (λ k d lt. absurd (omega (arith, lt)))
@@ -21,7 +21,7 @@ pub proceeds_more : (w : WorkerValue) (t : TaskValue) (fs : List FileMeta) (o : 
 proceeds_more w t [] o some e = absurd (omega (arith, some))
 proceeds_more w t (f ∷ fs) o some e = e
 
-pub proceeds_last : (w : WorkerValue) (t : TaskValue) (fs : List FileMeta) (o : Outcome) → length fs ≡ 0 → IsComplete t → Merges w t o → Proceeds w t fs o
+pub proceeds_last : (w : WorkerValue) (t : TaskValue) (fs : List FileMeta) (o : Outcome) → length fs ≡ 0 → IsComplete t → MergesInputs w t o → Proceeds w t fs o
 proceeds_last w t [] o none all merged = (all, merged)
 proceeds_last w t (f ∷ fs) o none all merged = absurd (omega (arith, none))
 

@@ -52,8 +52,8 @@ missing t = filter (λ f. not (is_among (numbers_of t.received) f.number)) t.job
 abbrev pub IsComplete : TaskValue → Type 0
 IsComplete t = map (λ p. p.meta) t.received ≡ t.job.inputs
 
-abbrev pub tables_of : TaskValue → List Opened
-tables_of t = map (λ p. p.table) t.received
+abbrev pub received_tables : TaskValue → List Opened
+received_tables t = map (λ p. p.table) t.received
 
 -- one input more has come
 abbrev pub with_input : Placed → TaskValue → TaskValue
@@ -111,15 +111,15 @@ after_gone w number None = ignores w
 after_gone w number (Some t) = if is_among (map (λ f. f.number) (missing t)) number then drops w else ignores w
 
 -- the tables of a job are merged
-abbrev pub Merges : WorkerValue → TaskValue → Outcome → Type 0
-Merges w t o =
-    ((outputs : List (List ℕ)) × CanMerge (tables_of t) t.job × IsMerge (tables_of t) t.job outputs × (o ≡ sends_result w t.job.id outputs))
-    ⊎ (HaveSameEntry (lists_of (tables_of t)) × (o ≡ drops w))
+abbrev pub MergesInputs : WorkerValue → TaskValue → Outcome → Type 0
+MergesInputs w t o =
+    ((outputs : List (List ℕ)) × CanMerge (received_tables t) t.job × IsMerge (received_tables t) t.job outputs × (o ≡ sends_result w t.job.id outputs))
+    ⊎ (HaveSameEntry (lists_of (received_tables t)) × (o ≡ drops w))
 
 -- one input more has come: it waits for those that are still missing, or merges
 abbrev pub Proceeds : WorkerValue → TaskValue → List FileMeta → Outcome → Type 0
 Proceeds w t (f ∷ fs) o = o ≡ collects w t []
-Proceeds w t [] o = IsComplete t × Merges w t o
+Proceeds w t [] o = IsComplete t × MergesInputs w t o
 
 -- a table: it counts only if it is awaited
 abbrev pub TakesTable : WorkerValue → ℕ → List ℕ → Option TaskValue → Outcome → Type 0

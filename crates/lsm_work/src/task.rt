@@ -47,7 +47,7 @@ impl Task {
     ghost use Rattle.lsm_merge.specs.Outputs.{IsMerge};
     ghost use Rattle.lsm_msg.specs.declared.message.Body.TheVariants as body;
     ghost use Rattle.lsm_msg.specs.Messages.{AreTableBytes, IsMessage};
-    ghost use Rattle.lsm_work.specs.Workers.{TakesTable, fetches, is_among, missing, new_task, numbers_of, tables_of, with_input};
+    ghost use Rattle.lsm_work.specs.Workers.{TakesTable, fetches, is_among, missing, new_task, numbers_of, received_tables, with_input};
     ghost use Rattle.lsm_work.specs.Held.{IsSpot, StandsAt, left_after};
 
     /// The task of a job of which no input has come.
@@ -176,8 +176,8 @@ impl Task {
         table: Table,
     ) -> Result<Vec<Bytes>, MergeError>
         requires { (f : FileMeta) × StandsAt self.old (record { meta = f; table = table }) place }
-        ensures ok { (f : FileMeta) → StandsAt self.old (record { meta = f; table = table }) place → IfOk result (λ outputs. CanMerge (tables_of (with_input (record { meta = f; table = table }) self.old)) self.old.job × IsMerge (tables_of (with_input (record { meta = f; table = table }) self.old)) self.old.job outputs.items) }
-        ensures refused { (f : FileMeta) → StandsAt self.old (record { meta = f; table = table }) place → IfErr result (IsRefused (tables_of (with_input (record { meta = f; table = table }) self.old)) self.old.job) }
+        ensures ok { (f : FileMeta) → StandsAt self.old (record { meta = f; table = table }) place → IfOk result (λ outputs. CanMerge (received_tables (with_input (record { meta = f; table = table }) self.old)) self.old.job × IsMerge (received_tables (with_input (record { meta = f; table = table }) self.old)) self.old.job outputs.items) }
+        ensures refused { (f : FileMeta) → StandsAt self.old (record { meta = f; table = table }) place → IfErr result (IsRefused (received_tables (with_input (record { meta = f; table = table }) self.old)) self.old.job) }
         ensures unchanged { self.new ≡ self.old }
     {
         self.tables.insert(place, table).unwrap();

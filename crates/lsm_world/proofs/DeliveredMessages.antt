@@ -16,13 +16,13 @@ use Rattle.lsm_world.specs.declared.refusal.Refusal.TheVariants as why
 use Rattle.lsm_world.specs.declared.reply.Reply.{Reply}
 use Rattle.lsm_world.specs.declared.reply.Reply.TheVariants as reply
 use Rattle.lsm_world.specs.declared.reply.Sent.{Sent}
-use Rattle.lsm_world.specs.Asks.{Delivers, DeliversAt, Receives, install_answer, message_at, worker_reply}
+use Rattle.lsm_world.specs.Asks.{Delivers, DeliversAt, Receives, install_answer, stored_message, worker_reply}
 use Rattle.lsm_world.specs.Nodes.{NodesValue, at_index}
 use Rattle.lsm_world.proofs.WorkersInPlace.{in_place}
 
 -- ---- numbers
 
-pub text_stored : (messages : List (List ℕ)) (number : ℕ) (text : List ℕ) → message_at messages number ≡ Some text → IsIn text messages
+pub text_stored : (messages : List (List ℕ)) (number : ℕ) (text : List ℕ) → stored_message messages number ≡ Some text → IsIn text messages
 text_stored messages number text at = by (nat_eq number 0) at
   where
     by : (zero : Bool) → cond zero None (at_index messages number) ≡ Some text → IsIn text messages
@@ -53,6 +53,6 @@ module _ (old : NodesValue) (m : Message) (new : NodesValue) where
   delivered_by_number (Worker index) is = works_by_number is.outcome.change is.told is.reply_is
   delivered_by_number (Follower index) is = let e = is.0 in cc
 
-  pub delivers_at : (number : ℕ) (text : List ℕ) (r : Reply) → message_at old.messages number ≡ Some text → IsSpelled text m → Delivers old m m.dst r new → DeliversAt old number r new
+  pub delivers_at : (number : ℕ) (text : List ℕ) (r : Reply) → stored_message old.messages number ≡ Some text → IsSpelled text m → Delivers old m m.dst r new → DeliversAt old number r new
   delivers_at number text (reply.Refused why.NoMessage) at spelled is = absurd (delivered_by_number m.dst is)
   delivers_at number text r at spelled is = (text, at, m, spelled, is)

@@ -10,14 +10,14 @@ use Rattle.lsm_claim.specs.Book.{BookValue}
 use Rattle.lsm_edit.specs.declared.file.FileMeta.{FileMeta}
 use Rattle.lsm_edit.specs.Version.{VersionValue}
 use Rattle.lsm_edit.proofs.ServedPlaces.{file_of}
+use Rattle.lsm_versions.specs.Manifest.{versions_of}
+use Rattle.lsm_versions.proofs.ManifestReplay.{current_at}
 use Rattle.lsm_coord.specs.declared.dispatcher.Dispatcher.{Dispatcher}
 use Rattle.lsm_coord.specs.Contract.Desks.{new_desk}
-use Rattle.lsm_coord.specs.Contract.Manifest.{listing_of, place_of, versions_of}
+use Rattle.lsm_coord.specs.Contract.Shows.{listing_of, place_of, Shows}
 use Rattle.lsm_coord.specs.Contract.Memory.{IsFit}
-use Rattle.lsm_coord.specs.Contract.Shows.{Shows}
 use Rattle.lsm_coord.specs.Contract.Value.{CoordValue}
 use Rattle.lsm_coord.specs.Model.State.{Version, empty_version, first_state}
-use Rattle.lsm_coord.proofs.ManifestReplay.{current_at}
 use Rattle.lsm_work.specs.Workers.{TaskValue, WorkerValue}
 use Rattle.lsm_world.specs.History.{History, Holds, IsHistory, IsTaskOf, AreFiles, first_indices}
 use Rattle.lsm_world.specs.Nodes.{NodesValue}

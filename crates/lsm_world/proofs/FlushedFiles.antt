@@ -10,13 +10,13 @@ use Rattle.lsm_edit.specs.declared.served.Placed.{Placed}
 use Rattle.lsm_edit.specs.Version.{VersionValue, after_apply}
 use Rattle.lsm_edit.proofs.ServedPlaces.{file_of, place_of}
 use Rattle.lsm_edit.proofs.VersionLaws.{fresh_added}
+use Rattle.lsm_versions.specs.Manifest.{versions_of}
+use Rattle.lsm_versions.proofs.ManifestReplay.{versions_of-push}
 use Rattle.lsm_coord.specs.declared.dispatcher.Dispatcher.{Dispatcher}
 use Rattle.lsm_coord.specs.Contract.Calls.{Adds, AddsTable}
-use Rattle.lsm_coord.specs.Contract.Manifest.{versions_of}
 use Rattle.lsm_coord.specs.Contract.Memory.{IsFit}
 use Rattle.lsm_coord.specs.Contract.Sound.{KeepsSound}
 use Rattle.lsm_coord.specs.Contract.Value.{CoordValue}
-use Rattle.lsm_coord.proofs.ManifestReplay.{versions_of-push}
 use Rattle.lsm_world.specs.History.{History, IsHistory, IsFileOf, AreFiles, AreJobs, AreClaims}
 use Rattle.lsm_world.specs.Nodes.{NodesValue}
 use Rattle.lsm_world.proofs.GrowingHistory.{Grows, file_stays, goes_on, table_stays}

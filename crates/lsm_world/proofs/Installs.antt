@@ -18,21 +18,21 @@ use Rattle.lsm_edit.proofs.PlacesInOrder.{placed_meta, placed_recorded}
 use Rattle.lsm_edit.proofs.ServedAfterEdit.{put_all-members}
 use Rattle.lsm_edit.proofs.ServedPlaces.{place_of}
 use Rattle.lsm_msg.specs.declared.job.JobResult.{JobResult}
+use Rattle.lsm_versions.specs.declared.retired.Retired.{Retired}
+use Rattle.lsm_versions.specs.Manifest.{versions_of}
+use Rattle.lsm_versions.specs.Retention.{retire, retired_by}
+use Rattle.lsm_versions.proofs.ManifestReplay.{versions_of-push}
+use Rattle.lsm_versions.proofs.RetiredByNumber.{put_cases}
 use Rattle.lsm_coord.specs.declared.coord.install.Install.TheVariants as became
 use Rattle.lsm_coord.specs.declared.dispatcher.Dispatcher.TheVariants.{Idle, Busy}
-use Rattle.lsm_coord.specs.declared.retired.Retired.{Retired}
 use Rattle.lsm_coord.specs.Contract.Installing.{Became, IsInstallDone, IsAcceptable, install_edit_of, records}
-use Rattle.lsm_coord.specs.Contract.Manifest.{versions_of}
 use Rattle.lsm_coord.specs.Contract.Memory.{IsFit}
-use Rattle.lsm_coord.specs.Contract.Retention.{retire, retired_by}
 use Rattle.lsm_coord.specs.Contract.Sound.{KeepsSound}
 use Rattle.lsm_coord.specs.Contract.Value.{CoordValue}
 use Rattle.lsm_coord.proofs.GiveBackSteps.{live_before}
 use Rattle.lsm_coord.proofs.InstallEdits.{recorded_of, records_end, records_recorded}
 use Rattle.lsm_coord.proofs.InstallOutcomes.{done_is, done_spelled, live_is}
-use Rattle.lsm_coord.proofs.ManifestReplay.{versions_of-push}
 use Rattle.lsm_coord.proofs.OpenedOutputs.{tables_each}
-use Rattle.lsm_coord.proofs.RetiredByNumber.{put_cases}
 use Rattle.lsm_store.proofs.Compactions.{fewer_held}
 use Rattle.lsm_world.specs.History.{AreClaims, AreFiles, AreJobs, History, IsFileOf, IsHistory, IsTableAt}
 use Rattle.lsm_world.specs.Nodes.{NodesValue}

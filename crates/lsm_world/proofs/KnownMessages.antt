@@ -10,9 +10,9 @@ use Rattle.lsm_edit.specs.Served.{table_at}
 use Rattle.lsm_msg.specs.declared.message.Body.{Body}
 use Rattle.lsm_msg.specs.declared.message.Body.TheVariants as body
 use Rattle.lsm_msg.specs.declared.message.Message.{Message}
-use Rattle.lsm_coord.specs.declared.retired.Retired.{Retired}
-use Rattle.lsm_coord.specs.Contract.Retention.{retired_at}
-use Rattle.lsm_coord.specs.Contract.Serving.{answer_message, bytes_at, table_body}
+use Rattle.lsm_versions.specs.declared.retired.Retired.{Retired}
+use Rattle.lsm_versions.specs.Retention.{retired_at, bytes_at}
+use Rattle.lsm_coord.specs.Contract.Serving.{answer_message, table_body}
 use Rattle.lsm_coord.specs.Contract.Value.{CoordValue}
 use Rattle.lsm_store.proofs.ServedTables.{found_in}
 use Rattle.lsm_world.specs.History.{History, IsHistory, IsKnown, IsNumbered, IsSent, IsTableAt, AreFiles}

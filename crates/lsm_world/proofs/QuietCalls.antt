@@ -3,8 +3,8 @@ use Rattle.std.proofs.Common.{◌≡◌, ℕ, ◌<◌, List, true, sym, subst}
 use Rattle.lsm_key.specs.Sets.{IsIn}
 use Rattle.lsm_claim.specs.Book.{BookValue, IsGiven, holds}
 use Rattle.lsm_edit.specs.Served.{ServedValue}
-use Rattle.lsm_coord.specs.declared.retired.Retired.{Retired}
-use Rattle.lsm_coord.specs.Contract.Manifest.{versions_of}
+use Rattle.lsm_versions.specs.declared.retired.Retired.{Retired}
+use Rattle.lsm_versions.specs.Manifest.{versions_of}
 use Rattle.lsm_coord.specs.Contract.Sound.{KeepsSound}
 use Rattle.lsm_coord.specs.Contract.Value.{CoordValue}
 use Rattle.lsm_world.specs.History.{History, IsHistory, AreFiles, AreJobs, AreClaims}

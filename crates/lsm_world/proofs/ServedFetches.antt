@@ -8,7 +8,8 @@ use Rattle.lsm_msg.specs.declared.message.Body.{Body}
 use Rattle.lsm_msg.specs.declared.message.Body.TheVariants as body
 use Rattle.lsm_msg.specs.declared.message.Message.{Message}
 use Rattle.lsm_msg.specs.Messages.{AreTableBytes, IsBody, IsFileNumber, IsMessage}
-use Rattle.lsm_coord.specs.Contract.Serving.{answer_message, bytes_at, table_body}
+use Rattle.lsm_versions.specs.Retention.{bytes_at}
+use Rattle.lsm_coord.specs.Contract.Serving.{answer_message, table_body}
 use Rattle.lsm_work.proofs.ResultTables.{tables_may_be_sent}
 use Rattle.lsm_world.specs.declared.reply.Sent.{Sent}
 use Rattle.lsm_world.specs.Asks.{Sends}

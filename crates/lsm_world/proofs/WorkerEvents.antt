@@ -18,7 +18,7 @@ use Rattle.lsm_merge.specs.Outputs.{IsMerge}
 use Rattle.lsm_coord.specs.Contract.Value.{CoordValue}
 use Rattle.lsm_store.specs.Compacting.{tables_at}
 use Rattle.lsm_store.proofs.ServedTables.{tables_found}
-use Rattle.lsm_work.specs.Workers.{IsAwaited, IsComplete, Merges, Outcome, Proceeds, TakesTable, TaskValue, WorkerValue, Works, after_gone, after_job, drops, fetches, fetching, ignores, is_among, is_later, missing, new_task, numbers_of, tables_of, to_coordinator, with_input}
+use Rattle.lsm_work.specs.Workers.{IsAwaited, IsComplete, MergesInputs, Outcome, Proceeds, TakesTable, TaskValue, WorkerValue, Works, after_gone, after_job, drops, fetches, fetching, ignores, is_among, is_later, missing, new_task, numbers_of, received_tables, to_coordinator, with_input}
 use Rattle.lsm_world.specs.History.{AreFiles, AreJobs, History, IsHistory, IsKnown, IsNumbered, IsTableAt, IsTaskOf}
 use Rattle.lsm_world.specs.Nodes.{NodesValue}
 
@@ -92,10 +92,10 @@ module _ (h : History) (c : CoordValue) (files : AreFiles h c) (jobs : AreJobs h
     )
 
     -- the tables of a complete task are those of the job's inputs
-    tables_are : IsComplete t → tables_of t ≡ tables_at h.files t.job.inputs
+    tables_are : IsComplete t → received_tables t ≡ tables_at h.files t.job.inputs
     tables_are whole = sym (tables_found h.files files.one t.received (λ p m. (own.1 p m).0)) ∙ ap (tables_at h.files) whole
 
-    merges_keeps : (w : WorkerValue) (o : Outcome) → IsComplete t → Merges w t o → Keeps h o
+    merges_keeps : (w : WorkerValue) (o : Outcome) → IsComplete t → MergesInputs w t o → Keeps h o
     merges_keeps w o whole (inl made) = subst (Keeps h) (sym made.3) (
       tt,
       λ m sent. elim sent [
@@ -143,7 +143,7 @@ gone_index : (w : WorkerValue) (number : ℕ) (t : Option TaskValue) → (after_
 gone_index w number None = refl
 gone_index w number (Some t) = by_test (λ o. o.worker.index ≡ w.index) (is_among (map (λ f. f.number) (missing t)) number) (drops w) (ignores w) refl refl
 
-merges_index : (w : WorkerValue) (t : TaskValue) (o : Outcome) → Merges w t o → o.worker.index ≡ w.index
+merges_index : (w : WorkerValue) (t : TaskValue) (o : Outcome) → MergesInputs w t o → o.worker.index ≡ w.index
 merges_index w t o (inl made) = ap (λ (x : Outcome). x.worker.index) made.3
 merges_index w t o (inr same) = ap (λ (x : Outcome). x.worker.index) same.1
 

@@ -42,8 +42,8 @@ use Rattle.lsm_world.specs.Nodes.{NodesValue, at_index, with_index}
 -- ---- messages
 
 -- the bytes of the message of a number, which counts from 1
-abbrev pub message_at : List (List ℕ) → ℕ → Option (List ℕ)
-message_at messages number = if nat_eq number 0 then None else at_index messages number
+abbrev pub stored_message : List (List ℕ) → ℕ → Option (List ℕ)
+stored_message messages number = if nat_eq number 0 then None else at_index messages number
 
 -- each text is that of a message, one by one
 abbrev pub AreSpelled : List (List ℕ) → List Message → Type 0
@@ -174,9 +174,9 @@ Delivers old m (Follower index) r new = Ignores old r new
 
 -- a number that no message has, or a message that is delivered, for the first time or once more
 abbrev pub DeliversAt : NodesValue → ℕ → Reply → NodesValue → Type 0
-DeliversAt old number (reply.Refused why.NoMessage) new = (message_at old.messages number ≡ None) × (new ≡ old)
+DeliversAt old number (reply.Refused why.NoMessage) new = (stored_message old.messages number ≡ None) × (new ≡ old)
 DeliversAt old number r new =
-    (text : List ℕ) × (message_at old.messages number ≡ Some text) × (m : Message) × IsSpelled text m × Delivers old m m.dst r new
+    (text : List ℕ) × (stored_message old.messages number ≡ Some text) × (m : Message) × IsSpelled text m × Delivers old m m.dst r new
 
 -- ---- each event
 

@@ -15,10 +15,10 @@ use Rattle.lsm_msg.specs.declared.message.Message.{Message}
 use Rattle.lsm_msg.specs.Jobs.{IsJob}
 use Rattle.lsm_msg.specs.Messages.{IsSpelled}
 use Rattle.lsm_merge.specs.Outputs.{IsMerge}
+use Rattle.lsm_versions.specs.declared.retired.Retired.{Retired}
+use Rattle.lsm_versions.specs.Manifest.{versions_of}
 use Rattle.lsm_coord.specs.declared.dispatcher.Dispatcher.{Dispatcher}
 use Rattle.lsm_coord.specs.declared.dispatcher.Dispatcher.TheVariants.{Busy}
-use Rattle.lsm_coord.specs.declared.retired.Retired.{Retired}
-use Rattle.lsm_coord.specs.Contract.Manifest.{versions_of}
 use Rattle.lsm_coord.specs.Contract.Sound.{IsSound}
 use Rattle.lsm_coord.specs.Contract.Value.{CoordValue}
 use Rattle.lsm_store.specs.Compacting.{tables_at}

@@ -2,7 +2,7 @@
 use Rattle.std.specs.Prelude.{map}
 use Rattle.lsm_coord.specs.Model.Event as say
 use Rattle.lsm_coord.specs.Model.Rules.{key_refusal}
-use Rattle.lsm_coord.specs.Contract.Manifest.{place_of}
+use Rattle.lsm_coord.specs.Contract.Shows.{place_of}
 use Rattle.lsm_coord.specs.Contract.Replies.{refusal_of}
 use Rattle.lsm_world.specs.declared.refusal.Refusal.{Refusal}
 use Rattle.lsm_world.specs.declared.refusal.Refusal.TheVariants as why

@@ -4,7 +4,7 @@ ghost use Rattle.std.specs.Prelude.{◌≡◌, IfOk, All};
 ghost use Rattle.std.specs.Option.{option_copied};
 ghost use Rattle.lsm_msg.specs.declared.message.Message.{Message};
 ghost use Rattle.lsm_msg.specs.Messages.{IsMessage, IsSpelled};
-ghost use Rattle.lsm_world.specs.Asks.{AreSpelled, Sends, message_at};
+ghost use Rattle.lsm_world.specs.Asks.{AreSpelled, Sends, stored_message};
 
 use crate::reply::Sent;
 use bytes::Bytes;
@@ -43,7 +43,7 @@ impl Messages {
 
     /// The encoding of the message of a number.
     pub(crate) fn text(&self, number: u64) -> Option<&Bytes>
-        ensures { option_copied result ≡ message_at self.now number }
+        ensures { option_copied result ≡ stored_message self.now number }
     {
         if number == 0 {
             return None;

@@ -15,10 +15,11 @@ use Rattle.lsm_claim.specs.Book.{after_settling}
 use Rattle.lsm_table.specs.Tables.{Opened}
 use Rattle.lsm_edit.specs.declared.file.FileMeta.{FileMeta}
 use Rattle.lsm_edit.specs.declared.edit.Edit.{Edit}
-use Rattle.lsm_edit.specs.Edit.{IsSpelled}
+use Rattle.lsm_edit.specs.Edit.{IsSpelledEdit}
 use Rattle.lsm_edit.specs.Next.{flush_edit}
 use Rattle.lsm_edit.specs.Version.{apply_fault}
 use Rattle.lsm_msg.specs.Installs.{with_flushed}
+use Rattle.lsm_versions.specs.Retention.{kept_from}
 use Rattle.lsm_coord.specs.declared.error.CoordError.{CoordError}
 use Rattle.lsm_coord.specs.declared.error.CoordError.TheVariants.{EmptyBatch, SequenceExhausted, MemtableFull, FrozenWaiting, NothingToFreeze, NothingToFlush, TooManySnapshots, NoSnapshot, BadFloor, NumbersExhausted, OutOfMemory}
 use Rattle.lsm_coord.specs.declared.frozen.Frozen.{Frozen}
@@ -26,7 +27,6 @@ use Rattle.lsm_coord.specs.declared.snapshot.SnapId.{SnapId}
 use Rattle.lsm_coord.specs.declared.snapshot.Snapshot.{Snapshot}
 use Rattle.lsm_coord.specs.Model.State.{State, same_snapshot_id, snapshot_at}
 use Rattle.lsm_coord.specs.Model.Range.{IsRange}
-use Rattle.lsm_coord.specs.Contract.Retention.{kept_from}
 use Rattle.lsm_coord.specs.Contract.Value.{CoordValue}
 use Rattle.lsm_coord.specs.Contract.Shows.{Shows}
 
@@ -89,7 +89,7 @@ pub record AddsTable (old : CoordValue) (file : FileMeta) (table : Opened) (new 
   pub edit_is : edit ≡ flush_edit old.served.version (flush_source old).end file
   pub applies : apply_fault old.served.version edit ≡ None
   pub text : List ℕ
-  pub spelled : IsSpelled text edit
+  pub spelled : IsSpelledEdit text edit
   pub new_is : new ≡ record (without_flush_source old) {
     served = with_flushed old.served (flush_source old).end file table;
     edits = old.edits ++ text ∷ [];
@@ -130,8 +130,8 @@ abbrev pub trim_fault : CoordValue → ℕ → Option CoordError
 trim_fault c n = if nat_lt c.served.version.number n then Some BadFloor else None
 
 -- the floor rises, and never falls; the retired files that no version from it on lists are let go
-abbrev pub after_trim : CoordValue → ℕ → CoordValue
-after_trim c n = record c { floor = max c.floor n; retired = kept_from (max c.floor n) c.retired }
+abbrev pub with_floor : CoordValue → ℕ → CoordValue
+with_floor c n = record c { floor = max c.floor n; retired = kept_from (max c.floor n) c.retired }
 
 -- ---- claims
 

@@ -15,7 +15,7 @@ use Rattle.lsm_claim.specs.Book.{after_settling, holds}
 use Rattle.lsm_table.specs.Tables.{Opened, IsTable, smallest_key, largest_key}
 use Rattle.lsm_edit.specs.declared.file.FileMeta.{FileMeta}
 use Rattle.lsm_edit.specs.declared.edit.Edit.{Edit}
-use Rattle.lsm_edit.specs.Edit.{IsSpelled}
+use Rattle.lsm_edit.specs.Edit.{IsSpelledEdit}
 use Rattle.lsm_edit.specs.Next.{install_edit}
 use Rattle.lsm_edit.specs.declared.served.Placed.{Placed}
 use Rattle.lsm_edit.specs.Served.{ServedValue, after_advance}
@@ -24,11 +24,11 @@ use Rattle.lsm_msg.specs.declared.job.JobParts.{JobParts}
 use Rattle.lsm_msg.specs.declared.job.JobResult.{JobResult}
 use Rattle.lsm_msg.specs.Merge.{HoldsKept}
 use Rattle.lsm_msg.specs.Installs.{entries_of}
+use Rattle.lsm_versions.specs.Retention.{retired_after}
 use Rattle.lsm_coord.specs.declared.coord.install.Install.{Install}
 use Rattle.lsm_coord.specs.declared.coord.install.Install.TheVariants as became
 use Rattle.lsm_coord.specs.declared.coord.install.InstallError.{InstallError}
 use Rattle.lsm_coord.specs.declared.coord.install.InstallError.TheVariants.{WrongJob, BadResult, NumbersExhausted, OutOfMemory}
-use Rattle.lsm_coord.specs.Contract.Retention.{retired_after}
 use Rattle.lsm_coord.specs.Contract.Sound.{IsSound}
 use Rattle.lsm_coord.specs.Contract.Value.{CoordValue}
 
@@ -81,8 +81,8 @@ records level number (t ∷ ts) = record_of level number t ∷ records level (nu
 abbrev pub install_edit_of : VersionValue → Want → List Opened → Edit
 install_edit_of v want ts = install_edit v want.files (records (want.level + 1) v.next_file ts)
 
-abbrev pub numbers_of : VersionValue → Want → List Opened → List ℕ
-numbers_of v want ts = map (λ f. f.number) (records (want.level + 1) v.next_file ts)
+abbrev pub output_numbers : VersionValue → Want → List Opened → List ℕ
+output_numbers v want ts = map (λ f. f.number) (records (want.level + 1) v.next_file ts)
 
 -- the version's number and the file numbers fit
 pub record HasNumbers (v : VersionValue) (ts : List Opened) : Type 0 where
@@ -113,7 +113,7 @@ pub record IsInstallDone (old : CoordValue) (live : LiveJob) (ts : List Opened) 
   pub edit_is : edit ≡ install_edit_of old.served.version live.want ts
   pub applies : apply_fault old.served.version edit ≡ None
   pub text : List ℕ
-  pub spelled : IsSpelled text edit
+  pub spelled : IsSpelledEdit text edit
   pub new_is : new ≡ record old {
     served = after_advance old.served edit ts;
     edits = old.edits ++ text ∷ [];
@@ -141,7 +141,7 @@ abbrev pub Became : CoordValue → LiveJob → JobResult → Install → CoordVa
 Became old claim made (became.Done number files) new =
     (live : LiveJob) × IsLive old claim.id live
     × (ts : List Opened) × IsAcceptable old.served.version live made ts
-    × IsInstallDone old live ts new × (number ≡ old.served.version.number + 1) × (files ≡ numbers_of old.served.version live.want ts)
+    × IsInstallDone old live ts new × (number ≡ old.served.version.number + 1) × (files ≡ output_numbers old.served.version live.want ts)
 Became old claim made (became.Stale job epoch) new =
     (holds old.book claim.id ≡ false) × (job ≡ claim.id) × (epoch ≡ old.book.epoch) × (new ≡ old)
 Became old claim made (became.Kept back why) new =

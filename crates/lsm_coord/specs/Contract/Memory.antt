@@ -13,10 +13,10 @@ use Rattle.lsm_edit.specs.Served.{IsServed, ServedValue}
 use Rattle.lsm_edit.specs.Version.{IsVersion}
 use Rattle.lsm_key.specs.declared.limits.TheConstants.{MAX_JOB_LEVEL, MAX_SNAPSHOTS}
 use Rattle.lsm_msg.specs.Legal.{IsLegal}
+use Rattle.lsm_versions.specs.Manifest.{Folds, read_edits, versions_of}
+use Rattle.lsm_versions.specs.Retention.{AreRetired}
 use Rattle.lsm_coord.specs.declared.frozen.Frozen.{Frozen}
 use Rattle.lsm_coord.specs.declared.snapshot.Snapshot.{Snapshot}
-use Rattle.lsm_coord.specs.Contract.Manifest.{Folds, read_edits, versions_of}
-use Rattle.lsm_coord.specs.Contract.Retention.{AreRetired}
 use Rattle.lsm_coord.specs.Contract.Value.{CoordValue, start_of}
 
 -- entries that were written after one sequence, and up to another

@@ -13,7 +13,7 @@ use Rattle.lsm_coord.specs.declared.coord.install.InstallError.TheVariants as ke
 use Rattle.lsm_coord.specs.declared.snapshot.SnapId.{SnapId}
 use Rattle.lsm_coord.specs.Model.Event.{Refusal, Reply}
 use Rattle.lsm_coord.specs.Model.Event as say
-use Rattle.lsm_coord.specs.Contract.Manifest.{place_of}
+use Rattle.lsm_coord.specs.Contract.Shows.{place_of}
 
 abbrev pub refusal_of : CoordError → Refusal
 refusal_of error.BadManifest = say.BadManifest

@@ -1,22 +1,13 @@
 -- What the coordinator replies to a message (RocksDB wiki, Remote Compaction: a worker reads the input files of its job; LevelDB, version_set.cc, AddLiveFiles: the files of every live version stay).
 use Rattle.std.specs.Prelude.{◌≡◌, ◌⊎◌, ℕ, ◌≤◌, List, Option, None, Some, IsSome, slice_get}
-use Rattle.std.specs.Option.{option_map, option_or}
 use Rattle.lsm_key.specs.Sets.{IsIn}
-use Rattle.lsm_table.specs.Tables.{Opened}
-use Rattle.lsm_edit.specs.declared.served.Placed.{Placed}
-use Rattle.lsm_edit.specs.Served.{table_at}
 use Rattle.lsm_msg.specs.declared.message.Body.{Body}
 use Rattle.lsm_msg.specs.declared.message.Body.TheVariants as body
 use Rattle.lsm_msg.specs.declared.message.Message.{Message}
 use Rattle.lsm_msg.specs.declared.node.Node.TheVariants.{Coordinator}
-use Rattle.lsm_coord.specs.declared.retired.Retired.{Retired}
+use Rattle.lsm_versions.specs.Retention.{bytes_at}
 use Rattle.lsm_coord.specs.Model.State.{State, Version, Place}
-use Rattle.lsm_coord.specs.Contract.Retention.{retired_at}
 use Rattle.lsm_coord.specs.Contract.Value.{CoordValue}
-
--- the bytes of a file of the current version, or of a retired one
-abbrev pub bytes_at : List Placed → List Retired → ℕ → Option (List ℕ)
-bytes_at places retired n = option_or (option_map (λ (t : Opened). t.bytes) (table_at places n)) (retired_at retired n)
 
 -- the table of a file, or that it is gone
 abbrev pub table_body : ℕ → Option (List ℕ) → Body

@@ -7,14 +7,23 @@ use Rattle.lsm_key.specs.Sets.{IsIn}
 use Rattle.lsm_key.specs.Writes.{answer}
 use Rattle.lsm_key.specs.Visible.{value_at}
 use Rattle.lsm_key.specs.Places.{entries_after, AreOrdered}
+use Rattle.lsm_edit.specs.declared.file.FileMeta.{FileMeta}
 use Rattle.lsm_edit.specs.Served.{ServedValue, tables_of}
-use Rattle.lsm_coord.specs.Model.State.{State, last_seq, last_flushed, active_start}
+use Rattle.lsm_edit.specs.Version.{VersionValue}
+use Rattle.lsm_versions.specs.Manifest.{Folds, versions_of}
+use Rattle.lsm_coord.specs.Model.State.{Place, State, Version, last_seq, last_flushed, active_start}
 use Rattle.lsm_coord.specs.declared.snapshot.Snapshot.{Snapshot}
 use Rattle.lsm_coord.specs.Model.Event.{Event, Reply}
 use Rattle.lsm_coord.specs.Model.Step.{Step}
-use Rattle.lsm_coord.specs.Contract.Manifest.{Folds, versions_of, listing_of}
 use Rattle.lsm_coord.specs.declared.frozen.Frozen.{Frozen}
 use Rattle.lsm_coord.specs.Contract.Value.{CoordValue, frozen_entries, stored_entries}
+
+-- what a version lists
+abbrev pub place_of : FileMeta → Place
+place_of f = record { level = f.level; file = f.number }
+
+abbrev pub listing_of : VersionValue → Version
+listing_of v = record { flushed = v.flushed; files = map place_of v.files }
 
 -- The edits and the tables of the current version show the versions of a state, and its answers at the last flush.
 pub record ShowsStored (edits : List (List ℕ)) (served : ServedValue) (s : State) : Type 0 where

@@ -5,8 +5,8 @@ use Rattle.lsm_key.specs.declared.limits.Limits.{Limits}
 use Rattle.lsm_key.specs.Places.{all_entries}
 use Rattle.lsm_claim.specs.Book.{BookValue}
 use Rattle.lsm_edit.specs.Served.{ServedValue, tables_of}
+use Rattle.lsm_versions.specs.declared.retired.Retired.{Retired}
 use Rattle.lsm_coord.specs.declared.frozen.Frozen.{Frozen}
-use Rattle.lsm_coord.specs.declared.retired.Retired.{Retired}
 use Rattle.lsm_coord.specs.declared.snapshot.Snapshot.{Snapshot}
 
 pub record CoordValue : Type 0 where

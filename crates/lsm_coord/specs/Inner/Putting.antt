@@ -1,17 +1,18 @@
 -- What becomes of a version set at an install and at a flush.
-use Rattle.std.specs.Prelude.{◌≡◌, ℕ, ◌+◌, List, [], ◌∷◌, ◌++◌, None}
+use Rattle.std.specs.Prelude.{◌≡◌, ℕ, ◌+◌, ◌≤◌, List, [], ◌∷◌, ◌++◌, None}
+use Rattle.lsm_key.specs.declared.limits.TheConstants.{MAX_NUMBER}
 use Rattle.lsm_claim.specs.declared.job.LiveJob.{LiveJob}
 use Rattle.lsm_table.specs.Tables.{Opened}
 use Rattle.lsm_edit.specs.declared.edit.Edit.{Edit}
 use Rattle.lsm_edit.specs.declared.file.FileMeta.{FileMeta}
 use Rattle.lsm_edit.specs.Edit.{IsEdit, edit as edit_bytes}
 use Rattle.lsm_edit.specs.Next.{flush_edit}
-use Rattle.lsm_edit.specs.Version.{apply_fault}
+use Rattle.lsm_edit.specs.Version.{VersionValue, apply_fault}
 use Rattle.lsm_msg.specs.declared.job.JobResult.{JobResult}
 use Rattle.lsm_msg.specs.Installs.{with_flushed}
+use Rattle.lsm_versions.specs.Manifest.{VersionSetValue, after_logging}
 use Rattle.lsm_coord.specs.declared.coord.install.Put.{Put}
-use Rattle.lsm_coord.specs.Contract.Installing.{IsAcceptable, install_edit_of, numbers_of}
-use Rattle.lsm_coord.specs.Contract.Manifest.{VersionSetValue, after_logging}
+use Rattle.lsm_coord.specs.Contract.Installing.{IsAcceptable, install_edit_of, output_numbers}
 
 -- the result is acceptable, the edit of its install is logged and applied, and the version's number and its new files are reported
 pub record PutsOutputs (old : VersionSetValue) (live : LiveJob) (made : JobResult) (put : Put) (new : VersionSetValue) : Type 0 where
@@ -23,7 +24,7 @@ pub record PutsOutputs (old : VersionSetValue) (live : LiveJob) (made : JobResul
   pub applies : apply_fault old.served.version edit ≡ None
   pub new_is : new ≡ after_logging old edit tables
   pub number_is : put.number ≡ old.served.version.number + 1
-  pub files_are : put.files ≡ numbers_of old.served.version live.want tables
+  pub files_are : put.files ≡ output_numbers old.served.version live.want tables
 
 -- the edit of a flush to a file is logged and applied, and the file is searched first
 pub record AddsFile (old : VersionSetValue) (end : ℕ) (file : FileMeta) (table : Opened) (new : VersionSetValue) : Type 0 where
@@ -31,4 +32,9 @@ pub record AddsFile (old : VersionSetValue) (end : ℕ) (file : FileMeta) (table
   pub edit_is : edit ≡ flush_edit old.served.version end file
   pub valid : IsEdit edit
   pub applies : apply_fault old.served.version edit ≡ None
-  pub new_is : new ≡ record old { served = with_flushed old.served end file table; edits = old.edits ++ edit_bytes edit ∷ [] }
+  pub new_is : new ≡ record old { served = with_flushed old.served end file table; edits = old.edits ++ edit_bytes edit ∷ []; kept = new.kept }
+
+-- the version's number and the next file number fit
+pub record CanNumber (v : VersionValue) : Type 0 where
+  pub number : v.number + 1 ≤ MAX_NUMBER
+  pub next_file : v.next_file + 1 ≤ MAX_NUMBER

@@ -1,23 +1,25 @@
 //! Flushes: a memtable becomes a table.
 
-ghost use Rattle.std.specs.Prelude.{◌≡◌, ◌<◌, None, Some, IfErr, OnOk, OnErr};
+ghost use Rattle.std.specs.Prelude.{◌≡◌, ◌<◌, ◌≤◌, None, Some, IfErr, OnOk, OnErr};
 ghost use Rattle.lsm_key.specs.Faults.{Refuses};
 ghost use Rattle.lsm_edit.specs.File.{IsFile};
 ghost use Rattle.lsm_edit.specs.Served.{IsAsRecorded};
 ghost use Rattle.lsm_coord.specs.Model.Event.{Flush};
 ghost use Rattle.lsm_coord.specs.Contract.Shows.{Follows};
 ghost use Rattle.lsm_coord.specs.Contract.Calls.{Adds, AddsTable, flush_fault, flush_source};
-ghost use Rattle.lsm_coord.specs.Contract.Manifest.{CanNumber};
 ghost use Rattle.lsm_coord.specs.Contract.Sound.{KeepsSound};
 ghost use Rattle.lsm_coord.specs.Contract.Replies.{flush_reply};
+ghost use Rattle.lsm_coord.specs.Inner.Putting.{AddsFile, CanNumber};
 
 use super::Coord;
 use crate::CoordError;
-use lsm_edit::FileMeta;
+use lsm_edit::{Edit, FileMeta};
 use lsm_key::{FileNumber, MAX_NUMBER, Seq, VersionNumber};
 use lsm_mem::Memtable;
 use lsm_table::Table;
-use std::alloc::AllocError;
+use lsm_vault::MemoryVault;
+use lsm_versions::VersionSet;
+use std::alloc::{AllocError, Global};
 
 /// What a flush produced.
 #[derive(Clone, Copy, Debug, PartialEq, Eq)]
@@ -106,7 +108,7 @@ impl Coord {
     {
         // Proof hint: all files of the version have lower numbers.
         let _files = self.versions.version().files();
-        self.versions.add_table(self.alloc, meta, table, end)?;
+        put_table(self.alloc, &mut self.versions, meta, table, end)?;
         if self.frozen.is_some() {
             self.frozen = None;
             return Ok(());
@@ -114,4 +116,28 @@ impl Coord {
         self.active = self.active.successor();
         Ok(())
     }
+}
+
+// Logs and applies the edit of a flush up to a sequence, to a table of level 0. If memory runs out, a table may have been put.
+fn put_table(
+    alloc: Global,
+    versions: &mut VersionSet<MemoryVault>,
+    meta: FileMeta,
+    table: Table,
+    end: Seq,
+) -> Result<(), AllocError>
+    requires room { CanNumber versions.old.served.version }
+    requires epoch { 1 ≤ versions.old.served.version.epoch }
+    requires newer { versions.old.served.version.flushed < end }
+    requires sound { IsFile meta }
+    requires place { (meta.number ≡ versions.old.served.version.next_file) × (meta.level ≡ 0) }
+    requires recorded { IsAsRecorded meta table }
+    ensures ok { OnOk result (AddsFile versions.old end meta table versions.new) }
+    ensures err { OnErr result (versions.new ≡ record versions.old { kept = versions.new.kept; failures = versions.new.failures }) }
+{
+    let edit = Edit::flush(alloc, versions.served().version(), end, meta)?;
+    let mut tables = Vec::with_capacity(alloc, 1)?;
+    tables.push(table)?;
+    versions.log_in_memory(&edit, tables)?;
+    Ok(())
 }

@@ -19,12 +19,13 @@ ghost use Rattle.lsm_coord.specs.Model.Event.{Deliver};
 
 use super::Coord;
 use super::outputs::{open_outputs, records_of};
-use crate::version_set::VersionSet;
 use lsm_claim::{Claim, Ending, JobId, LiveJob, Want};
 use lsm_edit::{Edit, FileMeta, Version};
 use lsm_key::{FileNumber, Items, MAX_NUMBER, VersionNumber};
 use lsm_msg::JobResult;
 use lsm_table::Table;
+use lsm_vault::MemoryVault;
+use lsm_versions::VersionSet;
 use std::alloc::{AllocError, AllocFailed, Global};
 use thiserror::Error;
 
@@ -122,10 +123,10 @@ fn job_named(jobs: &[LiveJob], id: JobId) -> Option<&LiveJob>
     jobs.iter().find(|job| job.id == id)
 }
 
-// Makes the next version, in which the outputs replace the inputs. A refusal changes nothing.
+// Makes the next version, in which the outputs replace the inputs. A refusal changes nothing, but may have put tables.
 fn put_outputs(
     alloc: Global,
-    versions: &mut VersionSet,
+    versions: &mut VersionSet<MemoryVault>,
     job: &LiveJob,
     made: &JobResult,
 ) -> Result<Put, InstallError>
@@ -133,7 +134,7 @@ fn put_outputs(
     requires legal { IsLegal versions.old.served.version.files job.now.want }
     requires orderly { IsJobWant job.now.want }
     ensures ok { IfOk result (λ put. PutsOutputs versions.old job.now made.now put versions.new) }
-    ensures err { OnErr result (versions.new ≡ versions.old) }
+    ensures err { OnErr result (versions.new ≡ record versions.old { kept = versions.new.kept; failures = versions.new.failures }) }
     ensures why { IfErr result (Rejects versions.old.served.version job.now made.now) }
 {
     let want = &job.want;
@@ -149,7 +150,7 @@ fn put_outputs(
     let number = VersionNumber::new(version.number() + 1);
     let edit = edit_of(alloc, version, want, &tables)?;
     let files = numbers_of(alloc, edit.added.as_slice())?;
-    versions.log_and_apply(&edit, tables)?;
+    versions.log_in_memory(&edit, tables)?;
     Ok(Put {
         number,
         files: Items::from_vec(files),

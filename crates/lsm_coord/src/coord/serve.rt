@@ -1,10 +1,11 @@
 //! Answers to messages.
 
 ghost use Rattle.std.specs.Prelude.{◌≡◌, ℕ, IfOk, IfErr, IsSome};
+ghost use Rattle.lsm_versions.specs.Retention.{bytes_at};
 ghost use Rattle.lsm_coord.specs.Model.Event.{Deliver, Other};
 ghost use Rattle.lsm_coord.specs.Model.State.{State};
 ghost use Rattle.lsm_coord.specs.Contract.Shows.{Follows, Shows};
-ghost use Rattle.lsm_coord.specs.Contract.Serving.{FetchesTable, Serves, answer_message, bytes_at, table_body};
+ghost use Rattle.lsm_coord.specs.Contract.Serving.{FetchesTable, Serves, answer_message, table_body};
 
 use super::Coord;
 use lsm_key::FileNumber;

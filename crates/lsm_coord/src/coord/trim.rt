@@ -2,10 +2,10 @@
 
 ghost use Rattle.std.specs.Prelude.{◌≡◌, None, IfErr, IfOk, OnErr, OnOk, max};
 ghost use Rattle.lsm_key.specs.Faults.{Refuses};
+ghost use Rattle.lsm_versions.specs.Retention.{dropped_below};
 ghost use Rattle.lsm_coord.specs.Model.Event.{Trim};
-ghost use Rattle.lsm_coord.specs.Contract.Calls.{after_trim, trim_fault};
+ghost use Rattle.lsm_coord.specs.Contract.Calls.{with_floor, trim_fault};
 ghost use Rattle.lsm_coord.specs.Contract.Replies.{trim_reply};
-ghost use Rattle.lsm_coord.specs.Contract.Retention.{dropped_below};
 ghost use Rattle.lsm_coord.specs.Contract.Shows.{Follows};
 ghost use Rattle.lsm_coord.specs.Contract.Sound.{KeepsSound};
 
@@ -23,7 +23,7 @@ impl Coord {
         to: VersionNumber,
     ) -> Result<(VersionNumber, Items<FileNumber>), CoordError>
         ensures step { Follows self.old (Trim to) (trim_reply result) self.new }
-        ensures ok { OnOk result ((trim_fault self.old to ≡ None) × (self.new ≡ after_trim self.old to)) }
+        ensures ok { OnOk result ((trim_fault self.old to ≡ None) × (self.new ≡ with_floor self.old to)) }
         ensures floor { IfOk result (λ trimmed. trimmed.0 ≡ max self.old.floor to) }
         ensures dropped { IfOk result (λ trimmed. trimmed.1 ≡ dropped_below (max self.old.floor to) self.old.retired) }
         ensures err { OnErr result (self.new ≡ self.old) }

@@ -2,7 +2,7 @@
 
 ghost use Rattle.std.specs.Prelude.{◌≡◌};
 ghost use Rattle.lsm_key.specs.Reading.{Gives};
-ghost use Rattle.lsm_msg.specs.MessageReading.{each_at, job_id_at, sized_at, tables_at, result_at};
+ghost use Rattle.lsm_msg.specs.MessageReading.{each_at, job_id_at, sized_at, result_tables_at, result_at};
 
 use super::{BAD, SHORT};
 use crate::fault::MsgError;
@@ -33,9 +33,9 @@ pub(crate) fn read_job_id(rest: &mut Bytes) -> Result<JobId, MsgError>
 }
 
 // A count, and that many tables.
-#[tactic(auto, unfolding(crate::specs::MessageReading::tables_at))]
+#[tactic(auto, unfolding(crate::specs::MessageReading::result_tables_at))]
 fn read_tables(alloc: Global, rest: &mut Bytes) -> Result<Items<Bytes>, MsgError>
-    ensures { Gives (λ tables. (tables, rest.new)) result (tables_at rest.old) }
+    ensures { Gives (λ tables. (tables, rest.new)) result (result_tables_at rest.old) }
 {
     let count = read_ranged_u32(rest, 0, u32::MAX, SHORT, BAD)?;
     read_each_table(alloc, count, rest)

@@ -1,7 +1,7 @@
 -- what is added, and what is left to add
 use Rattle.std.proofs.Common.{◌≡◌, ◌++◌, drop, map}
 use Rattle.lsm_sim.specs.Lines.{levels_text}
-use Rattle.lsm_coord.specs.Contract.Manifest.{place_of}
+use Rattle.lsm_coord.specs.Contract.Shows.{place_of}
 use Rattle.lsm_sim.proofs.listing.write_levels.Given as goal
 
 abbrev pub invariant-loop-level : goal.invariant-loop-level

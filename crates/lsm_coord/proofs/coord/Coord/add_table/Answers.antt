@@ -5,8 +5,8 @@ use Rattle.lsm_edit.specs.Next.{flush_edit}
 use Rattle.lsm_edit.specs.Version.{IsVersion}
 use Rattle.lsm_msg.specs.Installs.{with_flushed}
 use Rattle.lsm_msg.proofs.FlushKeepsJobs.{legal_flushed}
+use Rattle.lsm_versions.specs.Manifest.{VersionSetValue}
 use Rattle.lsm_coord.specs.Contract.Calls.{flush_source, flush_source_of, active_after}
-use Rattle.lsm_coord.specs.Contract.Manifest.{VersionSetValue}
 use Rattle.lsm_coord.specs.Contract.Memory.{AreLegal, IsCoord}
 use Rattle.lsm_coord.specs.Contract.Value.{CoordValue}
 use Rattle.lsm_coord.specs.Inner.Putting.{AddsFile}
@@ -18,8 +18,8 @@ pub invariant_of-self-then-is_some : goal.invariant_of-self-then-is_some
 invariant_of-self-then-is_some c =
     let m = c.self.inside in
     let from = flush_source_of m.active m.newest m.frozen in
-    let new : VersionSetValue = c.add_table.new.self in
-    let adds : AddsFile m.versions c.args.end c.args.meta c.args.table new = c.in_ok-add_table.ensures.ok in
+    let new : VersionSetValue = c.put_table.new.versions in
+    let adds : AddsFile m.versions c.args.end c.args.meta c.args.table new = c.in_ok-put_table.ensures.ok in
     let end : c.args.end ≡ from.end = c.requires.end ∙ ap (λ (v : CoordValue). (flush_source v).end) (sym c.self.view_is) in
     let some = frozen_from m.frozen (sym c.is_some.ensures ∙ c.if-is_some.true) in
     let version : IsVersion m.versions.served.version = subst IsVersion c.version.ensures c.files-files.ensures.sound in
@@ -32,8 +32,8 @@ pub invariant_of-self-2 : goal.invariant_of-self-2
 invariant_of-self-2 c =
     let m = c.self.inside in
     let from = flush_source_of m.active m.newest m.frozen in
-    let new : VersionSetValue = c.add_table.new.self in
-    let adds : AddsFile m.versions c.args.end c.args.meta c.args.table new = c.in_ok-add_table.ensures.ok in
+    let new : VersionSetValue = c.put_table.new.versions in
+    let adds : AddsFile m.versions c.args.end c.args.meta c.args.table new = c.in_ok-put_table.ensures.ok in
     let end : c.args.end ≡ from.end = c.requires.end ∙ ap (λ (v : CoordValue). (flush_source v).end) (sym c.self.view_is) in
     let none : m.frozen ≡ None = none_from m.frozen (sym c.is_some.ensures ∙ c.if-is_some.false) in
     let active : active_after m.active m.frozen ≡ c.successor.result = ap (active_after m.active) none ∙ sym c.successor.ensures in
@@ -48,7 +48,7 @@ returns-then-is_some-clause-ok c =
     let m = c.self.inside in
     let s = m.versions.served in
     let from = flush_source_of m.active m.newest m.frozen in
-    let adds : AddsFile m.versions c.args.end c.args.meta c.args.table c.add_table.new.self = c.in_ok-add_table.ensures.ok in
+    let adds : AddsFile m.versions c.args.end c.args.meta c.args.table c.put_table.new.versions = c.in_ok-put_table.ensures.ok in
     let end : c.args.end ≡ from.end = c.requires.end ∙ ap (λ (v : CoordValue). (flush_source v).end) (sym c.self.view_is) in
     let some = frozen_from m.frozen (sym c.is_some.ensures ∙ c.if-is_some.true) in
     let active : m.active ≡ active_after m.active m.frozen = ap (active_after m.active) (sym some.1) in
@@ -66,7 +66,7 @@ returns-clause-ok c =
     let m = c.self.inside in
     let s = m.versions.served in
     let from = flush_source_of m.active m.newest m.frozen in
-    let adds : AddsFile m.versions c.args.end c.args.meta c.args.table c.add_table.new.self = c.in_ok-add_table.ensures.ok in
+    let adds : AddsFile m.versions c.args.end c.args.meta c.args.table c.put_table.new.versions = c.in_ok-put_table.ensures.ok in
     let end : c.args.end ≡ from.end = c.requires.end ∙ ap (λ (v : CoordValue). (flush_source v).end) (sym c.self.view_is) in
     let none : m.frozen ≡ None = none_from m.frozen (sym c.is_some.ensures ∙ c.if-is_some.false) in
     let active : c.successor.result ≡ active_after m.active m.frozen = c.successor.ensures ∙ ap (active_after m.active) (sym none) in

@@ -7,7 +7,7 @@ use Rattle.lsm_key.specs.Entries.{AreSound}
 use Rattle.lsm_key.specs.Limits.{entry_weight}
 use Rattle.lsm_table.proofs.TableWeights.{light_fits}
 use Rattle.lsm_edit.specs.declared.edit.Edit.{Edit}
-use Rattle.lsm_edit.specs.Edit.{IsSpelled}
+use Rattle.lsm_edit.specs.Edit.{IsSpelledEdit}
 use Rattle.lsm_edit.specs.Version.{VersionValue, apply_fault}
 use Rattle.lsm_coord.specs.Model.Changes.{after_flush}
 use Rattle.lsm_coord.specs.Contract.Value.{CoordValue}
@@ -18,7 +18,7 @@ use Rattle.lsm_coord.specs.Model.Rules.{refusal}
 use Rattle.lsm_coord.specs.Model.Event as say
 use Rattle.lsm_coord.proofs.ForcedRefusals.{flush_forced, flush_refused}
 use Rattle.lsm_coord.proofs.FlushSteps.{end_of, shows_after}
-use Rattle.lsm_coord.proofs.ManifestReplay.{version_count}
+use Rattle.lsm_coord.proofs.ShownVersions.{version_count}
 use Rattle.lsm_coord.proofs.CoordInvariant.{flush_free, taken_newer}
 use Rattle.lsm_coord.proofs.coord.Coord.flush.Goals as goal
 
@@ -52,7 +52,7 @@ returns-clause-step c = λ s h.
     let file : c.next_file-file.result ≡ v.served.version.next_file = c.next_file-file.ensures.value ∙ ap (λ (x : VersionValue). x.next_file) c.version-2.ensures ∙ ap (λ (x : CoordValue). x.served.version.next_file) c.self.view_is in
     let adds : AddsTable v c.in_ok-meta.meta c.in_ok-table.table c.add_table.new.self = c.in_ok-add_table.ensures.ok in
     let whole : c.in_ok-table.table.entries ≡ (flush_source v).memtable = c.in_ok-table.ensures ∙ c.in_ok-entries.ensures.all ∙ c.flushable.ensures in
-    let spelled = subst (IsSpelled adds.text) adds.edit_is adds.spelled in
+    let spelled = subst (IsSpelledEdit adds.text) adds.edit_is adds.spelled in
     let applies = subst (λ (e : Edit). apply_fault v.served.version e ≡ None) adds.edit_is adds.applies in
     let shows = shows_after v v.frozen s c.in_ok-meta.meta c.in_ok-table.table adds.text h refl whole (c.in_ok-meta.ensures.place.0 ∙ file) c.in_ok-meta.ensures.place.1 spelled applies in
     (after_flush s, (may, (omega (arith, versions, number, c.new.ensures), c.flush_end-seq.ensures ∙ sym (end_of v v.frozen s h refl), c.new-2.ensures ∙ file ∙ sym h.tables.next_file, refl)), subst (λ (x : CoordValue). Shows x (after_flush s)) (sym adds.new_is) shows)

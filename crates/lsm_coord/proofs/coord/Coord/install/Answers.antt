@@ -68,7 +68,7 @@ returns-in-Ok-clause-became c =
     let found = sym c.job_named.ensures ∙ ap option_copied c.in-Some.is in
     let live = (λ i. find (λ (j : LiveJob). same_job_id j.id (sym c.id-id.ensures i)) (sym c.live.ensures.all i)) ∙ found in
     rw (c.settle-in-Ok.ensures.book, ← c.self.view_is)
-    (became_done _ c.args.claim c.in-Some.job.now c.args.made.now c.in-Ok.put.number c.in-Ok.put.files c.put_outputs.new.versions live c.in-Ok.ensures.ok)
+    (became_done _ c.args.claim c.in-Some.job.now c.args.made.now c.in-Ok.put.number c.in-Ok.put.files c.self.inside.versions.kept c.self.inside.versions.failures c.put_outputs.new.versions live c.in-Ok.ensures.ok)
 
 pub returns-in-Ok-clause-step : goal.returns-in-Ok-clause-step
 returns-in-Ok-clause-step c = λ message holds.

@@ -5,7 +5,8 @@ use Rattle.lsm_msg.specs.declared.message.Body.{Body}
 use Rattle.lsm_msg.specs.declared.message.Body.TheVariants as body
 use Rattle.lsm_msg.specs.declared.message.Message.{Message}
 use Rattle.lsm_msg.specs.declared.node.Node.TheVariants.{Coordinator}
-use Rattle.lsm_coord.specs.Contract.Manifest.{IsVersionSet}
+use Rattle.lsm_versions.specs.Manifest.{Folds, versions_of}
+use Rattle.lsm_versions.specs.Retention.{AreRetired}
 use Rattle.lsm_coord.specs.Contract.Serving.{HasTable, IsListedSince, Serves}
 use Rattle.lsm_coord.specs.Contract.Value.{CoordValue}
 use Rattle.lsm_coord.proofs.ServedFiles.{serves}
@@ -16,8 +17,9 @@ returns-in_ok-file_body-in-Fetch-clause-listed c = λ s h.
     let v = c.args.self.now in
     let n = c.in-Fetch.file in
     let view = c.self.view_is in
-    let set : IsVersionSet (record { served = v.served; edits = v.edits; retired = v.retired; floor = v.floor }) = subst (λ (x : CoordValue). IsVersionSet (record { served = x.served; edits = x.edits; retired = x.retired; floor = x.floor })) view c.served-served.ensures.set in
+    let folds : Folds v.edits v.served.version = subst (λ (x : CoordValue). Folds x.edits x.served.version) view c.served-served.ensures.set.folds in
+    let retired : AreRetired (versions_of v.edits) v.served.version v.retired v.floor = subst (λ (x : CoordValue). AreRetired (versions_of x.edits) x.served.version x.retired x.floor) view c.served-served.ensures.set.retired in
     let sound : IsServed v.served × IsVersion v.served.version = subst (λ (x : CoordValue). IsServed x.served × IsVersion x.served.version) view (c.served-served.ensures.sound) in
-    let answer = serves v s h sound.0 sound.1 set.folds set.retired n in
+    let answer = serves v s h sound.0 sound.1 folds retired n in
     let said : Message = record { src = Coordinator; dst = c.args.message.now.src; body = c.in_ok-file_body-in-Fetch.field-0 } in
     subst (λ (b : Body). Serves s b (Some said)) (sym c.in-Fetch.is) (said, refl, subst (λ (b : Body). (IsListedSince s n × HasTable n b) ⊎ ((IsListedSince s n → ⊥) × (b ≡ body.Gone n))) (sym c.in_ok-file_body-in-Fetch.ensures.ok) answer)

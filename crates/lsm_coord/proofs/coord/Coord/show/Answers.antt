@@ -2,13 +2,14 @@ use Rattle.std.proofs.Common.{◌≡◌, ap, sym, subst, ◌∙◌, refl, arith,
 use Rattle.lsm_edit.specs.declared.file.FileMeta.{FileMeta}
 use Rattle.lsm_edit.specs.Served.{IsServed, ServedValue}
 use Rattle.lsm_edit.specs.Version.{IsVersion}
+use Rattle.lsm_versions.proofs.ManifestReplay.{removed_by_one}
 use Rattle.lsm_coord.specs.Contract.Memory.{IsFit}
 use Rattle.lsm_coord.specs.Model.State.{current, last_flushed, current_files}
 use Rattle.lsm_coord.specs.Model.Step.{Lists}
-use Rattle.lsm_coord.specs.Contract.Manifest.{place_of}
+use Rattle.lsm_coord.specs.Contract.Shows.{place_of}
 use Rattle.lsm_coord.proofs.StateRefusals.{show_may}
 use Rattle.lsm_coord.proofs.CurrentVersion.{lists_current}
-use Rattle.lsm_coord.proofs.ManifestReplay.{version_count, flushed_is, files_are, removed_by_one}
+use Rattle.lsm_coord.proofs.ShownVersions.{version_count, flushed_is, files_are}
 use Rattle.lsm_coord.proofs.coord.Coord.show.Goals as goal
 
 pub returns-clause-step : goal.returns-clause-step

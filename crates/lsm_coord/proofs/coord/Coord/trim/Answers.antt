@@ -1,11 +1,11 @@
 use Rattle.std.proofs.Common.{◌≡◌, ◌≤◌, ◌<◌, ◌∙◌, ℕ, None, max, inl, sym, ap, arith, refl}
 use Rattle.lsm_edit.specs.Version.{VersionValue}
+use Rattle.lsm_versions.specs.Manifest.{VersionSetValue}
 use Rattle.lsm_coord.specs.Model.Changes.{after_trim}
 use Rattle.lsm_coord.specs.Model.Rules.{refusal}
 use Rattle.lsm_coord.specs.Model.Event as say
-use Rattle.lsm_coord.specs.Contract.Manifest.{VersionSetValue}
 use Rattle.lsm_coord.proofs.JobsStaySound.{same_keeps}
-use Rattle.lsm_coord.proofs.ManifestReplay.{version_count}
+use Rattle.lsm_coord.proofs.ShownVersions.{version_count}
 use Rattle.lsm_coord.proofs.StateRefusals.{trim_may, trim_past_current}
 use Rattle.lsm_coord.proofs.TrimSteps.{Shows-trimmed}
 use Rattle.lsm_coord.proofs.coord.Coord.trim.Goals as goal

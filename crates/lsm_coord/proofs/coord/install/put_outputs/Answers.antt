@@ -24,8 +24,8 @@ edit_of-requires-clause-sound c = λ t m.
     let o = c.in_ok-tables.ensures.ok in
     tables_each c.as_slice.result.now c.in_ok-tables.tables.items o.tables t (subst (IsIn t) c.deref.ensures.value m)
 
-pub log_and_apply-requires-clause-recorded : goal.log_and_apply-requires-clause-recorded
-log_and_apply-requires-clause-recorded c =
+pub log_in_memory-requires-clause-recorded : goal.log_in_memory-requires-clause-recorded
+log_in_memory-requires-clause-recorded c =
     let o = c.in_ok-tables.ensures.ok in
     let is = ap (λ (e : Edit). e.added) (c.in_ok-edit.ensures.edit ∙ ap (install_edit_of c.version-version.result.now c.args.job.now.want) c.deref.ensures.value) in
     subst (λ (fs : List FileMeta). AreAsRecorded fs c.in_ok-tables.tables.items) (sym is)
@@ -50,7 +50,7 @@ returns-clause-ok c =
       edit_is = is;
       valid = c.in_ok-edit.ensures.sound;
       applies = subst (λ (v : VersionValue). apply_fault v c.in_ok-edit.edit ≡ None) c.version-version.ensures c.in_ok-edit.ensures.applies;
-      new_is = c.in_ok-log_and_apply.ensures.ok;
+      new_is = c.in_ok-log_in_memory.ensures.ok;
       number_is = c.new-number.ensures ∙ ap (λ (n : ℕ). n + 1) (c.number.ensures.value ∙ ap (λ (v : VersionValue). v.number) c.version-version.ensures);
       files_are = c.from_vec.ensures ∙ c.in_ok-files.ensures ∙ ap (map (λ (f : FileMeta). f.number)) (c.as_slice-2.ensures ∙ ap (λ (e : Edit). e.added) is);
     }

@@ -5,7 +5,7 @@ use Rattle.lsm_table.specs.Tables.{Opened}
 use Rattle.lsm_merge.specs.Inputs.{CanMerge, IsRefused}
 use Rattle.lsm_merge.specs.Outputs.{IsMerge}
 use Rattle.lsm_work.specs.Held.{AreHeld, StandsAt, task_of}
-use Rattle.lsm_work.specs.Workers.{TaskValue, tables_of, with_input}
+use Rattle.lsm_work.specs.Workers.{TaskValue, received_tables, with_input}
 use Rattle.lsm_work.proofs.HeldInputs.{tables_more, place_within, has_room, tables_many, remove_insert}
 use Rattle.lsm_work.proofs.task.Task.merged_with.Goals as goal
 
@@ -52,7 +52,7 @@ returns-clause-ok c = λ f stands.
     let at = subst (λ (t : TaskValue). StandsAt t p c.args.place) (sym c.self.view_is) stands in
     let tables = c.as_slice.ensures.value ∙ c.insert.ensures.items ∙ ap (λ r. cond (is_ok r) (take c.args.place i.tables.items ++ c.args.table ∷ drop c.args.place i.tables.items) i.tables.items) c.unwrap.ensures in
     let all = tables ∙ sym (tables_more i.job i.numbers.items i.tables.items c.self.invariant.0 p c.args.place at) in
-    subst (λ (t : TaskValue). IfOk c.merge-merged.result (λ outputs. CanMerge (tables_of (with_input p t)) t.job × IsMerge (tables_of (with_input p t)) t.job outputs.items)) c.self.view_is
+    subst (λ (t : TaskValue). IfOk c.merge-merged.result (λ outputs. CanMerge (received_tables (with_input p t)) t.job × IsMerge (received_tables (with_input p t)) t.job outputs.items)) c.self.view_is
     (subst (λ (ts : List Opened). IfOk c.merge-merged.result (λ outputs. CanMerge ts i.job × IsMerge ts i.job outputs.items)) all c.merge-merged.ensures.ok)
 
 pub returns-clause-refused : goal.returns-clause-refused
@@ -62,7 +62,7 @@ returns-clause-refused c = λ f stands.
     let at = subst (λ (t : TaskValue). StandsAt t p c.args.place) (sym c.self.view_is) stands in
     let tables = c.as_slice.ensures.value ∙ c.insert.ensures.items ∙ ap (λ r. cond (is_ok r) (take c.args.place i.tables.items ++ c.args.table ∷ drop c.args.place i.tables.items) i.tables.items) c.unwrap.ensures in
     let all = tables ∙ sym (tables_more i.job i.numbers.items i.tables.items c.self.invariant.0 p c.args.place at) in
-    subst (λ (t : TaskValue). IfErr c.merge-merged.result (IsRefused (tables_of (with_input p t)) t.job)) c.self.view_is
+    subst (λ (t : TaskValue). IfErr c.merge-merged.result (IsRefused (received_tables (with_input p t)) t.job)) c.self.view_is
     (subst (λ (ts : List Opened). IfErr c.merge-merged.result (IsRefused ts i.job)) all c.merge-merged.ensures.refused)
 
 pub returns-clause-unchanged : goal.returns-clause-unchanged

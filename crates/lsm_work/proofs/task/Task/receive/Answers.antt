@@ -9,7 +9,7 @@ use Rattle.lsm_msg.specs.Messages.{IsMessage}
 use Rattle.lsm_merge.specs.Inputs.{IsRefused}
 use Rattle.lsm_work.specs.declared.change.WorkChange.{WorkChange}
 use Rattle.lsm_work.specs.declared.change.WorkChange.TheVariants.{Collecting, Merged, Dropped, Ignored}
-use Rattle.lsm_work.specs.Workers.{Outcome, TaskValue, WorkerValue, missing, tables_of, to_coordinator, with_input}
+use Rattle.lsm_work.specs.Workers.{Outcome, TaskValue, WorkerValue, missing, received_tables, to_coordinator, with_input}
 use Rattle.lsm_work.proofs.LastInput.{found, some_left, none_left, all_come, all_recorded}
 use Rattle.lsm_work.proofs.ResultTables.{tables_may_be_sent}
 use Rattle.lsm_work.proofs.Steps.{All-one, proceeds_more, proceeds_last}
@@ -60,7 +60,7 @@ unreachable-requires c =
     let of = found c.args.self.now c.args.number c.in-Some.place c.args.bytes.now c.in-Some.file.now c.in_ok-table.field-0 c.in-Some-2.table c.in-Some.ensures.missing c.in-Some.ensures.place c.in_ok-table.ensures.some c.in-Some-2.is in
     let inputs = ap (λ (fs : List FileMeta). length fs) c.inputs.ensures.all in
     let last : length i.job.inputs ≤ length i.numbers.items + 1 = omega (arith, inputs, c.len.ensures, c.if-len-inputs.false) in
-    subst (IsRefused (tables_of (with_input p old)) old.job) c.in-Err-WrongInputs.field-0-is (c.in-Err-WrongInputs.ensures.refused c.in-Some.file.now of.stands) (all_recorded i.job i.numbers.items i.tables.items c.self.invariant.0 old c.self.view_is p c.in-Some.place of.stands last)
+    subst (IsRefused (received_tables (with_input p old)) old.job) c.in-Err-WrongInputs.field-0-is (c.in-Err-WrongInputs.ensures.refused c.in-Some.file.now of.stands) (all_recorded i.job i.numbers.items i.tables.items c.self.invariant.0 old c.self.view_is p c.in-Some.place of.stands last)
 
 pub returns-in-Ok-clause-ok : goal.returns-in-Ok-clause-ok
 returns-in-Ok-clause-ok c =
@@ -98,7 +98,7 @@ returns-in-Err-SameEntry-clause-ok c =
     let of = found c.args.self.now c.args.number c.in-Some.place c.args.bytes.now c.in-Some.file.now c.in_ok-table.field-0 c.in-Some-2.table c.in-Some.ensures.missing c.in-Some.ensures.place c.in_ok-table.ensures.some c.in-Some-2.is in
     let inputs = ap (λ (fs : List FileMeta). length fs) c.inputs.ensures.all in
     let last : length i.job.inputs ≤ length i.numbers.items + 1 = omega (arith, inputs, c.len.ensures, c.if-len-inputs.false) in
-    let refused = subst (IsRefused (tables_of (with_input p old)) old.job) c.in-Err-SameEntry.field-0-is (c.in-Err-SameEntry.ensures.refused c.in-Some.file.now of.stands) in
+    let refused = subst (IsRefused (received_tables (with_input p old)) old.job) c.in-Err-SameEntry.field-0-is (c.in-Err-SameEntry.ensures.refused c.in-Some.file.now of.stands) in
     inl (
       p,
       of.awaited,

@@ -1,0 +1,3 @@
+pub mod FailureCounts
+pub mod TableLookups
+pub mod TableNumbers

@@ -1,0 +1,142 @@
+//! A vault that fails once, for tests.
+
+ghost use Rattle.std.specs.Prelude.{◌≡◌, ◌+◌, ◌++◌, ◌∷◌, [], Some, IfOk, OnOk, OnErr, min, ◌^◌, ◌-◌};
+ghost use Rattle.std.specs.FinMap as map;
+ghost use Rattle.lsm_vault.specs.Failures.{CountsFailures};
+ghost use Rattle.lsm_vault.specs.Fuse.{Burns, fuse_failures};
+
+use crate::{Vault, VaultError};
+use bytes::Bytes;
+use lsm_key::FileNumber;
+
+/// A vault round another. It lets a number of calls pass, the next one reports `Device` and does nothing, and all later ones pass.
+/// Every call but `failures` counts, those that only read too.
+#[derive(Drop)]
+pub struct FusedVault<V: Vault> {
+    inside: V,
+    // How many calls pass before the one that fails; none once that has come.
+    left: Option<u64>,
+}
+
+impl<V: Vault> FusedVault<V> {
+    /// A vault with what another one has, whose fuse lets this many calls pass.
+    pub fn new(inside: V, calls: u64) -> FusedVault<V>
+        ensures edits { ⟦<FusedVault<V> as Vault>⟧.edits result ≡ V.edits inside }
+        ensures tables { ⟦<FusedVault<V> as Vault>⟧.tables result ≡ V.tables inside }
+        ensures failures { ⟦<FusedVault<V> as Vault>⟧.failures result ≡ V.failures inside }
+        ensures left { result.left ≡ Some calls }
+    {
+        FusedVault {
+            inside,
+            left: Some(calls),
+        }
+    }
+
+    /// How many calls pass before the one that fails; none once that has come.
+    pub fn left(&self) -> Option<u64>
+        ensures { result ≡ self.now.left }
+    {
+        self.left
+    }
+}
+
+// Counts a call. It fails if none is left.
+fn count_call(left: &mut Option<u64>) -> Result<(), VaultError>
+    ensures fuse { Burns left.old result left.new }
+    ensures counted { CountsFailures result (fuse_failures left.old) (fuse_failures left.new) }
+{
+    match *left {
+        None => Ok(()),
+        Some(0) => {
+            *left = None;
+            Err(VaultError::Device)
+        }
+        Some(calls) => {
+            *left = Some(calls - 1);
+            Ok(())
+        }
+    }
+}
+
+// A method's clauses stand in place of the trait's, so each repeats those and adds what the fuse does.
+#[tactic(auto, using(crate::proofs::FailureCounts::counted_beside))]
+impl<V: Vault> Vault for FusedVault<V> {
+    ghost edits = { λ v. V.edits v.inside };
+
+    ghost tables = { λ v. V.tables v.inside };
+
+    ghost failures = { λ v. V.failures v.inside + fuse_failures v.left };
+
+    fn put_table(&mut self, number: FileNumber, table: Bytes) -> Result<(), VaultError>
+        ensures ok { OnOk result (V.tables self.new.inside ≡ map.insert (V.tables self.old.inside) number table) }
+        ensures err { OnErr result (V.tables self.new.inside ≡ V.tables self.old.inside) }
+        ensures edits_stay { V.edits self.new.inside ≡ V.edits self.old.inside }
+        ensures counted { CountsFailures result (V.failures self.old.inside + fuse_failures self.old.left) (V.failures self.new.inside + fuse_failures self.new.left) }
+        ensures fuse { Burns self.old.left result self.new.left }
+    {
+        count_call(&mut self.left)?;
+        self.inside.put_table(number, table)
+    }
+
+    fn remove_table(&mut self, number: FileNumber) -> Result<(), VaultError>
+        ensures ok { OnOk result (V.tables self.new.inside ≡ map.remove (V.tables self.old.inside) number) }
+        ensures err { OnErr result (V.tables self.new.inside ≡ V.tables self.old.inside) }
+        ensures edits_stay { V.edits self.new.inside ≡ V.edits self.old.inside }
+        ensures counted { CountsFailures result (V.failures self.old.inside + fuse_failures self.old.left) (V.failures self.new.inside + fuse_failures self.new.left) }
+        ensures fuse { Burns self.old.left result self.new.left }
+    {
+        count_call(&mut self.left)?;
+        self.inside.remove_table(number)
+    }
+
+    fn append_edit(&mut self, edit: Bytes) -> Result<(), VaultError>
+        ensures ok { OnOk result (V.edits self.new.inside ≡ V.edits self.old.inside ++ edit ∷ []) }
+        ensures err { OnErr result (V.edits self.new.inside ≡ V.edits self.old.inside) }
+        ensures tables_stay { V.tables self.new.inside ≡ V.tables self.old.inside }
+        ensures counted { CountsFailures result (V.failures self.old.inside + fuse_failures self.old.left) (V.failures self.new.inside + fuse_failures self.new.left) }
+        ensures fuse { Burns self.old.left result self.new.left }
+    {
+        count_call(&mut self.left)?;
+        self.inside.append_edit(edit)
+    }
+
+    fn edits(&mut self) -> Result<Vec<Bytes>, VaultError>
+        ensures ok { IfOk result (λ all. all.items ≡ V.edits self.old.inside) }
+        ensures edits_stay { V.edits self.new.inside ≡ V.edits self.old.inside }
+        ensures tables_stay { V.tables self.new.inside ≡ V.tables self.old.inside }
+        ensures counted { CountsFailures result (V.failures self.old.inside + fuse_failures self.old.left) (V.failures self.new.inside + fuse_failures self.new.left) }
+        ensures fuse { Burns self.old.left result self.new.left }
+    {
+        count_call(&mut self.left)?;
+        self.inside.edits()
+    }
+
+    fn table(&mut self, number: FileNumber) -> Result<Option<Bytes>, VaultError>
+        ensures ok { IfOk result (λ found. found ≡ map.get (V.tables self.old.inside) number) }
+        ensures edits_stay { V.edits self.new.inside ≡ V.edits self.old.inside }
+        ensures tables_stay { V.tables self.new.inside ≡ V.tables self.old.inside }
+        ensures counted { CountsFailures result (V.failures self.old.inside + fuse_failures self.old.left) (V.failures self.new.inside + fuse_failures self.new.left) }
+        ensures fuse { Burns self.old.left result self.new.left }
+    {
+        count_call(&mut self.left)?;
+        self.inside.table(number)
+    }
+
+    fn numbers(&mut self) -> Result<Vec<FileNumber>, VaultError>
+        ensures ok { IfOk result (λ all. all.items ≡ map.keys (V.tables self.old.inside)) }
+        ensures edits_stay { V.edits self.new.inside ≡ V.edits self.old.inside }
+        ensures tables_stay { V.tables self.new.inside ≡ V.tables self.old.inside }
+        ensures counted { CountsFailures result (V.failures self.old.inside + fuse_failures self.old.left) (V.failures self.new.inside + fuse_failures self.new.left) }
+        ensures fuse { Burns self.old.left result self.new.left }
+    {
+        count_call(&mut self.left)?;
+        self.inside.numbers()
+    }
+
+    fn failures(&self) -> u64 {
+        match self.left {
+            None => self.inside.failures().saturating_add(1),
+            Some(_) => self.inside.failures(),
+        }
+    }
+}

@@ -1,0 +1,83 @@
+//! A vault in memory.
+
+ghost use Rattle.std.specs.Prelude.{◌≡◌, [], IfOk};
+ghost use Rattle.std.specs.FinMap as map;
+
+use crate::tables::Tables;
+use crate::{Vault, VaultError};
+use bytes::Bytes;
+use lsm_key::FileNumber;
+use std::alloc::{AllocError, Global};
+
+/// A vault in memory. It has no device that could fail, so it never reports `Device`.
+#[derive(Drop)]
+pub struct MemoryVault {
+    alloc: Global,
+    edits: Vec<Bytes>,
+    tables: Tables,
+}
+
+impl MemoryVault {
+    /// A vault without edits and tables. Allocates nothing.
+    pub fn new(alloc: Global) -> MemoryVault
+        ensures edits { ⟦<MemoryVault as Vault>⟧.edits result ≡ [] }
+        ensures tables { ⟦<MemoryVault as Vault>⟧.tables result ≡ map.empty }
+    {
+        MemoryVault {
+            alloc,
+            edits: Vec::new(alloc),
+            tables: Tables::new(alloc),
+        }
+    }
+}
+
+impl Vault for MemoryVault {
+    ghost edits = { λ v. v.edits.items };
+
+    ghost tables = { λ v. v.tables };
+
+    ghost failures = { λ _. 0 };
+
+    fn put_table(&mut self, number: FileNumber, table: Bytes) -> Result<(), VaultError> {
+        self.tables.insert(number.number(), table)?;
+        Ok(())
+    }
+
+    fn remove_table(&mut self, number: FileNumber) -> Result<(), VaultError> {
+        self.tables.remove(number.number());
+        Ok(())
+    }
+
+    fn append_edit(&mut self, edit: Bytes) -> Result<(), VaultError> {
+        self.edits.push(edit)?;
+        Ok(())
+    }
+
+    fn edits(&mut self) -> Result<Vec<Bytes>, VaultError> {
+        Ok(self.edits.clone()?)
+    }
+
+    fn table(&mut self, number: FileNumber) -> Result<Option<Bytes>, VaultError> {
+        Ok(self.tables.get(number.number())?)
+    }
+
+    fn numbers(&mut self) -> Result<Vec<FileNumber>, VaultError> {
+        let numbers = self.tables.numbers(self.alloc)?;
+        Ok(file_numbers(self.alloc, numbers.as_slice())?)
+    }
+
+    fn failures(&self) -> u64 {
+        0
+    }
+}
+
+// The same numbers, as numbers of files.
+fn file_numbers(alloc: Global, numbers: &[u64]) -> Result<Vec<FileNumber>, AllocError>
+    ensures { IfOk result (λ all. all.items ≡ numbers.now) }
+{
+    let mut files = Vec::with_capacity(alloc, numbers.len())?;
+    for number in numbers {
+        files.push(FileNumber::new(*number))?;
+    }
+    Ok(files)
+}

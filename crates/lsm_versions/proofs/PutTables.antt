@@ -1,0 +1,79 @@
+-- The tables of a vault after some are put or removed.
+use Rattle.std.proofs.Common.{◌≡◌, ℕ, ◌≤◌, Bool, false, cond, List, [], ◌∷◌, None, Some, Result, Ok, Err, OnOk, OnErr, refl, sym, ap, subst, ◌∙◌, inl, inr, arith}
+use Rattle.std.specs.Ordering.{nat_cmp, eq_by_cmp}
+use Rattle.std.specs.FinMap.{get, get-insert, get-remove, insert, remove}
+use Rattle.std.specs.Cmp.{nat_cmp_total, eq_by_cmp_equiv}
+use Rattle.std.proofs.lemmas.Bool.Decides.{nat_tests}
+use Rattle.std.proofs.lemmas.Bool.{cases_eq}
+use Rattle.lsm_key.specs.Sets.{IsIn}
+use Rattle.lsm_edit.specs.declared.file.FileMeta.{FileMeta}
+use Rattle.lsm_edit.specs.declared.served.Placed.{Placed}
+use Rattle.lsm_edit.specs.Version.{FileNumbersRise}
+use Rattle.lsm_table.specs.Tables.{Opened}
+use Rattle.lsm_edit.specs.Served.{placed_of}
+use Rattle.lsm_edit.proofs.PlacesInOrder.{placed_meta}
+use Rattle.lsm_vault.specs.Failures.{CountsFailures}
+use Rattle.lsm_vault.specs.declared.error.VaultError.{VaultError}
+use Rattle.lsm_vault.specs.declared.error.VaultError.TheVariants.{Device, OutOfMemory}
+use Rattle.lsm_versions.specs.Kept.{Kept, MayHaveRemoved, StaysApart, put_tables}
+
+tied-not : (q k : ℕ) → (q ≡ k → ⊥) → eq_by_cmp nat_cmp q k ≡ false
+tied-not q k ne = grind (arith, nat_tests)
+
+-- another number keeps its table
+pub put_other : (kept : Kept) (k : ℕ) (bytes : List ℕ) (q : ℕ) → (q ≡ k → ⊥) → get (insert kept k bytes) q ≡ get kept q
+put_other kept k bytes q ne = get-insert nat_cmp_total kept k bytes q ∙ ap (λ (b : Bool). cond b (Some bytes) (get kept q)) (tied-not q k ne)
+
+-- the number has the table
+pub put_same : (kept : Kept) (k : ℕ) (bytes : List ℕ) → get (insert kept k bytes) k ≡ Some bytes
+put_same kept k bytes = get-insert nat_cmp_total kept k bytes k ∙ ap (λ (b : Bool). cond b (Some bytes) (get kept k)) ((eq_by_cmp_equiv nat_cmp_total).refl k)
+
+-- ---- one table more of some files
+
+pub placed_none : (fs : List FileMeta) → placed_of fs [] ≡ []
+placed_none [] = refl
+placed_none (f ∷ fs) = refl
+
+pub stays-put : (files : List FileMeta) (old before : Kept) (f : FileMeta) (bytes : List ℕ) → IsIn f files → StaysApart files old before → StaysApart files old (insert before f.number bytes)
+stays-put files old before f bytes m stays n apart = put_other before f.number bytes n (λ (same : n ≡ f.number). apart f m (sym same)) ∙ stays n apart
+
+-- ---- all tables of some files
+
+-- a number of none of the files keeps its table
+pub put_none : (ps : List Placed) (kept : Kept) (n : ℕ) → ((p : Placed) → IsIn p ps → p.meta.number ≡ n → ⊥) → get (put_tables kept ps) n ≡ get kept n
+put_none [] kept n apart = refl
+put_none (p ∷ ps) kept n apart = put_none ps (insert kept p.meta.number p.table.bytes) n (λ q m. apart q (inr m)) ∙ put_other kept p.meta.number p.table.bytes n (λ (same : n ≡ p.meta.number). apart p (inl refl) (sym same))
+
+-- each file's number has its table
+pub put_each_table : (fs : List FileMeta) (ts : List Opened) (kept : Kept) → FileNumbersRise fs → (p : Placed) → IsIn p (placed_of fs ts) → get (put_tables kept (placed_of fs ts)) p.meta.number ≡ Some p.table.bytes
+put_each_table [] ts kept rise p m = absurd m
+put_each_table (f ∷ fs) [] kept rise p m = absurd m
+put_each_table (f ∷ fs) (t ∷ ts) kept rise p (inl first) =
+    subst (λ (q : Placed). get (put_tables (insert kept f.number t.bytes) (placed_of fs ts)) q.meta.number ≡ Some q.table.bytes) (sym first)
+    (put_none (placed_of fs ts) (insert kept f.number t.bytes) f.number (λ q n (same : q.meta.number ≡ f.number). let lt = rise.0 q.meta (placed_meta fs ts q n) in absurd (omega (arith, lt, same))) ∙ put_same kept f.number t.bytes)
+put_each_table (f ∷ fs) (t ∷ ts) kept rise p (inr later) = put_each_table fs ts (insert kept f.number t.bytes) rise.1 p later
+
+-- ---- tables removed
+
+removed_other : (kept : Kept) (k q : ℕ) → (q ≡ k → ⊥) → get (remove kept k) q ≡ get kept q
+removed_other kept k q ne = get-remove nat_cmp_total kept k q ∙ ap (λ (b : Bool). cond b None (get kept q)) (tied-not q k ne)
+
+removed_same : (kept : Kept) (k : ℕ) → get (remove kept k) k ≡ None
+removed_same kept k = get-remove nat_cmp_total kept k k ∙ ap (λ (b : Bool). cond b None (get kept k)) ((eq_by_cmp_equiv nat_cmp_total).refl k)
+
+-- one of the numbers more was to be removed
+pub removed_too : {T E : Type 0} (r : Result T E) (numbers : List ℕ) (old before after : Kept) (k : ℕ) → IsIn k numbers → OnOk r (after ≡ remove before k) → OnErr r (after ≡ before) → MayHaveRemoved numbers old before → MayHaveRemoved numbers old after
+removed_too (Err e) numbers old before after k m ok err may = subst (MayHaveRemoved numbers old) (sym err) may
+removed_too (Ok x) numbers old before after k m ok err may = subst (MayHaveRemoved numbers old) (sym ok) (λ q. elim (cases_eq q k) [
+  | inl same ↦ inr (subst (λ (i : ℕ). IsIn i numbers) (sym same) m, subst (λ (i : ℕ). get (remove before k) i ≡ None) (sym same) (removed_same before k))
+  | inr other ↦ elim (may q) [
+    | inl stays ↦ inl (removed_other before k q other ∙ stays)
+    | inr gone ↦ inr (gone.0, removed_other before k q other ∙ gone.1)
+  ]
+])
+
+-- the count of failures never falls
+pub never_falls : {T : Type 0} (r : Result T VaultError) (before after : ℕ) → CountsFailures r before after → before ≤ after
+never_falls (Ok x) before after counted = counted
+never_falls (Err Device) before after counted = omega arith
+never_falls (Err OutOfMemory) before after counted = counted

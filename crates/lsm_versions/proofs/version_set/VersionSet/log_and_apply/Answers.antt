@@ -1,0 +1,100 @@
+use Rattle.std.proofs.Common.{◌≡◌, ◌∙◌, ℕ, List, Result, Ok, Err, OnErr, ◌∷◌, [], ◌++◌, None, sym, ap, subst}
+use Rattle.lsm_edit.specs.declared.file.FileMeta.{FileMeta}
+use Rattle.lsm_edit.specs.Edit.{edit as spelling}
+use Rattle.lsm_edit.specs.Prepared.{PreparedValue, after_taking_up}
+use Rattle.lsm_edit.specs.Served.{IsServed, ServedValue, after_advance, placed_of}
+use Rattle.lsm_edit.specs.Version.{IsVersion, apply_fault}
+use Rattle.lsm_versions.specs.Kept.{StaysApart, StaysBelow, put_tables}
+use Rattle.lsm_versions.specs.Manifest.{IsVersionSet, MayHavePut, VersionSetValue, after_logging}
+use Rattle.lsm_versions.specs.Retention.{put_each, retired_after, retired_by}
+use Rattle.lsm_versions.proofs.KeptTables.{apart_below}
+use Rattle.lsm_versions.proofs.LoggedEdits.{logged_set, rising_set, still_set}
+use Rattle.lsm_versions.proofs.version_set.VersionSet.log_and_apply.Given.{Over}
+use Rattle.lsm_versions.proofs.version_set.VersionSet.log_and_apply.Goals as goal
+
+on_err : {A E : Type 0} (r : Result A E) (P : Type 0) → P → OnErr r P
+on_err (Ok x) P h = tt
+on_err (Err e) P h = h
+
+pub invariant_of-self-in_err-store : goal.invariant_of-self-in_err-store
+invariant_of-self-in_err-store g c =
+    let m = c.self.inside in
+    let v : VersionSetValue = record { served = m.current; edits = g.V.Vault.edits m.vault; retired = m.retired.items; floor = m.floor; kept = g.V.Vault.tables m.vault; failures = g.V.Vault.failures m.vault } in
+    let e = c.args.edit.now in
+    let kept = g.V.Vault.tables c.store.new.vault in
+    let failures = g.V.Vault.failures c.store.new.vault in
+    let applies : apply_fault v.served.version e ≡ None = subst (λ (w : VersionSetValue). apply_fault w.served.version e ≡ None) (sym c.self.view_is) c.requires.applies in
+    let sound = subst (λ (w : VersionSetValue). IsServed w.served × IsVersion w.served.version) (sym c.self.view_is) c.served.ensures.sound in
+    let others = subst (λ (fs : List FileMeta). StaysApart fs v.kept kept) c.as_slice.ensures c.in_err-store.ensures.others in
+    let still = still_set v e c.self.invariant sound c.requires.sound applies kept failures (apart_below v.served.version e v.kept kept applies others) in
+    rw (c.in_err-store.ensures.err, c.in_ok-reserve.ensures.items) still
+
+pub returns-in_err-store-clause-err : goal.returns-in_err-store-clause-err
+returns-in_err-store-clause-err g c =
+    let m = c.self.inside in
+    let e = c.args.edit.now in
+    let kept = g.V.Vault.tables c.store.new.vault in
+    let failures = g.V.Vault.failures c.store.new.vault in
+    let applies : apply_fault m.current.version e ≡ None = subst (λ (w : VersionSetValue). apply_fault w.served.version e ≡ None) (sym c.self.view_is) c.requires.applies in
+    let others = subst (λ (fs : List FileMeta). StaysApart fs (g.V.Vault.tables m.vault) kept) c.as_slice.ensures c.in_err-store.ensures.others in
+    let below = apart_below m.current.version e (g.V.Vault.tables m.vault) kept applies others in
+    let new : VersionSetValue = record { served = m.current; edits = g.V.Vault.edits c.store.new.vault; retired = c.reserve.new.self.items; floor = m.floor; kept = kept; failures = failures } in
+    let put : MayHavePut c.args.self.now new = record {
+      rest = λ i. record {
+        served = (c.self.view_is i).served;
+        edits = (c.in_err-store.ensures.err ∙ ap (λ (w : VersionSetValue). w.edits) c.self.view_is) i;
+        retired = (c.in_ok-reserve.ensures.items ∙ ap (λ (w : VersionSetValue). w.retired) c.self.view_is) i;
+        floor = (c.self.view_is i).floor;
+        kept = kept;
+        failures = failures;
+      };
+      below = subst (λ (w : VersionSetValue). StaysBelow w.served.version.next_file w.kept kept) c.self.view_is below;
+    } in
+    on_err c.from_residual-in_err-store.result (MayHavePut c.args.self.now new) put
+
+-- what the set has then
+logged : (g : Over) (c : goal.After-put_retired g) →
+    record {
+      served = c.take_up.new.self;
+      edits = g.V.Vault.edits c.store.new.vault;
+      retired = c.put_retired.new.retired.items;
+      floor = c.self.inside.floor;
+      kept = g.V.Vault.tables c.store.new.vault;
+      failures = g.V.Vault.failures c.store.new.vault;
+    } ≡ record (after_logging (record { served = c.self.inside.current; edits = g.V.Vault.edits c.self.inside.vault; retired = c.self.inside.retired.items; floor = c.self.inside.floor; kept = g.V.Vault.tables c.self.inside.vault; failures = g.V.Vault.failures c.self.inside.vault }) c.args.edit.now c.args.tables.items) { failures = g.V.Vault.failures c.store.new.vault }
+logged g c =
+    let m = c.self.inside in
+    let e = c.args.edit.now in
+    let made = c.in-Ok.ensures.ok.made in
+    let taken : c.take_up.new.self ≡ after_advance m.current e c.args.tables.items = c.take_up.ensures ∙ ap (after_taking_up m.current) made in
+    let texts : g.V.Vault.edits c.store.new.vault ≡ g.V.Vault.edits m.vault ++ spelling e ∷ [] = c.in_ok-store.ensures.edits ∙ ap (λ (t : List ℕ). g.V.Vault.edits m.vault ++ t ∷ []) c.in_ok-bytes.ensures in
+    let retired : c.put_retired.new.retired.items ≡ retired_after m.retired.items m.current e.removed =
+    c.put_retired.ensures ∙ (λ i. put_each (c.in_ok-retiring.ensures i) (c.in_ok-reserve.ensures.items i))
+    ∙ ap (λ (s : ServedValue). put_each (retired_by s e.removed) m.retired.items) (c.served.ensures.served ∙ ap (λ (w : VersionSetValue). w.served) (sym c.self.view_is)) in
+    let tables : c.tables.result.now ≡ c.args.tables.items = c.tables.ensures ∙ ap (λ (p : PreparedValue). p.tables) made in
+    let kept : g.V.Vault.tables c.store.new.vault ≡ put_tables (g.V.Vault.tables m.vault) (placed_of e.added c.args.tables.items) =
+    c.in_ok-store.ensures.tables ∙ (λ i. put_tables (g.V.Vault.tables m.vault) (placed_of (c.as_slice.ensures i) (tables i))) in
+    λ i. record { served = taken i; edits = texts i; retired = retired i; floor = m.floor; kept = kept i; failures = g.V.Vault.failures c.store.new.vault }
+
+pub invariant_of-self-2 : goal.invariant_of-self-2
+invariant_of-self-2 g c =
+    let m = c.self.inside in
+    let v : VersionSetValue = record { served = m.current; edits = g.V.Vault.edits m.vault; retired = m.retired.items; floor = m.floor; kept = g.V.Vault.tables m.vault; failures = g.V.Vault.failures m.vault } in
+    let e = c.args.edit.now in
+    let applies : apply_fault v.served.version e ≡ None = subst (λ (w : VersionSetValue). apply_fault w.served.version e ≡ None) (sym c.self.view_is) c.requires.applies in
+    let sound = subst (λ (w : VersionSetValue). IsServed w.served × IsVersion w.served.version) (sym c.self.view_is) c.served.ensures.sound in
+    subst IsVersionSet (sym (logged g c)) (logged_set v e c.self.invariant sound c.requires.sound applies c.args.tables.items (g.V.Vault.failures c.store.new.vault))
+
+pub returns-clause-ok : goal.returns-clause-ok
+returns-clause-ok g c =
+    logged g c ∙ ap (λ (w : VersionSetValue). record (after_logging w c.args.edit.now c.args.tables.items) { failures = g.V.Vault.failures c.store.new.vault }) c.self.view_is
+
+pub put_retired-requires-clause-rising : goal.put_retired-requires-clause-rising
+put_retired-requires-clause-rising g c =
+    let m = c.self.inside in
+    let v : VersionSetValue = record { served = m.current; edits = g.V.Vault.edits m.vault; retired = m.retired.items; floor = m.floor; kept = g.V.Vault.tables m.vault; failures = g.V.Vault.failures m.vault } in
+    let e = c.args.edit.now in
+    let retiring = c.in_ok-retiring.ensures ∙ ap (λ (s : ServedValue). retired_by s e.removed) (c.served.ensures.served ∙ ap (λ (w : VersionSetValue). w.served) (sym c.self.view_is)) in
+    let applies : apply_fault v.served.version e ≡ None = subst (λ (w : VersionSetValue). apply_fault w.served.version e ≡ None) (sym c.self.view_is) c.requires.applies in
+    let sound = subst (λ (w : VersionSetValue). IsServed w.served × IsVersion w.served.version) (sym c.self.view_is) c.served.ensures.sound in
+    rw (retiring, c.in_ok-reserve.ensures.items) (rising_set v e c.self.invariant sound c.requires.sound applies)

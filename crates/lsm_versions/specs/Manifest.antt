@@ -1,0 +1,70 @@
+-- The list of edits, and the versions that it replays to (LevelDB, implementation notes: manifest).
+use Rattle.std.specs.Prelude.{◌≡◌, ℕ, List, [], ◌∷◌, ◌++◌, Result, Ok, Err, max}
+use Rattle.std.specs.List.{flat_map}
+use Rattle.lsm_key.specs.Sets.{IsIn}
+use Rattle.lsm_table.specs.Tables.{Opened}
+use Rattle.lsm_edit.specs.declared.edit.Edit.{Edit}
+use Rattle.lsm_edit.specs.Edit.{IsSpelledEdit, edit, read_edit}
+use Rattle.lsm_edit.specs.Edits.{Apply, after_edits, versions_from}
+use Rattle.lsm_edit.specs.Version.{VersionValue, first_version}
+use Rattle.lsm_edit.specs.Served.{ServedValue, after_advance, first_served, placed_of}
+use Rattle.lsm_versions.specs.declared.retired.Retired.{Retired}
+use Rattle.lsm_versions.specs.Retention.{AreRetired, kept_from, retired_after}
+use Rattle.lsm_versions.specs.Kept.{AreKept, Kept, StaysBelow, put_tables}
+
+-- the edit that bytes spell, or none
+abbrev pub ok_items : {X F : Type 0} → Result X F → List X
+ok_items (Ok x) = x ∷ []
+ok_items (Err fault) = []
+
+-- the edits that the bytes of a manifest spell, in order
+abbrev pub read_edits : List (List ℕ) → List Edit
+read_edits texts = flat_map (λ text. ok_items (read_edit text)) texts
+
+-- version 0, and the one after each edit of a manifest
+abbrev pub versions_of : List (List ℕ) → List VersionValue
+versions_of texts = versions_from first_version (read_edits texts)
+
+-- each text spells an edit, and the edits apply in turn, from version 0 to this one
+pub record Folds (texts : List (List ℕ)) (v : VersionValue) : Type 0 where
+  pub spelled : (text : List ℕ) → IsIn text texts → (e : Edit) × IsSpelledEdit text e
+  pub apply : Apply first_version (read_edits texts)
+  pub makes : after_edits first_version (read_edits texts) ≡ v
+
+-- a version with its tables, the removed files that are kept from the floor on, and the vault's edits, tables and failures
+pub record VersionSetValue : Type 0 where
+  pub served : ServedValue
+  pub edits : List (List ℕ)
+  pub retired : List Retired
+  pub floor : ℕ
+  pub kept : Kept
+  pub failures : ℕ  -- how often the vault's device failed
+
+-- before the first edit
+abbrev pub first_version_set : Kept → ℕ → VersionSetValue
+first_version_set kept failures = record { served = first_served; edits = []; retired = []; floor = 0; kept = kept; failures = failures }
+
+-- the manifest replays to the version, the retired files are those of its versions, and the vault has the tables of both
+pub record IsVersionSet (v : VersionSetValue) : Type 0 where
+  pub folds : Folds v.edits v.served.version
+  pub retired : AreRetired (versions_of v.edits) v.served.version v.retired v.floor
+  pub kept : AreKept v.kept v.served.places v.retired
+
+-- The edit is the last of the manifest, the version after it stands with the tables of the files that it adds, which the vault has
+-- too, and those that it removes are retired.
+abbrev pub after_logging : VersionSetValue → Edit → List Opened → VersionSetValue
+after_logging v e tables = record v {
+  served = after_advance v.served e tables;
+  edits = v.edits ++ edit e ∷ [];
+  retired = retired_after v.retired v.served e.removed;
+  kept = put_tables v.kept (placed_of e.added tables);
+}
+
+-- the same, but that the vault may have a table under a number that no file has been given yet, and may have failed
+pub record MayHavePut (old new : VersionSetValue) : Type 0 where
+  pub rest : new ≡ record old { kept = new.kept; failures = new.failures }
+  pub below : StaysBelow old.served.version.next_file old.kept new.kept
+
+-- the floor is this number, unless it is higher, and the retired files below it are let go
+abbrev pub after_trimming : VersionSetValue → ℕ → VersionSetValue
+after_trimming v n = record v { floor = max v.floor n; retired = kept_from (max v.floor n) v.retired }

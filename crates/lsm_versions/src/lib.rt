@@ -1,0 +1,15 @@
+//! The version set: a store's current version with its tables, and what is kept of the versions before it.
+//!
+//! It promises that its manifest, the list of the edits that made the current version, always replays to it, that the
+//! retired files that it keeps are exactly those that a version from the floor on lists and the current one lacks, and
+//! that its vault has the tables of all of them. It stands on the vault, the edits, the tables and the keys.
+#![tactic(auto)]
+
+mod putting;
+mod retired;
+#[cfg(test)]
+mod tests;
+mod version_set;
+
+pub use retired::Retired;
+pub use version_set::VersionSet;

@@ -1,0 +1,175 @@
+//! The version set: the current version with its tables, the vault with the edits that made it, and the files that versions from
+//! the floor on have and the current one lacks.
+
+ghost use Rattle.std.specs.Prelude.{◌≡◌, ◌≤◌, None, IfOk, OnOk, OnErr, max};
+ghost use Rattle.std.specs.Option.{option_copied};
+ghost use Rattle.lsm_edit.specs.Edit.{IsEdit};
+ghost use Rattle.lsm_edit.specs.Served.{AreAsRecorded, IsServed};
+ghost use Rattle.lsm_edit.specs.Version.{IsVersion, apply_fault};
+ghost use Rattle.lsm_vault.specs.Failures.{CountsFailures};
+ghost use Rattle.lsm_versions.specs.Manifest.{IsVersionSet, MayHavePut, after_logging, after_trimming, first_version_set};
+ghost use Rattle.lsm_versions.specs.Kept.{MayHaveRemoved};
+ghost use Rattle.lsm_versions.specs.Retention.{bytes_at, dropped_below};
+
+use crate::putting::{remove_tables, store};
+use crate::retired::{Retired, dropped_below, put_retired, retired_by, retired_bytes};
+use bytes::Bytes;
+use lsm_edit::{Edit, Served, Version, encode_edit};
+use lsm_key::{FileNumber, VersionNumber};
+use lsm_table::Table;
+use lsm_vault::{MemoryVault, Vault, VaultError};
+use std::alloc::{AllocError, Global};
+use std::marker::Model;
+
+/// The current version with its tables; the vault, whose edits are the manifest; and the retired files, by number. The manifest
+/// always replays to the current version, the retired files are those that some version from the floor on lists and the current
+/// one lacks, and the vault has the tables of all of them.
+#[derive(Drop)]
+pub struct VersionSet<V: Vault> {
+    alloc: Global,
+    current: Served,
+    vault: V,
+    floor: VersionNumber,
+    retired: Vec<Retired>,
+}
+
+impl<V: Vault> Model for VersionSet<V> {
+    ghost use Rattle.std.specs.Coded.{codes};
+    ghost use Rattle.lsm_versions.specs.Kept.{kept_code};
+    ghost use Rattle.lsm_versions.specs.Manifest.{IsVersionSet, VersionSetValue};
+
+    ghost Value = { VersionSetValue };
+
+    ghost coded = { Prim.hlevel (codes, kept_code) };
+
+    ghost view = { λ v. record { served = v.current; edits = V.edits v.vault; retired = v.retired.items; floor = v.floor; kept = V.tables v.vault; failures = V.failures v.vault } };
+
+    ghost invariant = { λ v. IsVersionSet (record { served = v.current; edits = V.edits v.vault; retired = v.retired.items; floor = v.floor; kept = V.tables v.vault; failures = V.failures v.vault }) };
+}
+
+impl<V: Vault> VersionSet<V> {
+    ghost use Rattle.std.specs.Prelude.{◌≡◌, []};
+
+    /// Version 0, over a vault without edits. The floor is 0.
+    pub fn new(alloc: Global, vault: V) -> VersionSet<V>
+        requires { V.edits vault ≡ [] }
+        ensures { result ≡ first_version_set (V.tables vault) (V.failures vault) }
+    {
+        VersionSet {
+            alloc,
+            current: Served::new(alloc),
+            vault,
+            floor: VersionNumber::new(0),
+            retired: Vec::new(alloc),
+        }
+    }
+
+    /// The current version with its tables.
+    pub fn served(&self) -> &Served
+        ensures served { result.now ≡ self.now.served }
+        ensures set { IsVersionSet self.now }
+        ensures sound { IsServed self.now.served × IsVersion self.now.served.version }
+    {
+        // Proof hint: the invariants of the version and of its places.
+        let _places = self.current.places();
+        &self.current
+    }
+
+    /// The current version.
+    pub fn version(&self) -> &Version
+        ensures { result.now ≡ self.now.served.version }
+    {
+        self.current.version()
+    }
+
+    /// The least version whose files are served.
+    pub fn floor(&self) -> VersionNumber
+        ensures { result ≡ self.now.floor }
+    {
+        self.floor
+    }
+
+    /// The bytes of a file that the current version lists or that is retired.
+    pub fn bytes_of(&self, number: u64) -> Option<&Bytes>
+        ensures { option_copied result ≡ bytes_at self.now.served.places self.now.retired number }
+    {
+        match self.current.table(number) {
+            Some(table) => Some(table.bytes()),
+            None => retired_bytes(&self.retired, number),
+        }
+    }
+
+    /// Raises the floor to a version, unless it is higher, and lets the retired files go that no version from it on lists.
+    /// Returns their numbers. If memory runs out, nothing changes. A table that the vault refuses to remove stays in it.
+    pub fn trim(&mut self, to: VersionNumber) -> Result<Vec<FileNumber>, AllocError>
+        requires { to ≤ self.old.served.version.number }
+        ensures dropped { IfOk result (λ dropped. dropped.items ≡ dropped_below (max self.old.floor to) self.old.retired) }
+        ensures ok { OnOk result (self.new ≡ record (after_trimming self.old to) { kept = self.new.kept; failures = self.new.failures }) }
+        ensures removed { OnOk result (MayHaveRemoved (dropped_below (max self.old.floor to) self.old.retired) self.old.kept self.new.kept) }
+        ensures failures { self.old.failures ≤ self.new.failures }
+        ensures err { OnErr result (self.new ≡ self.old) }
+    {
+        // Proof hint: the places are the version's files.
+        let _places = self.current.places();
+        let floor = self.floor.max(to);
+        let dropped = dropped_below(self.alloc, &self.retired, floor)?;
+        self.retired.retain(|file| file.until >= floor);
+        self.floor = floor;
+        remove_tables(&mut self.vault, dropped.as_slice());
+        Ok(dropped)
+    }
+
+    /// Stores the tables of the files that an edit adds, by number, then logs the edit, which is known to apply, and becomes the
+    /// version after it. The files that it removes retire. A refusal changes nothing but that such a table may be stored.
+    pub fn log_and_apply(&mut self, edit: &Edit, tables: Vec<Table>) -> Result<(), VaultError>
+        requires sound { IsEdit edit.now }
+        requires recorded { AreAsRecorded edit.now.added tables.items }
+        requires applies { apply_fault self.old.served.version edit.now ≡ None }
+        ensures ok { OnOk result (self.new ≡ record (after_logging self.old edit.now tables.items) { failures = self.new.failures }) }
+        ensures err { OnErr result (MayHavePut self.old self.new) }
+        ensures counted { CountsFailures result self.old.failures self.new.failures }
+    {
+        let bytes = encode_edit(self.alloc, edit)?;
+        let retiring = retired_by(self.alloc, self.served(), edit)?;
+        self.retired.reserve(retiring.len())?;
+        let Ok(prepared) = self.current.prepare(edit, tables) else {
+            return Err(VaultError::OutOfMemory);
+        };
+        store(
+            &mut self.vault,
+            edit.added.as_slice(),
+            prepared.tables(),
+            bytes,
+        )?;
+        self.current.take_up(prepared);
+        put_retired(&mut self.retired, retiring);
+        Ok(())
+    }
+}
+
+impl VersionSet<MemoryVault> {
+    /// The same over a vault in memory, whose device never fails.
+    pub fn log_in_memory(&mut self, edit: &Edit, tables: Vec<Table>) -> Result<(), AllocError>
+        requires sound { IsEdit edit.now }
+        requires recorded { AreAsRecorded edit.now.added tables.items }
+        requires applies { apply_fault self.old.served.version edit.now ≡ None }
+        ensures ok { OnOk result (self.new ≡ after_logging self.old edit.now tables.items) }
+        ensures err { OnErr result (MayHavePut self.old self.new) }
+    {
+        self.know_no_failure();
+        let logged = self.log_and_apply(edit, tables);
+        self.know_no_failure();
+        match logged {
+            Ok(()) => Ok(()),
+            Err(VaultError::OutOfMemory) => Err(AllocError),
+            Err(VaultError::Device) => unreachable!(),
+        }
+    }
+
+    // Proof hint: a vault in memory counts no failure.
+    fn know_no_failure(&self)
+        ensures { self.now.failures ≡ 0 }
+    {
+        let _vault = &self.vault;
+    }
+}
