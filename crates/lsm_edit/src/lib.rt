@@ -11,6 +11,7 @@ mod file;
 mod format;
 mod laws;
 mod next;
+mod recorded;
 mod served;
 #[cfg(test)]
 mod tests;
@@ -23,5 +24,6 @@ pub use edit::{
 pub use file::{FileBounds, FileMeta, files_bytes, read_file, same_files, write_file};
 pub use format::{FormatError, FormatFault};
 pub use laws::{a_number_names_one_file, no_file_is_removed_twice, worked_edits};
+pub use recorded::{is_as_recorded, open_as_recorded};
 pub use served::{Listing, Placed, Prepared, Served};
 pub use version::{ApplyError, Version, is_among, removed_by};

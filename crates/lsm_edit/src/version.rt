@@ -157,6 +157,13 @@ impl Version {
         self.listed.as_slice()
     }
 
+    /// Whether one of its files has this number. O(log n).
+    pub fn has_file(&self, number: u64) -> bool
+        ensures { result ≡ list_any (has_number number) self.now.files }
+    {
+        has_file(self.files(), number)
+    }
+
     /// Becomes the next version by an edit. A refusal changes nothing.
     pub fn apply(&mut self, edit: &Edit) -> Result<(), ApplyError>
         requires { IsEdit edit.now }

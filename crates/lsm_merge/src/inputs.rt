@@ -2,12 +2,12 @@
 
 ghost use Rattle.std.specs.Prelude.{◌≡◌, ◌↔◌, All, IfOk, IsTrue, map};
 ghost use Rattle.lsm_key.specs.Order.{IsAscending, IsInOrder, precedes};
-ghost use Rattle.lsm_edit.specs.Served.{IsAsRecorded, AreAsRecorded};
+ghost use Rattle.lsm_edit.specs.Served.{AreAsRecorded};
 ghost use Rattle.std.specs.List.{list_any};
 ghost use Rattle.lsm_merge.specs.Inputs.{HaveSameEntry, lists_of};
 ghost use Rattle.lsm_merge.specs.Comparing.{AllTables, has_place};
 
-use lsm_edit::FileMeta;
+use lsm_edit::{FileMeta, is_as_recorded};
 use lsm_key::{Entry, InternalKey, compare_place};
 use lsm_table::Table;
 use std::alloc::{AllocError, Global};
@@ -25,16 +25,6 @@ pub(crate) fn are_as_recorded(files: &[FileMeta], tables: &[Table]) -> bool
         }
     }
     true
-}
-
-/// Whether a table is as its record says: by its least and greatest key, its length in bytes and its number of entries.
-pub fn is_as_recorded(file: &FileMeta, table: &Table) -> bool
-    ensures { IsTrue result ↔ IsAsRecorded file.now table.now }
-{
-    file.smallest == *table.smallest()
-        && file.largest == *table.largest()
-        && file.bytes as usize == table.bytes().len()
-        && file.entries as usize == table.count()
 }
 
 // Copies of the entries of each table. Shares the bytes.

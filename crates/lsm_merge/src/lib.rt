@@ -18,6 +18,5 @@ mod tests;
 
 pub use cut::OUTPUT_TARGET;
 pub use error::MergeError;
-pub use inputs::is_as_recorded;
 pub use laws::{a_merge_has_one_outcome, merge_limits_are_these};
 pub use merging::merge;

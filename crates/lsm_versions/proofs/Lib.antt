@@ -6,3 +6,7 @@ pub mod ServedFiles
 pub mod PutTables
 pub mod KeptTables
 pub mod LoggedEdits
+pub mod RemovedTables
+pub mod ReplayedEdits
+pub mod RecoveredTables
+pub mod Epochs

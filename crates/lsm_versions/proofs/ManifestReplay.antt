@@ -16,7 +16,7 @@ use Rattle.lsm_versions.specs.Manifest.{ok_items, read_edits, versions_of, Folds
 
 -- ---- one edit more
 
-spells_one : (text : List ℕ) (e : Edit) → IsSpelledEdit text e → ok_items (read_edit text) ≡ e ∷ []
+pub spells_one : (text : List ℕ) (e : Edit) → IsSpelledEdit text e → ok_items (read_edit text) ≡ e ∷ []
 spells_one text e one = ap ok_items (edit_again text e one)
 
 -- the edits that are read are those and one more

@@ -2,3 +2,4 @@
 pub mod Retention
 pub mod Kept
 pub mod Manifest
+pub mod Opening

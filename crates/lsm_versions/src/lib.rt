@@ -5,11 +5,14 @@
 //! that its vault has the tables of all of them. It stands on the vault, the edits, the tables and the keys.
 #![tactic(auto)]
 
+mod error;
+mod opening;
 mod putting;
 mod retired;
 #[cfg(test)]
 mod tests;
 mod version_set;
 
+pub use error::OpenError;
 pub use retired::Retired;
 pub use version_set::VersionSet;

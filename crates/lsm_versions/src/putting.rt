@@ -1,12 +1,17 @@
 //! Tables put into a vault, with the edit that adds their files, and tables removed from it.
 
-ghost use Rattle.std.specs.Prelude.{◌≡◌, ◌≤◌, ◌++◌, ◌∷◌, [], OnOk, OnErr};
+ghost use Rattle.std.specs.Prelude.{◌≡◌, ◌++◌, ◌∷◌, [], IfOk, OnOk, OnErr, filter, nat_eq, not};
+ghost use Rattle.std.specs.FinMap as map;
+ghost use Rattle.std.specs.List.{list_any};
 ghost use Rattle.lsm_vault.specs.Failures.{CountsFailures};
 ghost use Rattle.lsm_edit.specs.Served.{AreAsRecorded, placed_of};
 ghost use Rattle.lsm_versions.specs.Kept.{MayHaveRemoved, StaysApart, put_tables};
+ghost use Rattle.lsm_versions.specs.Opening.{MayHaveLost, is_needed};
+ghost use Rattle.lsm_versions.specs.Retention.{NumbersRise};
 
+use crate::retired::{Retired, retired_bytes};
 use bytes::Bytes;
-use lsm_edit::FileMeta;
+use lsm_edit::{FileMeta, Version};
 use lsm_key::FileNumber;
 use lsm_table::Table;
 use lsm_vault::{Vault, VaultError};
@@ -54,16 +59,59 @@ fn put_tables<V: Vault>(
     Ok(())
 }
 
-/// Removes the tables of these numbers, but those that the vault refuses to remove.
-pub(crate) fn remove_tables<V: Vault>(vault: &mut V, numbers: &[FileNumber])
-    ensures tables { MayHaveRemoved numbers.now (V.tables vault.old) (V.tables vault.new) }
+/// Removes the tables that neither a file of the version nor a retired one needs. Returns their numbers, ascending. A refusal
+/// may leave some of them removed.
+pub(crate) fn remove_obsolete<V: Vault>(
+    vault: &mut V,
+    version: &Version,
+    retired: &[Retired],
+) -> Result<Vec<FileNumber>, VaultError>
+    requires { NumbersRise retired.now }
+    ensures removed { IfOk result (λ removed. removed.items ≡ filter (λ n. not (is_needed version.now.files retired.now n)) (map.keys (V.tables vault.old))) }
+    ensures ok { OnOk result (V.tables vault.new ≡ map.retain_keys (V.tables vault.old) (is_needed version.now.files retired.now)) }
+    ensures lost { MayHaveLost (is_needed version.now.files retired.now) (V.tables vault.old) (V.tables vault.new) }
     ensures edits { V.edits vault.new ≡ V.edits vault.old }
-    ensures failures { V.failures vault.old ≤ V.failures vault.new }
+    ensures counted { CountsFailures result (V.failures vault.old) (V.failures vault.new) }
+{
+    let obsolete = find_obsolete(vault, version, retired)?;
+    remove_tables(vault, obsolete.as_slice())?;
+    Ok(obsolete)
+}
+
+// The numbers of the tables that neither a file of the version nor a retired one needs, ascending.
+fn find_obsolete<V: Vault>(
+    vault: &mut V,
+    version: &Version,
+    retired: &[Retired],
+) -> Result<Vec<FileNumber>, VaultError>
+    requires { NumbersRise retired.now }
+    ensures ok { IfOk result (λ numbers. numbers.items ≡ filter (λ n. not (is_needed version.now.files retired.now n)) (map.keys (V.tables vault.old))) }
+    ensures edits { V.edits vault.new ≡ V.edits vault.old }
+    ensures tables { V.tables vault.new ≡ V.tables vault.old }
+    ensures counted { CountsFailures result (V.failures vault.old) (V.failures vault.new) }
+{
+    let mut numbers = vault.numbers()?;
+    numbers.retain(|number| !is_needed(version, retired, *number));
+    Ok(numbers)
+}
+
+// Whether a file of the version or a retired one has the number.
+fn is_needed(version: &Version, retired: &[Retired], number: FileNumber) -> bool
+    requires { NumbersRise retired.now }
+    ensures { result ≡ is_needed version.now.files retired.now number }
+{
+    version.has_file(number.number()) || retired_bytes(retired, number.number()).is_some()
+}
+
+/// Removes the tables of these numbers, in turn. A refusal ends it early.
+pub(crate) fn remove_tables<V: Vault>(vault: &mut V, numbers: &[FileNumber]) -> Result<(), VaultError>
+    ensures ok { OnOk result (V.tables vault.new ≡ map.retain_keys (V.tables vault.old) (λ n. not (list_any (nat_eq n) numbers.now))) }
+    ensures removed { MayHaveRemoved numbers.now (V.tables vault.old) (V.tables vault.new) }
+    ensures edits { V.edits vault.new ≡ V.edits vault.old }
+    ensures counted { CountsFailures result (V.failures vault.old) (V.failures vault.new) }
 {
     for number in numbers {
-        match vault.remove_table(*number) {
-            Ok(()) => {}
-            Err(_) => {}
-        }
+        vault.remove_table(*number)?;
     }
+    Ok(())
 }

@@ -1,21 +1,26 @@
 //! The version set: the current version with its tables, the vault with the edits that made it, and the files that versions from
 //! the floor on have and the current one lacks.
 
-ghost use Rattle.std.specs.Prelude.{◌≡◌, ◌≤◌, None, IfOk, OnOk, OnErr, max};
+ghost use Rattle.std.specs.Prelude.{◌≡◌, ◌≤◌, [], None, IfErr, IfOk, OnOk, OnErr, filter, max, not};
+ghost use Rattle.std.specs.FinMap as map;
 ghost use Rattle.std.specs.Option.{option_copied};
 ghost use Rattle.lsm_edit.specs.Edit.{IsEdit};
 ghost use Rattle.lsm_edit.specs.Served.{AreAsRecorded, IsServed};
 ghost use Rattle.lsm_edit.specs.Version.{IsVersion, apply_fault};
 ghost use Rattle.lsm_vault.specs.Failures.{CountsFailures};
 ghost use Rattle.lsm_versions.specs.Manifest.{IsVersionSet, MayHavePut, after_logging, after_trimming, first_version_set};
-ghost use Rattle.lsm_versions.specs.Kept.{MayHaveRemoved};
+ghost use Rattle.lsm_versions.specs.Kept.{MayHaveRemoved, StaysApart};
+ghost use Rattle.lsm_versions.specs.Opening.{CountsRefusal, EpochRefused, IsNextEpoch, MayHaveDropped, MayHaveLost, OpenRefuses, Opens, is_needed};
+ghost use Rattle.lsm_versions.specs.declared.error.OpenError.TheVariants.{NumbersExhausted};
 ghost use Rattle.lsm_versions.specs.Retention.{bytes_at, dropped_below};
 
-use crate::putting::{remove_tables, store};
+use crate::OpenError;
+use crate::opening::recover;
+use crate::putting::{remove_obsolete, remove_tables, store};
 use crate::retired::{Retired, dropped_below, put_retired, retired_by, retired_bytes};
 use bytes::Bytes;
 use lsm_edit::{Edit, Served, Version, encode_edit};
-use lsm_key::{FileNumber, VersionNumber};
+use lsm_key::{FileNumber, MAX_NUMBER, VersionNumber};
 use lsm_table::Table;
 use lsm_vault::{MemoryVault, Vault, VaultError};
 use std::alloc::{AllocError, Global};
@@ -62,6 +67,72 @@ impl<V: Vault> VersionSet<V> {
             floor: VersionNumber::new(0),
             retired: Vec::new(alloc),
         }
+    }
+
+    /// Opens what a vault has: replays its edits, reads the tables of the version that they make, removes all other tables, and
+    /// logs the edit of the next epoch. The floor is the version after it. A refusal hands the vault back, whose edits are as
+    /// before; some of those other tables may be gone.
+    pub fn open(alloc: Global, vault: V) -> Result<VersionSet<V>, (OpenError, V)>
+        ensures ok { IfOk result (Opens (V.edits vault) (V.tables vault)) }
+        ensures failures { IfOk result (λ v. V.failures vault ≤ v.failures) }
+        ensures refused { IfErr result (λ e. OpenRefuses (V.edits vault) (V.tables vault) e.0) }
+        ensures edits { IfErr result (λ e. V.edits e.1 ≡ V.edits vault) }
+        ensures tables { IfErr result (λ e. MayHaveDropped e.0 (V.edits vault) (V.tables vault) (V.tables e.1)) }
+        ensures counted { IfErr result (λ e. CountsRefusal e.0 (V.failures vault) (V.failures e.1)) }
+    {
+        let mut vault = vault;
+        let current = match recover(alloc, &mut vault) {
+            Ok(current) => current,
+            Err(why) => return Err((why, vault)),
+        };
+        let floor = current.listing().number;
+        let mut versions = VersionSet {
+            alloc,
+            current,
+            vault,
+            floor,
+            retired: Vec::new(alloc),
+        };
+        match versions.begin_epoch() {
+            Ok(()) => Ok(versions),
+            Err(why) => Err((why, versions.vault)),
+        }
+    }
+
+    // Logs the edit of the next epoch, once all tables are removed that no file of the version needs, and raises the floor
+    // to the version after it.
+    fn begin_epoch(&mut self) -> Result<(), OpenError>
+        requires { self.old.retired ≡ [] }
+        ensures ok { OnOk result (IsNextEpoch self.old self.new) }
+        ensures refused { IfErr result (EpochRefused self.old.served.version) }
+        ensures err { OnErr result (self.new ≡ record self.old { kept = self.new.kept; failures = self.new.failures }) }
+        ensures lost { OnErr result (MayHaveLost (is_needed self.old.served.version.files []) self.old.kept self.new.kept) }
+        ensures exhausted { IfErr result (λ e. e ≡ NumbersExhausted → self.new ≡ self.old) }
+        ensures failures { self.old.failures ≤ self.new.failures }
+        ensures counted { IfErr result (λ e. CountsRefusal e self.old.failures self.new.failures) }
+    {
+        let version = self.current.version();
+        if version.number() >= MAX_NUMBER || version.epoch() >= MAX_NUMBER {
+            return Err(OpenError::NumbersExhausted);
+        }
+        let edit = Edit::epoch(self.alloc, version);
+        self.remove_obsolete()?;
+        self.log_and_apply(&edit, Vec::new(self.alloc))?;
+        self.floor = VersionNumber::new(self.current.version().number());
+        Ok(())
+    }
+
+    // Removes the tables that neither a file of the version nor a retired one needs. Returns their numbers, ascending.
+    fn remove_obsolete(&mut self) -> Result<Vec<FileNumber>, VaultError>
+        ensures removed { IfOk result (λ removed. removed.items ≡ filter (λ n. not (is_needed self.old.served.version.files self.old.retired n)) (map.keys self.old.kept)) }
+        ensures ok { OnOk result (self.new.kept ≡ map.retain_keys self.old.kept (is_needed self.old.served.version.files self.old.retired)) }
+        ensures rest { self.new ≡ record self.old { kept = self.new.kept; failures = self.new.failures } }
+        ensures lost { MayHaveLost (is_needed self.old.served.version.files self.old.retired) self.old.kept self.new.kept }
+        ensures counted { CountsFailures result self.old.failures self.new.failures }
+    {
+        // Proof hint: the places are the version's files.
+        let _places = self.current.places();
+        remove_obsolete(&mut self.vault, self.current.version(), &self.retired)
     }
 
     /// The current version with its tables.
@@ -115,7 +186,7 @@ impl<V: Vault> VersionSet<V> {
         let dropped = dropped_below(self.alloc, &self.retired, floor)?;
         self.retired.retain(|file| file.until >= floor);
         self.floor = floor;
-        remove_tables(&mut self.vault, dropped.as_slice());
+        let _removed = remove_tables(&mut self.vault, dropped.as_slice());
         Ok(dropped)
     }
 
@@ -127,6 +198,7 @@ impl<V: Vault> VersionSet<V> {
         requires applies { apply_fault self.old.served.version edit.now ≡ None }
         ensures ok { OnOk result (self.new ≡ record (after_logging self.old edit.now tables.items) { failures = self.new.failures }) }
         ensures err { OnErr result (MayHavePut self.old self.new) }
+        ensures apart { OnErr result (StaysApart edit.now.added self.old.kept self.new.kept) }
         ensures counted { CountsFailures result self.old.failures self.new.failures }
     {
         let bytes = encode_edit(self.alloc, edit)?;

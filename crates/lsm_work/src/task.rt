@@ -2,16 +2,15 @@
 
 ghost use Rattle.std.specs.Prelude.{◌≡◌, IfNone, IfOk, IfSome};
 ghost use Rattle.lsm_table.specs.Tables.{Opened};
-ghost use Rattle.lsm_edit.specs.Served.{IsAsRecorded};
 ghost use Rattle.lsm_msg.specs.Messages.{IsBody, IsMessage};
 ghost use Rattle.lsm_work.specs.Workers.{to_coordinator};
 
 use crate::change::WorkChange;
 use bytes::Bytes;
 use lsm_claim::JobId;
-use lsm_edit::FileMeta;
+use lsm_edit::{FileMeta, open_as_recorded};
 use lsm_key::{FileNumber, Items, Refused};
-use lsm_merge::{MergeError, is_as_recorded, merge};
+use lsm_merge::{MergeError, merge};
 use lsm_msg::{Body, Job, JobResult, Message, Node, NodeIndex};
 use lsm_table::Table;
 use std::alloc::{AllocError, Global};
@@ -138,7 +137,7 @@ impl Task {
         let Some((file, place)) = self.awaited(number) else {
             return Ok((WorkChange::Ignored, Vec::new(alloc)));
         };
-        let Some(table) = table_of(alloc, file, bytes)? else {
+        let Some(table) = open_as_recorded(alloc, file, bytes)? else {
             return Ok((WorkChange::Ignored, Vec::new(alloc)));
         };
         if self.numbers.len() + 1 < self.job.inputs().len() {
@@ -195,18 +194,6 @@ impl Task {
             tables: Items::from_vec(outputs),
         };
         to_coordinator(index, Body::Result(made))
-    }
-}
-
-// The table that the bytes encode, if it is as the record says.
-fn table_of(alloc: Global, file: &FileMeta, bytes: &Bytes) -> Result<Option<Table>, AllocError>
-    ensures some { IfOk result (λ o. IfSome o (λ t. (t.bytes ≡ bytes.now) × IsAsRecorded file.now t)) }
-    ensures none { IfOk result (λ o. IfNone o ((t : Opened) → t.bytes ≡ bytes.now → IsAsRecorded file.now t → ⊥)) }
-{
-    match Table::open(alloc, bytes.clone()?) {
-        Ok(table) if is_as_recorded(file, &table) => Ok(Some(table)),
-        Ok(_) | Err(Refused::Fault(_)) => Ok(None),
-        Err(Refused::OutOfMemory) => Err(AllocError),
     }
 }
 

@@ -1,11 +1,11 @@
 //! A version with its tables through several edits, and reads of it.
 
 ghost use Rattle.std.specs.Prelude.{◌≡◌, IfOk, IsTrue, [], ◌∷◌};
-ghost use Rattle.lsm_edit.specs.Served.{AreAsRecorded, IsAsRecorded};
+ghost use Rattle.lsm_edit.specs.Served.{AreAsRecorded};
 
 use super::versions::{NEXT, are_numbered, version_after};
 use super::{EPOCH, FLUSH, edit_of};
-use crate::{Edit, FileMeta, Served};
+use crate::{Edit, FileMeta, Served, is_as_recorded};
 use bytes::Bytes;
 use lsm_key::Seq;
 use lsm_table::Table;
@@ -38,24 +38,12 @@ const OF_B: &[u8] =
 const OF_BOTH: &[u8] =
     b"LSMT\x01\x01\0\0\0\0\0\0\x02\0\0\0\x01\0\0\0\x20\0\x01b\0\0\0\0\0\0\x02\x01\0\x01a\0\0\0\0\0\0\x01\x01\0\0\0\x011\0\x01b\0\0\0\0\0\0\x02\x01\0\0\0\x012";
 
-// Whether a table is as a record says.
-fn fits(file: &FileMeta, table: &Table) -> bool
-    ensures { IsTrue result → IsAsRecorded file.now table.now }
-{
-    // Proof hint: its bytes encode what it holds.
-    let _entries = table.entries();
-    file.smallest == *table.smallest()
-        && file.largest == *table.largest()
-        && file.bytes as usize == table.bytes().len()
-        && file.entries as usize == table.count()
-}
-
 // Whether it is as the record of the one file says.
 fn is_recorded(files: &[FileMeta], table: &Table) -> bool
     ensures { IsTrue result → AreAsRecorded files.now (table.now ∷ []) }
 {
     match files.split_first() {
-        Some((file, rest)) => rest.is_empty() && fits(file, table),
+        Some((file, rest)) => rest.is_empty() && is_as_recorded(file, table),
         None => false,
     }
 }

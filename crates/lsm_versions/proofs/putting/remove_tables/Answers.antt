@@ -1,6 +1,9 @@
-use Rattle.std.proofs.Common.{◌∙◌, ℕ, sym, subst, arith}
+use Rattle.std.proofs.Common.{◌∙◌, ℕ, List, ap, inl, refl, sym, subst, arith}
+use Rattle.std.specs.FinMap.{retain_keys}
+use Rattle.std.proofs.lemmas.List.{take_all}
 use Rattle.lsm_key.specs.Sets.{IsIn}
 use Rattle.lsm_key.proofs.Membership.{IsIn-at}
+use Rattle.lsm_versions.proofs.RemovedTables.{all_but, none_fewer, one_fewer}
 use Rattle.lsm_versions.proofs.PutTables.{never_falls, removed_too}
 use Rattle.lsm_versions.proofs.putting.remove_tables.Goals as goal
 
@@ -13,4 +16,12 @@ loop-number-preserved g c =
       removed_too c.remove_table.result c.args.numbers.now (all c.args.vault.now) (all c.loop-number.vault) (all c.remove_table.new.self) c.number-item.result among c.remove_table.ensures.ok c.remove_table.ensures.err c.loop-number.invariant.0,
       c.remove_table.ensures.edits_stay ∙ c.loop-number.invariant.1,
       omega (arith, up, low),
+      one_fewer (all c.args.vault.now) (all c.loop-number.vault) (all c.remove_table.new.self) c.args.numbers.now c.loop-number.number-index c.number-item.result c.loop-number-test.true c.number-item.is c.loop-number.invariant.3 c.in_ok-remove_table.ensures.ok,
     )
+
+pub returns-clause-ok : goal.returns-clause-ok
+returns-clause-ok g c =
+    c.loop-number.invariant.3 ∙ ap (λ (ns : List ℕ). retain_keys (g.V.Vault.tables c.args.vault.now) (all_but ns)) (take_all c.loop-number.number-index c.args.numbers.now c.loop-number-test.false)
+
+pub loop-number-init : goal.loop-number-init
+loop-number-init g c = (λ n. inl refl, refl, omega arith, none_fewer (g.V.Vault.tables c.args.vault.now))

@@ -52,6 +52,12 @@ returns-in_err-store-clause-err g c =
     } in
     on_err c.from_residual-in_err-store.result (MayHavePut c.args.self.now new) put
 
+pub returns-in_err-store-clause-apart : goal.returns-in_err-store-clause-apart
+returns-in_err-store-clause-apart g c =
+    let kept = g.V.Vault.tables c.store.new.vault in
+    let others = subst (λ (fs : List FileMeta). StaysApart fs (g.V.Vault.tables c.self.inside.vault) kept) c.as_slice.ensures c.in_err-store.ensures.others in
+    on_err c.from_residual-in_err-store.result (StaysApart c.args.edit.now.added c.args.self.now.kept kept) (subst (λ (w : VersionSetValue). StaysApart c.args.edit.now.added w.kept kept) c.self.view_is others)
+
 -- what the set has then
 logged : (g : Over) (c : goal.After-put_retired g) →
     record {

@@ -1,0 +1,118 @@
+-- How a store is opened over what a vault has (LevelDB, db_impl.cc: DBImpl::Recover, RemoveObsoleteFiles; version_set.cc: VersionSet::Recover).
+use Rattle.std.specs.Prelude.{◌≡◌, ℕ, ◌+◌, ◌<◌, ◌≤◌, ◌⊎◌, ◌++◌, ◌∷◌, [], Bool, false, ◌||◌, List, Result, Ok, Err, None, Some, is_some}
+use Rattle.std.specs.List.{list_any}
+use Rattle.std.specs.FinMap as map
+use Rattle.lsm_key.specs.declared.limits.TheConstants.{MAX_NUMBER}
+use Rattle.lsm_key.specs.Sets.{IsIn}
+use Rattle.lsm_table.specs.Tables.{Opened}
+use Rattle.lsm_edit.specs.declared.file.FileMeta.{FileMeta}
+use Rattle.lsm_edit.specs.declared.served.Placed.{Placed}
+use Rattle.lsm_edit.specs.Edit.{edit}
+use Rattle.lsm_edit.specs.Edits.{after_edits}
+use Rattle.lsm_edit.specs.Next.{epoch_edit}
+use Rattle.lsm_edit.specs.Served.{IsAsRecorded, ServedValue, after_advance}
+use Rattle.lsm_edit.specs.Version.{VersionValue, after_apply, first_version, has_number}
+use Rattle.lsm_vault.specs.declared.error.VaultError.{VaultError}
+use Rattle.lsm_vault.specs.declared.error.VaultError.TheVariants as vault
+use Rattle.lsm_versions.specs.declared.error.OpenError.{OpenError}
+use Rattle.lsm_versions.specs.declared.error.OpenError.TheVariants.{OutOfMemory, BadManifest, MissingTable, Device, NumbersExhausted}
+use Rattle.lsm_versions.specs.declared.retired.Retired.{Retired}
+use Rattle.lsm_versions.specs.Kept.{Kept}
+use Rattle.lsm_versions.specs.Manifest.{Folds, VersionSetValue, read_edits}
+use Rattle.lsm_versions.specs.Retention.{retired_at}
+
+-- ---- which tables stay
+
+-- one of the files or of the retired ones has the number
+abbrev pub is_needed : List FileMeta → List Retired → ℕ → Bool
+is_needed files retired n = list_any (has_number n) files || is_some (retired_at retired n)
+
+-- the same tables, but that some under other numbers may be gone
+abbrev pub MayHaveLost : (ℕ → Bool) → Kept → Kept → Type 0
+MayHaveLost needed old new = (n : ℕ) → (map.get new n ≡ map.get old n) ⊎ ((needed n ≡ false) × (map.get new n ≡ None))
+
+-- ---- an opening
+
+-- the version that a manifest replays to
+abbrev pub replayed : List (List ℕ) → VersionValue
+replayed texts = after_edits first_version (read_edits texts)
+
+-- the table under the file's number is absent or not as its record says
+abbrev pub LacksTable : Kept → FileMeta → Type 0
+LacksTable kept file = (t : Opened) → map.get kept file.number ≡ Some t.bytes → IsAsRecorded file t → ⊥
+
+-- one of the files lacks its table
+abbrev pub IsLacking : Kept → List FileMeta → Type 0
+IsLacking kept files = (f : FileMeta) × IsIn f files × LacksTable kept f
+
+-- each file has its table, as its record says
+abbrev pub HaveTables : Kept → List FileMeta → Type 0
+HaveTables kept files = (f : FileMeta) → IsIn f files → (t : Opened) × (map.get kept f.number ≡ Some t.bytes) × IsAsRecorded f t
+
+-- each place's table is the vault's
+abbrev pub ArePlacesKept : Kept → List Placed → Type 0
+ArePlacesKept kept places = (p : Placed) → IsIn p places → map.get kept p.meta.number ≡ Some p.table.bytes
+
+-- there is no next version or no next epoch
+abbrev pub AreExhausted : VersionValue → Type 0
+AreExhausted v = (MAX_NUMBER ≤ v.number) ⊎ (MAX_NUMBER ≤ v.epoch)
+
+-- a vault with these edits and tables is not opened, for this reason
+abbrev pub OpenRefuses : List (List ℕ) → Kept → OpenError → Type 0
+OpenRefuses texts kept BadManifest = Folds texts (replayed texts) → ⊥
+OpenRefuses texts kept MissingTable = Folds texts (replayed texts) × IsLacking kept (replayed texts).files
+OpenRefuses texts kept NumbersExhausted = Folds texts (replayed texts) × HaveTables kept (replayed texts).files × AreExhausted (replayed texts)
+OpenRefuses texts kept OutOfMemory = Unit {0}
+OpenRefuses texts kept Device = Unit {0}
+
+-- the reason of a vault
+abbrev pub open_error : VaultError → OpenError
+open_error vault.OutOfMemory = OutOfMemory
+open_error vault.Device = Device
+
+-- the failures counted before and after an opening that is refused: a device failure was counted, and the count never falls
+abbrev pub CountsRefusal : OpenError → ℕ → ℕ → Type 0
+CountsRefusal Device before after = before < after
+CountsRefusal OutOfMemory before after = before ≤ after
+CountsRefusal BadManifest before after = before ≤ after
+CountsRefusal MissingTable before after = before ≤ after
+CountsRefusal NumbersExhausted before after = before ≤ after
+
+-- the tables before and after it: some that no file needs may be gone, if memory ran out or the device failed
+abbrev pub MayHaveDropped : OpenError → List (List ℕ) → Kept → Kept → Type 0
+MayHaveDropped OutOfMemory texts old new = (new ≡ old) ⊎ (Folds texts (replayed texts) × MayHaveLost (is_needed (replayed texts).files []) old new)
+MayHaveDropped Device texts old new = (new ≡ old) ⊎ (Folds texts (replayed texts) × MayHaveLost (is_needed (replayed texts).files []) old new)
+MayHaveDropped BadManifest texts old new = new ≡ old
+MayHaveDropped MissingTable texts old new = new ≡ old
+MayHaveDropped NumbersExhausted texts old new = new ≡ old
+
+-- the version that the edits replay to, with the tables of the vault
+pub record Recovers (texts : List (List ℕ)) (kept : Kept) (s : ServedValue) : Type 0 where
+  pub folds : Folds texts s.version
+  pub tables : ArePlacesKept kept s.places
+
+-- the next epoch begins, over the tables that are needed alone
+pub record IsNextEpoch (old new : VersionSetValue) : Type 0 where
+  pub served : new.served ≡ after_advance old.served (epoch_edit old.served.version) []
+  pub edits : new.edits ≡ old.edits ++ edit (epoch_edit old.served.version) ∷ []
+  pub floor : new.floor ≡ new.served.version.number
+  pub retired : new.retired ≡ []
+  pub tables : new.kept ≡ map.retain_keys old.kept (is_needed old.served.version.files [])
+
+-- the next epoch of a version does not begin, for this reason
+abbrev pub EpochRefused : VersionValue → OpenError → Type 0
+EpochRefused v BadManifest = ⊥
+EpochRefused v MissingTable = ⊥
+EpochRefused v NumbersExhausted = AreExhausted v
+EpochRefused v OutOfMemory = Unit {0}
+EpochRefused v Device = Unit {0}
+
+-- The version set stands at the version after one more edit, of the next epoch, which is the last of the manifest. Its floor is there,
+-- and the vault has the tables of its files alone.
+pub record Opens (texts : List (List ℕ)) (kept : Kept) (v : VersionSetValue) : Type 0 where
+  pub folds : Folds texts (replayed texts)
+  pub version : v.served.version ≡ after_apply (replayed texts) (epoch_edit (replayed texts))
+  pub edits : v.edits ≡ texts ++ edit (epoch_edit (replayed texts)) ∷ []
+  pub floor : v.floor ≡ v.served.version.number
+  pub retired : v.retired ≡ []
+  pub tables : v.kept ≡ map.retain_keys kept (is_needed (replayed texts).files [])
