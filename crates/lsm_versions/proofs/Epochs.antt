@@ -4,7 +4,6 @@ use Rattle.std.specs.List.{list_any}
 use Rattle.std.specs.FinMap.{retain_keys}
 use Rattle.lsm_key.specs.Sets.{IsIn}
 use Rattle.lsm_edit.specs.declared.edit.Edit.{Edit}
-use Rattle.lsm_edit.specs.declared.file.FileMeta.{FileMeta}
 use Rattle.lsm_edit.specs.declared.served.Placed.{Placed}
 use Rattle.lsm_edit.specs.Edit.{edit as spelling}
 use Rattle.lsm_edit.specs.Next.{epoch_edit}
@@ -14,9 +13,9 @@ use Rattle.lsm_versions.specs.declared.error.OpenError.{OpenError}
 use Rattle.lsm_versions.specs.declared.error.OpenError.TheVariants.{OutOfMemory, BadManifest, MissingTable, Device, NumbersExhausted}
 use Rattle.lsm_versions.specs.declared.retired.Retired.{Retired}
 use Rattle.lsm_versions.specs.Kept.{Kept, StaysApart, put_tables}
-use Rattle.lsm_versions.specs.Manifest.{Folds, IsVersionSet, VersionSetValue, after_logging, versions_of}
+use Rattle.lsm_versions.specs.Manifest.{IsVersionSet, VersionSetValue, after_logging}
 use Rattle.lsm_versions.specs.Opening.{AreExhausted, EpochRefused, HaveTables, IsNextEpoch, MayHaveDropped, MayHaveLost, OpenRefuses, Opens, Recovers, is_needed, replayed}
-use Rattle.lsm_versions.specs.Retention.{AreRetired, put_each, retire, retired_after}
+use Rattle.lsm_versions.specs.Retention.{put_each, retire, retired_after}
 use Rattle.lsm_versions.proofs.PutTables.{placed_none}
 use Rattle.lsm_versions.proofs.RecoveredTables.{have_tables}
 use Rattle.lsm_versions.proofs.ReplayedEdits.{folds_once, none_retired}

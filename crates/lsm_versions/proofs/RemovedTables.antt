@@ -1,5 +1,5 @@
 -- The tables of a vault once those are removed that no file needs.
-use Rattle.std.proofs.Common.{◌≡◌, ℕ, ◌+◌, ◌<◌, Bool, true, false, cond, not, ◌||◌, ◌&&◌, List, [], ◌∷◌, Option, None, Some, is_some, filter, take, get_or, length, eqb, refl, sym, ap, subst, ◌∙◌, inl, inr, arith}
+use Rattle.std.proofs.Common.{◌≡◌, ℕ, ◌+◌, ◌<◌, Bool, true, false, cond, not, ◌||◌, ◌&&◌, List, [], ◌∷◌, Option, None, Some, is_some, filter, take, get_or, length, eqb, refl, sym, ap, ◌∙◌, inl, inr, arith}
 use Rattle.std.specs.List.{list_any}
 use Rattle.std.specs.Ordering.{nat_cmp, eq_by_cmp}
 use Rattle.std.specs.FinMap.{contains_key-keys, get, get-remove, get-retain_keys, keys, nat_cmp-IsAntisymmetric, remove, retain_keys, same_map}
@@ -12,7 +12,7 @@ use Rattle.lsm_key.proofs.AscendingEntries.{IsIn-filter}
 use Rattle.lsm_key.proofs.Lists.{any_from}
 use Rattle.lsm_edit.specs.declared.file.FileMeta.{FileMeta}
 use Rattle.lsm_edit.specs.declared.served.Placed.{Placed}
-use Rattle.lsm_edit.specs.Version.{VersionValue, has_number}
+use Rattle.lsm_edit.specs.Version.{has_number}
 use Rattle.lsm_versions.specs.declared.retired.Retired.{Retired}
 use Rattle.lsm_versions.specs.Kept.{AreKept, Kept, MayHaveRemoved}
 use Rattle.lsm_versions.specs.Opening.{MayHaveLost, is_needed}

@@ -1,5 +1,5 @@
 -- Where a list of edits stops to replay, and the version that it replays to.
-use Rattle.std.proofs.Common.{◌≡◌, ℕ, zero, suc, ◌+◌, ◌<◌, ◌≤◌, List, [], ◌∷◌, ◌++◌, None, Some, drop, get_or, length, take, refl, sym, ap, subst, ◌∙◌, inl, arith}
+use Rattle.std.proofs.Common.{◌≡◌, ℕ, ◌+◌, ◌<◌, List, [], ◌∷◌, ◌++◌, None, drop, get_or, length, take, refl, sym, ap, subst, ◌∙◌, inl, arith}
 use Rattle.std.specs.List.{slice_get}
 use Rattle.std.proofs.lemmas.Grind.{flat_map-append}
 use Rattle.std.proofs.lemmas.List.{drop_more, take-append-drop, take_more}
@@ -11,7 +11,7 @@ use Rattle.lsm_edit.specs.Edits.{Apply, after_edits}
 use Rattle.lsm_edit.specs.Version.{VersionValue, after_apply, apply_fault, first_version}
 use Rattle.lsm_versions.specs.Manifest.{Folds, ok_items, read_edits, versions_of}
 use Rattle.lsm_versions.specs.Opening.{replayed}
-use Rattle.lsm_versions.specs.Retention.{AreRetired, ListsFile}
+use Rattle.lsm_versions.specs.Retention.{AreRetired}
 use Rattle.lsm_versions.proofs.ManifestReplay.{Folds-push, current_at, length-versions_of, spells_one}
 
 applies_there : (v : VersionValue) (before : List Edit) (e : Edit) (after : List Edit) → Apply v (before ++ e ∷ after) → apply_fault (after_edits v before) e ≡ None

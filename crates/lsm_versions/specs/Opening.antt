@@ -1,5 +1,5 @@
 -- How a store is opened over what a vault has (LevelDB, db_impl.cc: DBImpl::Recover, RemoveObsoleteFiles; version_set.cc: VersionSet::Recover).
-use Rattle.std.specs.Prelude.{◌≡◌, ℕ, ◌+◌, ◌<◌, ◌≤◌, ◌⊎◌, ◌++◌, ◌∷◌, [], Bool, false, ◌||◌, List, Result, Ok, Err, None, Some, is_some}
+use Rattle.std.specs.Prelude.{◌≡◌, ℕ, ◌<◌, ◌≤◌, ◌⊎◌, ◌++◌, ◌∷◌, [], Bool, false, ◌||◌, List, None, Some, is_some}
 use Rattle.std.specs.List.{list_any}
 use Rattle.std.specs.FinMap as map
 use Rattle.lsm_key.specs.declared.limits.TheConstants.{MAX_NUMBER}

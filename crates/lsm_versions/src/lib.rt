@@ -2,7 +2,8 @@
 //!
 //! It promises that its manifest, the list of the edits that made the current version, always replays to it, that the
 //! retired files that it keeps are exactly those that a version from the floor on lists and the current one lacks, and
-//! that its vault has the tables of all of them. It stands on the vault, the edits, the tables and the keys.
+//! that its vault has the tables of all of them. It is opened over what a vault has, or refused with the first reason.
+//! It stands on the vault, the edits, the tables and the keys.
 #![tactic(auto)]
 
 mod error;

@@ -104,7 +104,10 @@ fn is_needed(version: &Version, retired: &[Retired], number: FileNumber) -> bool
 }
 
 /// Removes the tables of these numbers, in turn. A refusal ends it early.
-pub(crate) fn remove_tables<V: Vault>(vault: &mut V, numbers: &[FileNumber]) -> Result<(), VaultError>
+pub(crate) fn remove_tables<V: Vault>(
+    vault: &mut V,
+    numbers: &[FileNumber],
+) -> Result<(), VaultError>
     ensures ok { OnOk result (V.tables vault.new ≡ map.retain_keys (V.tables vault.old) (λ n. not (list_any (nat_eq n) numbers.now))) }
     ensures removed { MayHaveRemoved numbers.now (V.tables vault.old) (V.tables vault.new) }
     ensures edits { V.edits vault.new ≡ V.edits vault.old }

@@ -1,7 +1,6 @@
 //! A job of which inputs are collected.
 
-ghost use Rattle.std.specs.Prelude.{◌≡◌, IfNone, IfOk, IfSome};
-ghost use Rattle.lsm_table.specs.Tables.{Opened};
+ghost use Rattle.std.specs.Prelude.{◌≡◌};
 ghost use Rattle.lsm_msg.specs.Messages.{IsBody, IsMessage};
 ghost use Rattle.lsm_work.specs.Workers.{to_coordinator};
 
@@ -9,7 +8,7 @@ use crate::change::WorkChange;
 use bytes::Bytes;
 use lsm_claim::JobId;
 use lsm_edit::{FileMeta, open_as_recorded};
-use lsm_key::{FileNumber, Items, Refused};
+use lsm_key::{FileNumber, Items};
 use lsm_merge::{MergeError, merge};
 use lsm_msg::{Body, Job, JobResult, Message, Node, NodeIndex};
 use lsm_table::Table;

@@ -1,4 +1,4 @@
-use Rattle.std.proofs.Common.{◌≡◌, ◌∙◌, ◌≤◌, ◌+◌, ◌++◌, ◌∷◌, [], List, Option, Some, arith, ap, sym, subst, take}
+use Rattle.std.proofs.Common.{◌≡◌, ◌∙◌, ◌+◌, ◌++◌, ◌∷◌, [], Option, Some, arith, ap, sym, subst, take}
 use Rattle.std.specs.FinMap.{get}
 use Rattle.std.specs.Option.{IfNone, IfSome}
 use Rattle.std.proofs.lemmas.List.{take_more}
@@ -6,9 +6,9 @@ use Rattle.lsm_key.specs.Sets.{IsIn}
 use Rattle.lsm_key.proofs.Membership.{IsIn-at}
 use Rattle.lsm_table.specs.Tables.{Opened}
 use Rattle.lsm_edit.specs.declared.file.FileMeta.{FileMeta}
-use Rattle.lsm_edit.specs.Served.{AreAsRecorded, IsAsRecorded, placed_of}
+use Rattle.lsm_edit.specs.Served.{IsAsRecorded}
 use Rattle.lsm_versions.specs.Kept.{Kept}
-use Rattle.lsm_versions.specs.Opening.{ArePlacesKept, LacksTable}
+use Rattle.lsm_versions.specs.Opening.{LacksTable}
 use Rattle.lsm_versions.proofs.PutTables.{never_falls}
 use Rattle.lsm_versions.proofs.RecoveredTables.{kept_push, recorded_push}
 use Rattle.lsm_versions.proofs.opening.tables_of.Goals as goal

@@ -1,7 +1,7 @@
-use Rattle.std.proofs.Common.{◌≡◌, ◌∙◌, ℕ, Bool, List, not, filter, subst, sym, Result, Ok, Err, OnErr}
+use Rattle.std.proofs.Common.{◌≡◌, ◌∙◌, ℕ, List, not, filter, subst}
 use Rattle.std.specs.FinMap.{keys, retain_keys}
 use Rattle.lsm_versions.specs.Kept.{Kept, MayHaveRemoved}
-use Rattle.lsm_versions.specs.Opening.{MayHaveLost, is_needed}
+use Rattle.lsm_versions.specs.Opening.{is_needed}
 use Rattle.lsm_versions.proofs.RemovedTables.{all_but, others_gone, others_lost}
 use Rattle.lsm_versions.proofs.putting.remove_obsolete.Goals as goal
 

@@ -1,7 +1,4 @@
-use Rattle.std.proofs.Common.{◌≡◌, ◌∙◌, [], List, ap, sym, subst}
-use Rattle.lsm_edit.specs.Version.{VersionValue}
-use Rattle.lsm_versions.specs.Manifest.{VersionSetValue, IsVersionSet}
-use Rattle.lsm_versions.proofs.Epochs.{epoch_dropped, epoch_refused, opened_set, recovered_set}
+use Rattle.lsm_versions.proofs.Epochs.{epoch_refused, recovered_set}
 use Rattle.lsm_versions.proofs.version_set.VersionSet.open.Goals as goal
 
 pub invariant_of-versions : goal.invariant_of-versions
