@@ -14,7 +14,7 @@ use Rattle.lsm_versions.specs.declared.error.OpenError.TheVariants.{OutOfMemory,
 use Rattle.lsm_versions.specs.declared.retired.Retired.{Retired}
 use Rattle.lsm_versions.specs.Kept.{Kept, StaysApart, put_tables}
 use Rattle.lsm_versions.specs.Manifest.{IsVersionSet, VersionSetValue, after_logging}
-use Rattle.lsm_versions.specs.Opening.{AreExhausted, EpochRefused, HaveTables, IsNextEpoch, MayHaveDropped, MayHaveLost, OpenRefuses, Opens, Recovers, is_needed, replayed}
+use Rattle.lsm_versions.specs.Opening.{AreExhausted, EpochRefused, HaveTables, IsNextEpoch, MayHaveDropped, MayHaveLost, OpenRefuses, Opens, Recovers, is_live_file, manifest_version}
 use Rattle.lsm_versions.specs.Retention.{put_each, retire, retired_after}
 use Rattle.lsm_versions.proofs.PutTables.{placed_none}
 use Rattle.lsm_versions.proofs.RecoveredTables.{have_tables}
@@ -39,7 +39,7 @@ none_retire : (s : ServedValue) → retired_after [] s [] ≡ []
 none_retire s = ap (λ (ps : List Placed). put_each (map (retire s.version.number) ps) []) (none_taken s.places)
 
 module _ (old mid new : VersionSetValue) (e : Edit) (failures : ℕ) (none : old.retired ≡ []) (rest : mid ≡ record old { kept = mid.kept; failures = mid.failures })
-    (needed : mid.kept ≡ retain_keys old.kept (is_needed old.served.version.files old.retired)) (is : e ≡ epoch_edit old.served.version) (made : new ≡ record (after_logging mid e []) { failures = failures }) where
+    (needed : mid.kept ≡ retain_keys old.kept (is_live_file old.served.version.files old.retired)) (is : e ≡ epoch_edit old.served.version) (made : new ≡ record (after_logging mid e []) { failures = failures }) where
   pub next_served : new.served ≡ after_advance old.served (epoch_edit old.served.version) []
   next_served = ap (λ (v : VersionSetValue). v.served) made ∙ (λ i. after_advance (rest i).served (is i) [])
 
@@ -49,8 +49,8 @@ module _ (old mid new : VersionSetValue) (e : Edit) (failures : ℕ) (none : old
   pub next_retired : new.retired ≡ []
   next_retired = ap (λ (v : VersionSetValue). v.retired) made ∙ (λ i. retired_after (rest i).retired (rest i).served (is i).removed) ∙ ap (λ (rs : List Retired). retired_after rs old.served []) none ∙ none_retire old.served
 
-  pub next_kept : new.kept ≡ retain_keys old.kept (is_needed old.served.version.files [])
-  next_kept = ap (λ (v : VersionSetValue). v.kept) made ∙ ap (put_tables mid.kept) (placed_none e.added) ∙ needed ∙ ap (λ (rs : List Retired). retain_keys old.kept (is_needed old.served.version.files rs)) none
+  pub next_kept : new.kept ≡ retain_keys old.kept (is_live_file old.served.version.files [])
+  next_kept = ap (λ (v : VersionSetValue). v.kept) made ∙ ap (put_tables mid.kept) (placed_none e.added) ∙ needed ∙ ap (λ (rs : List Retired). retain_keys old.kept (is_live_file old.served.version.files rs)) none
 
   -- with the floor at the version after it
   pub next_epoch : (v : VersionSetValue) → v.served ≡ new.served → v.edits ≡ new.edits → v.retired ≡ new.retired → v.kept ≡ new.kept → v.floor ≡ v.served.version.number → IsNextEpoch old v
@@ -79,7 +79,7 @@ lost_still needed old mid new e none lost apart n =
 -- ---- an opening
 
 module _ (texts : List (List ℕ)) (kept : Kept) (s : ServedValue) (is : Recovers texts kept s) (served : IsServed s) where
-  version_is : replayed texts ≡ s.version
+  version_is : manifest_version texts ≡ s.version
   version_is = is.folds.makes
 
   pub epoch_refused : (why : OpenError) → EpochRefused s.version why → OpenRefuses texts kept why
@@ -93,21 +93,21 @@ module _ (texts : List (List ℕ)) (kept : Kept) (s : ServedValue) (is : Recover
   epoch_refused OutOfMemory h = tt
   epoch_refused Device h = tt
 
-  pub epoch_dropped : (why : OpenError) (new : Kept) → EpochRefused s.version why → MayHaveLost (is_needed s.version.files []) kept new → (why ≡ NumbersExhausted → new ≡ kept) → MayHaveDropped why texts kept new
+  pub epoch_dropped : (why : OpenError) (new : Kept) → EpochRefused s.version why → MayHaveLost (is_live_file s.version.files []) kept new → (why ≡ NumbersExhausted → new ≡ kept) → MayHaveDropped why texts kept new
   epoch_dropped BadManifest new h lost same = absurd h
   epoch_dropped MissingTable new h lost same = absurd h
   epoch_dropped NumbersExhausted new h lost same = same refl
-  epoch_dropped OutOfMemory new h lost same = inr (folds_once texts s.version is.folds, subst (λ (v : VersionValue). MayHaveLost (is_needed v.files []) kept new) (sym version_is) lost)
-  epoch_dropped Device new h lost same = inr (folds_once texts s.version is.folds, subst (λ (v : VersionValue). MayHaveLost (is_needed v.files []) kept new) (sym version_is) lost)
+  epoch_dropped OutOfMemory new h lost same = inr (folds_once texts s.version is.folds, subst (λ (v : VersionValue). MayHaveLost (is_live_file v.files []) kept new) (sym version_is) lost)
+  epoch_dropped Device new h lost same = inr (folds_once texts s.version is.folds, subst (λ (v : VersionValue). MayHaveLost (is_live_file v.files []) kept new) (sym version_is) lost)
 
   pub opened_set : (v : VersionSetValue) (old : VersionSetValue) → old.served ≡ s → old.edits ≡ texts → old.kept ≡ kept → IsNextEpoch old v → Opens texts kept v
   opened_set v old at edits tables next =
-      let from : old.served.version ≡ replayed texts = ap (λ (x : ServedValue). x.version) at ∙ sym version_is in
+      let from : old.served.version ≡ manifest_version texts = ap (λ (x : ServedValue). x.version) at ∙ sym version_is in
       record {
         folds = folds_once texts s.version is.folds;
         version = ap (λ (x : ServedValue). x.version) next.served ∙ ap (λ (x : VersionValue). after_apply x (epoch_edit x)) from;
         edits = next.edits ∙ (λ i. edits i ++ spelling (epoch_edit (from i)) ∷ []);
         floor = next.floor;
         retired = next.retired;
-        tables = next.tables ∙ (λ i. retain_keys (tables i) (is_needed (from i).files []));
+        tables = next.tables ∙ (λ i. retain_keys (tables i) (is_live_file (from i).files []));
       }

@@ -1,5 +1,5 @@
 -- The tables of a vault once those are removed that no file needs.
-use Rattle.std.proofs.Common.{◌≡◌, ℕ, ◌+◌, ◌<◌, Bool, true, false, cond, not, ◌||◌, ◌&&◌, List, [], ◌∷◌, Option, None, Some, is_some, filter, take, get_or, length, eqb, refl, sym, ap, ◌∙◌, inl, inr, arith}
+use Rattle.std.proofs.Common.{subst, ◌≡◌, ℕ, ◌+◌, ◌<◌, Bool, true, false, cond, not, ◌||◌, ◌&&◌, List, [], ◌∷◌, Option, None, Some, is_some, filter, take, get_or, length, eqb, refl, sym, ap, ◌∙◌, inl, inr, arith}
 use Rattle.std.specs.List.{list_any}
 use Rattle.std.specs.Ordering.{nat_cmp, eq_by_cmp}
 use Rattle.std.specs.FinMap.{contains_key-keys, get, get-remove, get-retain_keys, keys, nat_cmp-IsAntisymmetric, remove, retain_keys, same_map}
@@ -15,7 +15,7 @@ use Rattle.lsm_edit.specs.declared.served.Placed.{Placed}
 use Rattle.lsm_edit.specs.Version.{has_number}
 use Rattle.lsm_versions.specs.declared.retired.Retired.{Retired}
 use Rattle.lsm_versions.specs.Kept.{AreKept, Kept, MayHaveRemoved}
-use Rattle.lsm_versions.specs.Opening.{MayHaveLost, is_needed}
+use Rattle.lsm_versions.specs.Opening.{MayHaveLost, is_live_file}
 use Rattle.lsm_versions.specs.Retention.{retired_at}
 
 -- the numbers but these
@@ -90,10 +90,11 @@ others_gone old needed = same_map nat_cmp_total nat_cmp-IsAntisymmetric _ _ (λ 
     ∙ others_out (needed q) (get old q)
     ∙ sym (get_retained old needed q))
 
-pub others_lost : (old new : Kept) (needed : ℕ → Bool) (xs : List ℕ) → MayHaveRemoved (filter (λ n. not (needed n)) xs) old new → MayHaveLost needed old new
-others_lost old new needed xs may n = elim (may n) [
-  | inl stays ↦ inl stays
-  | inr gone ↦ inr (not-true (needed n) (IsIn-filter (λ (k : ℕ). not (needed k)) n xs gone.0).1, gone.1)
+-- of removals that were begun, only those that are not needed may be gone
+pub others_lost : (old mid new : Kept) (needed : ℕ → Bool) (ns : List ℕ) → ns ≡ filter (λ n. not (needed n)) (keys old) → mid ≡ old → MayHaveRemoved ns mid new → MayHaveLost needed old new
+others_lost old mid new needed ns are same may n = elim (may n) [
+  | inl stays ↦ inl (stays ∙ ap (λ (m : Kept). get m n) same)
+  | inr gone ↦ inr (not-true (needed n) (IsIn-filter (λ (k : ℕ). not (needed k)) n (keys old) (subst (IsIn n) are gone.0)).1, gone.1)
 ]
 
 -- ---- what a version set needs
@@ -104,7 +105,7 @@ retired_there (x ∷ rs) r (inl same) = ap (λ (b : Bool). is_some (cond b (Some
 retired_there (x ∷ rs) r (inr later) = elim (eqb x.number r.number) as (λ b. is_some (cond b (Some x.bytes) (retired_at rs r.number)) ≡ true) [ true ↦ refl | false ↦ retired_there rs r later ]
 
 -- they are kept if what they need is
-pub kept_needed : (places : List Placed) (files : List FileMeta) (retired : List Retired) (old new : Kept) → ((p : Placed) → IsIn p places → IsIn p.meta files) → MayHaveLost (is_needed files retired) old new → AreKept old places retired → AreKept new places retired
+pub kept_needed : (places : List Placed) (files : List FileMeta) (retired : List Retired) (old new : Kept) → ((p : Placed) → IsIn p places → IsIn p.meta files) → MayHaveLost (is_live_file files retired) old new → AreKept old places retired → AreKept new places retired
 kept_needed places files retired old new among lost kept = record {
   listed = λ p m. elim (lost p.meta.number) [
     | inl stays ↦ stays ∙ kept.listed p m

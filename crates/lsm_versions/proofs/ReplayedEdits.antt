@@ -10,7 +10,7 @@ use Rattle.lsm_edit.specs.Edit.{IsSpelledEdit, read_edit}
 use Rattle.lsm_edit.specs.Edits.{Apply, after_edits}
 use Rattle.lsm_edit.specs.Version.{VersionValue, after_apply, apply_fault, first_version}
 use Rattle.lsm_versions.specs.Manifest.{Folds, ok_items, read_edits, versions_of}
-use Rattle.lsm_versions.specs.Opening.{replayed}
+use Rattle.lsm_versions.specs.Opening.{manifest_version}
 use Rattle.lsm_versions.specs.Retention.{AreRetired}
 use Rattle.lsm_versions.proofs.ManifestReplay.{Folds-push, current_at, length-versions_of, spells_one}
 
@@ -39,7 +39,7 @@ module _ (texts : List (List ℕ)) (i : ℕ) (text : List ℕ) (lt : i < length 
       (applies_there first_version (read_edits (take i texts)) e (read_edits (drop (i + 1) texts)) (subst (Apply first_version) (edits_split e one) all.apply))
 
 -- a list replays to one version
-pub folds_once : (texts : List (List ℕ)) (v : VersionValue) → Folds texts v → Folds texts (replayed texts)
+pub folds_once : (texts : List (List ℕ)) (v : VersionValue) → Folds texts v → Folds texts (manifest_version texts)
 folds_once texts v h = record { spelled = h.spelled; apply = h.apply; makes = refl }
 
 -- at the floor of the current version no file is retired

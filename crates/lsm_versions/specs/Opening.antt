@@ -24,8 +24,8 @@ use Rattle.lsm_versions.specs.Retention.{retired_at}
 -- ---- which tables stay
 
 -- one of the files or of the retired ones has the number
-abbrev pub is_needed : List FileMeta → List Retired → ℕ → Bool
-is_needed files retired n = list_any (has_number n) files || is_some (retired_at retired n)
+abbrev pub is_live_file : List FileMeta → List Retired → ℕ → Bool
+is_live_file files retired n = list_any (has_number n) files || is_some (retired_at retired n)
 
 -- the same tables, but that some under other numbers may be gone
 abbrev pub MayHaveLost : (ℕ → Bool) → Kept → Kept → Type 0
@@ -34,8 +34,8 @@ MayHaveLost needed old new = (n : ℕ) → (map.get new n ≡ map.get old n) ⊎
 -- ---- an opening
 
 -- the version that a manifest replays to
-abbrev pub replayed : List (List ℕ) → VersionValue
-replayed texts = after_edits first_version (read_edits texts)
+abbrev pub manifest_version : List (List ℕ) → VersionValue
+manifest_version texts = after_edits first_version (read_edits texts)
 
 -- the table under the file's number is absent or not as its record says
 abbrev pub LacksTable : Kept → FileMeta → Type 0
@@ -59,9 +59,9 @@ AreExhausted v = (MAX_NUMBER ≤ v.number) ⊎ (MAX_NUMBER ≤ v.epoch)
 
 -- a vault with these edits and tables is not opened, for this reason
 abbrev pub OpenRefuses : List (List ℕ) → Kept → OpenError → Type 0
-OpenRefuses texts kept BadManifest = Folds texts (replayed texts) → ⊥
-OpenRefuses texts kept MissingTable = Folds texts (replayed texts) × IsLacking kept (replayed texts).files
-OpenRefuses texts kept NumbersExhausted = Folds texts (replayed texts) × HaveTables kept (replayed texts).files × AreExhausted (replayed texts)
+OpenRefuses texts kept BadManifest = Folds texts (manifest_version texts) → ⊥
+OpenRefuses texts kept MissingTable = Folds texts (manifest_version texts) × IsLacking kept (manifest_version texts).files
+OpenRefuses texts kept NumbersExhausted = Folds texts (manifest_version texts) × HaveTables kept (manifest_version texts).files × AreExhausted (manifest_version texts)
 OpenRefuses texts kept OutOfMemory = Unit {0}
 OpenRefuses texts kept Device = Unit {0}
 
@@ -80,8 +80,8 @@ CountsRefusal NumbersExhausted before after = before ≤ after
 
 -- the tables before and after it: some that no file needs may be gone, if memory ran out or the device failed
 abbrev pub MayHaveDropped : OpenError → List (List ℕ) → Kept → Kept → Type 0
-MayHaveDropped OutOfMemory texts old new = (new ≡ old) ⊎ (Folds texts (replayed texts) × MayHaveLost (is_needed (replayed texts).files []) old new)
-MayHaveDropped Device texts old new = (new ≡ old) ⊎ (Folds texts (replayed texts) × MayHaveLost (is_needed (replayed texts).files []) old new)
+MayHaveDropped OutOfMemory texts old new = (new ≡ old) ⊎ (Folds texts (manifest_version texts) × MayHaveLost (is_live_file (manifest_version texts).files []) old new)
+MayHaveDropped Device texts old new = (new ≡ old) ⊎ (Folds texts (manifest_version texts) × MayHaveLost (is_live_file (manifest_version texts).files []) old new)
 MayHaveDropped BadManifest texts old new = new ≡ old
 MayHaveDropped MissingTable texts old new = new ≡ old
 MayHaveDropped NumbersExhausted texts old new = new ≡ old
@@ -97,7 +97,7 @@ pub record IsNextEpoch (old new : VersionSetValue) : Type 0 where
   pub edits : new.edits ≡ old.edits ++ edit (epoch_edit old.served.version) ∷ []
   pub floor : new.floor ≡ new.served.version.number
   pub retired : new.retired ≡ []
-  pub tables : new.kept ≡ map.retain_keys old.kept (is_needed old.served.version.files [])
+  pub tables : new.kept ≡ map.retain_keys old.kept (is_live_file old.served.version.files [])
 
 -- the next epoch of a version does not begin, for this reason
 abbrev pub EpochRefused : VersionValue → OpenError → Type 0
@@ -110,9 +110,9 @@ EpochRefused v Device = Unit {0}
 -- The version set stands at the version after one more edit, of the next epoch, which is the last of the manifest. Its floor is there,
 -- and the vault has the tables of its files alone.
 pub record Opens (texts : List (List ℕ)) (kept : Kept) (v : VersionSetValue) : Type 0 where
-  pub folds : Folds texts (replayed texts)
-  pub version : v.served.version ≡ after_apply (replayed texts) (epoch_edit (replayed texts))
-  pub edits : v.edits ≡ texts ++ edit (epoch_edit (replayed texts)) ∷ []
+  pub folds : Folds texts (manifest_version texts)
+  pub version : v.served.version ≡ after_apply (manifest_version texts) (epoch_edit (manifest_version texts))
+  pub edits : v.edits ≡ texts ++ edit (epoch_edit (manifest_version texts)) ∷ []
   pub floor : v.floor ≡ v.served.version.number
   pub retired : v.retired ≡ []
-  pub tables : v.kept ≡ map.retain_keys kept (is_needed (replayed texts).files [])
+  pub tables : v.kept ≡ map.retain_keys kept (is_live_file (manifest_version texts).files [])

@@ -8,7 +8,7 @@ ghost use Rattle.lsm_edit.specs.Edit.{IsSpelledEdit};
 ghost use Rattle.lsm_edit.specs.Served.{AreAsRecorded, IsAsRecorded, placed_of};
 ghost use Rattle.lsm_vault.specs.Failures.{CountsFailures};
 ghost use Rattle.lsm_versions.specs.Manifest.{Folds};
-ghost use Rattle.lsm_versions.specs.Opening.{ArePlacesKept, CountsRefusal, IsLacking, LacksTable, OpenRefuses, Recovers, replayed};
+ghost use Rattle.lsm_versions.specs.Opening.{ArePlacesKept, CountsRefusal, IsLacking, LacksTable, OpenRefuses, Recovers, manifest_version};
 
 use crate::OpenError;
 use bytes::Bytes;
@@ -42,7 +42,7 @@ pub(crate) fn recover<V: Vault>(alloc: Global, vault: &mut V) -> Result<Served, 
 // The version that these edits replay to, if they do.
 fn replay(alloc: Global, edits: &[Bytes]) -> Result<Option<Version>, AllocError>
     ensures some { IfOk result (λ o. IfSome o (Folds edits.now)) }
-    ensures none { IfOk result (λ o. IfNone o (Folds edits.now (replayed edits.now) → ⊥)) }
+    ensures none { IfOk result (λ o. IfNone o (Folds edits.now (manifest_version edits.now) → ⊥)) }
 {
     let mut version = Version::new(alloc);
     for text in edits {

@@ -6,7 +6,7 @@ ghost use Rattle.std.specs.List.{list_any};
 ghost use Rattle.lsm_vault.specs.Failures.{CountsFailures};
 ghost use Rattle.lsm_edit.specs.Served.{AreAsRecorded, placed_of};
 ghost use Rattle.lsm_versions.specs.Kept.{MayHaveRemoved, StaysApart, put_tables};
-ghost use Rattle.lsm_versions.specs.Opening.{MayHaveLost, is_needed};
+ghost use Rattle.lsm_versions.specs.Opening.{MayHaveLost, is_live_file};
 ghost use Rattle.lsm_versions.specs.Retention.{NumbersRise};
 
 use crate::retired::{Retired, retired_bytes};
@@ -67,9 +67,9 @@ pub(crate) fn remove_obsolete<V: Vault>(
     retired: &[Retired],
 ) -> Result<Vec<FileNumber>, VaultError>
     requires { NumbersRise retired.now }
-    ensures removed { IfOk result (λ removed. removed.items ≡ filter (λ n. not (is_needed version.now.files retired.now n)) (map.keys (V.tables vault.old))) }
-    ensures ok { OnOk result (V.tables vault.new ≡ map.retain_keys (V.tables vault.old) (is_needed version.now.files retired.now)) }
-    ensures lost { MayHaveLost (is_needed version.now.files retired.now) (V.tables vault.old) (V.tables vault.new) }
+    ensures removed { IfOk result (λ removed. removed.items ≡ filter (λ n. not (is_live_file version.now.files retired.now n)) (map.keys (V.tables vault.old))) }
+    ensures ok { OnOk result (V.tables vault.new ≡ map.retain_keys (V.tables vault.old) (is_live_file version.now.files retired.now)) }
+    ensures lost { MayHaveLost (is_live_file version.now.files retired.now) (V.tables vault.old) (V.tables vault.new) }
     ensures edits { V.edits vault.new ≡ V.edits vault.old }
     ensures counted { CountsFailures result (V.failures vault.old) (V.failures vault.new) }
 {
@@ -85,20 +85,20 @@ fn find_obsolete<V: Vault>(
     retired: &[Retired],
 ) -> Result<Vec<FileNumber>, VaultError>
     requires { NumbersRise retired.now }
-    ensures ok { IfOk result (λ numbers. numbers.items ≡ filter (λ n. not (is_needed version.now.files retired.now n)) (map.keys (V.tables vault.old))) }
+    ensures ok { IfOk result (λ numbers. numbers.items ≡ filter (λ n. not (is_live_file version.now.files retired.now n)) (map.keys (V.tables vault.old))) }
     ensures edits { V.edits vault.new ≡ V.edits vault.old }
     ensures tables { V.tables vault.new ≡ V.tables vault.old }
     ensures counted { CountsFailures result (V.failures vault.old) (V.failures vault.new) }
 {
     let mut numbers = vault.numbers()?;
-    numbers.retain(|number| !is_needed(version, retired, *number));
+    numbers.retain(|number| !is_live_file(version, retired, *number));
     Ok(numbers)
 }
 
 // Whether a file of the version or a retired one has the number.
-fn is_needed(version: &Version, retired: &[Retired], number: FileNumber) -> bool
+fn is_live_file(version: &Version, retired: &[Retired], number: FileNumber) -> bool
     requires { NumbersRise retired.now }
-    ensures { result ≡ is_needed version.now.files retired.now number }
+    ensures { result ≡ is_live_file version.now.files retired.now number }
 {
     version.has_file(number.number()) || retired_bytes(retired, number.number()).is_some()
 }

@@ -10,7 +10,7 @@ ghost use Rattle.lsm_edit.specs.Version.{IsVersion, apply_fault};
 ghost use Rattle.lsm_vault.specs.Failures.{CountsFailures};
 ghost use Rattle.lsm_versions.specs.Manifest.{IsVersionSet, MayHavePut, after_logging, after_trimming, first_version_set};
 ghost use Rattle.lsm_versions.specs.Kept.{MayHaveRemoved, StaysApart};
-ghost use Rattle.lsm_versions.specs.Opening.{CountsRefusal, EpochRefused, IsNextEpoch, MayHaveDropped, MayHaveLost, OpenRefuses, Opens, is_needed};
+ghost use Rattle.lsm_versions.specs.Opening.{CountsRefusal, EpochRefused, IsNextEpoch, MayHaveDropped, MayHaveLost, OpenRefuses, Opens, is_live_file};
 ghost use Rattle.lsm_versions.specs.declared.error.OpenError.TheVariants.{NumbersExhausted};
 ghost use Rattle.lsm_versions.specs.Retention.{bytes_at, dropped_below};
 
@@ -106,7 +106,7 @@ impl<V: Vault> VersionSet<V> {
         ensures ok { OnOk result (IsNextEpoch self.old self.new) }
         ensures refused { IfErr result (EpochRefused self.old.served.version) }
         ensures err { OnErr result (self.new ≡ record self.old { kept = self.new.kept; failures = self.new.failures }) }
-        ensures lost { OnErr result (MayHaveLost (is_needed self.old.served.version.files []) self.old.kept self.new.kept) }
+        ensures lost { OnErr result (MayHaveLost (is_live_file self.old.served.version.files []) self.old.kept self.new.kept) }
         ensures exhausted { IfErr result (λ e. e ≡ NumbersExhausted → self.new ≡ self.old) }
         ensures failures { self.old.failures ≤ self.new.failures }
         ensures counted { IfErr result (λ e. CountsRefusal e self.old.failures self.new.failures) }
@@ -124,10 +124,10 @@ impl<V: Vault> VersionSet<V> {
 
     // Removes the tables that neither a file of the version nor a retired one needs. Returns their numbers, ascending.
     fn remove_obsolete(&mut self) -> Result<Vec<FileNumber>, VaultError>
-        ensures removed { IfOk result (λ removed. removed.items ≡ filter (λ n. not (is_needed self.old.served.version.files self.old.retired n)) (map.keys self.old.kept)) }
-        ensures ok { OnOk result (self.new.kept ≡ map.retain_keys self.old.kept (is_needed self.old.served.version.files self.old.retired)) }
+        ensures removed { IfOk result (λ removed. removed.items ≡ filter (λ n. not (is_live_file self.old.served.version.files self.old.retired n)) (map.keys self.old.kept)) }
+        ensures ok { OnOk result (self.new.kept ≡ map.retain_keys self.old.kept (is_live_file self.old.served.version.files self.old.retired)) }
         ensures rest { self.new ≡ record self.old { kept = self.new.kept; failures = self.new.failures } }
-        ensures lost { MayHaveLost (is_needed self.old.served.version.files self.old.retired) self.old.kept self.new.kept }
+        ensures lost { MayHaveLost (is_live_file self.old.served.version.files self.old.retired) self.old.kept self.new.kept }
         ensures counted { CountsFailures result self.old.failures self.new.failures }
     {
         // Proof hint: the places are the version's files.

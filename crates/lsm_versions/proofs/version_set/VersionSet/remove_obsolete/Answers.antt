@@ -3,7 +3,7 @@ use Rattle.lsm_key.proofs.Membership.{IsIn-map}
 use Rattle.lsm_edit.specs.declared.served.Placed.{Placed}
 use Rattle.lsm_edit.specs.Version.{VersionValue}
 use Rattle.lsm_versions.specs.declared.retired.Retired.{Retired}
-use Rattle.lsm_versions.specs.Opening.{MayHaveLost, is_needed}
+use Rattle.lsm_versions.specs.Opening.{MayHaveLost, is_live_file}
 use Rattle.lsm_versions.proofs.RemovedTables.{kept_needed}
 use Rattle.lsm_versions.proofs.version_set.VersionSet.remove_obsolete.Goals as goal
 
@@ -13,8 +13,8 @@ invariant_of-self g c =
     let old = g.V.Vault.tables m.vault in
     let new = g.V.Vault.tables c.remove_obsolete.new.vault in
     let lost =
-    subst (λ (rs : List Retired). MayHaveLost (is_needed m.current.version.files rs) old new) c.deref.ensures.value
-    (subst (λ (v : VersionValue). MayHaveLost (is_needed v.files c.deref.result.now) old new) c.version.ensures c.remove_obsolete.ensures.lost) in
+    subst (λ (rs : List Retired). MayHaveLost (is_live_file m.current.version.files rs) old new) c.deref.ensures.value
+    (subst (λ (v : VersionValue). MayHaveLost (is_live_file v.files c.deref.result.now) old new) c.version.ensures c.remove_obsolete.ensures.lost) in
     let served = c.places-places.ensures.sound.0 in
     rw (c.remove_obsolete.ensures.edits) (record {
       folds = c.self.invariant.folds;
