@@ -16,7 +16,7 @@ sys.dont_write_bytecode = True
 from kinds import kind_of, what_it_meets
 from store import events
 from store.limits import Limits
-from store.lines import line
+from store.lines import dotted, line
 from store.messages import Job
 from store.picker import pick
 from store.script import events_of_line
@@ -27,7 +27,7 @@ LIMITS = [(1, 1), (1, 1), (1, 48), (1, 100), (1, 10_485_760), (2, 1), (2, 60), (
 KEYS = ["a", "b", "c", "d", "m", "n", "z", "aa", "a%00", "%00", "%FF", "x%25", "~"]
 # How often each command is tried, of those that a script has in common with a store without jobs, and of all.
 WRITES = {"put": 12, "del": 6, "batch": 3, "freeze": 2, "flush": 11, "snap": 2, "release": 2, "get": 6, "scan": 3, "show": 2}
-ALL = {**WRITES, "pick": 10, "giveup": 3, "deliver": 44, "restart": 1}
+ALL = {**WRITES, "pick": 10, "giveup": 3, "deliver": 44, "restart_worker": 1, "restart_coordinator": 0.7}
 COMMANDS = {"all": ALL, "writes": WRITES}
 # How a delivery chooses its message, and how likely it loses one of the undelivered ones, in a bad and in a good network.
 BAD = {"oldest": 10, "several": 6, "newest": 2, "any": 3, "again": 4, "unsent": 0.4}, 0.03
@@ -55,7 +55,7 @@ class Schedule:
         self.weights = {it: weight * self.random.choice((0.5, 1, 1, 2)) for it, weight in COMMANDS[commands].items()}
         self.weights.update({"put": 1, "del": 1, "batch": 6, "get": 2, "scan": 1} if self.is_large else {})
         self.world, self.script, self.lines, self.kinds = World(self.limits), [], [], Counter()
-        self.undelivered = []
+        self.undelivered, self.snapshots = [], []
         self.deliveries, self.loss = self.random.choice((BAD, GOOD))
         self.eager = self.random.choice((0.5, 3))
         is_long = not self.is_large and self.random.randrange(ONE_IN_LONG) == 0
@@ -93,6 +93,7 @@ class Schedule:
             reply = self.world.step(event)
             self.lines.append(line(reply))
             self.kinds[kind_of(event, met, reply)] += 1
+            self.snapshots += [dotted(reply.name)] if isinstance(reply, events.Snapped) else []
             self.undelivered += range(sent + 1, len(self.world.messages) + 1)
             if isinstance(event, events.Deliver) and event.message in self.undelivered:
                 self.undelivered.remove(event.message)
@@ -109,6 +110,7 @@ class Schedule:
             "pick": self.eager if pick(store.version, store.book, store.limits) else 0.2,
             "giveup": 1 if is_held else 0.2,
             "deliver": 1 if self.undelivered else 0.1,
+            "restart_coordinator": 1 if is_held else 0.2,
         }
         return {it: weight * factors.get(it, 1) for it, weight in self.weights.items()}
 
@@ -137,9 +139,10 @@ class Schedule:
         return f" @{self.snapshot()}" if self.random.random() < (0.6 if self.world.coordinator.snapshots else 0.1) else ""
 
     def snapshot(self):
-        made = self.world.coordinator.snapshots_made
-        live = [f"{it.epoch}.{it.number}" for it in self.world.coordinator.snapshots]
-        return self.often(live, [f"1.{it}" for it in range(1, made + 2)] + ["2.1", "0.0"])
+        """The name of a live one, or of any that was made, or of none."""
+        store = self.world.coordinator
+        epoch, made = store.version.epoch, store.snapshots_made
+        return self.often([dotted(it) for it in store.snapshots], [*self.snapshots, f"{epoch}.{made + 1}", f"{epoch + 1}.1", "0.0"])
 
     def dispatcher(self, is_busy):
         likely = [it for it, held in self.world.held.items() if (held is not None) == is_busy]
@@ -186,8 +189,11 @@ class Schedule:
     def giveup(self):
         return f"giveup {self.dispatcher(is_busy=True)}"
 
-    def restart(self):
+    def restart_worker(self):
         return f"restart w{self.random.randint(1, 4)}"
+
+    def restart_coordinator(self):
+        return "restart c"
 
     def deliver(self):
         """In order, out of order, again, before it was sent; and what is lost is mostly never delivered."""

@@ -108,6 +108,22 @@ def full_memtables():
     ]
 
 
+def restart(batch, count):
+    """A restart empties a full memtable, and ends the snapshots."""
+    snapshots = [("snap", f"snapshot 1.{number} at 0") for number in range(1, 65)]
+    return [
+        *snapshots,
+        ("snap", "refused TooManySnapshots"),
+        (batch, f"seq 1-{count}"),
+        (batch, f"seq {count + 1}-{2 * count}"),
+        ("del k", "refused MemtableFull"),
+        ("restart c", "epoch 2 version 2 last 0"),
+        ("del k", "seq 1"),
+        ("snap", "snapshot 2.1 at 1"),
+        (batch, f"seq 2-{count + 1}"),
+    ]
+
+
 def moved_twice(pick):
     """A file of 66 bytes, 31 beside its largest key and its entries of 16 and 17, merged into level 1; and then a pick."""
     return [
@@ -133,6 +149,7 @@ def made():
     yield row("a level of as many bytes as its base", "--l0 1 --base 66", moved_twice("idle"))
     yield row("a level of a byte more than its base", "--l0 1 --base 65", moved_twice("job 1.2 level 1 inputs 2 message 5"))
     yield row("full batches and memtables", "", full_memtables())
+    yield row("a restart with a full memtable and all snapshots", "", restart(*of_weight(4_000_000)))
     yield row("an output that is closed", "--l0 1", cut_at(2_000_000))
     yield row("an output that is not closed", "--l0 1", cut_at(1_999_999))
 

@@ -1,5 +1,6 @@
 -- What a flush makes of the states that a coordinator shows.
 use Rattle.std.proofs.Common.{◌≡◌, ℕ, ◌+◌, ◌≤◌, List, [], ◌∷◌, ◌++◌, Option, None, Some, refl, sym, ap, subst, ◌∙◌, arith, length, map, take, drop, unwrap_or}
+use Rattle.std.specs.FinMap as fin
 use Rattle.std.specs.Option.{option_map}
 use Rattle.std.specs.List.Sorted.{IsPermutation}
 use Rattle.std.proofs.lemmas.List.{map-append, length-take}
@@ -19,6 +20,7 @@ use Rattle.lsm_edit.specs.Version.{IsVersion, VersionValue, apply_fault, after_a
 use Rattle.lsm_table.specs.Tables.{Opened}
 use Rattle.lsm_edit.proofs.AdvancedPlaces.{places_are}
 use Rattle.lsm_edit.proofs.VersionLaws.{files_after-is}
+use Rattle.lsm_versions.specs.Kept.{put_tables}
 use Rattle.lsm_versions.specs.Manifest.{VersionSetValue, after_logging, versions_of}
 use Rattle.lsm_versions.proofs.ManifestReplay.{Folds-push}
 use Rattle.lsm_versions.proofs.RetiredFiles.{retired-none}
@@ -43,12 +45,12 @@ flushed_to c frozen f t text = record c { active = active_after c.active frozen;
 
 -- what is logged of a flush: the new table is searched first
 pub logged_is : (old : VersionSetValue) (end : ℕ) (f : FileMeta) (t : Opened) (ts : List Opened) (e : Edit) → IsVersion old.served.version → IsServed old.served → IsEdit e → AreAsRecorded e.added ts → apply_fault old.served.version e ≡ None → e ≡ flush_edit old.served.version end f → ts ≡ t ∷ []
-    → after_logging old e ts ≡ record old { served = with_flushed old.served end f t; edits = old.edits ++ spelling e ∷ []; kept = (after_logging old e ts).kept }
+    → after_logging old e ts ≡ record old { served = with_flushed old.served end f t; edits = old.edits ++ spelling e ∷ []; kept = fin.insert old.kept f.number t.bytes }
 logged_is old end f t ts e version served sound recorded applies is one =
     let plain : e.kind ≡ kind.Install → ⊥ = λ h. let no : kind.Flush ≡ kind.Install = sym (ap (λ (x : Edit). x.kind) is) ∙ h in absurd cc in
     let places = places_are old.served e ts version served sound plain recorded applies ∙ (λ i. placed_of (is i).added (one i) ++ old.served.places) in
     let retired = retired-none old.retired old.served e.removed (ap (λ (x : Edit). x.removed) is) in
-    λ i. record { served = record { version = after_apply old.served.version (is i); places = places i }; edits = old.edits ++ spelling e ∷ []; retired = retired i; floor = old.floor; kept = (after_logging old e ts).kept; failures = old.failures }
+    λ i. record { served = record { version = after_apply old.served.version (is i); places = places i }; edits = old.edits ++ spelling e ∷ []; retired = retired i; floor = old.floor; kept = put_tables old.kept (placed_of (is i).added (one i)); failures = old.failures }
 
 -- ---- a flush of the frozen memtable
 

@@ -1,5 +1,5 @@
 -- What a claim that ends without a result leaves.
-use Rattle.std.proofs.Common.{◌≡◌, ℕ, Bool, true, false, not, cond, List, [], ◌∷◌, ◌++◌, refl, sym, ap, subst, ◌∙◌}
+use Rattle.std.proofs.Common.{◌≡◌, ℕ, Bool, true, false, not, cond, List, [], ◌∷◌, refl, sym, subst, ◌∙◌}
 use Rattle.std.proofs.lemmas.Bool.{and_parts, eqb-true}
 use Rattle.std.specs.Prelude.{nat_eq}
 use Rattle.std.specs.List.{list_any}
@@ -13,11 +13,11 @@ use Rattle.lsm_claim.specs.declared.job.LiveJob.{LiveJob}
 use Rattle.lsm_claim.specs.Jobs.{same_job_id, without_job}
 use Rattle.lsm_claim.specs.Book.{BookValue, holds, with_ending, after_settling}
 use Rattle.lsm_edit.specs.declared.file.FileMeta.{FileMeta}
+use Rattle.lsm_versions.specs.Kept.{Kept}
 use Rattle.lsm_coord.specs.Model.State.{State}
 use Rattle.lsm_coord.specs.Contract.Memory.{AreLegal, IsJobWant}
 use Rattle.lsm_coord.specs.Contract.Value.{CoordValue}
 use Rattle.lsm_coord.specs.Contract.Calls.{after_give_back}
-use Rattle.lsm_coord.specs.Contract.Desks.{after_giving_back_all}
 use Rattle.lsm_coord.specs.Contract.Shows.{Shows}
 use Rattle.lsm_coord.specs.Contract.Sound.{KeepsSound}
 
@@ -72,9 +72,9 @@ orderly_after b id ending all j m = all j (live_before b id ending j m)
 
 -- ---- the coordinator
 
--- the states that it shows know no claims
-pub Shows-with_book : (c : CoordValue) (book : BookValue) (s : State) → Shows c s → Shows (record c { book = book }) s
-Shows-with_book c book s h = record {
+-- the states that it shows know neither claims nor its vault
+pub Shows-beside : (c : CoordValue) (book : BookValue) (kept : Kept) (failures : ℕ) (s : State) → Shows c s → Shows (record c { book = book; kept = kept; failures = failures }) s
+Shows-beside c book kept failures s h = record {
   up = h.up;
   last = h.last;
   frozen = h.frozen;
@@ -101,13 +101,10 @@ gives_back_keeps c id job sound held =
 
 -- ---- several claims, one after another
 
-pub gave_back_all-append : (c : CoordValue) (ids others : List JobId) → after_giving_back_all c (ids ++ others) ≡ after_giving_back_all (after_giving_back_all c ids) others
-gave_back_all-append c [] others = refl
-gave_back_all-append c (id ∷ ids) others = gave_back_all-append (after_give_back c id) ids others
-
-pub shown_after_all : (c : CoordValue) (ids : List JobId) (s : State) → Shows c s → Shows (after_giving_back_all c ids) s
-shown_after_all c [] s h = h
-shown_after_all c (id ∷ ids) s h = shown_after_all (after_give_back c id) ids s (Shows-with_book c (after_settling c.book id Returned) s h)
+-- claims are given back to a coordinator
+abbrev pub after_giving_back_all : CoordValue → List JobId → CoordValue
+after_giving_back_all c [] = c
+after_giving_back_all c (id ∷ ids) = after_giving_back_all (after_give_back c id) ids
 
 -- a name that is live in the end was live all along
 held_before : (b : BookValue) (id name : JobId) → holds (after_settling b id Returned) name ≡ true → holds b name ≡ true
@@ -123,15 +120,3 @@ pub all_given_back_keep : (c : CoordValue) (ids : List JobId) → KeepsSound c (
 all_given_back_keep c [] job sound held = sound
 all_given_back_keep c (id ∷ ids) job sound held =
     all_given_back_keep (after_give_back c id) ids job (gives_back_keeps c id job sound (held_first (after_give_back c id) ids job.id held)) held
-
--- four lists of claims
-pub four_in_turn : (c c1 c2 c3 c4 : CoordValue) (one two three four : List JobId) → c1 ≡ after_giving_back_all c one → c2 ≡ after_giving_back_all c1 two → c3 ≡ after_giving_back_all c2 three → c4 ≡ after_giving_back_all c3 four
-    → c4 ≡ after_giving_back_all c (one ++ (two ++ (three ++ four)))
-four_in_turn c c1 c2 c3 c4 one two three four h1 h2 h3 h4 =
-    h4
-    ∙ ap (λ (x : CoordValue). after_giving_back_all x four) h3
-    ∙ sym (gave_back_all-append c2 three four)
-    ∙ ap (λ (x : CoordValue). after_giving_back_all x (three ++ four)) h2
-    ∙ sym (gave_back_all-append c1 two (three ++ four))
-    ∙ ap (λ (x : CoordValue). after_giving_back_all x (two ++ (three ++ four))) h1
-    ∙ sym (gave_back_all-append c one (two ++ (three ++ four)))

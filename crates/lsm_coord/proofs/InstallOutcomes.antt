@@ -23,14 +23,13 @@ use Rattle.lsm_msg.specs.Installs.{Installs}
 use Rattle.lsm_msg.specs.Legal.{IsLegal}
 use Rattle.lsm_msg.proofs.OtherJobs.{installs_keep_jobs}
 use Rattle.lsm_versions.specs.Manifest.{VersionSetValue, after_logging}
-use Rattle.lsm_versions.specs.Kept.{Kept}
 use Rattle.lsm_versions.specs.Retention.{retired_after}
 use Rattle.lsm_coord.specs.declared.coord.install.Install.TheVariants as became
 use Rattle.lsm_coord.specs.declared.frozen.Frozen.{Frozen}
 use Rattle.lsm_coord.specs.declared.snapshot.Snapshot.{Snapshot}
 use Rattle.lsm_coord.specs.Contract.Installing.{AreOutputTables, Became, IsInstallDone, IsLive, install_edit_of}
 use Rattle.lsm_coord.specs.Contract.Memory.{IsCoord}
-use Rattle.lsm_coord.specs.Contract.Value.{CoordValue}
+use Rattle.lsm_coord.specs.Contract.Value.{CoordValue, version_set}
 use Rattle.lsm_coord.specs.Inner.Putting.{PutsOutputs}
 use Rattle.lsm_coord.proofs.InstallEdits.{recorded_of, records_inside, records_recorded}
 use Rattle.lsm_coord.proofs.OpenedOutputs.{tables_each}
@@ -67,12 +66,12 @@ unheld_after b id h = ap (λ (held : Bool). cond held (with_ending ending.Instal
 pub with_book : (c : CoordValue) (b : BookValue) → b ≡ c.book → record c { book = b } ≡ c
 with_book c b e = ap (λ (x : BookValue). record c { book = x }) e
 
-pub became_done : (old : CoordValue) (claim live : LiveJob) (made : JobResult) (number : ℕ) (files : List ℕ) (kept : Kept) (failures : ℕ) (new : VersionSetValue) → IsLive old claim.id live
-    → PutsOutputs (record { served = old.served; edits = old.edits; retired = old.retired; floor = old.floor; kept = kept; failures = failures }) live made (record { number = number; files = files }) new → Became old claim made (became.Done number files) (record old { served = new.served; edits = new.edits; retired = new.retired; floor = new.floor; book = after_settling old.book claim.id ending.Installed })
-became_done old claim live made number files kept failures new h p =
+pub became_done : (old : CoordValue) (claim live : LiveJob) (made : JobResult) (number : ℕ) (files : List ℕ) (new : VersionSetValue) → IsLive old claim.id live → PutsOutputs (version_set old) live made (record { number = number; files = files }) new
+    → Became old claim made (became.Done number files)
+    (record old { served = new.served; edits = new.edits; retired = new.retired; floor = new.floor; book = after_settling old.book claim.id ending.Installed; kept = new.kept; failures = new.failures })
+became_done old claim live made number files new h p =
     let named = (live_is old claim.id live h).1 in
-    let before : VersionSetValue = record { served = old.served; edits = old.edits; retired = old.retired; floor = old.floor; kept = kept; failures = failures } in
-    let retired = p.new_is ∙ ap (λ (e : Edit). after_logging before e p.tables) p.edit_is in (
+    let retired = p.new_is ∙ ap (λ (e : Edit). record (after_logging (version_set old) e p.tables) { failures = new.failures }) p.edit_is in (
       live,
       h,
       p.tables,
@@ -83,7 +82,16 @@ became_done old claim live made number files kept failures new h p =
         applies = p.applies;
         text = spelling p.edit;
         spelled = record { sound = p.valid; spelled = refl };
-        new_is = λ i. record old { served = (p.new_is i).served; edits = (p.new_is i).edits; retired = (retired i).retired; floor = (p.new_is i).floor; book = after_settling old.book (sym named i) ending.Installed };
+        new_is = λ i. record old {
+          served = (p.new_is i).served;
+          edits = (p.new_is i).edits;
+          retired = (retired i).retired;
+          floor = (p.new_is i).floor;
+          book = after_settling old.book (sym named i) ending.Installed;
+          kept = (p.new_is i).kept;
+          failures = new.failures;
+        };
+        counted = p.counted;
       },
       p.number_is,
       p.files_are,
@@ -102,8 +110,17 @@ module _ (old : CoordValue) (live : LiveJob) (ts : List Opened) (new : CoordValu
   pub done_applies : apply_fault old.served.version (install_edit_of old.served.version live.want ts) ≡ None
   done_applies = subst (λ (e : Edit). apply_fault old.served.version e ≡ None) done.edit_is done.applies
 
-  pub done_is : new ≡ record old { served = next_served old.served live.want ts; edits = old.edits ++ done.text ∷ []; retired = retired_after old.retired old.served live.want.files; book = after_settling old.book live.id ending.Installed }
-  done_is = done.new_is ∙ (λ i. record old { served = after_advance old.served (done.edit_is i) ts; edits = old.edits ++ done.text ∷ []; retired = retired_after old.retired old.served live.want.files; book = after_settling old.book live.id ending.Installed })
+  pub done_is : new ≡ record old { served = next_served old.served live.want ts; edits = old.edits ++ done.text ∷ []; retired = retired_after old.retired old.served live.want.files; book = after_settling old.book live.id ending.Installed; kept = new.kept; failures = new.failures }
+  done_is =
+      done.new_is
+      ∙ (λ i. record old {
+        served = after_advance old.served (done.edit_is i) ts;
+        edits = old.edits ++ done.text ∷ [];
+        retired = retired_after old.retired old.served live.want.files;
+        book = after_settling old.book live.id ending.Installed;
+        kept = (sym done.new_is i).kept;
+        failures = new.failures;
+      })
 
 -- ---- what an install keeps
 
@@ -148,7 +165,7 @@ after_install active frozen last old new book id live made number files snapshot
     let spelled : IsSpelledEdit (spelling p.edit) e = subst (IsSpelledEdit (spelling p.edit)) p.edit_is (record { sound = p.valid; spelled = refl }) in
     let applies : apply_fault served.version e ≡ None = subst (λ (x : Edit). apply_fault served.version x ≡ None) p.edit_is p.applies in
     let installs = installs_of served live.want made.tables (spelling p.edit) p.tables (is.legal live r.0) p.accepted.outputs spelled applies in
-    let new_is : new ≡ after_logging old e p.tables = p.new_is ∙ ap (λ (x : Edit). after_logging old x p.tables) p.edit_is in
+    let new_is : new ≡ record (after_logging old e p.tables) { failures = new.failures } = p.new_is ∙ ap (λ (x : Edit). record (after_logging old x p.tables) { failures = new.failures }) p.edit_is in
     subst (λ (v : VersionSetValue). IsCoord active frozen last v.served (after_settling book id ending.Installed) snapshots) (sym new_is) (record {
       recent = is.recent;
       begun = is.begun;

@@ -6,18 +6,23 @@ use Rattle.lsm_claim.specs.declared.job.LiveJob.{LiveJob}
 use Rattle.lsm_table.specs.Tables.{Opened}
 use Rattle.lsm_edit.specs.Version.{VersionValue}
 use Rattle.lsm_msg.specs.declared.job.JobResult.{JobResult}
+use Rattle.lsm_versions.specs.Manifest.{MayHavePut, VersionSetValue}
 use Rattle.lsm_coord.specs.declared.coord.install.InstallError.{InstallError}
-use Rattle.lsm_coord.specs.declared.coord.install.InstallError.TheVariants.{WrongJob, BadResult, NumbersExhausted, OutOfMemory}
+use Rattle.lsm_coord.specs.declared.coord.install.InstallError.TheVariants.{WrongJob, BadResult, NumbersExhausted, OutOfMemory, Device}
 use Rattle.lsm_coord.specs.Model.Event as say
-use Rattle.lsm_coord.specs.Contract.Installing.{AreOutputTables, HasNumbers, Rejects, number_fault}
+use Rattle.lsm_coord.specs.Contract.Installing.{AreOutputTables, HasNumbers, LeavesRejected, Rejects, number_fault}
 use Rattle.lsm_coord.specs.Contract.Replies.{error_of, refusal_of}
 use Rattle.lsm_coord.specs.Model.Rules.{CannotNumber, IsAllowed}
 use Rattle.lsm_coord.specs.Contract.Shows.{Follows, Shows}
 use Rattle.lsm_coord.specs.Model.State.{State}
 use Rattle.lsm_coord.specs.Model.Step.{Leaves}
-use Rattle.lsm_coord.specs.Contract.Value.{CoordValue}
+use Rattle.lsm_coord.specs.Contract.Calls.{MayHaveStored}
+use Rattle.lsm_coord.specs.Contract.Value.{CoordValue, version_set}
+use Rattle.lsm_coord.specs.Inner.Putting.{PutLeaves}
 use Rattle.lsm_coord.proofs.ShownVersions.{version_count}
+use Rattle.lsm_coord.specs.Contract.Sound.{KeepsSound}
 use Rattle.lsm_coord.proofs.OpenedOutputs.{tables_length}
+use Rattle.lsm_coord.proofs.VaultRefusals.{nothing_stored, stored_keeps, stored_shows}
 
 one_is_over : (a b most : ℕ) → ((a ≤ most) × (b ≤ most) → ⊥) → (most < a) ⊎ (most < b)
 one_is_over a b most none = elim (leb_tells a most) [
@@ -53,6 +58,7 @@ leaves WrongJob s message = refl
 leaves BadResult s message = refl
 leaves NumbersExhausted s message = refl
 leaves OutOfMemory s message = refl
+leaves Device s message = refl
 
 module _ (old : CoordValue) (s : State) (h : Shows old s) (live : LiveJob) (made : JobResult) where
   cannot_number : Rejects old.served.version live made NumbersExhausted → CannotNumber s
@@ -68,10 +74,39 @@ module _ (old : CoordValue) (s : State) (h : Shows old s) (live : LiveJob) (made
   is_allowed message BadResult x = inr (refl, h.up)
   is_allowed message NumbersExhausted x = inr (refl, (h.up, cannot_number x))
   is_allowed message OutOfMemory x = tt
+  is_allowed message Device x = inr (refl, h.up)
 
 pub stale_steps : (old new : CoordValue) → new ≡ old → (message : ℕ) → Follows old (say.Deliver message) (say.Refused say.OldEpoch) new
 stale_steps old new same message s h = (s, (inr (refl, h.up), refl), subst (λ (c : CoordValue). Shows c s) (sym same) h)
 
-pub kept_steps : (old new : CoordValue) (live : LiveJob) (made : JobResult) (why : InstallError) → Rejects old.served.version live made why → new ≡ old
+-- what a rejected result leaves is what a refusal of the vault may leave
+pub rejected_stored : (why : InstallError) (old new : CoordValue) → LeavesRejected why old new → MayHaveStored old new
+rejected_stored WrongJob old new left = subst (MayHaveStored old) (sym left) (nothing_stored old)
+rejected_stored BadResult old new left = subst (MayHaveStored old) (sym left) (nothing_stored old)
+rejected_stored NumbersExhausted old new left = subst (MayHaveStored old) (sym left) (nothing_stored old)
+rejected_stored OutOfMemory old new left = left
+rejected_stored Device old new left = left.0
+
+-- the jobs that are sound stay so
+pub rejected_keeps : (why : InstallError) (old new : CoordValue) → LeavesRejected why old new → KeepsSound old new
+rejected_keeps why old new left = stored_keeps old new (rejected_stored why old new left)
+
+-- ---- what the version set leaves
+
+-- a coordinator with another version set
+abbrev pub with_versions : CoordValue → VersionSetValue → CoordValue
+with_versions c v = record c { served = v.served; edits = v.edits; floor = v.floor; retired = v.retired; kept = v.kept; failures = v.failures }
+
+stored_left : (c : CoordValue) (v : VersionSetValue) → MayHavePut (version_set c) v → c.failures ≤ v.failures → MayHaveStored c (with_versions c v)
+stored_left c v put counted = record { rest = ap (with_versions c) put.rest; below = put.below; counted = counted }
+
+pub put_left : (why : InstallError) (c : CoordValue) (v : VersionSetValue) → PutLeaves why (version_set c) v → LeavesRejected why c (with_versions c v)
+put_left WrongJob c v left = ap (with_versions c) left
+put_left BadResult c v left = ap (with_versions c) left
+put_left NumbersExhausted c v left = ap (with_versions c) left
+put_left OutOfMemory c v left = stored_left c v left.0 left.1
+put_left Device c v left = let more = left.1 in (stored_left c v left.0 (omega (arith, more)), left.1)
+
+pub kept_steps : (old new : CoordValue) (live : LiveJob) (made : JobResult) (why : InstallError) → Rejects old.served.version live made why → LeavesRejected why old new
     → (message : ℕ) → Follows old (say.Deliver message) (say.Refused (refusal_of (error_of why))) new
-kept_steps old new live made why x same message s h = (s, (is_allowed old s h live made message why x, leaves why s message), subst (λ (c : CoordValue). Shows c s) (sym same) h)
+kept_steps old new live made why x left message s h = (s, (is_allowed old s h live made message why x, leaves why s message), stored_shows old new (rejected_stored why old new left) s h)

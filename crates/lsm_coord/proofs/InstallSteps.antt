@@ -277,7 +277,7 @@ install_steps old new claim made number files book served version all_legal all_
     let step = is_installed old live ts install.text s h version served legal orderly installs spelled accepted.numbers job of_want sound.snapshots sound.deeper merge.inputs are kept in
     let shown = shows_install old live ts install.text s h version served legal orderly installs spelled accepted.numbers job of_want sound.snapshots sound.deeper merge.inputs are kept in
     let then = after old live ts install.text s h version served legal orderly installs spelled accepted.numbers job of_want sound.snapshots sound.deeper merge.inputs are kept in
-    let made_now : CoordValue = record old { served = next_served old.served live.want ts; edits = old.edits ++ install.text ∷ []; retired = retired_after old.retired old.served live.want.files; book = after_settling old.book live.id ending.Installed } in (
+    let made_now : CoordValue = record old { served = next_served old.served live.want ts; edits = old.edits ++ install.text ∷ []; retired = retired_after old.retired old.served live.want.files; book = after_settling old.book live.id ending.Installed; kept = new.kept; failures = new.failures } in (
       then,
       (refl, subst (λ (n : ℕ). IsInstalled s n files then) (sym b.5) (subst (λ (ns : List ℕ). IsInstalled s (old.served.version.number + 1) ns then) (sym b.6) step)),
       subst (λ (x : CoordValue). Shows x then) (sym (done_is old live ts new install)) (shown made_now refl refl refl refl refl refl refl refl),

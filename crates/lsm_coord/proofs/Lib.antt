@@ -31,6 +31,12 @@ pub mod InstallSteps
 pub mod InstallKeepsJobs
 pub mod InstallRefusals
 pub mod GiveBackSteps
+pub mod ReturnedClaims
+pub mod VaultRefusals
 pub mod GatheredParts
 pub mod PickedJobs
-pub mod NewCoordinator
+pub mod ServedOneWay
+pub mod RestartStops
+pub mod RestartSteps
+pub mod RestartRefusals
+pub mod RestartOfNew

@@ -10,3 +10,5 @@ pub mod Desks
 pub mod Installing
 pub mod Picking
 pub mod Serving
+pub mod Seats
+pub mod Restarts

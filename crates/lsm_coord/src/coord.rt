@@ -1,4 +1,4 @@
-//! The coordinator: one store, over a vault in memory.
+//! The coordinator: one store, over a vault.
 
 mod claims;
 mod flush;
@@ -17,21 +17,21 @@ use crate::snapshot::Snapshot;
 pub use flush::Flushed;
 pub use install::{Install, InstallError};
 use lsm_claim::ClaimBook;
-use lsm_edit::Edit;
-use lsm_key::{Limits, Seq, VersionNumber};
+use lsm_key::{Limits, Seq};
 use lsm_mem::Memtable;
-use lsm_vault::MemoryVault;
-use lsm_versions::VersionSet;
-use std::alloc::{AllocError, Global};
+use lsm_vault::Vault;
+use lsm_versions::{OpenError, VersionSet};
+use std::alloc::Global;
 use std::marker::Model;
 
-/// One store: its memtables, its version set, its live snapshots, and the claims of this epoch.
+/// One store: its memtables, its version set over a vault, its live snapshots, and the claims of this epoch. What is not in the
+/// vault is lost when it ends.
 #[derive(Drop)]
-pub struct Coord {
+pub struct Coord<V: Vault> {
     alloc: Global,
     // When its levels need compaction.
     limits: Limits,
-    versions: VersionSet<MemoryVault>,
+    versions: VersionSet<V>,
     active: Memtable,
     frozen: Option<Frozen>,
     newest: Seq,
@@ -41,34 +41,49 @@ pub struct Coord {
     book: ClaimBook,
 }
 
-impl Model for Coord {
+impl<V: Vault> Model for Coord<V> {
+    ghost use Rattle.std.specs.Coded.{codes};
+    ghost use Rattle.lsm_versions.specs.Kept.{kept_code};
     ghost use Rattle.lsm_coord.specs.Contract.Value.{CoordValue};
     ghost use Rattle.lsm_coord.specs.Contract.Memory.{IsCoord};
 
     ghost Value = { CoordValue };
 
-    ghost view = { λ c. record { limits = c.limits; active = c.active; frozen = c.frozen; served = c.versions.served; edits = c.versions.edits; last = c.newest; snapshots = c.live.items; made = c.made; floor = c.versions.floor; retired = c.versions.retired; book = c.book } };
+    ghost coded = { Prim.hlevel (codes, kept_code) };
+
+    ghost view = { λ c. record { limits = c.limits; active = c.active; frozen = c.frozen; served = c.versions.served; edits = c.versions.edits; last = c.newest; snapshots = c.live.items; made = c.made; floor = c.versions.floor; retired = c.versions.retired; book = c.book; kept = c.versions.kept; failures = c.versions.failures } };
 
     ghost invariant = { λ c. IsCoord c.active c.frozen c.newest c.versions.served c.book c.live.items };
 }
 
-impl Coord {
-    ghost use Rattle.std.specs.Prelude.{◌≡◌, IfOk};
-    ghost use Rattle.lsm_claim.specs.Book.{new_book};
-    ghost use Rattle.lsm_coord.specs.Model.State.{first_state};
+impl<V: Vault> Coord<V> {
+    ghost use Rattle.std.specs.Prelude.{◌≡◌, ◌≤◌, [], IfErr, IfOk};
+    ghost use Rattle.lsm_versions.specs.Opening.{CountsRefusal, MayHaveDropped, OpenRefuses};
+    ghost use Rattle.lsm_coord.specs.Model.Changes.{after_stop};
+    ghost use Rattle.lsm_coord.specs.Model.State.{State, first_state};
     ghost use Rattle.lsm_coord.specs.Contract.Shows.{Shows};
+    ghost use Rattle.lsm_coord.specs.Contract.Seats.{OpenFollows, OpenRefusedFollows, OpensCoord, ShowsDown};
 
-    /// A new store, at version 1 of its first epoch.
-    pub fn new(alloc: Global, limits: Limits) -> Result<Coord, AllocError>
-        ensures shown { IfOk result (λ c. Shows c first_state) }
-        ensures limits { IfOk result (λ c. c.limits ≡ limits) }
-        ensures book { IfOk result (λ c. c.book ≡ new_book 1) }
+    /// Opens what a vault has, in the next epoch: all that was flushed, and nothing else. A vault without edits is a new store. A
+    /// refusal hands the vault back with its edits; some tables that no file of the version needs may be gone.
+    pub fn open(alloc: Global, vault: V, limits: Limits) -> Result<Coord<V>, (OpenError, V)>
+        ensures ok { IfOk result (OpensCoord (V.edits vault) (V.tables vault) limits) }
+        ensures failures { IfOk result (λ c. V.failures vault ≤ c.failures) }
+        ensures step { IfOk result (OpenFollows (V.edits vault) (V.tables vault)) }
+        ensures new { IfOk result (λ c. V.edits vault ≡ [] → Shows c first_state) }
+        ensures refused { IfErr result (λ e. OpenRefuses (V.edits vault) (V.tables vault) e.0) }
+        ensures edits { IfErr result (λ e. V.edits e.1 ≡ V.edits vault) }
+        ensures tables { IfErr result (λ e. MayHaveDropped e.0 (V.edits vault) (V.tables vault) (V.tables e.1)) }
+        ensures counted { IfErr result (λ e. CountsRefusal e.0 (V.failures vault) (V.failures e.1)) }
+        ensures stays { IfErr result (λ e. OpenRefusedFollows (V.edits vault) (V.tables vault) e.0 (V.tables e.1)) }
     {
-        let mut versions = VersionSet::new(alloc, MemoryVault::new(alloc));
-        let edit = Edit::epoch(alloc, versions.version());
-        versions.log_in_memory(&edit, Vec::new(alloc))?;
-        let first = VersionNumber::new(versions.version().number());
-        versions.trim(first)?;
+        let versions = match VersionSet::open(alloc, vault) {
+            Ok(versions) => versions,
+            Err(refused) => return Err(refused),
+        };
+        // Proof hint: the version and its places are sound.
+        let _listing = versions.served().listing();
+        let newest = versions.version().flushed();
         let book = ClaimBook::new(alloc, versions.version().epoch());
         Ok(Coord {
             alloc,
@@ -76,10 +91,47 @@ impl Coord {
             versions,
             active: Memtable::new(alloc),
             frozen: None,
-            newest: Seq::ZERO,
+            newest,
             live: Vec::new(alloc),
             made: 0,
             book,
         })
+    }
+
+    /// When its levels need compaction.
+    pub(crate) fn limits(&self) -> Limits
+        ensures { result ≡ self.now.limits }
+    {
+        self.limits
+    }
+
+    /// The epoch of its claims.
+    pub fn epoch(&self) -> u64
+        ensures { result ≡ self.now.book.epoch }
+    {
+        self.book.epoch()
+    }
+
+    /// Ends it, and hands the vault back. All that was not flushed is lost, and all claims are stale.
+    pub fn close(self) -> V
+        ensures edits { V.edits result ≡ self.edits }
+        ensures tables { V.tables result ≡ self.kept }
+        ensures failures { V.failures result ≡ self.failures }
+        ensures stops { (s : State) → Shows self s → ShowsDown self.edits self.kept (after_stop s) }
+    {
+        // Proof hint: the version and its places are sound, and the vault has their tables.
+        let _listing = self.versions.served().listing();
+        let Coord {
+            alloc: _,
+            limits: _,
+            versions,
+            active: _,
+            frozen: _,
+            newest: _,
+            live: _,
+            made: _,
+            book: _,
+        } = self;
+        versions.close()
     }
 }

@@ -1,8 +1,9 @@
 //! The desk: the dispatchers of a store.
 
-use crate::{Coord, Dispatcher};
+use crate::{Dispatcher, Seat};
 use lsm_claim::{Claim, JobId};
 use lsm_msg::NodeIndex;
+use lsm_vault::Vault;
 use std::marker::Model;
 
 /// Four dispatchers, numbered as the workers are. It is neither `Drop` nor `Copy`: only `close` ends it.
@@ -26,9 +27,9 @@ impl Desk {
     ghost use Rattle.std.specs.Prelude.{◌≡◌};
     ghost use Rattle.lsm_coord.specs.declared.dispatcher.Dispatcher.TheVariants.{Idle, Busy};
     ghost use Rattle.lsm_coord.specs.Model.State.{State};
-    ghost use Rattle.lsm_coord.specs.Contract.Shows.{Shows};
-    ghost use Rattle.lsm_coord.specs.Contract.Sound.{KeepsSound};
-    ghost use Rattle.lsm_coord.specs.Contract.Desks.{dispatcher_of, after_giving_back_all, claims_of, job_of, new_desk, with_dispatcher};
+    ghost use Rattle.lsm_coord.specs.Contract.Desks.{claims_of, dispatcher_of, job_of, new_desk, with_dispatcher};
+    ghost use Rattle.lsm_coord.specs.Contract.Restarts.{CoreKeepsSound, after_returning_all, seat_of};
+    ghost use Rattle.lsm_coord.specs.Contract.Seats.{ShowsSeat};
 
     /// A desk of dispatchers that hold no claim.
     pub fn new() -> Desk
@@ -80,11 +81,11 @@ impl Desk {
         }
     }
 
-    /// Gives each claim that is held back to the coordinator, from the first dispatcher on. Allocates nothing.
-    pub fn close(self, coord: &mut Coord)
-        ensures returned { coord.new ≡ after_giving_back_all coord.old (claims_of self) }
-        ensures shown { (s : State) → Shows coord.old s → Shows coord.new s }
-        ensures sound { KeepsSound coord.old coord.new }
+    /// Gives each claim that is held back to the seat, from the first dispatcher on. Allocates nothing.
+    pub fn close<V: Vault>(self, seat: &mut Seat<V>)
+        ensures returned { seat_of V.edits V.tables V.failures seat.new ≡ after_returning_all (seat_of V.edits V.tables V.failures seat.old) (claims_of self) }
+        ensures shown { (s : State) → ShowsSeat (seat_of V.edits V.tables V.failures seat.old) s → ShowsSeat (seat_of V.edits V.tables V.failures seat.new) s }
+        ensures sound { CoreKeepsSound (seat_of V.edits V.tables V.failures seat.old).core (seat_of V.edits V.tables V.failures seat.new).core }
     {
         let Desk {
             first,
@@ -92,9 +93,9 @@ impl Desk {
             third,
             fourth,
         } = self;
-        first.close(coord);
-        second.close(coord);
-        third.close(coord);
-        fourth.close(coord);
+        first.close(seat);
+        second.close(seat);
+        third.close(seat);
+        fourth.close(seat);
     }
 }

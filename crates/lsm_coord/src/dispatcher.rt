@@ -4,8 +4,9 @@ ghost use Rattle.std.specs.Prelude.{◌≡◌};
 ghost use Rattle.std.specs.Option.{option_map};
 ghost use Rattle.lsm_claim.specs.declared.job.LiveJob.{LiveJob};
 
-use crate::Coord;
+use crate::Seat;
 use lsm_claim::{Claim, JobId};
+use lsm_vault::Vault;
 use std::mem;
 
 /// One that hands out jobs, one at a time. It is neither `Drop` nor `Copy`, so that the claim that it holds must be
@@ -19,7 +20,8 @@ pub enum Dispatcher {
 
 impl Dispatcher {
     ghost use Rattle.lsm_coord.specs.declared.dispatcher.Dispatcher.TheVariants.{Idle, Busy};
-    ghost use Rattle.lsm_coord.specs.Contract.Desks.{after_giving_back_all, claim_of, job_of};
+    ghost use Rattle.lsm_coord.specs.Contract.Desks.{claim_of, job_of};
+    ghost use Rattle.lsm_coord.specs.Contract.Restarts.{after_returning_all, seat_of};
 
     /// The name of the job whose claim it holds.
     pub fn id(&self) -> Option<JobId>
@@ -54,13 +56,13 @@ impl Dispatcher {
     }
 
     // Gives back the claim that it holds.
-    pub(crate) fn close(self, coord: &mut Coord)
-        ensures { coord.new ≡ after_giving_back_all coord.old (claim_of self) }
+    pub(crate) fn close<V: Vault>(self, seat: &mut Seat<V>)
+        ensures { seat_of V.edits V.tables V.failures seat.new ≡ after_returning_all (seat_of V.edits V.tables V.failures seat.old) (claim_of self) }
     {
         match self {
             Dispatcher::Idle => {}
             Dispatcher::Busy(claim) => {
-                coord.give_back(claim);
+                seat.give_back(claim);
             }
         }
     }

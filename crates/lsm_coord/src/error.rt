@@ -1,12 +1,13 @@
 //! Why the coordinator refuses a call.
 
 use crate::InstallError;
+use lsm_vault::VaultError;
 use std::alloc::{AllocError, AllocFailed};
 use std::fmt;
 use thiserror::Error;
 
-/// Why the coordinator refuses a call, the first reason that holds. The numbers stay as they are. A store in memory gives no
-/// `BadManifest`, `MissingTable` or `Device`: they are of an opening, and of a vault that fails.
+/// Why the coordinator refuses a call, the first reason that holds; a device failure comes last. The numbers stay as they are.
+/// `BadManifest` and `MissingTable` are reasons of an opening, which reports them as an `OpenError`.
 #[derive(Clone, Copy, Debug, PartialEq, Eq, Error)]
 pub enum CoordError {
     OutOfMemory = 0,
@@ -97,6 +98,21 @@ impl From<InstallError> for CoordError {
             InstallError::BadResult => CoordError::BadResult,
             InstallError::NumbersExhausted => CoordError::NumbersExhausted,
             InstallError::OutOfMemory => CoordError::OutOfMemory,
+            InstallError::Device => CoordError::Device,
+        }
+    }
+}
+
+impl From<VaultError> for CoordError {
+    ghost use Rattle.std.specs.Prelude.{◌≡◌};
+    ghost use Rattle.lsm_coord.specs.Contract.Replies.{call_error};
+
+    ghost from_gives = { λ why e. e ≡ call_error why };
+
+    fn from(why: VaultError) -> CoordError {
+        match why {
+            VaultError::OutOfMemory => CoordError::OutOfMemory,
+            VaultError::Device => CoordError::Device,
         }
     }
 }

@@ -1,13 +1,14 @@
 //! The coordinator: the one node that takes writes and makes versions.
 //!
 //! Its definitions say what a store has to answer: the abstract state, the events and replies, the refusals that a
-//! state forces, one step, and a run; the laws of runs are proved beside them. `Coord` is one store in memory, and each
-//! call promises that it follows them: from every state that the store shows before, the call and its answer are a step
-//! to a state that it shows after. Jobs are picked, their files served and their results installed; a job stays
-//! installable as long as its claim is live. Tables stay and are served until a trim lets them go.
+//! state forces, one step, and a run; the laws of runs are proved beside them. `Coord` is one store over a vault, and
+//! each call promises that it follows them: from every state that the store shows before, the call and its answer are a
+//! step to a state that it shows after. Jobs are picked, their files served and their results installed; a job stays
+//! installable as long as its claim is live. Tables stay and are served until a trim lets them go. A `Seat` is up or down: a
+//! restart loses exactly what was not flushed, and makes every claim stale.
 //!
 //! It stands on `lsm_key` for writes and entries, `lsm_mem` for memtables, `lsm_table` for tables, `lsm_edit` for versions
-//! and the tables that they serve, `lsm_versions` for the version set, `lsm_vault` for a vault in memory, `lsm_claim` for
+//! and the tables that they serve, `lsm_versions` for the version set, `lsm_vault` for vaults, `lsm_claim` for
 //! claims, `lsm_msg` for jobs and messages, and `lsm_pick` for the rule of a pick.
 #![tactic(auto)]
 
@@ -20,6 +21,7 @@ mod error;
 mod frozen;
 mod job;
 mod laws;
+mod seat;
 mod snapshot;
 #[cfg(test)]
 mod tests;
@@ -34,4 +36,5 @@ pub use laws::{
     flushed_rises, followers_agree, get_gives_the_write, listings_agree, scans_are_determined,
     snapshots_agree, versions_stay, worked_runs, wrong_runs,
 };
+pub use seat::Seat;
 pub use snapshot::SnapId;

@@ -1,10 +1,13 @@
 //! What no clause says: that calls succeed, and the texts of refusals.
 
+mod devices;
 mod fetches;
 mod installs;
+mod jobs;
 mod library;
 mod picks;
 mod records;
+mod restarts;
 mod steps;
 mod trims;
 
@@ -95,7 +98,8 @@ const FULL: [(Step, Made); 7] = [
     (Step::Fill(1, 2_764), Made::Wrote(124, 124)),
 ];
 
-const TEXTS: [(CoordError, &str); 13] = [
+const TEXTS: [(CoordError, &str); 14] = [
+    (CoordError::Device, "the vault failed"),
     (CoordError::SequenceExhausted, "the sequences are exhausted"),
     (CoordError::FrozenWaiting, "a frozen memtable waits"),
     (CoordError::NothingToFreeze, "there is nothing to freeze"),

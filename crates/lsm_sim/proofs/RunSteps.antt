@@ -1,23 +1,23 @@
 -- A run continues by one step.
 use Rattle.std.proofs.Common.{◌≡◌, List, [], ◌∷◌, ◌++◌, Option, IfSome, Some, None, Result, Ok, Err, OnOk, refl, sym, ap, subst, ◌∙◌, map, append_assoc, append-nil, ℕ}
 use Rattle.std.specs.Io.KnownBytes.{Appends, Keeps}
-use Rattle.lsm_coord.specs.Contract.Shows.{Follows}
 use Rattle.lsm_coord.specs.Model.State.{first_state}
 use Rattle.lsm_key.specs.declared.limits.Limits.{Limits}
 use Rattle.lsm_world.specs.declared.event.Event.{Event}
 use Rattle.lsm_world.specs.declared.reply.Reply.{Reply}
-use Rattle.lsm_world.specs.Asks.{Asks}
+use Rattle.lsm_coord.specs.Contract.Seats.{ShowsSeat}
+use Rattle.lsm_world.specs.Asks.{AsksStore}
 use Rattle.lsm_world.specs.Events.{event_of}
-use Rattle.lsm_world.specs.Nodes.{NodesValue}
+use Rattle.lsm_world.specs.Nodes.{StoreValue}
 use Rattle.lsm_world.specs.Replies.{reply_of}
-use Rattle.lsm_world.specs.Schedules.{WorldValue, IsNew}
+use Rattle.lsm_world.specs.Schedules.{WorldValue, FollowsStore, IsNew}
 use Rattle.lsm_world.proofs.RunningSchedules.{asked_none, asked_more, runs_none, runs_more}
 use Rattle.lsm_sim.specs.Replies.{line, lines}
 use Rattle.lsm_sim.specs.Runs.{Happens, Prints, PrintsScript}
 use Rattle.lsm_sim.specs.Script.{script}
 use Rattle.lsm_sim.proofs.KnownStreams.{Appends-then, Appends-keep}
 
-pub happens_none : (n : NodesValue) → Happens n [] [] n
+pub happens_none : (n : StoreValue) → Happens n [] [] n
 happens_none n = record { asked = asked_none n; runs = runs_none n }
 
 pub lines-push : (rs : List Reply) (r : Reply) → lines (rs ++ r ∷ []) ≡ lines rs ++ line r
@@ -25,14 +25,14 @@ lines-push [] r = append-nil (line r)
 lines-push (x ∷ rs) r = ap (λ (t : List ℕ). line x ++ t) (lines-push rs r) ∙ sym (append_assoc (line x) (lines rs) (line r))
 
 -- what happened and was written so far
-pub record IsSoFar (old now : NodesValue) (events : List Event) (was held : Option (List ℕ)) (out : List ℕ) : Type 0 where
+pub record IsSoFar (old now : StoreValue) (events : List Event) (was held : Option (List ℕ)) (out : List ℕ) : Type 0 where
   pub replies : List Reply
   pub happens : Happens old events replies now
   pub done : List ℕ
   pub wrote : Appends was held done
   pub text : lines replies ≡ done ++ out
 
-pub IsSoFar-step : (old mid new : NodesValue) (events : List Event) (e : Event) (r : Reply) (was held : Option (List ℕ)) (out more : List ℕ) → IsSoFar old mid events was held out → Asks mid e r new → Follows mid.core (event_of e) (reply_of r) new.core → more ≡ out ++ line r → IsSoFar old new (events ++ e ∷ []) was held more
+pub IsSoFar-step : (old mid new : StoreValue) (events : List Event) (e : Event) (r : Reply) (was held : Option (List ℕ)) (out more : List ℕ) → IsSoFar old mid events was held out → AsksStore mid e r new → FollowsStore mid (event_of e) (reply_of r) new → more ≡ out ++ line r → IsSoFar old new (events ++ e ∷ []) was held more
 IsSoFar-step old mid new events e r was held out more so asks step added = record {
   replies = so.replies ++ r ∷ [];
   happens = record { asked = asked_more old mid new events so.replies e r so.happens.asked asks; runs = runs_more old mid new events so.replies e r so.happens.runs step };
@@ -45,10 +45,10 @@ IsSoFar-step old mid new events e r was held out more so asks step added = recor
 pub done_more : (done rest left all : List Event) (e : Event) → done ++ rest ≡ all → rest ≡ e ∷ left → (done ++ e ∷ []) ++ left ≡ all
 done_more done rest left all e so is = append_assoc done (e ∷ []) left ∙ ap (λ (es : List Event). done ++ es) (sym is) ∙ so
 
-pub IsSoFar-same : (old now : NodesValue) (events : List Event) (was held held2 : Option (List ℕ)) (out out2 : List ℕ) → IsSoFar old now events was held out → held2 ≡ held → out2 ≡ out → IsSoFar old now events was held2 out2
+pub IsSoFar-same : (old now : StoreValue) (events : List Event) (was held held2 : Option (List ℕ)) (out out2 : List ℕ) → IsSoFar old now events was held out → held2 ≡ held → out2 ≡ out → IsSoFar old now events was held2 out2
 IsSoFar-same old now events was held held2 out out2 so a b = rw (a, b) so
 
-pub IsSoFar-written : (old now : NodesValue) (events : List Event) (was held after held2 : Option (List ℕ)) (out bytes out2 : List ℕ) → IsSoFar old now events was held out → bytes ≡ out → Appends held after bytes → held2 ≡ after → out2 ≡ [] → IsSoFar old now events was held2 out2
+pub IsSoFar-written : (old now : StoreValue) (events : List Event) (was held after held2 : Option (List ℕ)) (out bytes out2 : List ℕ) → IsSoFar old now events was held out → bytes ≡ out → Appends held after bytes → held2 ≡ after → out2 ≡ [] → IsSoFar old now events was held2 out2
 IsSoFar-written old now events was held after held2 out bytes out2 so whole wrote a b = rw (a, b) (record {
   replies = so.replies;
   happens = so.happens;
@@ -57,7 +57,7 @@ IsSoFar-written old now events was held after held2 out bytes out2 so whole wrot
   text = so.text ∙ sym (append-nil (so.done ++ out));
 })
 
-pub IsSoFar-end : (old now : NodesValue) (events rest all : List Event) (was held last : Option (List ℕ)) (out : List ℕ) → events ++ rest ≡ all → rest ≡ [] → IsSoFar old now events was held out → out ≡ [] → Keeps held last → (x : List Reply) × Happens old all x now × Appends was last (lines x)
+pub IsSoFar-end : (old now : StoreValue) (events rest all : List Event) (was held last : Option (List ℕ)) (out : List ℕ) → events ++ rest ≡ all → rest ≡ [] → IsSoFar old now events was held out → out ≡ [] → Keeps held last → (x : List Reply) × Happens old all x now × Appends was last (lines x)
 IsSoFar-end old now events rest all was held last out parts end so none keeps =
     let text : lines so.replies ≡ so.done = so.text ∙ ap (λ (t : List ℕ). so.done ++ t) none ∙ append-nil so.done in
     let whole : events ≡ all = sym (append-nil events) ∙ ap (λ (es : List Event). events ++ es) (sym end) ∙ parts in
@@ -68,13 +68,13 @@ on_ok (Ok x) P p = p
 on_ok (Err e) P p = tt
 
 -- what happens to a new store prints its replies' lines
-pub happens_prints : (limits : Limits) (first : WorldValue) (last : NodesValue) (events : List Event) (replies : List Reply) → IsNew limits first → Happens first.nodes events replies last → Prints limits events (lines replies)
+pub happens_prints : (limits : Limits) (first : WorldValue) (last : StoreValue) (events : List Event) (replies : List Reply) → IsNew limits first → Happens first.nodes events replies last → Prints limits events (lines replies)
 happens_prints limits first last events replies new happens =
-    let end = happens.runs first_state new.0.shown in
+    let end = happens.runs first_state (subst (λ (x : StoreValue). ShowsSeat x.seat first_state) (sym new.2) new.1.shown) in
     record { first = first; is_new = new; replies = replies; last = last; asked = happens.asked; runs = (end.0, end.1); prints = refl }
 
 -- what happens to a new store prints what its script says
-pub prints_script : (limits : Limits) (first : WorldValue) (last : NodesValue) (events : List Event) (bytes : List ℕ) (known was held : Option (List ℕ)) → IsNew limits first → script bytes ≡ Ok (map event_of events) → IfSome known (λ xs. bytes ≡ xs) → (x : List Reply) × Happens first.nodes events x last × Appends was held (lines x) → IfSome known (λ xs. PrintsScript limits xs was held)
+pub prints_script : (limits : Limits) (first : WorldValue) (last : StoreValue) (events : List Event) (bytes : List ℕ) (known was held : Option (List ℕ)) → IsNew limits first → script bytes ≡ Ok (map event_of events) → IfSome known (λ xs. bytes ≡ xs) → (x : List Reply) × Happens first.nodes events x last × Appends was held (lines x) → IfSome known (λ xs. PrintsScript limits xs was held)
 prints_script limits first last events bytes None was held new says read ran = tt
 prints_script limits first last events bytes (Some xs) was held new says read ran =
     (events, ap script (sym read) ∙ says, lines ran.0, happens_prints limits first last events ran.0 new ran.1, ran.2)

@@ -117,6 +117,10 @@ merged_text told = codes "merged" ++ sent_text told
 abbrev pub restarted_text : ℕ → List ℕ
 restarted_text worker = codes "restarted w" ++ decimal worker
 
+-- the epoch and the version that an opening began, and the last sequence that it found
+abbrev pub opened_text : ℕ → ℕ → ℕ → List ℕ
+opened_text epoch number last = codes "epoch " ++ decimal epoch ++ codes " version " ++ decimal number ++ codes " last " ++ decimal last
+
 abbrev pub name_of : say.Refusal → List ℕ
 name_of say.EmptyKey = codes "EmptyKey"
 name_of say.KeyTooLong = codes "KeyTooLong"

@@ -13,7 +13,7 @@ use Rattle.lsm_sim.specs.Script.{script}
 use Rattle.lsm_world.specs.declared.event.Event.{Event}
 use Rattle.lsm_world.specs.declared.reply.Reply.{Reply}
 use Rattle.lsm_world.specs.Events.{event_of}
-use Rattle.lsm_world.specs.Nodes.{NodesValue}
+use Rattle.lsm_world.specs.Nodes.{StoreValue}
 use Rattle.lsm_world.specs.Replies.{reply_of}
 use Rattle.lsm_world.specs.Schedules.{WorldValue, IsNew, AskedAll, RunsTo}
 
@@ -30,7 +30,7 @@ exit_status WriteFault = 1
 exit_status OutOfMemory = 1
 
 -- each event asked its node and got its reply, and the events and the replies are a run of the model
-pub record Happens (old : NodesValue) (events : List Event) (replies : List Reply) (new : NodesValue) : Type 0 where
+pub record Happens (old : StoreValue) (events : List Event) (replies : List Reply) (new : StoreValue) : Type 0 where
   pub asked : AskedAll old events replies new
   pub runs : RunsTo old events replies new
 
@@ -40,7 +40,7 @@ pub record Prints (limits : Limits) (events : List Event) (text : List ℕ) : Ty
   pub first : WorldValue
   pub is_new : IsNew limits first
   pub replies : List Reply
-  pub last : NodesValue
+  pub last : StoreValue
   pub asked : AskedAll first.nodes events replies last
   pub runs : RunOfNew (map event_of events) (map reply_of replies)
   pub prints : text ≡ lines replies
@@ -51,7 +51,7 @@ PrintsScript limits script_text old new =
     (events : List Event) × (script script_text ≡ Ok (map event_of events)) × (text : List ℕ) × Prints limits events text × Appends old new text
 
 -- a first part of the events happened, and what was written is a prefix of the lines of its replies
-abbrev pub HappensInPart : NodesValue → List Event → NodesValue → Option (List ℕ) → Option (List ℕ) → Type 0
+abbrev pub HappensInPart : StoreValue → List Event → StoreValue → Option (List ℕ) → Option (List ℕ) → Type 0
 HappensInPart old events new was held =
     (n : ℕ) × (replies : List Reply) × (k : ℕ) × Happens old (take n events) replies new × Appends was held (take k (lines replies))
 

@@ -200,12 +200,14 @@ give_up (dispatcher ∷ []) = do
   Ok (say.GiveUp index)
 give_up args = Err WrongWordCount
 
--- restarts of the coordinator and of followers are not there yet
+-- restarts of followers are not there yet
 abbrev pub other_restart : List ℕ → Result say.Event Reason
-other_restart node = if bytes_eq node (codes "c") then Err UnknownCommand else if is_follower node then Err UnknownCommand else Err BadName
+other_restart node = if is_follower node then Err UnknownCommand else Err BadName
 
 abbrev pub restart : List (List ℕ) → Result say.Event Reason
-restart (node ∷ []) = elim (worker_index node) [ None ↦ other_restart node | Some index ↦ Ok (say.Restart (say.Worker index)) ]
+restart (node ∷ []) =
+    if bytes_eq node (codes "c") then Ok (say.Restart say.Coordinator)
+    else elim (worker_index node) [ None ↦ other_restart node | Some index ↦ Ok (say.Restart (say.Worker index)) ]
 restart args = Err WrongWordCount
 
 abbrev pub one_event : Result say.Event Reason → Result (List say.Event) Reason

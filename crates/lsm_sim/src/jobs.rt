@@ -1,11 +1,11 @@
 //! The lines of jobs, of those that run them and of messages.
 
 ghost use Rattle.std.specs.Prelude.{◌≡◌, ◌++◌, OnOk};
-ghost use Rattle.lsm_sim.specs.Lines.{sent_text, picked_text, returned_text, stale_text, served_text, made_text, installed_text, collecting_text, merged_text, restarted_text};
+ghost use Rattle.lsm_sim.specs.Lines.{sent_text, picked_text, returned_text, stale_text, served_text, made_text, installed_text, collecting_text, merged_text, opened_text, restarted_text};
 
 use crate::text::{write_name, write_number, write_numbers, write_text};
 use lsm_claim::JobId;
-use lsm_key::{FileNumber, VersionNumber};
+use lsm_key::{FileNumber, Seq, VersionNumber};
 use lsm_msg::NodeIndex;
 use lsm_world::{PickedJob, Sent};
 use std::alloc::AllocError;
@@ -119,4 +119,21 @@ pub fn write_restarted(out: &mut Vec<u8>, worker: NodeIndex) -> Result<(), Alloc
 {
     write_text(out, "restarted w")?;
     write_number(out, u64::from(worker.number()))
+}
+
+/// `epoch E version N last S`
+pub fn write_opened(
+    out: &mut Vec<u8>,
+    epoch: u64,
+    number: VersionNumber,
+    last: Seq,
+) -> Result<(), AllocError>
+    ensures { OnOk result (out.new.items ≡ out.old.items ++ opened_text epoch number last) }
+{
+    write_text(out, "epoch ")?;
+    write_number(out, epoch)?;
+    write_text(out, " version ")?;
+    write_number(out, number.number())?;
+    write_text(out, " last ")?;
+    write_number(out, last.number())
 }

@@ -5,8 +5,8 @@ ghost use Rattle.lsm_sim.specs.Lines.{wrote_text, froze_text, flushed_text, snap
 ghost use Rattle.lsm_sim.specs.Replies.{text_of, line};
 
 use crate::jobs::{
-    write_collecting, write_installed, write_merged, write_picked, write_restarted, write_returned,
-    write_served, write_stale,
+    write_collecting, write_installed, write_merged, write_opened, write_picked, write_restarted,
+    write_returned, write_served, write_stale,
 };
 use crate::listing::write_shown;
 use crate::refusals::write_refused;
@@ -131,6 +131,7 @@ fn write_reply(alloc: Global, out: &mut Vec<u8>, reply: &Reply) -> Result<(), Al
         Reply::Collecting(missing, sent) => write_collecting(out, *missing, *sent),
         Reply::Merged(sent) => write_merged(out, *sent),
         Reply::Dropped => write_text(out, "dropped"),
+        Reply::Restarted(epoch, number, last) => write_opened(out, *epoch, *number, *last),
         Reply::RestartedWorker(worker) => write_restarted(out, *worker),
         Reply::Refused(refusal) => write_refused(out, *refusal),
     }

@@ -2,6 +2,7 @@
 
 ghost use Rattle.std.specs.Prelude.{◌≡◌, ◌++◌, OnOk};
 ghost use Rattle.lsm_coord.specs.Contract.Replies.{refusal_of};
+ghost use Rattle.lsm_coord.specs.Contract.Seats.{open_refusal};
 ghost use Rattle.lsm_coord.specs.Model.Rules.{key_refusal};
 ghost use Rattle.lsm_world.specs.Replies.{why_of};
 ghost use Rattle.lsm_sim.specs.Lines.{name_of, refused_text};
@@ -9,6 +10,7 @@ ghost use Rattle.lsm_sim.specs.Lines.{name_of, refused_text};
 use crate::text::write_text;
 use lsm_coord::CoordError;
 use lsm_key::KeyError;
+use lsm_versions::OpenError;
 use lsm_world::Refusal;
 use std::alloc::AllocError;
 
@@ -51,6 +53,19 @@ fn coord_name(error: CoordError) -> &'static str
     }
 }
 
+/// The name of a refusal of an opening.
+fn open_name(error: OpenError) -> &'static str
+    ensures { result.now ≡ name_of (open_refusal error) }
+{
+    match error {
+        OpenError::OutOfMemory => "OutOfMemory",
+        OpenError::BadManifest => "BadManifest",
+        OpenError::MissingTable => "MissingTable",
+        OpenError::Device => "Device",
+        OpenError::NumbersExhausted => "NumbersExhausted",
+    }
+}
+
 /// `refused Name`
 pub fn write_refused(out: &mut Vec<u8>, refusal: Refusal) -> Result<(), AllocError>
     ensures { OnOk result (out.new.items ≡ out.old.items ++ refused_text (why_of refusal)) }
@@ -59,6 +74,8 @@ pub fn write_refused(out: &mut Vec<u8>, refusal: Refusal) -> Result<(), AllocErr
     match refusal {
         Refusal::Key(error) => write_text(out, key_name(error)),
         Refusal::Coord(error) => write_text(out, coord_name(error)),
+        Refusal::Open(error) => write_text(out, open_name(error)),
+        Refusal::Down => write_text(out, "Down"),
         Refusal::Busy => write_text(out, "Busy"),
         Refusal::NoClaim => write_text(out, "NoClaim"),
         Refusal::OldEpoch => write_text(out, "OldEpoch"),

@@ -1,8 +1,9 @@
 //! Running a script.
 
-ghost use Rattle.std.specs.Prelude.{◌≡◌, ◌⊎◌, ◌++◌, ℕ, List, IfErr, OnOk, OnErr, IfSome};
+ghost use Rattle.std.specs.Prelude.{◌≡◌, ◌⊎◌, ◌++◌, ℕ, List, IfErr, IfOk, OnOk, OnErr, IfSome};
 ghost use Rattle.std.specs.Io.KnownBytes.{Appends};
 ghost use Rattle.lsm_world.specs.declared.reply.Reply.{Reply};
+ghost use Rattle.lsm_world.specs.Schedules.{IsNew};
 ghost use Rattle.lsm_sim.specs.Replies.{lines};
 ghost use Rattle.lsm_sim.specs.Runs.{Happens, HappensInPart, PrintsScript, StopsFor};
 
@@ -11,8 +12,9 @@ use crate::lines::write_line;
 use crate::script::parse;
 use crate::streams::{read_all, write_all};
 use lsm_key::Limits;
+use lsm_vault::MemoryVault;
 use lsm_world::{Event, World};
-use std::alloc::Global;
+use std::alloc::{AllocError, Global};
 use std::io::{Read, Write};
 
 /// How many bytes of lines are buffered before they are written.
@@ -31,16 +33,26 @@ pub fn run_script<R: Read, W: Write>(
 {
     let text = read_all(alloc, reader)?;
     let events = parse(alloc, &text)?;
-    let mut world = World::new(alloc, limits)?;
+    let mut world = new_world(alloc, limits)?;
     let ran = run(alloc, &mut world, events, writer);
     world.close();
     ran
 }
 
+/// The nodes of a new store over a vault in memory. Such a vault, while it is empty, is refused only if memory runs out.
+fn new_world(alloc: Global, limits: Limits) -> Result<World<MemoryVault>, AllocError>
+    ensures { IfOk result (IsNew limits) }
+{
+    match World::new(alloc, MemoryVault::new(alloc), limits) {
+        Ok(world) => Ok(world),
+        Err((_why, _vault)) => Err(AllocError),
+    }
+}
+
 /// Runs the events in order, and writes a line for each reply.
 fn run<W: Write>(
     alloc: Global,
-    world: &mut World,
+    world: &mut World<MemoryVault>,
     events: Vec<Event>,
     writer: &mut W,
 ) -> Result<(), RunError>

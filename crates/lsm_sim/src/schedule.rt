@@ -37,13 +37,16 @@ pub fn give_up(mut args: Words<'_>) -> Result<Event, Refused<Reason>>
     Ok(Event::GiveUp(dispatcher))
 }
 
-/// `restart wD`
+/// `restart c`, `restart wD`
 pub fn restart(mut args: Words<'_>) -> Result<Event, Refused<Reason>>
     ensures { Gives event_of result (restart (words args.entry.rest.now)) }
 {
     let (Some(node), None) = (args.next(), args.next()) else {
         return Err(Refused::Fault(Reason::WrongWordCount));
     };
+    if node == b"c".as_slice() {
+        return Ok(Event::RestartCoordinator);
+    }
     match worker_index(node) {
         Some(worker) => Ok(Event::RestartWorker(worker)),
         None => Err(Refused::Fault(no_restart(node))),
@@ -54,7 +57,7 @@ pub fn restart(mut args: Words<'_>) -> Result<Event, Refused<Reason>>
 fn no_restart(node: &[u8]) -> Reason
     ensures { other_restart node.now ≡ Err result }
 {
-    if node == b"c".as_slice() || is_follower(node) {
+    if is_follower(node) {
         Reason::UnknownCommand
     } else {
         Reason::BadName

@@ -14,9 +14,8 @@ use Rattle.lsm_msg.specs.declared.job.JobResult.{JobResult}
 use Rattle.lsm_merge.specs.Outputs as merge
 use Rattle.lsm_coord.specs.declared.coord.install.Install.TheVariants as became
 use Rattle.lsm_coord.specs.declared.coord.install.InstallError.{InstallError}
-use Rattle.lsm_coord.specs.declared.coord.install.InstallError.TheVariants.{WrongJob, BadResult, NumbersExhausted, OutOfMemory}
+use Rattle.lsm_coord.specs.declared.coord.install.InstallError.TheVariants.{WrongJob, BadResult, NumbersExhausted, OutOfMemory, Device}
 use Rattle.lsm_coord.specs.declared.error.CoordError.{CoordError}
-use Rattle.lsm_coord.specs.Contract.Calls.{after_give_back}
 use Rattle.lsm_coord.specs.Model.Changes.{IsIndex}
 use Rattle.lsm_coord.specs.Model.Event as say
 use Rattle.lsm_coord.specs.Contract.Installing.{AreOutputTables, Became, HasNumbers, Rejects}
@@ -29,9 +28,10 @@ use Rattle.lsm_coord.specs.Model.Step.{Step}
 use Rattle.lsm_coord.specs.Contract.Value.{CoordValue}
 use Rattle.lsm_coord.proofs.PickedJobs.{wants_memory}
 use Rattle.lsm_coord.proofs.StateRefusals.{give_up_may}
-use Rattle.lsm_coord.proofs.GiveBackSteps.{live_before, Shows-with_book}
-use Rattle.lsm_store.specs.Compacting.{Compacts, CompactionRefuses, IsLeft, IsCompacted, KeptBack, tables_at}
-use Rattle.lsm_store.proofs.Compactions.{back_keeps, claim_live, is_held, keeps_then, left_again, made_of_inputs, made_outputs, named, served_is}
+use Rattle.lsm_coord.proofs.GiveBackSteps.{live_before, Shows-beside}
+use Rattle.lsm_coord.proofs.VaultRefusals.{stored_shows}
+use Rattle.lsm_store.specs.Compacting.{Compacts, CompactionRefuses, GivesBack, IsLeft, IsCompacted, KeptBack, tables_at}
+use Rattle.lsm_store.proofs.Compactions.{claim_live, is_held, keeps_then, left_stored, made_of_inputs, made_outputs, named, served_is, stored_keep}
 use Rattle.lsm_store.proofs.MergedOutputs.{opened_as}
 
 -- what is answered, under whichever allocator
@@ -42,9 +42,9 @@ module _ (old mid new : CoordValue) (claim : LiveJob) (job : JobParts) (ver : Is
   never_stale : holds mid.book claim.id ≡ false → ⊥
   never_stale h = true≢false (sym (is_held old mid claim job ver is book picked) ∙ h)
 
-  pub answers_left : {Z : Type 0} (r : Answer Z) → OnErr r (new ≡ after_give_back mid claim.id) → OnErr r (IsLeft old new)
+  pub answers_left : {Z : Type 0} (r : Answer Z) → OnErr r (GivesBack mid claim.id new) → OnErr r (IsLeft old new)
   answers_left (Ok a) e = tt
-  answers_left (Err x) e = left_again old mid claim job ver is book picked new e
+  answers_left (Err x) e = left_stored old mid claim job ver is book picked e.0 e.1 new e.2
 
   module _ (made : JobResult) (same_job : made.job ≡ job.id) (m : merge.IsMerge (tables_at mid.served.places job.inputs) job made.tables) where
     pub answers_made : {Z : Type 0} (r : Answer Z) → IfOk r (λ a. IfSome a (λ v. Became mid claim made (became.Done v.0 v.1.items) new)) → IfOk r (λ a. a ≡ None → holds mid.book claim.id ≡ false) → IfOk r (Compacts old new)
@@ -78,6 +78,7 @@ module _ (old mid new : CoordValue) (claim : LiveJob) (job : JobParts) (ver : Is
         lacks = λ has. x.3 (subst (λ (s : ServedValue). HasNumbers s.version x.1) (sym (served_is old mid claim job ver is book picked)) has);
       })
       refused_by OutOfMemory x = wants_memory old picked.want picked.may
+      refused_by Device x = wants_memory old picked.want picked.may
 
     pub answers_refused : {Z : Type 0} (r : Answer Z) → IfErr r (KeptBack mid claim made) → IfErr r (CompactionRefuses old)
     answers_refused (Ok a) k = tt
@@ -88,16 +89,16 @@ module _ (old mid new : CoordValue) (claim : LiveJob) (job : JobParts) (ver : Is
     -- ---- jobs that stay sound
 
     pub answers_sound : {Z : Type 0} (r : Answer Z) → KeepsSound old mid → KeepsSound mid new → IfOk r (λ a. IfSome a (λ v. Became mid claim made (became.Done v.0 v.1.items) new)) → IfOk r (λ a. a ≡ None → holds mid.book claim.id ≡ false)
-        → OnErr r (new ≡ after_give_back mid claim.id) → KeepsSound old new
+        → OnErr r (GivesBack mid claim.id new) → KeepsSound old new
     answers_sound (Ok None) first second done stale back = absurd (never_stale (stale refl))
     answers_sound (Ok (Some v)) first second done stale back =
         keeps_then old mid new first second (λ j n. live_before mid.book (done.0).id ending.Installed j (subst (λ (c : CoordValue). IsIn j c.book.live) (done.4).new_is n))
-    answers_sound (Err e) first second done stale back = back_keeps old mid claim job ver is book picked new first second back
+    answers_sound (Err e) first second done stale back = stored_keep old mid claim job ver is book picked back.0 back.1 new first second back.2
 
     -- ---- the steps
 
     pub answers_reached : {Z : Type 0} (r : Answer Z) (dispatcher message : ℕ) → IsIndex dispatcher → (s : State) → (t : State) × Step s (say.Pick dispatcher) say.Other t × Shows mid t → IfOk r (λ a. IfSome a (λ v. Follows mid (say.Deliver message) (say.Installed v.0 v.1.items) new))
-        → IfOk r (λ a. a ≡ None → holds mid.book claim.id ≡ false) → OnErr r (new ≡ after_give_back mid claim.id) → IsCompacted dispatcher message s r new
+        → IfOk r (λ a. a ≡ None → holds mid.book claim.id ≡ false) → OnErr r (GivesBack mid claim.id new) → IsCompacted dispatcher message s r new
     answers_reached (Ok None) dispatcher message index s pick steps stale back = absurd (never_stale (stale refl))
     answers_reached (Ok (Some v)) dispatcher message index s pick steps stale back =
         let u = steps pick.0 pick.2 in
@@ -116,7 +117,7 @@ module _ (old mid new : CoordValue) (claim : LiveJob) (job : JobParts) (ver : Is
         record {
           after = t;
           leads = inr (t, pick.1, (t, (give_up_may t dispatcher pick.2.up, (index, refl)), refl));
-          shown = subst (λ (c : CoordValue). Shows c t) (sym back) (Shows-with_book mid (after_settling mid.book claim.id ending.Returned) t pick.2);
+          shown = subst (λ (c : CoordValue). Shows c t) (sym back.2) (Shows-beside back.0 (after_settling back.0.book claim.id ending.Returned) back.0.kept back.0.failures t (stored_shows mid back.0 back.1 t pick.2));
           writes = ap (λ (x : State). x.writes) same;
           snapshots = ap (λ (x : State). x.snapshots) same;
         }

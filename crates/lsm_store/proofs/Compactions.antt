@@ -21,7 +21,8 @@ use Rattle.lsm_msg.specs.declared.job.JobResult.{JobResult}
 use Rattle.lsm_msg.specs.Legal.{IsLegal, Takes}
 use Rattle.lsm_merge.specs.Inputs.{HaveSameEntry, lists_of}
 use Rattle.lsm_merge.specs.Outputs as merge
-use Rattle.lsm_coord.specs.Contract.Calls.{after_give_back}
+use Rattle.lsm_versions.specs.Kept.{StaysBelow}
+use Rattle.lsm_coord.specs.Contract.Calls.{MayHaveStored, after_give_back}
 use Rattle.lsm_coord.specs.Contract.Installing.{AreOutputTables, IsLive, HoldsMergeOf}
 use Rattle.lsm_coord.specs.Contract.Picking.{IsPicked, Picks}
 use Rattle.lsm_coord.specs.Contract.Shows.{Shows}
@@ -31,6 +32,7 @@ use Rattle.lsm_coord.specs.Contract.Value.{CoordValue}
 use Rattle.lsm_coord.proofs.InstallOutcomes.{held_by}
 use Rattle.lsm_coord.proofs.PickedJobs.{inputs_taken}
 use Rattle.lsm_coord.proofs.GiveBackSteps.{live_before, same_name}
+use Rattle.lsm_coord.proofs.VaultRefusals.{nothing_stored}
 use Rattle.lsm_store.specs.Compacting.{IsLeft, Merges, tables_at}
 use Rattle.lsm_store.proofs.JobEntries.{none_shared}
 use Rattle.lsm_store.proofs.MergedOutputs.{opened_as, outputs_are}
@@ -158,14 +160,31 @@ module _ (old mid : CoordValue) (claim : LiveJob) (job : JobParts) (ver : IsVers
     pub made_outputs : AreOutputTables claim.want.hull made.tables (opened_as made.tables m.entries)
     made_outputs = outputs_are mid.served mid_ver mid_is claim.want legal job takes made.tables m (omega (arith, inputs_few))
 
-  -- ---- what is given back
+  -- ---- what is given back, after the vault may have got outputs
+
+  pub left_stored : (put : CoordValue) → MayHaveStored mid put → (new : CoordValue) → new ≡ after_give_back put claim.id → IsLeft old new
+  left_stored put may new e =
+      let counted = given_back old.book book picked.want in
+      let rest : put ≡ record old { book = after_claim old.book picked.want; kept = put.kept; failures = put.failures } = may.rest ∙ (λ i. record (picked.new_is i) { kept = put.kept; failures = put.failures }) in
+      let back : new ≡ record old { book = record old.book { made = old.book.made + 1; returned = old.book.returned + 1 }; kept = put.kept; failures = put.failures } =
+      e ∙ (λ i. after_give_back (rest i) (picked.claim_is i).id) ∙ ap (λ (b : BookValue). record old { book = b; kept = put.kept; failures = put.failures }) counted in
+      let same = ap (λ (c : CoordValue). c.failures) picked.new_is in
+      let failed = may.counted in
+      subst (IsLeft old) (sym back) (record {
+        rest = refl;
+        below = subst (λ (c : CoordValue). StaysBelow c.served.version.next_file c.kept put.kept) picked.new_is may.below;
+        counted = omega (arith, same, failed);
+        book = inr refl;
+      })
 
   pub left_again : (new : CoordValue) → new ≡ after_give_back mid claim.id → IsLeft old new
-  left_again new e =
-      let back : new ≡ after_give_back (record old { book = after_claim old.book picked.want }) (next_job old.book picked.want).id = e ∙ (λ i. after_give_back (picked.new_is i) (picked.claim_is i).id) in
-      let counted : after_give_back (record old { book = after_claim old.book picked.want }) (next_job old.book picked.want).id ≡ record old { book = record old.book { made = old.book.made + 1; returned = old.book.returned + 1 } } =
-      ap (λ (b : BookValue). record old { book = b }) (given_back old.book book picked.want) in
-      subst (IsLeft old) (sym (back ∙ counted)) (record { rest = refl; book = inr refl })
+  left_again = left_stored mid (nothing_stored mid)
+
+  pub stored_keep : (put : CoordValue) → MayHaveStored mid put → (new : CoordValue) → KeepsSound old mid → KeepsSound mid new → new ≡ after_give_back put claim.id → KeepsSound old new
+  stored_keep put may new first second e =
+      keeps_then old mid new first second (λ j n.
+      let there : IsIn j put.book.live = live_before put.book claim.id Returned j (subst (λ (c : CoordValue). IsIn j c.book.live) e n) in
+      subst (λ (c : CoordValue). IsIn j c.book.live) may.rest there)
 
   pub back_keeps : (new : CoordValue) → KeepsSound old mid → KeepsSound mid new → new ≡ after_give_back mid claim.id → KeepsSound old new
-  back_keeps new first second e = keeps_then old mid new first second (λ j n. live_before mid.book claim.id Returned j (subst (λ (c : CoordValue). IsIn j c.book.live) e n))
+  back_keeps = stored_keep mid (nothing_stored mid)

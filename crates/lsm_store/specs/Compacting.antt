@@ -1,5 +1,5 @@
 -- What a compaction is: a pick, the merge of its job, and the install of what the merge makes (LevelDB, db_impl.cc: BackgroundCompaction, DoCompactionWork, InstallCompactionResults).
-use Rattle.std.specs.Prelude.{◌≡◌, ℕ, ◌+◌, ◌⊎◌, List, [], ◌∷◌, ◌++◌, Option, None, Some, Result, Ok, Err, Vec}
+use Rattle.std.specs.Prelude.{◌≡◌, ℕ, ◌+◌, ◌≤◌, ◌⊎◌, List, [], ◌∷◌, ◌++◌, Option, None, Some, Result, Ok, Err, Vec}
 use Rattle.lsm_key.specs.Sets.{IsIn}
 use Rattle.lsm_claim.specs.declared.job.LiveJob.{LiveJob}
 use Rattle.lsm_table.specs.Tables.{Opened}
@@ -13,8 +13,11 @@ use Rattle.lsm_merge.specs.Outputs as merge
 use Rattle.lsm_coord.specs.declared.coord.install.Install.TheVariants as became
 use Rattle.lsm_coord.specs.declared.coord.install.InstallError.{InstallError}
 use Rattle.lsm_coord.specs.declared.error.CoordError.{CoordError}
-use Rattle.lsm_coord.specs.declared.error.CoordError.TheVariants.{NumbersExhausted}
+use Rattle.lsm_coord.specs.declared.error.CoordError.TheVariants.{Device, NumbersExhausted, OutOfMemory}
 use Rattle.lsm_coord.specs.Model.Event as say
+use Rattle.lsm_claim.specs.declared.job.JobId.{JobId}
+use Rattle.lsm_versions.specs.Kept.{StaysBelow}
+use Rattle.lsm_coord.specs.Contract.Calls.{MayHaveStored, after_give_back}
 use Rattle.lsm_coord.specs.Contract.Installing.{AreOutputTables, Became, HasNumbers, HoldsMergeOf, IsLive, Rejects}
 use Rattle.lsm_coord.specs.Contract.Picking.{HasFreeClaim, IsPicked, NothingToCompact, PickRefuses}
 use Rattle.lsm_coord.specs.Contract.Replies.{error_of, refusal_of}
@@ -55,6 +58,10 @@ pub record KeptBack (c : CoordValue) (claim : LiveJob) (made : JobResult) (e : C
   pub told : e ≡ error_of why
   pub rejects : Rejects c.served.version live made why
 
+-- the claim is given back; the vault may have outputs, and its device may have failed
+abbrev pub GivesBack : CoordValue → JobId → CoordValue → Type 0
+GivesBack old id new = (mid : CoordValue) × MayHaveStored old mid × (new ≡ after_give_back mid id)
+
 -- ---- a compaction
 
 -- a pick, a result that holds exactly what a merge keeps of the job's inputs, and its install
@@ -67,9 +74,12 @@ pub record IsCompaction (old : CoordValue) (number : ℕ) (files : List ℕ) (ne
   pub merged : HoldsMergeOf claimed.served job made
   pub installed : Became claimed claim made (became.Done number files) new
 
--- The old value, except that the book may count one more claim as issued and returned: no claim is left behind.
+-- The old value, except that the book may count one more claim as issued and returned: no claim is left behind. The vault may have
+-- tables under numbers that no file has been given yet, and its device may have failed.
 pub record IsLeft (old new : CoordValue) : Type 0 where
-  pub rest : new ≡ record old { book = new.book }
+  pub rest : new ≡ record old { book = new.book; kept = new.kept; failures = new.failures }
+  pub below : StaysBelow old.served.version.next_file old.kept new.kept
+  pub counted : old.failures ≤ new.failures
   pub book : (new.book ≡ old.book) ⊎ (new.book ≡ record old.book { made = old.book.made + 1; returned = old.book.returned + 1 })
 
 -- None is returned if there is nothing to compact: if a state is shown there is no other cause
@@ -89,9 +99,10 @@ pub record LacksNumbers (c : CoordValue) : Type 0 where
   pub outputs : AreOutputTables claim.want.hull made.tables tables
   pub lacks : HasNumbers c.served.version tables → ⊥
 
--- why there is no compaction: what a pick refuses, or the numbers of its outputs
+-- why there is no compaction: what a pick refuses, the numbers of its outputs, or the device after a pick
 abbrev pub CompactionRefuses : CoordValue → CoordError → Type 0
 CompactionRefuses c NumbersExhausted = PickRefuses c NumbersExhausted ⊎ LacksNumbers c
+CompactionRefuses c Device = PickRefuses c OutOfMemory
 CompactionRefuses c e = PickRefuses c e
 
 -- The events of a compaction by a dispatcher, with their replies: its pick, and the message that brings the result, or the claim

@@ -1,16 +1,15 @@
 //! Compactions: one that is due, from its pick to its install.
 
-ghost use Rattle.std.specs.Prelude.{◌≡◌, ℕ, false, IfErr, IfOk, IfSome, None, OnErr};
+ghost use Rattle.std.specs.Prelude.{◌≡◌, ℕ, ◌<◌, false, IfErr, IfOk, IfSome, None, OnErr};
 ghost use Rattle.lsm_claim.specs.Book.{holds};
 ghost use Rattle.lsm_coord.specs.declared.coord.install.Install.TheVariants as became;
-ghost use Rattle.lsm_coord.specs.Contract.Calls.{after_give_back};
 ghost use Rattle.lsm_coord.specs.Model.Changes.{IsIndex};
 ghost use Rattle.lsm_coord.specs.Contract.Installing.{Became, HoldsSoundMerge};
 ghost use Rattle.lsm_coord.specs.Contract.Shows.{Follows, Shows};
 ghost use Rattle.lsm_coord.specs.Contract.Sound.{KeepsSound};
 ghost use Rattle.lsm_coord.specs.Model.Event.{Deliver, Installed};
 ghost use Rattle.lsm_coord.specs.Model.State.{State};
-ghost use Rattle.lsm_store.specs.Compacting.{AreServed, Compacts, CompactionRefuses, IsLeft, IsCompacted, KeptBack, Merges, tables_at};
+ghost use Rattle.lsm_store.specs.Compacting.{AreServed, Compacts, CompactionRefuses, GivesBack, IsLeft, IsCompacted, KeptBack, Merges, tables_at};
 
 use lsm_claim::Claim;
 use lsm_coord::{Coord, CoordError, Install};
@@ -19,20 +18,22 @@ use lsm_key::{FileNumber, Items, VersionNumber};
 use lsm_merge::{MergeError, merge};
 use lsm_msg::{Job, JobResult};
 use lsm_table::Table;
+use lsm_vault::Vault;
 use std::alloc::{AllocError, Global};
 
 /// Runs the next compaction, if a level needs one: picks its job, merges the tables that the coordinator serves, and
 /// installs the outputs. Returns the number of the new version and its new files, or `None` if nothing is picked.
 /// `None` also if two inputs share an internal key; that cannot happen in a coordinator that represents a valid state.
-/// A refusal leaves the version as it was, and no claim behind. The inputs' tables stay in memory, and are served, until
+/// A refusal leaves the version as it was, and no claim behind; the vault may have outputs. The inputs' tables stay in memory, and are served, until
 /// `Coord::trim` raises the floor past the last version that lists them.
-pub fn compact_once(
+pub fn compact_once<V: Vault>(
     alloc: Global,
-    coord: &mut Coord,
+    coord: &mut Coord<V>,
 ) -> Result<Option<(VersionNumber, Vec<FileNumber>)>, CoordError>
     ensures ok { IfOk result (Compacts coord.old coord.new) }
     ensures err { OnErr result (IsLeft coord.old coord.new) }
     ensures refused { IfErr result (CompactionRefuses coord.old) }
+    ensures device { IfErr result (λ e. e ≡ CoordError.Device → coord.old.failures < coord.new.failures) }
     ensures step { (dispatcher message : ℕ) → IsIndex dispatcher → (s : State) → Shows coord.old s → IsCompacted dispatcher message s result coord.new }
     ensures sound { KeepsSound coord.old coord.new }
 {
@@ -56,16 +57,17 @@ pub fn compact_once(
 }
 
 /// Installs the result of a picked job. If it is refused, its claim is given back.
-fn install(
-    coord: &mut Coord,
+fn install<V: Vault>(
+    coord: &mut Coord<V>,
     claim: Claim,
     made: &JobResult,
 ) -> Result<Option<(VersionNumber, Vec<FileNumber>)>, CoordError>
     ensures done { IfOk result (λ answer. IfSome answer (λ r. Became coord.old claim made.now (became.Done r.0 r.1.items) coord.new)) }
     ensures step { (message : ℕ) → HoldsSoundMerge coord.old claim.id made.now → IfOk result (λ answer. IfSome answer (λ r. Follows coord.old (Deliver message) (Installed r.0 r.1.items) coord.new)) }
     ensures stale { IfOk result (λ answer. answer ≡ None → holds coord.old.book claim.id ≡ false) }
-    ensures err { OnErr result (coord.new ≡ after_give_back coord.old claim.id) }
+    ensures err { OnErr result (GivesBack coord.old claim.id coord.new) }
     ensures refused { IfErr result (KeptBack coord.old claim made.now) }
+    ensures device { IfErr result (λ e. e ≡ CoordError.Device → coord.old.failures < coord.new.failures) }
     ensures sound { HoldsSoundMerge coord.old claim.id made.now → KeepsSound coord.old coord.new }
 {
     match coord.install(claim, made) {
@@ -81,7 +83,11 @@ fn install(
 
 /// The result of a job's merge, from the tables that the coordinator serves: none is read again. `None` if two inputs
 /// share an internal key, or if the version does not list all inputs any more.
-pub fn result_of(alloc: Global, coord: &Coord, job: &Job) -> Result<Option<JobResult>, AllocError>
+pub fn result_of<V: Vault>(
+    alloc: Global,
+    coord: &Coord<V>,
+    job: &Job,
+) -> Result<Option<JobResult>, AllocError>
     ensures { IfOk result (λ made. AreServed coord.now job.now → Merges (tables_at coord.now.served.places job.now.inputs) job.now made) }
 {
     // Proof hint: the coordinator's invariant.
@@ -101,7 +107,11 @@ pub fn result_of(alloc: Global, coord: &Coord, job: &Job) -> Result<Option<JobRe
 
 /// The tables of files, in their order, which share what the coordinator serves: none is read again. A file that is gone
 /// has none.
-fn tables_of(alloc: Global, coord: &Coord, files: &[FileMeta]) -> Result<Vec<Table>, AllocError>
+fn tables_of<V: Vault>(
+    alloc: Global,
+    coord: &Coord<V>,
+    files: &[FileMeta],
+) -> Result<Vec<Table>, AllocError>
     ensures { IfOk result (λ tables. tables.items ≡ tables_at coord.now.served.places files.now) }
 {
     let mut tables = Vec::with_capacity(alloc, files.len())?;

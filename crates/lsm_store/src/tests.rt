@@ -3,10 +3,11 @@
 use crate::{compact_once, result_of};
 use bytes::Bytes;
 use lsm_claim::Claim;
-use lsm_coord::{Coord, CoordError, Desk, SnapId};
+use lsm_coord::{Coord, CoordError, Desk, Seat, SnapId};
 use lsm_edit::FileMeta;
 use lsm_key::{Batch, FileNumber, Limits, Op, VersionNumber};
 use lsm_msg::NodeIndex;
+use lsm_vault::MemoryVault;
 use std::alloc::Global;
 use std::process::Abort;
 use std::test::Fail;
@@ -73,43 +74,47 @@ const AT_LAST: [Step; 7] = [
 
 fn compact(
     alloc: Global,
-    coord: &mut Coord,
+    coord: &mut Coord<MemoryVault>,
 ) -> Result<Option<(VersionNumber, Vec<FileNumber>)>, CoordError> {
     compact_once(alloc, coord)
 }
 
-fn flush(coord: &mut Coord) -> Result<(), CoordError> {
+fn flush(coord: &mut Coord<MemoryVault>) -> Result<(), CoordError> {
     coord.flush()?;
     Ok(())
 }
 
-fn write(coord: &mut Coord, batch: &Batch) -> Result<(), CoordError> {
+fn write(coord: &mut Coord<MemoryVault>, batch: &Batch) -> Result<(), CoordError> {
     coord.write(batch)?;
     Ok(())
 }
 
-fn snapshot(coord: &mut Coord) -> Result<(), CoordError> {
+fn snapshot(coord: &mut Coord<MemoryVault>) -> Result<(), CoordError> {
     coord.snapshot()?;
     Ok(())
 }
 
-fn get(coord: &mut Coord, key: &[u8], at: Option<SnapId>) -> Result<Option<Bytes>, CoordError> {
+fn get(
+    coord: &mut Coord<MemoryVault>,
+    key: &[u8],
+    at: Option<SnapId>,
+) -> Result<Option<Bytes>, CoordError> {
     coord.get(key, at)
 }
 
-fn pick(coord: &mut Coord) -> Result<Option<Claim>, CoordError> {
+fn pick(coord: &mut Coord<MemoryVault>) -> Result<Option<Claim>, CoordError> {
     match coord.pick()? {
         Some((claim, _)) => Ok(Some(claim)),
         None => Ok(None),
     }
 }
 
-fn give_back(coord: &mut Coord, claim: Claim) {
+fn give_back(coord: &mut Coord<MemoryVault>, claim: Claim) {
     coord.give_back(claim);
 }
 
 /// How many tables the result of the next job has. Its claim is given back.
-fn tables_made(alloc: Global, coord: &mut Coord) -> Result<Option<usize>, Fail> {
+fn tables_made(alloc: Global, coord: &mut Coord<MemoryVault>) -> Result<Option<usize>, Fail> {
     let Some((claim, job)) = coord.pick()? else {
         return Ok(None);
     };
@@ -122,18 +127,21 @@ fn tables_made(alloc: Global, coord: &mut Coord) -> Result<Option<usize>, Fail> 
 }
 
 /// The number of the version.
-fn number_of(coord: &Coord) -> u64 {
+fn number_of(coord: &Coord<MemoryVault>) -> u64 {
     coord.show().number.number()
 }
 
 /// A new store with limits of `files` files for level 0 and `base` bytes for level 1.
-fn store_due(alloc: Global, files: u64, base: u64) -> Result<Coord, Fail> {
+fn store_due(alloc: Global, files: u64, base: u64) -> Result<Coord<MemoryVault>, Fail> {
     let limits = Limits::new(files, base).ok_or("no limits")?;
-    Ok(Coord::new(alloc, limits)?)
+    match Coord::open(alloc, MemoryVault::new(alloc), limits) {
+        Ok(coord) => Ok(coord),
+        Err((why, _vault)) => Err(why)?,
+    }
 }
 
 /// Writes one operation, and flushes.
-fn flush_op(alloc: Global, coord: &mut Coord, op: Op) -> Result<(), Fail> {
+fn flush_op(alloc: Global, coord: &mut Coord<MemoryVault>, op: Op) -> Result<(), Fail> {
     let mut batch = Batch::new(alloc);
     batch.push(op)?;
     write(coord, &batch)?;
@@ -148,7 +156,7 @@ fn put(key: &'static [u8], value: &'static [u8]) -> Op {
 /// Whether a compaction makes a version of this number, with these new files.
 fn is_compacted(
     alloc: Global,
-    coord: &mut Coord,
+    coord: &mut Coord<MemoryVault>,
     number: u64,
     files: &[u64],
 ) -> Result<bool, CoordError> {
@@ -168,7 +176,7 @@ fn are_numbered(files: &[FileNumber], numbers: &[u64]) -> bool {
 }
 
 /// Compacts again if memory ran out, and then says whether the version was left as it was.
-fn is_compacted_at_last(alloc: Global, coord: &mut Coord) -> Result<bool, CoordError> {
+fn is_compacted_at_last(alloc: Global, coord: &mut Coord<MemoryVault>) -> Result<bool, CoordError> {
     let before = number_of(coord);
     match compact(alloc, coord) {
         Err(CoordError::OutOfMemory) => {}
@@ -182,7 +190,7 @@ fn is_compacted_at_last(alloc: Global, coord: &mut Coord) -> Result<bool, CoordE
 
 /// Whether the key a has this value.
 fn has_value(
-    coord: &mut Coord,
+    coord: &mut Coord<MemoryVault>,
     at: Option<SnapId>,
     wanted: Option<&[u8]>,
 ) -> Result<bool, CoordError> {
@@ -198,7 +206,7 @@ fn placed(file: &FileMeta) -> (u8, u64) {
 }
 
 /// Whether the version is of this number, flushed up to sequence 2, and has these two files.
-fn lists(coord: &Coord, number: u64, first: (u8, u64), second: (u8, u64)) -> bool {
+fn lists(coord: &Coord<MemoryVault>, number: u64, first: (u8, u64), second: (u8, u64)) -> bool {
     let listing = coord.show();
     match listing.files {
         [one, other] => {
@@ -212,7 +220,7 @@ fn lists(coord: &Coord, number: u64, first: (u8, u64), second: (u8, u64)) -> boo
 }
 
 /// Whether a step gives what it is to give.
-fn is_done(alloc: Global, coord: &mut Coord, step: Step) -> Result<bool, Fail> {
+fn is_done(alloc: Global, coord: &mut Coord<MemoryVault>, step: Step) -> Result<bool, Fail> {
     let first = SnapId {
         epoch: 1,
         number: 1,
@@ -232,7 +240,12 @@ fn is_done(alloc: Global, coord: &mut Coord, step: Step) -> Result<bool, Fail> {
 }
 
 /// Sees that each step in a store gives what it is to give.
-fn see(rt: &impl Abort, alloc: Global, coord: &mut Coord, steps: &[Step]) -> Result<(), Fail> {
+fn see(
+    rt: &impl Abort,
+    alloc: Global,
+    coord: &mut Coord<MemoryVault>,
+    steps: &[Step],
+) -> Result<(), Fail> {
     for (at, step) in steps.iter().enumerate() {
         assert!(rt; is_done(alloc, coord, *step)?, "step {at}");
     }
@@ -278,7 +291,7 @@ fn a_picked_job_has_a_result(rt: HostRuntime) -> Result<(), Fail> {
 }
 
 /// Gives a claim to a dispatcher, which holds none yet.
-fn hold(coord: &mut Coord, desk: &mut Desk, index: NodeIndex, claim: Claim) {
+fn hold(coord: &mut Coord<MemoryVault>, desk: &mut Desk, index: NodeIndex, claim: Claim) {
     match desk.hold(index, claim) {
         None => {}
         Some(before) => give_back(coord, before),
@@ -286,7 +299,7 @@ fn hold(coord: &mut Coord, desk: &mut Desk, index: NodeIndex, claim: Claim) {
 }
 
 /// A new store with five files of one key each, each of which is due.
-fn store_of_five(alloc: Global) -> Result<Coord, Fail> {
+fn store_of_five(alloc: Global) -> Result<Coord<MemoryVault>, Fail> {
     let mut coord = store_due(alloc, 1, 1)?;
     for key in [b"a", b"b", b"c", b"d", b"e"] {
         flush_op(alloc, &mut coord, put(key, b"1"))?;
@@ -309,7 +322,8 @@ fn four_live_claims_fill_the_book(rt: HostRuntime) -> Result<(), Fail> {
         Ok(_) => None,
         Err(why) => Some(why),
     };
-    desk.close(&mut coord);
+    let mut seat = Seat::Up(coord);
+    desk.close(&mut seat);
     assert_eq!(rt; refused, Some(CoordError::BookFull));
     Ok(())
 }

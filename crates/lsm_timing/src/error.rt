@@ -6,6 +6,7 @@ use lsm_key::{KeyError, Refused};
 use lsm_merge::MergeError;
 use lsm_pick::PickError;
 use lsm_table::TableError;
+use lsm_versions::OpenError;
 use std::alloc::{AllocError, AllocFailed};
 use std::fmt::Display;
 use std::{fmt, io};
@@ -17,6 +18,7 @@ pub(crate) enum TimingError {
     Plain(&'static str),
     Batch(KeyError),
     Coord(CoordError),
+    Open(OpenError),
     Merge(MergeError),
     Pick(PickError),
     Edit(ApplyError),
@@ -49,6 +51,7 @@ impl TimingError {
             TimingError::Plain(reason) => reason,
             TimingError::Batch(_) => "a batch refused an operation: ",
             TimingError::Coord(_) => "the coordinator refused a call: ",
+            TimingError::Open(_) => "the vault was not opened: ",
             TimingError::Merge(_) => "a merge was refused: ",
             TimingError::Pick(_) => "a pick was refused: ",
             TimingError::Edit(_) => "an edit did not apply: ",
@@ -63,6 +66,7 @@ impl Display for TimingError {
             TimingError::Plain(_) => Ok(()),
             TimingError::Batch(why) => why.fmt(f),
             TimingError::Coord(why) => why.fmt(f),
+            TimingError::Open(why) => why.fmt(f),
             TimingError::Merge(why) => why.fmt(f),
             TimingError::Pick(why) => why.fmt(f),
             TimingError::Edit(why) => why.fmt(f),
@@ -106,6 +110,15 @@ impl From<CoordError> for TimingError {
         match why {
             CoordError::OutOfMemory => OUT_OF_MEMORY,
             why => TimingError::Coord(why),
+        }
+    }
+}
+
+impl From<OpenError> for TimingError {
+    fn from(why: OpenError) -> TimingError {
+        match why {
+            OpenError::OutOfMemory => OUT_OF_MEMORY,
+            why => TimingError::Open(why),
         }
     }
 }

@@ -15,6 +15,8 @@ use lsm_key::{
 use lsm_msg::{Body, Job, JobResult, Message, Node, NodeIndex};
 use lsm_store::result_of;
 use lsm_table::Table;
+use lsm_vault::MemoryVault;
+use std::alloc::Global;
 use std::io;
 
 /// The number of levels.
@@ -23,7 +25,7 @@ const LEVELS: usize = NUM_LEVELS as usize;
 /// A store, and how many bytes of tables it wrote to each level.
 #[derive(Drop)]
 pub(crate) struct Store {
-    pub(crate) coord: Coord,
+    pub(crate) coord: Coord<MemoryVault>,
     pub(crate) bench: Bench,
     pub(crate) watch: Watch,
     written: [u64; LEVELS],
@@ -36,7 +38,7 @@ impl Store {
             l0: DEFAULT_L0,
             base: DEFAULT_BASE,
         };
-        let coord = Coord::new(bench.alloc(), limits)?;
+        let coord = opened(bench.alloc(), limits)?;
         Ok(Store {
             coord,
             bench,
@@ -289,8 +291,16 @@ fn tell_bytes_in(bench: Bench, entries: u64, level: usize, bytes: u64) -> io::Re
     eprintln!(bench.rt; "bytes_in_level_{level} {entries} {bytes}")
 }
 
+// A new store, over a vault in memory.
+fn opened(alloc: Global, limits: Limits) -> Result<Coord<MemoryVault>, TimingError> {
+    match Coord::open(alloc, MemoryVault::new(alloc), limits) {
+        Ok(coord) => Ok(coord),
+        Err((why, _vault)) => Err(TimingError::from(why)),
+    }
+}
+
 // How many bytes the files of a level have.
-fn bytes_in(coord: &Coord, level: usize) -> u64 {
+fn bytes_in(coord: &Coord<MemoryVault>, level: usize) -> u64 {
     let mut bytes = 0u64;
     for file in coord.show().files {
         if file.level as usize == level {

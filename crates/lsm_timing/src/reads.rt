@@ -8,6 +8,7 @@ use crate::fill::filled;
 use crate::keys::{Shape, random_below};
 use bytes::Bytes;
 use lsm_coord::Coord;
+use lsm_vault::MemoryVault;
 use std::alloc::{AllocError, Global};
 
 /// How many keys a scan of the whole store asks for at a time.
@@ -27,7 +28,7 @@ pub(crate) fn time_gets(bench: Bench, entries: u64, reads: u64) -> Result<(), Ti
 
 fn time_gets_of(
     bench: Bench,
-    coord: &mut Coord,
+    coord: &mut Coord<MemoryVault>,
     entries: u64,
     reads: u64,
 ) -> Result<(), TimingError> {
@@ -42,7 +43,7 @@ fn time_gets_of(
 
 fn get_present(
     shape: Shape,
-    coord: &mut Coord,
+    coord: &mut Coord<MemoryVault>,
     entries: u64,
     reads: u64,
 ) -> Result<u64, TimingError> {
@@ -56,7 +57,7 @@ fn get_present(
 
 fn get_absent(
     shape: Shape,
-    coord: &mut Coord,
+    coord: &mut Coord<MemoryVault>,
     entries: u64,
     reads: u64,
 ) -> Result<u64, TimingError> {
@@ -91,7 +92,7 @@ pub(crate) fn time_scans(
 /// Times one scan of the whole store, as a figure of this name.
 pub(crate) fn time_whole(
     bench: Bench,
-    coord: &mut Coord,
+    coord: &mut Coord<MemoryVault>,
     name: &'static str,
 ) -> Result<(), TimingError> {
     let figure = Figure::begin(bench, name)?;
@@ -102,7 +103,7 @@ pub(crate) fn time_whole(
 
 fn time_short(
     bench: Bench,
-    coord: &mut Coord,
+    coord: &mut Coord<MemoryVault>,
     entries: u64,
     scans: u64,
 ) -> Result<(), TimingError> {
@@ -113,7 +114,7 @@ fn time_short(
 }
 
 // All pairs, window after window: how many there are, and their checksum.
-fn scan_whole(alloc: Global, coord: &mut Coord) -> Result<(u64, u64), TimingError> {
+fn scan_whole(alloc: Global, coord: &mut Coord<MemoryVault>) -> Result<(u64, u64), TimingError> {
     let (mut count, mut checksum) = (0u64, 0);
     let mut from = Vec::new(alloc);
     for _window in 0..u64::MAX {
@@ -146,7 +147,7 @@ fn with_pairs(checksum: u64, pairs: &[(Bytes, Bytes)]) -> u64 {
 // Short scans from random keys.
 fn scan_short(
     shape: Shape,
-    coord: &mut Coord,
+    coord: &mut Coord<MemoryVault>,
     entries: u64,
     scans: u64,
 ) -> Result<u64, TimingError> {

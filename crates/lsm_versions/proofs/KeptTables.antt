@@ -1,11 +1,10 @@
 -- The vault has the tables of a version and of the retired files: after tables are put, after an edit, after a trim.
-use Rattle.std.proofs.Common.{◌≡◌, ℕ, ◌<◌, List, [], ◌∷◌, None, Some, sym, ap, subst, ◌∙◌, inl, inr, arith, leb, ltb}
-use Rattle.std.proofs.lemmas.Bool.{leb-true, ltb-true}
+use Rattle.std.proofs.Common.{◌≡◌, ℕ, ◌<◌, List, None, Some, sym, subst, ◌∙◌, inl, inr, arith, leb}
 use Rattle.std.specs.List.{list_any}
 use Rattle.std.specs.FinMap.{get}
 use Rattle.lsm_key.specs.Sets.{IsIn}
 use Rattle.lsm_key.proofs.AscendingEntries.{IsIn-filter}
-use Rattle.lsm_key.proofs.Membership.{IsIn-map, IsIn-mapped}
+use Rattle.lsm_key.proofs.Membership.{IsIn-mapped}
 use Rattle.lsm_table.specs.Tables.{Opened}
 use Rattle.lsm_edit.specs.declared.edit.Edit.{Edit}
 use Rattle.lsm_edit.specs.declared.served.Placed.{Placed}
@@ -17,10 +16,9 @@ use Rattle.lsm_edit.proofs.PlacesInOrder.{placed_meta}
 use Rattle.lsm_edit.proofs.ServedAfterEdit.{put_all-members}
 use Rattle.lsm_edit.proofs.VersionLaws.{added_rises, fresh_added, stays}
 use Rattle.lsm_versions.specs.declared.retired.Retired.{Retired}
-use Rattle.lsm_versions.specs.Kept.{AreKept, Kept, MayHaveRemoved, StaysApart, StaysBelow, put_tables}
+use Rattle.lsm_versions.specs.Kept.{AreKept, Kept, StaysApart, StaysBelow, put_tables}
 use Rattle.lsm_versions.specs.Manifest.{Folds, versions_of}
-use Rattle.lsm_versions.specs.Retention.{AreRetired, NumbersRise, dropped_below, kept_from, retire, retired_after, retired_by}
-use Rattle.lsm_versions.proofs.ManifestReplay.{current_at, length-versions_of}
+use Rattle.lsm_versions.specs.Retention.{AreRetired, kept_from, retire, retired_after, retired_by}
 use Rattle.lsm_versions.proofs.PutTables.{put_each_table, put_none}
 use Rattle.lsm_versions.proofs.RetiredByNumber.{put_cases}
 use Rattle.lsm_versions.proofs.RetiredFiles.{given}
@@ -28,14 +26,6 @@ use Rattle.lsm_versions.proofs.RetiredFiles.{given}
 -- the files that an edit adds have new numbers
 pub apart_below : (v : VersionValue) (e : Edit) (old new : Kept) → apply_fault v e ≡ None → StaysApart e.added old new → StaysBelow v.next_file old new
 apart_below v e old new applies stays n lt = stays n (λ f m (same : f.number ≡ n). let fresh = fresh_added v e applies f m in absurd (omega (arith, fresh, same, lt)))
-
--- retired files of one number are one
-one_retired : (rs : List Retired) → NumbersRise rs → (x r : Retired) → IsIn x rs → IsIn r rs → x.number ≡ r.number → x ≡ r
-one_retired [] up x r mx mr same = absurd mx
-one_retired (y ∷ rs) up x r (inl ex) (inl er) same = ex ∙ sym er
-one_retired (y ∷ rs) up x r (inl ex) (inr nr) same = let lt = up.0 r nr in let first = ap (λ (z : Retired). z.number) ex in absurd (omega (arith, lt, first, same))
-one_retired (y ∷ rs) up x r (inr nx) (inl er) same = let lt = up.0 x nx in let first = ap (λ (z : Retired). z.number) er in absurd (omega (arith, lt, first, same))
-one_retired (y ∷ rs) up x r (inr nx) (inr nr) same = one_retired rs up.1 x r nx nr same
 
 module _ (texts : List (List ℕ)) (s : ServedValue) (retired : List Retired) (floor : ℕ) (text : List ℕ) (e : Edit) (folds : Folds texts s.version) (are : AreRetired (versions_of texts) s.version retired floor)
     (served_is : IsServed s) (version_is : IsVersion s.version) (one : IsSpelledEdit text e) (fits : apply_fault s.version e ≡ None) where
@@ -74,32 +64,9 @@ module _ (texts : List (List ℕ)) (s : ServedValue) (retired : List Retired) (f
         ];
       }
 
--- ---- a trim
-
-module _ (texts : List (List ℕ)) (s : ServedValue) (retired : List Retired) (floor : ℕ) (folds : Folds texts s.version) (are : AreRetired (versions_of texts) s.version retired floor) (served_is : IsServed s) where
-  -- the number of a file that goes is none of the version's
-  not_listed : (n : ℕ) (p : Placed) → IsIn p s.places → IsIn p.meta.number (dropped_below n retired) → ⊥
-  not_listed n p m gone =
-      let r = IsIn-mapped (λ (x : Retired). x.number) p.meta.number _ gone in
-      let is = are.each r.0 (IsIn-filter (λ (x : Retired). ltb x.until n) r.0 retired r.1).0 in
-      let past = is.past in
-      let long = length-versions_of texts s.version folds in
-      is.last s.version.number (omega (arith, past, long)) (s.version, current_at texts s.version folds, (p.meta, (served_is.listed p.meta).0 (IsIn-map (λ (x : Placed). x.meta) p s.places m), r.2))
-
-  -- nor that of a retired file that stays
-  not_kept : (n : ℕ) (r : Retired) → IsIn r (kept_from n retired) → IsIn r.number (dropped_below n retired) → ⊥
-  not_kept n r m gone =
-      let x = IsIn-mapped (λ (y : Retired). y.number) r.number _ gone in
-      let out = IsIn-filter (λ (y : Retired). ltb y.until n) x.0 retired x.1 in
-      let stays = IsIn-filter (λ (y : Retired). leb n y.until) r retired m in
-      let same = one_retired retired are.rising r x.0 stays.0 out.0 x.2 in
-      let low = ltb-true x.0.until n out.1 in
-      let high = leb-true n r.until stays.1 in
-      let until = ap (λ (y : Retired). y.until) same in
-      absurd (omega (arith, low, high, until))
-
-  pub kept_trimmed : (n : ℕ) (old new : Kept) → AreKept old s.places retired → MayHaveRemoved (dropped_below n retired) old new → AreKept new s.places (kept_from n retired)
-  kept_trimmed n old new kept may = record {
-    listed = λ p m. elim (may p.meta.number) [ inl stays ↦ stays ∙ kept.listed p m | inr gone ↦ absurd (not_listed n p m gone.0) ];
-    removed = λ r m. elim (may r.number) [ inl stays ↦ stays ∙ kept.removed r (IsIn-filter (λ (y : Retired). leb n y.until) r retired m).0 | inr gone ↦ absurd (not_kept n r m gone.0) ];
-  }
+-- the tables of the retired files that stay are kept
+pub kept_trimmed : (s : ServedValue) (retired : List Retired) (n : ℕ) (kept : Kept) → AreKept kept s.places retired → AreKept kept s.places (kept_from n retired)
+kept_trimmed s retired n kept are = record {
+  listed = are.listed;
+  removed = λ r m. are.removed r (IsIn-filter (λ (y : Retired). leb n y.until) r retired m).0;
+}

@@ -7,7 +7,7 @@ use Rattle.lsm_edit.specs.declared.edit.Edit.{Edit}
 use Rattle.lsm_edit.specs.Edit.{IsSpelledEdit, edit, read_edit}
 use Rattle.lsm_edit.specs.Edits.{Apply, after_edits, versions_from}
 use Rattle.lsm_edit.specs.Version.{VersionValue, first_version}
-use Rattle.lsm_edit.specs.Served.{ServedValue, after_advance, first_served, placed_of}
+use Rattle.lsm_edit.specs.Served.{ServedValue, after_advance, placed_of}
 use Rattle.lsm_versions.specs.declared.retired.Retired.{Retired}
 use Rattle.lsm_versions.specs.Retention.{AreRetired, kept_from, retired_after}
 use Rattle.lsm_versions.specs.Kept.{AreKept, Kept, StaysBelow, put_tables}
@@ -39,10 +39,6 @@ pub record VersionSetValue : Type 0 where
   pub floor : ℕ
   pub kept : Kept
   pub failures : ℕ  -- how often the vault's device failed
-
--- before the first edit
-abbrev pub first_version_set : Kept → ℕ → VersionSetValue
-first_version_set kept failures = record { served = first_served; edits = []; retired = []; floor = 0; kept = kept; failures = failures }
 
 -- the manifest replays to the version, the retired files are those of its versions, and the vault has the tables of both
 pub record IsVersionSet (v : VersionSetValue) : Type 0 where

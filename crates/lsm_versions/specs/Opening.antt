@@ -1,5 +1,5 @@
 -- How a store is opened over what a vault has (LevelDB, db_impl.cc: DBImpl::Recover, RemoveObsoleteFiles; version_set.cc: VersionSet::Recover).
-use Rattle.std.specs.Prelude.{◌≡◌, ℕ, ◌<◌, ◌≤◌, ◌⊎◌, ◌++◌, ◌∷◌, [], Bool, false, ◌||◌, List, None, Some, is_some}
+use Rattle.std.specs.Prelude.{◌≡◌, ℕ, ◌<◌, ◌≤◌, ◌⊎◌, ◌++◌, ◌∷◌, [], Bool, false, ◌||◌, List, None, Some, filter, is_some, not}
 use Rattle.std.specs.List.{list_any}
 use Rattle.std.specs.FinMap as map
 use Rattle.lsm_key.specs.declared.limits.TheConstants.{MAX_NUMBER}
@@ -26,6 +26,18 @@ use Rattle.lsm_versions.specs.Retention.{retired_at}
 -- one of the files or of the retired ones has the number
 abbrev pub is_live_file : List FileMeta → List Retired → ℕ → Bool
 is_live_file files retired n = list_any (has_number n) files || is_some (retired_at retired n)
+
+-- the table of this number is a live file's
+abbrev pub is_live : VersionSetValue → ℕ → Bool
+is_live v n = is_live_file v.served.version.files v.retired n
+
+-- the numbers of all other tables, ascending
+abbrev pub obsolete_tables : VersionSetValue → List ℕ
+obsolete_tables v = filter (λ n. not (is_live v n)) (map.keys v.kept)
+
+-- the vault has the tables of live files alone
+abbrev pub without_obsolete : VersionSetValue → VersionSetValue
+without_obsolete v = record v { kept = map.retain_keys v.kept (is_live v) }
 
 -- the same tables, but that some under other numbers may be gone
 abbrev pub MayHaveLost : (ℕ → Bool) → Kept → Kept → Type 0

@@ -47,10 +47,6 @@ retired_after retired s removed = put_each (retired_by s removed) retired
 abbrev pub kept_from : ℕ → List Retired → List Retired
 kept_from floor retired = filter (λ r. nat_le floor r.until) retired
 
--- the numbers of the others
-abbrev pub dropped_below : ℕ → List Retired → List ℕ
-dropped_below floor retired = map (λ r. r.number) (filter (λ r. nat_lt r.until floor) retired)
-
 -- ---- which files are retired
 
 -- the version lists a file of this number

@@ -103,11 +103,8 @@ fn is_live_file(version: &Version, retired: &[Retired], number: FileNumber) -> b
     version.has_file(number.number()) || retired_bytes(retired, number.number()).is_some()
 }
 
-/// Removes the tables of these numbers, in turn. A refusal ends it early.
-pub(crate) fn remove_tables<V: Vault>(
-    vault: &mut V,
-    numbers: &[FileNumber],
-) -> Result<(), VaultError>
+// Removes the tables of these numbers, in turn. A refusal ends it early.
+fn remove_tables<V: Vault>(vault: &mut V, numbers: &[FileNumber]) -> Result<(), VaultError>
     ensures ok { OnOk result (V.tables vault.new ≡ map.retain_keys (V.tables vault.old) (λ n. not (list_any (nat_eq n) numbers.now))) }
     ensures removed { MayHaveRemoved numbers.now (V.tables vault.old) (V.tables vault.new) }
     ensures edits { V.edits vault.new ≡ V.edits vault.old }

@@ -3,7 +3,7 @@
 ghost use Rattle.std.specs.Prelude.{◌≡◌, ◌+◌, ◌≤◌, IfOk, length, vec_capacity};
 ghost use Rattle.std.specs.Option.{option_copied};
 ghost use Rattle.lsm_edit.specs.Edit.{IsEdit};
-ghost use Rattle.lsm_versions.specs.Retention.{NumbersRise, dropped_below, put_each, retire, retired_at, retired_by};
+ghost use Rattle.lsm_versions.specs.Retention.{NumbersRise, put_each, retire, retired_at, retired_by};
 
 use bytes::Bytes;
 use lsm_edit::{Edit, Placed, Served, is_among, removed_by};
@@ -73,19 +73,4 @@ pub(crate) fn retired_bytes(retired: &[Retired], number: u64) -> Option<&Bytes>
         Ok(at) => Some(&retired[at].bytes),
         Err(_) => None,
     }
-}
-
-/// The numbers of the retired files that no version from the floor on lists.
-pub(crate) fn dropped_below(
-    alloc: Global,
-    retired: &[Retired],
-    floor: VersionNumber,
-) -> Result<Vec<FileNumber>, AllocError>
-    ensures { IfOk result (λ dropped. dropped.items ≡ dropped_below floor retired.now) }
-{
-    retired
-        .iter()
-        .filter(|file| file.until < floor)
-        .map(|file| file.number)
-        .collect(alloc)
 }

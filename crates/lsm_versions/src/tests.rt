@@ -1,11 +1,11 @@
-//! A new version set and its first edit, and openings over what a vault has. What flushes, installs and trims make of one is
-//! tested through the coordinator.
+//! A new version set and its first edit, openings over what a vault has, and a trim whose device fails. What flushes, installs and
+//! other trims make of a version set is tested through the coordinator.
 
 use super::*;
 use bytes::Bytes;
-use lsm_edit::Edit;
-use lsm_key::{FileNumber, VersionNumber};
-use lsm_vault::{FusedVault, MemoryVault, Vault};
+use lsm_edit::decode_edit;
+use lsm_key::{FileNumber, Refused, VersionNumber};
+use lsm_vault::{FusedVault, MemoryVault, Vault, VaultError};
 use std::alloc::{AllocError, Global};
 use std::test::Fail;
 
@@ -17,19 +17,13 @@ const EPOCH: &[u8] =
 const FLUSH: &[u8] =
     b"\0\0\0\0\0\0\0\x02\x01\0\0\0\0\0\0\0\x01\0\0\0\0\0\0\0\x01\0\0\0\0\0\0\0\x02\0\0\0\0\0\0\0\x01\0\0\0\0\0\0\0\x01\0\0\x01a\0\x01a\0\0\0\x30\0\0\0\x01";
 
+// The install after the opening, of a job whose merge left nothing of table 1.
+const INSTALL: &[u8] =
+    b"\0\0\0\0\0\0\0\x04\x02\0\0\0\0\0\0\0\x01\0\0\0\0\0\0\0\x02\0\0\0\0\0\0\0\x02\0\0\0\x01\0\0\0\0\0\0\0\x01\0\0\0\0";
+
 // That table.
 const OF_A: &[u8] =
     b"LSMT\x01\x01\0\0\0\0\0\0\x01\0\0\0\x01\0\0\0\x10\0\x01a\0\0\0\0\0\0\x01\x01\0\x01a\0\0\0\0\0\0\x01\x01\0\0\0\x011";
-
-// Version 1, with the floor there.
-fn first(alloc: Global) -> Result<VersionSet<MemoryVault>, Fail> {
-    let mut versions = VersionSet::new(alloc, MemoryVault::new(alloc));
-    let edit = Edit::epoch(alloc, versions.version());
-    versions.log_and_apply(&edit, Vec::new(alloc))?;
-    let first = VersionNumber::new(versions.version().number());
-    versions.trim(first)?;
-    Ok(versions)
-}
 
 // A vault with these edits, with table 1, and with a table that no file has, which lets this many calls pass.
 fn vault_of(
@@ -61,11 +55,16 @@ fn opened(alloc: Global, vault: FusedVault<MemoryVault>) -> Result<Opening, Allo
 
 #[test]
 fn a_version_set_begins(rt: HostRuntime) -> Result<(), Fail> {
-    let versions = first(rt.alloc())?;
+    let vault = FusedVault::new(MemoryVault::new(rt.alloc()), u64::MAX);
+    let Ok(versions) = opened(rt.alloc(), vault)? else {
+        return Err("refused")?;
+    };
     assert!(rt; versions.version().number() == 1);
     assert!(rt; versions.floor() == VersionNumber::new(1));
     assert!(rt; versions.served().places().is_empty());
-    assert!(rt; versions.bytes_of(1).is_none());
+    let mut vault = versions.close();
+    let edits = vault.edits()?;
+    assert!(rt; edits.as_slice() == [Bytes::from_static(EPOCH)].as_slice());
     Ok(())
 }
 
@@ -143,6 +142,57 @@ fn a_device_that_fails_is_opened_the_next_time(rt: HostRuntime) -> Result<(), Fa
     let vault = vault_of(rt.alloc(), &[EPOCH, FLUSH], OF_A, 5)?;
     let answer = opened(rt.alloc(), vault)?;
     assert!(rt; answer.is_ok());
+    Ok(())
+}
+
+// Logs the install, which removes table 1.
+fn merge_away(
+    alloc: Global,
+    versions: &mut VersionSet<FusedVault<MemoryVault>>,
+) -> Result<(), Fail> {
+    let edit = match decode_edit(alloc, Bytes::from_static(INSTALL)) {
+        Ok(edit) => edit,
+        Err(Refused::OutOfMemory) => return Err("out of memory")?,
+        Err(Refused::Fault(_)) => return Err("no edit")?,
+    };
+    let mut after = versions.version().copy(alloc)?;
+    after.apply(&edit)?;
+    if !edit.added.is_empty() {
+        return Err("it adds a file")?;
+    }
+    Ok(versions.log_and_apply(&edit, Vec::new(alloc))?)
+}
+
+// A trim to a version that is there, of which want of memory is an error of the test.
+fn trimmed(
+    versions: &mut VersionSet<FusedVault<MemoryVault>>,
+    to: u64,
+) -> Result<Result<Vec<FileNumber>, VaultError>, Fail> {
+    if to > versions.version().number() {
+        return Err("no such version")?;
+    }
+    match versions.trim(VersionNumber::new(to)) {
+        Ok(removed) => Ok(Ok(removed)),
+        Err(VaultError::OutOfMemory) => Err("out of memory")?,
+        Err(why) => Ok(Err(why)),
+    }
+}
+
+#[test]
+fn a_refused_trim_has_raised_the_floor(rt: HostRuntime) -> Result<(), Fail> {
+    // Five calls of the opening, the edit that is appended, and the numbers that are read.
+    let vault = vault_of(rt.alloc(), &[EPOCH, FLUSH], OF_A, 7)?;
+    let Ok(mut versions) = opened(rt.alloc(), vault)? else {
+        return Err("refused")?;
+    };
+    merge_away(rt.alloc(), &mut versions)?;
+    let refused = trimmed(&mut versions, 4)?;
+    assert!(rt; refused.is_err());
+    assert!(rt; versions.floor() == VersionNumber::new(4));
+    let Ok(removed) = trimmed(&mut versions, 4)? else {
+        return Err("refused")?;
+    };
+    assert!(rt; removed.as_slice() == [FileNumber::new(1)].as_slice());
     Ok(())
 }
 

@@ -1,29 +1,28 @@
 //! The version set: the current version with its tables, the vault with the edits that made it, and the files that versions from
 //! the floor on have and the current one lacks.
 
-ghost use Rattle.std.specs.Prelude.{◌≡◌, ◌≤◌, [], None, IfErr, IfOk, OnOk, OnErr, filter, max, not};
-ghost use Rattle.std.specs.FinMap as map;
+ghost use Rattle.std.specs.Prelude.{◌≡◌, ◌≤◌, [], None, IfErr, IfOk, OnOk, OnErr};
 ghost use Rattle.std.specs.Option.{option_copied};
 ghost use Rattle.lsm_edit.specs.Edit.{IsEdit};
 ghost use Rattle.lsm_edit.specs.Served.{AreAsRecorded, IsServed};
 ghost use Rattle.lsm_edit.specs.Version.{IsVersion, apply_fault};
 ghost use Rattle.lsm_vault.specs.Failures.{CountsFailures};
-ghost use Rattle.lsm_versions.specs.Manifest.{IsVersionSet, MayHavePut, after_logging, after_trimming, first_version_set};
-ghost use Rattle.lsm_versions.specs.Kept.{MayHaveRemoved, StaysApart};
-ghost use Rattle.lsm_versions.specs.Opening.{CountsRefusal, EpochRefused, IsNextEpoch, MayHaveDropped, MayHaveLost, OpenRefuses, Opens, is_live_file};
+ghost use Rattle.lsm_versions.specs.Manifest.{IsVersionSet, MayHavePut, after_logging, after_trimming};
+ghost use Rattle.lsm_versions.specs.Kept.{StaysApart};
+ghost use Rattle.lsm_versions.specs.Opening.{CountsRefusal, EpochRefused, IsNextEpoch, MayHaveDropped, MayHaveLost, OpenRefuses, Opens, is_live, is_live_file, obsolete_tables, without_obsolete};
 ghost use Rattle.lsm_versions.specs.declared.error.OpenError.TheVariants.{NumbersExhausted};
-ghost use Rattle.lsm_versions.specs.Retention.{bytes_at, dropped_below};
+ghost use Rattle.lsm_versions.specs.Retention.{bytes_at};
 
 use crate::OpenError;
 use crate::opening::recover;
-use crate::putting::{remove_obsolete, remove_tables, store};
-use crate::retired::{Retired, dropped_below, put_retired, retired_by, retired_bytes};
+use crate::putting::{remove_obsolete, store};
+use crate::retired::{Retired, put_retired, retired_by, retired_bytes};
 use bytes::Bytes;
 use lsm_edit::{Edit, Served, Version, encode_edit};
 use lsm_key::{FileNumber, MAX_NUMBER, VersionNumber};
 use lsm_table::Table;
-use lsm_vault::{MemoryVault, Vault, VaultError};
-use std::alloc::{AllocError, Global};
+use lsm_vault::{Vault, VaultError};
+use std::alloc::Global;
 use std::marker::Model;
 
 /// The current version with its tables; the vault, whose edits are the manifest; and the retired files, by number. The manifest
@@ -53,22 +52,6 @@ impl<V: Vault> Model for VersionSet<V> {
 }
 
 impl<V: Vault> VersionSet<V> {
-    ghost use Rattle.std.specs.Prelude.{◌≡◌, []};
-
-    /// Version 0, over a vault without edits. The floor is 0.
-    pub fn new(alloc: Global, vault: V) -> VersionSet<V>
-        requires { V.edits vault ≡ [] }
-        ensures { result ≡ first_version_set (V.tables vault) (V.failures vault) }
-    {
-        VersionSet {
-            alloc,
-            current: Served::new(alloc),
-            vault,
-            floor: VersionNumber::new(0),
-            retired: Vec::new(alloc),
-        }
-    }
-
     /// Opens what a vault has: replays its edits, reads the tables of the version that they make, removes all other tables, and
     /// logs the edit of the next epoch. The floor is the version after it. A refusal hands the vault back, whose edits are as
     /// before; some of those other tables may be gone.
@@ -124,10 +107,10 @@ impl<V: Vault> VersionSet<V> {
 
     // Removes the tables that neither a file of the version nor a retired one needs. Returns their numbers, ascending.
     fn remove_obsolete(&mut self) -> Result<Vec<FileNumber>, VaultError>
-        ensures removed { IfOk result (λ removed. removed.items ≡ filter (λ n. not (is_live_file self.old.served.version.files self.old.retired n)) (map.keys self.old.kept)) }
-        ensures ok { OnOk result (self.new.kept ≡ map.retain_keys self.old.kept (is_live_file self.old.served.version.files self.old.retired)) }
+        ensures removed { IfOk result (λ removed. removed.items ≡ obsolete_tables self.old) }
+        ensures ok { OnOk result (self.new ≡ record (without_obsolete self.old) { failures = self.new.failures }) }
         ensures rest { self.new ≡ record self.old { kept = self.new.kept; failures = self.new.failures } }
-        ensures lost { MayHaveLost (is_live_file self.old.served.version.files self.old.retired) self.old.kept self.new.kept }
+        ensures lost { MayHaveLost (is_live self.old) self.old.kept self.new.kept }
         ensures counted { CountsFailures result self.old.failures self.new.failures }
     {
         // Proof hint: the places are the version's files.
@@ -170,24 +153,21 @@ impl<V: Vault> VersionSet<V> {
         }
     }
 
-    /// Raises the floor to a version, unless it is higher, and lets the retired files go that no version from it on lists.
-    /// Returns their numbers. If memory runs out, nothing changes. A table that the vault refuses to remove stays in it.
-    pub fn trim(&mut self, to: VersionNumber) -> Result<Vec<FileNumber>, AllocError>
+    /// Raises the floor to a version, unless it is higher, lets the retired files go that no version from it on lists, and removes
+    /// the tables of all files that are not live. Returns their numbers, ascending. A refusal leaves the floor raised; some of
+    /// these tables may be gone, and the next trim or opening removes the rest.
+    pub fn trim(&mut self, to: VersionNumber) -> Result<Vec<FileNumber>, VaultError>
         requires { to ≤ self.old.served.version.number }
-        ensures dropped { IfOk result (λ dropped. dropped.items ≡ dropped_below (max self.old.floor to) self.old.retired) }
-        ensures ok { OnOk result (self.new ≡ record (after_trimming self.old to) { kept = self.new.kept; failures = self.new.failures }) }
-        ensures removed { OnOk result (MayHaveRemoved (dropped_below (max self.old.floor to) self.old.retired) self.old.kept self.new.kept) }
-        ensures failures { self.old.failures ≤ self.new.failures }
-        ensures err { OnErr result (self.new ≡ self.old) }
+        ensures removed { IfOk result (λ removed. removed.items ≡ obsolete_tables (after_trimming self.old to)) }
+        ensures ok { OnOk result (self.new ≡ record (without_obsolete (after_trimming self.old to)) { failures = self.new.failures }) }
+        ensures rest { self.new ≡ record (after_trimming self.old to) { kept = self.new.kept; failures = self.new.failures } }
+        ensures lost { MayHaveLost (is_live (after_trimming self.old to)) self.old.kept self.new.kept }
+        ensures counted { CountsFailures result self.old.failures self.new.failures }
     {
-        // Proof hint: the places are the version's files.
-        let _places = self.current.places();
         let floor = self.floor.max(to);
-        let dropped = dropped_below(self.alloc, &self.retired, floor)?;
         self.retired.retain(|file| file.until >= floor);
         self.floor = floor;
-        let _removed = remove_tables(&mut self.vault, dropped.as_slice());
-        Ok(dropped)
+        self.remove_obsolete()
     }
 
     /// Stores the tables of the files that an edit adds, by number, then logs the edit, which is known to apply, and becomes the
@@ -217,31 +197,20 @@ impl<V: Vault> VersionSet<V> {
         put_retired(&mut self.retired, retiring);
         Ok(())
     }
-}
 
-impl VersionSet<MemoryVault> {
-    /// The same over a vault in memory, whose device never fails.
-    pub fn log_in_memory(&mut self, edit: &Edit, tables: Vec<Table>) -> Result<(), AllocError>
-        requires sound { IsEdit edit.now }
-        requires recorded { AreAsRecorded edit.now.added tables.items }
-        requires applies { apply_fault self.old.served.version edit.now ≡ None }
-        ensures ok { OnOk result (self.new ≡ after_logging self.old edit.now tables.items) }
-        ensures err { OnErr result (MayHavePut self.old self.new) }
+    /// Ends it, and hands the vault back.
+    pub fn close(self) -> V
+        ensures edits { V.edits result ≡ self.edits }
+        ensures tables { V.tables result ≡ self.kept }
+        ensures failures { V.failures result ≡ self.failures }
     {
-        self.know_no_failure();
-        let logged = self.log_and_apply(edit, tables);
-        self.know_no_failure();
-        match logged {
-            Ok(()) => Ok(()),
-            Err(VaultError::OutOfMemory) => Err(AllocError),
-            Err(VaultError::Device) => unreachable!(),
-        }
-    }
-
-    // Proof hint: a vault in memory counts no failure.
-    fn know_no_failure(&self)
-        ensures { self.now.failures ≡ 0 }
-    {
-        let _vault = &self.vault;
+        let VersionSet {
+            alloc: _,
+            current: _,
+            vault,
+            floor: _,
+            retired: _,
+        } = self;
+        vault
     }
 }

@@ -7,7 +7,6 @@ use Rattle.lsm_msg.specs.declared.message.Body.TheVariants as body
 use Rattle.lsm_msg.specs.declared.message.Message.{Message}
 use Rattle.lsm_msg.specs.declared.node.Node.{Node}
 use Rattle.lsm_msg.specs.declared.node.Node.TheVariants.{Coordinator, Worker, Follower}
-use Rattle.lsm_msg.specs.Messages.{IsSpelled}
 use Rattle.lsm_coord.specs.declared.coord.install.Install.{Install}
 use Rattle.lsm_coord.specs.declared.coord.install.Install.TheVariants as became
 use Rattle.lsm_work.specs.declared.change.WorkChange.{WorkChange}
@@ -17,6 +16,8 @@ use Rattle.lsm_world.specs.declared.reply.Reply.{Reply}
 use Rattle.lsm_world.specs.declared.reply.Reply.TheVariants as reply
 use Rattle.lsm_world.specs.declared.reply.Sent.{Sent}
 use Rattle.lsm_world.specs.Asks.{Delivers, DeliversAt, Receives, install_answer, stored_message, worker_reply}
+use Rattle.lsm_world.specs.Inner.Handing.{IsStored}
+use Rattle.lsm_world.specs.Inner.Working.{IsMessageAt}
 use Rattle.lsm_world.specs.Nodes.{NodesValue, at_index}
 use Rattle.lsm_world.proofs.WorkersInPlace.{in_place}
 
@@ -29,6 +30,10 @@ text_stored messages number text at = by (nat_eq number 0) at
     by true e = absurd cc
     by false e = in_place messages (number - 1) text e
 
+-- a message under a number was sent
+pub stored_at : (messages : List (List ℕ)) (number : ℕ) (m : Message) → IsMessageAt messages number m → IsStored messages m
+stored_at messages number m at = (at.0, text_stored messages number at.0 at.1, at.2)
+
 -- ---- replies
 
 installs_by_number : (what : Install) → reply.Refused why.NoMessage ≡ install_answer what → ⊥
@@ -36,7 +41,7 @@ installs_by_number (became.Done number files) e = cc
 installs_by_number (became.Stale job epoch) e = cc
 installs_by_number (became.Kept claim error) e = cc
 
-works_by_number : (what : WorkChange) (told : Sent) → reply.Refused why.NoMessage ≡ worker_reply what told → ⊥
+pub works_by_number : (what : WorkChange) (told : Sent) → reply.Refused why.NoMessage ≡ worker_reply what told → ⊥
 works_by_number (change.Collecting missing) told e = cc
 works_by_number change.Merged told e = cc
 works_by_number change.Dropped told e = cc
@@ -50,9 +55,9 @@ module _ (old : NodesValue) (m : Message) (new : NodesValue) where
 
   delivered_by_number : (dst : Node) → Delivers old m dst (reply.Refused why.NoMessage) new → ⊥
   delivered_by_number Coordinator is = received_by_number m.src m.body is
-  delivered_by_number (Worker index) is = works_by_number is.outcome.change is.told is.reply_is
+  delivered_by_number (Worker index) is = works_by_number is.0.outcome.change is.0.told is.0.reply_is
   delivered_by_number (Follower index) is = let e = is.0 in cc
 
-  pub delivers_at : (number : ℕ) (text : List ℕ) (r : Reply) → stored_message old.messages number ≡ Some text → IsSpelled text m → Delivers old m m.dst r new → DeliversAt old number r new
-  delivers_at number text (reply.Refused why.NoMessage) at spelled is = absurd (delivered_by_number m.dst is)
-  delivers_at number text r at spelled is = (text, at, m, spelled, is)
+  pub delivers_at : (number : ℕ) (r : Reply) → IsMessageAt old.messages number m → Delivers old m m.dst r new → DeliversAt old number r new
+  delivers_at number (reply.Refused why.NoMessage) at is = absurd (delivered_by_number m.dst is)
+  delivers_at number r at is = (at.0, at.1, m, at.2, is)

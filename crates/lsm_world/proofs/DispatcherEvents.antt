@@ -26,6 +26,7 @@ use Rattle.lsm_coord.specs.Contract.Replies.{install_reply}
 use Rattle.lsm_coord.specs.Contract.Sound.{IsSound, KeepsSound}
 use Rattle.lsm_coord.specs.Contract.Value.{CoordValue}
 use Rattle.lsm_coord.proofs.InstallOutcomes.{held_by}
+use Rattle.lsm_coord.proofs.VaultRefusals.{stored_keeps}
 use Rattle.lsm_world.specs.declared.reply.Reply.{Reply}
 use Rattle.lsm_world.specs.Asks.{Dispatches, GivesUp, TakesResult, install_answer, job_message}
 use Rattle.lsm_world.specs.History.{History, IsHistory, IsKnown, IsResultOf}
@@ -39,7 +40,9 @@ use Rattle.lsm_world.proofs.Installs.{after_install}
 use Rattle.lsm_world.proofs.MergedResults.{result_fits, result_holds}
 use Rattle.lsm_world.proofs.PickedClaims.{after_pick}
 use Rattle.lsm_world.proofs.PlainReplies.{kept_plain}
-use Rattle.lsm_world.proofs.StoredMessages.{sends_keep}
+use Rattle.lsm_world.proofs.QuietCalls.{upkeep}
+use Rattle.lsm_world.proofs.SameFiles.{rejected_stored, stored_files}
+use Rattle.lsm_world.proofs.StoredMessages.{nodes_send}
 
 -- ---- what a dispatcher holds
 
@@ -76,7 +79,7 @@ module _ (old : NodesValue) (new : CoordValue) (claim : LiveJob) (job : JobParts
       let at = is_there old.desk d Idle is.claims.four message.dst.1 idle in
       let next = after_pick h old new claim job fit picked sound keeps message.body.0 (d - 1) at is in (
         next.0,
-        sends_keep next.0 (record old { core = new; desk = with_dispatcher old.desk d (Busy claim) }) (job_message d job ∷ []) tells.1 messages tells.4
+        nodes_send next.0 (record old { core = new; desk = with_dispatcher old.desk d (Busy claim) }) (job_message d job ∷ []) tells.1 messages tells.4
             (λ m n. elim n [ inl same ↦ subst (λ (x : Message). IsKnown next.0 x.body) (sym same) next.2 | inr none ↦ absurd none ]) next.1,
       )
 
@@ -155,8 +158,8 @@ module _ (old : NodesValue) (new : CoordValue) (claim : LiveJob) (made : JobResu
           by (became.Done number files) o sound = after_install h old new claim made number files (d - 1) fit fit_new o (sound tt) at is
           by (became.Stale job epoch) o sound =
               (h, subst (λ (c : CoordValue). IsHistory h (record old { core = c; desk = taken })) (sym o.3) (put_down h old (d - 1) claim at o.0 is))
-          by (became.Kept back e) o sound = (
-            h,
-            subst (λ (c : CoordValue). IsHistory h (record old { core = c; desk = with_dispatcher taken d (Busy back) })) (sym o.4)
-                (subst (λ (desk : List Dispatcher). IsHistory h (record old { desk = desk })) (sym (held_again back o.2)) is),
-          )
+          by (became.Kept back e) o sound =
+              let may = rejected_stored old.core new e o.4 in
+              let files = stored_files old.core new may in
+              let kept = upkeep h old new files.served files.edits files.retired files.book (stored_keeps old.core new may) is in
+              (h, subst (λ (desk : List Dispatcher). IsHistory h (record old { core = new; desk = desk })) (sym (held_again back o.2)) kept)

@@ -1,15 +1,15 @@
 -- Claims that a dispatcher gives up, or that are no longer live.
-use Rattle.std.proofs.Common.{◌≡◌, ℕ, ◌≤◌, Bool, true, false, not, cond, List, Some, refl, sym, ap, subst, ◌∙◌}
+use Rattle.std.proofs.Common.{◌≡◌, ℕ, ◌<◌, ◌≤◌, Bool, true, false, not, cond, List, Some, refl, sym, ap, subst, ◌∙◌, inl, inr}
 use Rattle.std.specs.Prelude.{nat_eq, slice_get, slice_set}
 use Rattle.std.proofs.lemmas.Bool.{and_from, eq-eqb, true≢false}
 use Rattle.lsm_key.specs.Sets.{IsIn}
 use Rattle.lsm_key.proofs.AscendingEntries.{IsIn-filter}
-use Rattle.lsm_key.proofs.Lists.{any_from, any_is}
+use Rattle.lsm_key.proofs.Lists.{any_from}
 use Rattle.lsm_claim.specs.declared.ending.Ending.{Ending}
 use Rattle.lsm_claim.specs.declared.ending.Ending.TheVariants.{Installed, Returned}
 use Rattle.lsm_claim.specs.declared.job.JobId.{JobId}
 use Rattle.lsm_claim.specs.declared.job.LiveJob.{LiveJob}
-use Rattle.lsm_claim.specs.Book.{BookValue, IsGiven, after_settling, holds, with_ending}
+use Rattle.lsm_claim.specs.Book.{BookValue, after_settling, holds, with_ending}
 use Rattle.lsm_claim.specs.Jobs.{same_job_id, without_job}
 use Rattle.lsm_coord.specs.declared.dispatcher.Dispatcher.TheVariants.{Idle, Busy}
 use Rattle.lsm_coord.specs.Contract.Calls.{after_give_back}
@@ -17,7 +17,7 @@ use Rattle.lsm_coord.specs.Contract.Sound.{KeepsSound}
 use Rattle.lsm_coord.specs.Contract.Value.{CoordValue}
 use Rattle.lsm_coord.proofs.GiveBackSteps.{epoch_after, live_before}
 use Rattle.lsm_store.proofs.Compactions.{fewer_held}
-use Rattle.lsm_world.specs.History.{History, IsHistory}
+use Rattle.lsm_world.specs.History.{History, IsHistory, WasGiven}
 use Rattle.lsm_world.specs.Nodes.{NodesValue}
 use Rattle.lsm_world.proofs.DeskPlaces.{claims_let_go}
 use Rattle.lsm_world.proofs.QuietCalls.{files_stay}
@@ -44,12 +44,13 @@ made_after b id ending = by (holds b id)
     by false = refl
 
 -- the names stay given
-pub given_after : (b : BookValue) (id : JobId) (ending : Ending) (other : JobId) → IsGiven b other → IsGiven (after_settling b id ending) other
-given_after b id ending other given = record {
+pub given_after : (b : BookValue) (id : JobId) (ending : Ending) (other : JobId) → WasGiven b other → WasGiven (after_settling b id ending) other
+given_after b id ending other (inl before) = inl (subst (λ (n : ℕ). other.epoch < n) (sym (epoch_after b id ending)) before)
+given_after b id ending other (inr given) = inr (record {
   epoch = given.epoch ∙ sym (epoch_after b id ending);
   first = given.first;
   last = subst (λ (n : ℕ). other.number ≤ n) (sym (made_after b id ending)) given.last;
-}
+})
 
 live_with : (ending : Ending) (b : BookValue) → (with_ending ending b).live ≡ b.live
 live_with Installed b = refl
@@ -76,16 +77,12 @@ module _ (h : History) (old : NodesValue) (place : ℕ) (claim : LiveJob) (at : 
       record {
         files = files_stay h old.core new (ap (λ (c : CoordValue). c.served) same) (ap (λ (c : CoordValue). c.edits) same) (λ r m. subst (λ (c : CoordValue). IsIn r c.retired) same m) is.files;
         jobs = record {
-          job = is.jobs.job;
-          one = is.jobs.one;
-          given = λ j m. subst (λ (b : BookValue). IsGiven b j.id) (sym book) (given_after old.core.book claim.id Returned j.id (is.jobs.given j m));
-          inputs = is.jobs.inputs;
+          all = is.jobs.all;
+          given = λ j m. subst (λ (b : BookValue). WasGiven b j.id) (sym book) (given_after old.core.book claim.id Returned j.id (is.jobs.given j m));
           sound = λ j m held. keeps j (is.jobs.sound j m (fewer_held old.core.book new.book j.id before held)) held;
         };
         claims = claims_let_go h old.core.book new.book old.desk place claim at before (λ j m. ended old.core.book claim.id Returned j (subst (λ (b : BookValue). IsIn j b.live) book m)) is.claims;
-        indices = is.indices;
-        tasks = is.tasks;
-        sent = is.sent;
+        network = is.network;
       }
 
   -- A dispatcher lets go a claim that is not live.
@@ -94,7 +91,5 @@ module _ (h : History) (old : NodesValue) (place : ℕ) (claim : LiveJob) (at : 
     files = is.files;
     jobs = is.jobs;
     claims = claims_let_go h old.core.book old.core.book old.desk place claim at (λ j m. m) (λ j m same. true≢false (sym (live_held old.core.book j claim.id m same) ∙ stale)) is.claims;
-    indices = is.indices;
-    tasks = is.tasks;
-    sent = is.sent;
+    network = is.network;
   }

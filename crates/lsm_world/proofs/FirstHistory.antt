@@ -19,7 +19,7 @@ use Rattle.lsm_coord.specs.Contract.Memory.{IsFit}
 use Rattle.lsm_coord.specs.Contract.Value.{CoordValue}
 use Rattle.lsm_coord.specs.Model.State.{Version, empty_version, first_state}
 use Rattle.lsm_work.specs.Workers.{TaskValue, WorkerValue}
-use Rattle.lsm_world.specs.History.{History, Holds, IsHistory, IsTaskOf, AreFiles, first_indices}
+use Rattle.lsm_world.specs.History.{History, Holds, IsHistory, IsNetwork, IsTaskOf, AreFiles, first_indices}
 use Rattle.lsm_world.specs.Nodes.{NodesValue}
 use Rattle.lsm_world.specs.Schedules.{AreNew, idle_worker}
 
@@ -45,8 +45,7 @@ module _ (c : CoordValue) (shown : Shows c first_state) (fit : IsFit c) where
 
   files_first : AreFiles no_history c
   files_first = record {
-    one = λ p q m. absurd m;
-    recorded = λ p m. absurd m;
+    all = record { one = λ p q m. absurd m; recorded = λ p m. absurd m };
     given = λ p m. absurd m;
     listed = λ v f mv mf. absurd (no_file v f mv mf);
     served = λ p m.
@@ -67,15 +66,23 @@ none_held (suc (suc zero)) claim held = absurd cc
 none_held (suc (suc (suc zero))) claim held = absurd cc
 none_held (suc (suc (suc (suc place)))) claim held = absurd cc
 
+-- idle workers have no task, and there is no message
+pub first_network : (workers : List WorkerValue) (messages : List (List ℕ)) → workers ≡ map idle_worker first_indices → messages ≡ [] → IsNetwork no_history workers messages
+first_network workers messages idle none = record {
+  indices = ap (λ (ws : List WorkerValue). map (λ w. w.index) ws) idle;
+  tasks = λ w m.
+      let made = IsIn-mapped idle_worker w first_indices (subst (λ (ws : List WorkerValue). IsIn w ws) idle m) in
+      subst (λ (t : Option TaskValue). IsTaskOf no_history t) (sym (ap (λ (x : WorkerValue). x.task) made.2)) tt;
+  sent = λ bytes m. absurd (subst (λ (texts : List (List ℕ)). IsIn bytes texts) none m);
+}
+
 -- THE NODES OF A NEW STORE HAVE THE HISTORY WITHOUT FILES AND JOBS.
 pub first_history : (due : Limits) (n : NodesValue) → AreNew due n → IsFit n.core → IsHistory no_history n
 first_history due n is fit = record {
   files = files_first n.core is.shown fit;
   jobs = record {
-    job = λ j m. absurd m;
-    one = λ i j m. absurd m;
+    all = record { job = λ j m. absurd m; one = λ i j m. absurd m; inputs = λ j f m. absurd m };
     given = λ j m. absurd m;
-    inputs = λ j f m. absurd m;
     sound = λ j m. absurd m;
   };
   claims = record {
@@ -84,11 +91,7 @@ first_history due n is fit = record {
     picked = λ place claim held. absurd (none_held place claim (at_first place claim held));
     one = λ a b claim other x. absurd (none_held a claim (at_first a claim x));
   };
-  indices = ap (λ (ws : List WorkerValue). map (λ w. w.index) ws) is.workers;
-  tasks = λ w m.
-      let made = IsIn-mapped idle_worker w first_indices (subst (λ (ws : List WorkerValue). IsIn w ws) is.workers m) in
-      subst (λ (t : Option TaskValue). IsTaskOf no_history t) (sym (ap (λ (x : WorkerValue). x.task) made.2)) tt;
-  sent = λ bytes m. absurd (subst (λ (texts : List (List ℕ)). IsIn bytes texts) is.messages m);
+  network = first_network n.workers n.messages is.workers is.messages;
 }
   where
     at_first : (place : ℕ) (claim : LiveJob) → Holds n.desk place claim → Holds new_desk place claim

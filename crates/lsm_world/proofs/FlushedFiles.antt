@@ -63,7 +63,7 @@ module _ (h : History) (old new : CoordValue) (file : FileMeta) (table : Opened)
     ]
     | inr rest ↦ elim mq [
       | inl first ↦ let low = is.given p rest in let its = ap (λ (x : Placed). x.meta.number) first in let up = fresh in absurd (omega (arith, low, its, up, same))
-      | inr both ↦ is.one p q rest both same
+      | inr both ↦ is.all.one p q rest both same
     ]
   ]
 
@@ -79,8 +79,10 @@ module _ (h : History) (old new : CoordValue) (file : FileMeta) (table : Opened)
 
   flushed_files : AreFiles more new
   flushed_files = record {
-    one = one_file;
-    recorded = λ p m. elim m [ inl first ↦ fit_new.served.recorded p (subst (λ (x : Placed). IsIn x new.served.places) (sym first) here) | inr rest ↦ is.recorded p rest ];
+    all = record {
+      one = one_file;
+      recorded = λ p m. elim m [ inl first ↦ fit_new.served.recorded p (subst (λ (x : Placed). IsIn x new.served.places) (sym first) here) | inr rest ↦ is.all.recorded p rest ];
+    };
     given = λ p m. elim m [
       | inl first ↦
           let low = fit_new.version.below place.meta (file_of new.served fit_new.version fit_new.served place here) in
@@ -97,7 +99,11 @@ module _ (h : History) (old new : CoordValue) (file : FileMeta) (table : Opened)
 
 -- the jobs are those of the history with one file more
 with_file_jobs : (h : History) (p : Placed) (c : CoordValue) → Grows h (with_file h p) → AreJobs h c → AreJobs (with_file h p) c
-with_file_jobs h p c grows is = record { job = is.job; one = is.one; given = is.given; inputs = λ j f mj mf. file_stays h (with_file h p) grows f (is.inputs j f mj mf); sound = is.sound }
+with_file_jobs h p c grows is = record {
+  all = record { job = is.all.job; one = is.all.one; inputs = λ j f mj mf. file_stays h (with_file h p) grows f (is.all.inputs j f mj mf) };
+  given = is.given;
+  sound = is.sound;
+}
 
 with_file_claims : (h : History) (p : Placed) (book : BookValue) (desk : List Dispatcher) → AreClaims h book desk → AreClaims (with_file h p) book desk
 with_file_claims h p book desk is = record { four = is.four; live = is.live; picked = is.picked; one = is.one }

@@ -1,10 +1,9 @@
 -- A history that grows, and what stays of it.
-use Rattle.std.proofs.Common.{◌≡◌, ℕ, List, [], ◌∷◌, ◌++◌, Option, None, Some, refl, sym, ap, subst, ◌∙◌, inl, inr}
+use Rattle.std.proofs.Common.{◌≡◌, ℕ, List, Option, None, Some, sym, subst}
 use Rattle.lsm_key.specs.Sets.{IsIn}
 use Rattle.lsm_table.specs.Tables.{Opened}
 use Rattle.lsm_edit.specs.declared.file.FileMeta.{FileMeta}
 use Rattle.lsm_edit.specs.declared.served.Placed.{Placed}
-use Rattle.lsm_edit.specs.Served.{table_at}
 use Rattle.lsm_msg.specs.declared.job.JobParts.{JobParts}
 use Rattle.lsm_msg.specs.declared.job.JobResult.{JobResult}
 use Rattle.lsm_msg.specs.declared.message.Body.{Body}
@@ -12,10 +11,10 @@ use Rattle.lsm_msg.specs.declared.message.Body.TheVariants as body
 use Rattle.lsm_merge.specs.Outputs.{IsMerge}
 use Rattle.lsm_coord.specs.declared.dispatcher.Dispatcher.{Dispatcher}
 use Rattle.lsm_coord.specs.Contract.Value.{CoordValue}
-use Rattle.lsm_store.specs.Compacting.{list_of_option, tables_at}
+use Rattle.lsm_store.specs.Compacting.{tables_at}
 use Rattle.lsm_store.proofs.ServedTables.{tables_among}
-use Rattle.lsm_work.specs.Workers.{TaskValue}
-use Rattle.lsm_world.specs.History.{History, IsFileOf, IsNumbered, IsTableAt, IsResultOf, IsKnown, IsSent, IsTaskOf, IsHistory, AreFiles, AreJobs, AreClaims}
+use Rattle.lsm_work.specs.Workers.{TaskValue, WorkerValue}
+use Rattle.lsm_world.specs.History.{History, IsFileOf, IsNumbered, IsTableAt, IsResultOf, IsKnown, IsSent, IsTaskOf, IsHistory, IsNetwork, AreFiles, AreJobs, AreClaims}
 use Rattle.lsm_world.specs.Nodes.{NodesValue}
 
 -- the files and jobs of the one are those of the other, in which a number names one file
@@ -65,13 +64,18 @@ module _ (h more : History) (grows : Grows h more) where
     pub sent_stays : (bytes : List ℕ) → IsSent h bytes → IsSent more bytes
     sent_stays bytes k = (k.0, k.1, known_stays k.0.body k.2)
 
+    pub network_stays : (workers : List WorkerValue) (messages : List (List ℕ)) → IsNetwork h workers messages → IsNetwork more workers messages
+    network_stays workers messages is = record {
+      indices = is.indices;
+      tasks = λ w m. task_stays w.task (is.tasks w m);
+      sent = λ bytes m. sent_stays bytes (is.sent bytes m);
+    }
+
 -- THE COORDINATOR AND ITS DESK GO ON: the workers' tasks and the messages stay.
 pub goes_on : (h more : History) (n : NodesValue) (core : CoordValue) (desk : List Dispatcher) → IsHistory h n → Grows h more → AreFiles more core → AreJobs more core → AreClaims more core.book desk → IsHistory more (record n { core = core; desk = desk })
 goes_on h more n core desk is grows files jobs claims = record {
   files = files;
   jobs = jobs;
   claims = claims;
-  indices = is.indices;
-  tasks = λ w m. task_stays h more grows w.task (is.tasks w m);
-  sent = λ bytes m. sent_stays h more grows is.jobs.inputs bytes (is.sent bytes m);
+  network = network_stays h more grows is.jobs.all.inputs n.workers n.messages is.network;
 }

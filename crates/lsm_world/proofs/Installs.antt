@@ -8,7 +8,7 @@ use Rattle.lsm_key.proofs.Membership.{IsIn-append_cases, IsIn-append_left, IsIn-
 use Rattle.lsm_claim.specs.declared.ending.Ending.TheVariants as ending
 use Rattle.lsm_claim.specs.declared.job.JobId.{JobId}
 use Rattle.lsm_claim.specs.declared.job.LiveJob.{LiveJob}
-use Rattle.lsm_claim.specs.Book.{BookValue, IsGiven, after_settling}
+use Rattle.lsm_claim.specs.Book.{BookValue, after_settling}
 use Rattle.lsm_table.specs.Tables.{Opened}
 use Rattle.lsm_edit.specs.declared.file.FileMeta.{FileMeta}
 use Rattle.lsm_edit.specs.declared.served.Placed.{Placed}
@@ -34,7 +34,7 @@ use Rattle.lsm_coord.proofs.InstallEdits.{recorded_of, records_end, records_reco
 use Rattle.lsm_coord.proofs.InstallOutcomes.{done_is, done_spelled, live_is}
 use Rattle.lsm_coord.proofs.OpenedOutputs.{tables_each}
 use Rattle.lsm_store.proofs.Compactions.{fewer_held}
-use Rattle.lsm_world.specs.History.{AreClaims, AreFiles, AreJobs, History, IsFileOf, IsHistory, IsTableAt}
+use Rattle.lsm_world.specs.History.{AreClaims, AreFiles, AreJobs, History, IsFileOf, IsHistory, IsTableAt, WasGiven}
 use Rattle.lsm_world.specs.Nodes.{NodesValue}
 use Rattle.lsm_world.proofs.DeskPlaces.{claims_let_go}
 use Rattle.lsm_world.proofs.EndedClaims.{ended, given_after}
@@ -105,7 +105,7 @@ module _ (h : History) (c new : CoordValue) (live : LiveJob) (made : JobResult) 
     ]
     | inr a ↦ elim (IsIn-append_cases q outputs h.files mq) [
       | inl b ↦ absurd (apart q p b a (sym same))
-      | inr b ↦ is.one p q a b same
+      | inr b ↦ is.all.one p q a b same
     ]
   ]
 
@@ -140,8 +140,10 @@ module _ (h : History) (c new : CoordValue) (live : LiveJob) (made : JobResult) 
 
   files_after : AreFiles with_outputs new
   files_after = record {
-    one = one_file;
-    recorded = λ p m. elim (IsIn-append_cases p outputs h.files m) [ inl output ↦ outputs_recorded p output | inr before ↦ is.recorded p before ];
+    all = record {
+      one = one_file;
+      recorded = λ p m. elim (IsIn-append_cases p outputs h.files m) [ inl output ↦ outputs_recorded p output | inr before ↦ is.all.recorded p before ];
+    };
     given = λ p m. elim (IsIn-append_cases p outputs h.files m) [
       | inl output ↦ let below = numbered_below (live.want.level + 1) c.served.version.next_file ts p output in let next = next_is in omega (arith, below, next)
       | inr before ↦ let low = is.given p before in let next = next_is in omega (arith, low, next)
@@ -170,10 +172,8 @@ after_install h old new claim made number files place fit fit_new done keeps at 
     let book : new.book ≡ after_settling c.book claim.id ending.Installed = ap (λ (x : CoordValue). x.book) (done_is c live done.2 new install) ∙ ap (λ (id : JobId). after_settling c.book id ending.Installed) named in
     let before : (j : LiveJob) → IsIn j new.book.live → IsIn j c.book.live = λ j m. live_before c.book claim.id ending.Installed j (subst (λ (b : BookValue). IsIn j b.live) book m) in
     let jobs : AreJobs more new = record {
-      job = is.jobs.job;
-      one = is.jobs.one;
-      given = λ j m. subst (λ (b : BookValue). IsGiven b j.id) (sym book) (given_after c.book claim.id ending.Installed j.id (is.jobs.given j m));
-      inputs = λ j f mj mf. file_stays h more larger f (is.jobs.inputs j f mj mf);
+      all = record { job = is.jobs.all.job; one = is.jobs.all.one; inputs = λ j f mj mf. file_stays h more larger f (is.jobs.all.inputs j f mj mf) };
+      given = λ j m. subst (λ (b : BookValue). WasGiven b j.id) (sym book) (given_after c.book claim.id ending.Installed j.id (is.jobs.given j m));
       sound = λ j m held. keeps j (is.jobs.sound j m (fewer_held c.book new.book j.id before held)) held;
     } in
     let left = claims_let_go h c.book new.book old.desk place claim at before (λ j m. ended c.book claim.id ending.Installed j (subst (λ (b : BookValue). IsIn j b.live) book m)) is.claims in

@@ -15,18 +15,15 @@ use Rattle.lsm_versions.specs.Retention.{retired_at, bytes_at}
 use Rattle.lsm_coord.specs.Contract.Serving.{answer_message, table_body}
 use Rattle.lsm_coord.specs.Contract.Value.{CoordValue}
 use Rattle.lsm_store.proofs.ServedTables.{found_in}
-use Rattle.lsm_world.specs.History.{History, IsHistory, IsKnown, IsNumbered, IsSent, IsTableAt, AreFiles}
-use Rattle.lsm_world.specs.Nodes.{NodesValue}
+use Rattle.lsm_work.specs.Workers.{WorkerValue}
+use Rattle.lsm_world.specs.History.{History, IsKnown, IsNetwork, IsNumbered, IsSent, IsTableAt, AreFiles}
 
 -- MORE MESSAGES THAT ARE KNOWN KEEP THE HISTORY.
-pub more_sent : (h : History) (old : NodesValue) (more : List (List ℕ)) → ((bytes : List ℕ) → IsIn bytes more → IsSent h bytes) → IsHistory h old → IsHistory h (record old { messages = old.messages ++ more })
-more_sent h old more known is = record {
-  files = is.files;
-  jobs = is.jobs;
-  claims = is.claims;
+pub more_sent : (h : History) (workers : List WorkerValue) (messages more : List (List ℕ)) → ((bytes : List ℕ) → IsIn bytes more → IsSent h bytes) → IsNetwork h workers messages → IsNetwork h workers (messages ++ more)
+more_sent h workers messages more known is = record {
   indices = is.indices;
   tasks = is.tasks;
-  sent = λ bytes m. elim (IsIn-append_cases bytes old.messages more m) [ inl before ↦ is.sent bytes before | inr new ↦ known bytes new ];
+  sent = λ bytes m. elim (IsIn-append_cases bytes messages more m) [ inl before ↦ is.sent bytes before | inr new ↦ known bytes new ];
 }
 
 -- ---- answers
@@ -55,11 +52,11 @@ module _ (h : History) (c : CoordValue) (is : AreFiles h c) (n : ℕ) where
   body_known (Some bytes) found numbered = served_table (table_at c.served.places n) bytes refl found
 
 -- WHAT THE COORDINATOR ANSWERS IS KNOWN.
-pub answer_known : (h : History) (old : NodesValue) (asked m : Message) → IsHistory h old → IsKnown h asked.body → answer_message old.core asked asked.body ≡ Some m → IsKnown h m.body
-answer_known h old asked m is known answered = by asked.body known answered
+pub answer_known : (h : History) (core : CoordValue) (asked m : Message) → AreFiles h core → IsKnown h asked.body → answer_message core asked asked.body ≡ Some m → IsKnown h m.body
+answer_known h core asked m files known answered = by asked.body known answered
   where
-    by : (b : Body) → IsKnown h b → answer_message old.core asked b ≡ Some m → IsKnown h m.body
-    by (body.Fetch n) k e = subst (λ (x : Message). IsKnown h x.body) (same_Some _ m e) (body_known h old.core is.files n (bytes_at old.core.served.places old.core.retired n) refl k)
+    by : (b : Body) → IsKnown h b → answer_message core asked b ≡ Some m → IsKnown h m.body
+    by (body.Fetch n) k e = subst (λ (x : Message). IsKnown h x.body) (same_Some _ m e) (body_known h core files n (bytes_at core.served.places core.retired n) refl k)
     by (body.Job j) k e = absurd cc
     by (body.Table n bytes) k e = absurd cc
     by (body.Gone n) k e = absurd cc

@@ -17,5 +17,15 @@ pub mod OneSpelling
 pub mod StoredMessages
 pub mod ServedFetches
 pub mod WorkersInPlace
+pub mod NetworkEvents
+pub mod CountedFailures
+pub mod StoreFailures
+pub mod RestartedHistory
+pub mod RestartedNodes
+pub mod RestartReplies
+pub mod DownEvents
+pub mod StoreEvents
+pub mod ClosedStores
 pub mod DeliveredMessages
 pub mod DispatcherEvents
+pub mod NewVaults

@@ -25,14 +25,14 @@ use Rattle.lsm_world.specs.Nodes.{NodesValue}
 
 -- the tables of files that are served are those of the history
 pub tables_agree : (h : History) (c : CoordValue) → AreFiles h c → (inputs : List FileMeta) → ((f : FileMeta) → IsIn f inputs → (p : Placed) × IsIn p c.served.places × (p.meta ≡ f)) → tables_at h.files inputs ≡ tables_at c.served.places inputs
-tables_agree h c files inputs all = tables_among c.served.places h.files files.one files.served inputs all
+tables_agree h c files inputs all = tables_among c.served.places h.files files.all.one files.served inputs all
 
 module _ (h : History) (n : NodesValue) (is : IsHistory h n) (fit : IsFit n.core) (made : JobResult) (known : IsKnown h (body.Result made)) (held : holds n.core.book made.job ≡ true) where
   abbrev job : JobParts
   job = known.0
 
   is_job : IsJob job
-  is_job = is.jobs.job job known.1
+  is_job = is.jobs.all.job job known.1
 
   sound : IsSound n.core job
   sound = is.jobs.sound job known.1 (subst (λ (id : JobId). holds n.core.book id ≡ true) known.2 held)

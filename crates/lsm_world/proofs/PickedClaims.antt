@@ -21,7 +21,7 @@ use Rattle.lsm_coord.specs.Contract.Picking.{IsPicked}
 use Rattle.lsm_coord.specs.Contract.Sound.{IsSound, KeepsSound}
 use Rattle.lsm_coord.specs.Contract.Value.{CoordValue}
 use Rattle.lsm_coord.proofs.GiveBackSteps.{same_name}
-use Rattle.lsm_world.specs.History.{History, IsHistory, IsFileOf, IsKnown, Holds, AreFiles, AreJobs, AreClaims}
+use Rattle.lsm_world.specs.History.{History, IsHistory, IsFileOf, IsKnown, Holds, AreFiles, AreJobs, AreClaims, WasGiven}
 use Rattle.lsm_world.specs.Nodes.{NodesValue}
 use Rattle.lsm_world.proofs.DeskPlaces.{as_many_after, get_set_cases, get_set_here, get_set_there, idle_holds_none, one_at, same_claim}
 use Rattle.lsm_world.proofs.GrowingHistory.{goes_on}
@@ -32,7 +32,7 @@ abbrev with_job : History → JobParts → History
 with_job h j = record h { jobs = j ∷ h.jobs }
 
 with_job_files : (h : History) (j : JobParts) (c : CoordValue) → AreFiles h c → AreFiles (with_job h j) c
-with_job_files h j c is = record { one = is.one; recorded = is.recorded; given = is.given; listed = is.listed; served = is.served; retired = is.retired }
+with_job_files h j c is = record { all = record { one = is.all.one; recorded = is.all.recorded }; given = is.given; listed = is.listed; served = is.served; retired = is.retired }
 
 module _ (h : History) (old new : CoordValue) (claim : LiveJob) (job : JobParts) (fit : IsFit old) (picked : IsPicked old claim job new) (sound : IsSound new job) (keeps : KeepsSound old new) (rules : IsJob job) where
   abbrev more : History
@@ -54,16 +54,24 @@ module _ (h : History) (old new : CoordValue) (claim : LiveJob) (job : JobParts)
   claim_is : claim ≡ next_job old.book picked.want
   claim_is = picked.claim_is
 
+  epoch_is : job.id.epoch ≡ old.book.epoch
+  epoch_is = ap (λ (id : JobId). id.epoch) picked.job_is.id
+
   -- a name that was given before is another
-  other_name : (id : JobId) → IsGiven old.book id → id ≡ job.id → ⊥
-  other_name id given same =
+  other_name : (id : JobId) → WasGiven old.book id → id ≡ job.id → ⊥
+  other_name id (inl before) same =
+      let now = epoch_is in
+      let its : id.epoch ≡ job.id.epoch = ap (λ (x : JobId). x.epoch) same in
+      absurd (omega (arith, before, now, its))
+  other_name id (inr given) same =
       let last = given.last in
       let number = number_is in
       let its : id.number ≡ job.id.number = ap (λ (x : JobId). x.number) same in
       absurd (omega (arith, last, number, its))
 
-  given_still : (id : JobId) → IsGiven old.book id → IsGiven new.book id
-  given_still id given = subst (λ (b : BookValue). IsGiven b id) (sym book_is) (let last = given.last in record { epoch = given.epoch; first = given.first; last = omega (arith, last) })
+  given_still : (id : JobId) → WasGiven old.book id → WasGiven new.book id
+  given_still id (inl before) = subst (λ (b : BookValue). WasGiven b id) (sym book_is) (inl before)
+  given_still id (inr given) = inr (subst (λ (b : BookValue). IsGiven b id) (sym book_is) (let last = given.last in record { epoch = given.epoch; first = given.first; last = omega (arith, last) }))
 
   given_new : IsGiven new.book job.id
   given_new = subst (λ (b : BookValue). IsGiven b job.id) (sym book_is) (subst (λ (id : JobId). IsGiven (after_claim old.book picked.want) id) (sym picked.job_is.id) (record { epoch = refl; first = omega arith; last = omega arith }))
@@ -87,19 +95,21 @@ module _ (h : History) (old new : CoordValue) (claim : LiveJob) (job : JobParts)
 
     jobs_after : AreJobs more new
     jobs_after = record {
-      job = λ j m. elim m [ inl same ↦ subst IsJob (sym same) rules | inr rest ↦ jobs.job j rest ];
-      one = λ i j mi mj same. elim mi [
-        | inl first ↦ elim mj [
-          | inl both ↦ first ∙ sym both
-          | inr rest ↦ absurd (other_name j.id (jobs.given j rest) (sym same ∙ ap (λ (x : JobParts). x.id) first))
-        ]
-        | inr rest ↦ elim mj [
-          | inl first ↦ absurd (other_name i.id (jobs.given i rest) (same ∙ ap (λ (x : JobParts). x.id) first))
-          | inr both ↦ jobs.one i j rest both same
-        ]
-      ];
-      given = λ j m. elim m [ inl same ↦ subst (λ (x : JobParts). IsGiven new.book x.id) (sym same) given_new | inr rest ↦ given_still j.id (jobs.given j rest) ];
-      inputs = λ j f mj mf. elim mj [ inl same ↦ input_file f (subst (λ (x : JobParts). IsIn f x.inputs) same mf) | inr rest ↦ jobs.inputs j f rest mf ];
+      all = record {
+        job = λ j m. elim m [ inl same ↦ subst IsJob (sym same) rules | inr rest ↦ jobs.all.job j rest ];
+        one = λ i j mi mj same. elim mi [
+          | inl first ↦ elim mj [
+            | inl both ↦ first ∙ sym both
+            | inr rest ↦ absurd (other_name j.id (jobs.given j rest) (sym same ∙ ap (λ (x : JobParts). x.id) first))
+          ]
+          | inr rest ↦ elim mj [
+            | inl first ↦ absurd (other_name i.id (jobs.given i rest) (same ∙ ap (λ (x : JobParts). x.id) first))
+            | inr both ↦ jobs.all.one i j rest both same
+          ]
+        ];
+        inputs = λ j f mj mf. elim mj [ inl same ↦ input_file f (subst (λ (x : JobParts). IsIn f x.inputs) same mf) | inr rest ↦ jobs.all.inputs j f rest mf ];
+      };
+      given = λ j m. elim m [ inl same ↦ inr (subst (λ (x : JobParts). IsGiven new.book x.id) (sym same) given_new) | inr rest ↦ given_still j.id (jobs.given j rest) ];
       sound = λ j m held. elim m [
         | inl same ↦ subst (λ (x : JobParts). IsSound new x) (sym same) sound
         | inr rest ↦ keeps j (jobs.sound j rest (live_before j.id (other_name j.id (jobs.given j rest)) held)) held
@@ -153,7 +163,7 @@ after_pick h old new claim job fit picked sound keeps rules place idle is =
     files_stay h old.core new (ap (λ (c : CoordValue). c.served) same) (ap (λ (c : CoordValue). c.edits) same) (λ r m. subst (λ (c : CoordValue). IsIn r c.retired) same m) is.files in (
       with_job h job,
       goes_on h (with_job h job) old new (slice_set old.desk place (Busy claim)) is
-          (record { files = λ p m. m; jobs = λ j m. inr m; one = is.files.one })
+          (record { files = λ p m. m; jobs = λ j m. inr m; one = is.files.all.one })
           (with_job_files h job new files)
           (jobs_after h old.core new claim job fit picked sound keeps rules is.files is.jobs)
           (claims_after h old.core new claim job fit picked sound keeps rules is.files is.jobs old.desk place idle is.claims),

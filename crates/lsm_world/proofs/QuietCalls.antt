@@ -1,13 +1,13 @@
 -- Calls that leave the files and the claims.
 use Rattle.std.proofs.Common.{◌≡◌, ℕ, ◌<◌, List, true, sym, subst}
 use Rattle.lsm_key.specs.Sets.{IsIn}
-use Rattle.lsm_claim.specs.Book.{BookValue, IsGiven, holds}
+use Rattle.lsm_claim.specs.Book.{BookValue, holds}
 use Rattle.lsm_edit.specs.Served.{ServedValue}
 use Rattle.lsm_versions.specs.declared.retired.Retired.{Retired}
 use Rattle.lsm_versions.specs.Manifest.{versions_of}
 use Rattle.lsm_coord.specs.Contract.Sound.{KeepsSound}
 use Rattle.lsm_coord.specs.Contract.Value.{CoordValue}
-use Rattle.lsm_world.specs.History.{History, IsHistory, AreFiles, AreJobs, AreClaims}
+use Rattle.lsm_world.specs.History.{History, IsHistory, AreFiles, AreJobs, AreClaims, WasGiven}
 use Rattle.lsm_world.specs.Nodes.{NodesValue}
 
 -- ---- parts
@@ -15,8 +15,7 @@ use Rattle.lsm_world.specs.Nodes.{NodesValue}
 -- a call that leaves the version and its manifest, and retires nothing
 pub files_stay : (h : History) (old new : CoordValue) → new.served ≡ old.served → new.edits ≡ old.edits → ((r : Retired) → IsIn r new.retired → IsIn r old.retired) → AreFiles h old → AreFiles h new
 files_stay h old new served edits retired is = record {
-  one = is.one;
-  recorded = is.recorded;
+  all = is.all;
   given = λ p m. subst (λ (s : ServedValue). p.meta.number < s.version.next_file) (sym served) (is.given p m);
   listed = λ v f mv mf. is.listed v f (subst (λ (texts : List (List ℕ)). IsIn v (versions_of texts)) edits mv) mf;
   served = λ p m. is.served p (subst (λ (s : ServedValue). IsIn p s.places) served m);
@@ -26,10 +25,8 @@ files_stay h old new served edits retired is = record {
 -- a call that leaves the book
 pub jobs_stay : (h : History) (old new : CoordValue) → new.book ≡ old.book → KeepsSound old new → AreJobs h old → AreJobs h new
 jobs_stay h old new book keeps is = record {
-  job = is.job;
-  one = is.one;
-  given = λ j m. subst (λ (b : BookValue). IsGiven b j.id) (sym book) (is.given j m);
-  inputs = is.inputs;
+  all = is.all;
+  given = λ j m. subst (λ (b : BookValue). WasGiven b j.id) (sym book) (is.given j m);
   sound = λ j m held. keeps j (is.sound j m (subst (λ (b : BookValue). holds b j.id ≡ true) book held)) held;
 }
 
@@ -42,9 +39,7 @@ module _ (h : History) (old : NodesValue) (new : CoordValue) where
     files = files_stay h old.core new served edits retired is.files;
     jobs = jobs_stay h old.core new book keeps is.jobs;
     claims = subst (λ (b : BookValue). AreClaims h b old.desk) (sym book) is.claims;
-    indices = is.indices;
-    tasks = is.tasks;
-    sent = is.sent;
+    network = is.network;
   }
 
   pub upkeep : new.served ≡ old.core.served → new.edits ≡ old.core.edits → new.retired ≡ old.core.retired → new.book ≡ old.core.book → KeepsSound old.core new → IsHistory h old → IsHistory h (record old { core = new })

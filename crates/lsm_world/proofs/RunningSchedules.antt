@@ -1,8 +1,9 @@
 -- One event more at the end of a schedule.
-use Rattle.std.proofs.Common.{◌≡◌, ◌⊎◌, List, [], ◌∷◌, ◌++◌, map, refl, sym, ap, subst, inl, inr}
+use Rattle.std.proofs.Common.{◌≡◌, ◌⊎◌, ℕ, ◌+◌, ◌≤◌, List, [], ◌∷◌, ◌++◌, map, refl, sym, ap, subst, arith, inl, inr}
+use Rattle.std.specs.Prelude.{sum_by}
+use Rattle.std.proofs.lemmas.List.Sums.{sum_by-append}
 use Rattle.std.proofs.lemmas.List.{map-append}
 use Rattle.lsm_key.specs.declared.limits.Limits.{Limits}
-use Rattle.lsm_coord.specs.Contract.Shows.{Follows}
 use Rattle.lsm_coord.specs.Model.Event as say
 use Rattle.lsm_coord.specs.Model.Run.{Run}
 use Rattle.lsm_coord.specs.Model.State.{State, first_state}
@@ -12,19 +13,19 @@ use Rattle.lsm_world.specs.declared.event.Event.{Event}
 use Rattle.lsm_world.specs.declared.refusal.Refusal.TheVariants as why
 use Rattle.lsm_world.specs.declared.reply.Reply.{Reply}
 use Rattle.lsm_world.specs.declared.reply.Reply.TheVariants as reply
-use Rattle.lsm_world.specs.Asks.{Asks}
+use Rattle.lsm_world.specs.Asks.{AsksStore}
 use Rattle.lsm_world.specs.Events.{event_of}
-use Rattle.lsm_world.specs.Nodes.{NodesValue}
+use Rattle.lsm_world.specs.Nodes.{NodesValue, StoreValue, up_store}
 use Rattle.lsm_world.specs.Replies.{reply_of}
-use Rattle.lsm_world.specs.Schedules.{AreNew, AskedAll, IsReached, IsTaken, IsTraced, RunsTo, WorldValue}
+use Rattle.lsm_world.specs.Schedules.{AreNew, AskedAll, FollowsStore, IsReached, IsTaken, IsTraced, RunsTo, WorldValue, device_failures}
 
 -- ---- what was asked
 
-pub asked_none : (n : NodesValue) → AskedAll n [] [] n
+pub asked_none : (n : StoreValue) → AskedAll n [] [] n
 asked_none n = refl
 
-pub asked_more : (old mid new : NodesValue) (es : List Event) (rs : List Reply) (e : Event) (r : Reply) → AskedAll old es rs mid → Asks mid e r new → AskedAll old (es ++ e ∷ []) (rs ++ r ∷ []) new
-asked_more old mid new [] [] e r asked one = (new, subst (λ (n : NodesValue). Asks n e r new) asked one, refl)
+pub asked_more : (old mid new : StoreValue) (es : List Event) (rs : List Reply) (e : Event) (r : Reply) → AskedAll old es rs mid → AsksStore mid e r new → AskedAll old (es ++ e ∷ []) (rs ++ r ∷ []) new
+asked_more old mid new [] [] e r asked one = (new, subst (λ (n : StoreValue). AsksStore n e r new) asked one, refl)
 asked_more old mid new [] (q ∷ rs) e r asked one = absurd asked
 asked_more old mid new (d ∷ es) [] e r asked one = absurd asked
 asked_more old mid new (d ∷ es) (q ∷ rs) e r asked one = (asked.0, asked.1, asked_more asked.0 mid new es rs e r asked.2 one)
@@ -37,10 +38,10 @@ run_more s m t es rs e r run step =
     (subst (λ (replies : List say.Reply). Run s (map event_of es ++ event_of e ∷ []) replies t) (sym (map-append reply_of rs (r ∷ [])))
     (run_then s (map event_of es) (event_of e ∷ []) (map reply_of rs) (reply_of r ∷ []) m t run (t, step, refl)))
 
-pub runs_none : (n : NodesValue) → RunsTo n [] [] n
+pub runs_none : (n : StoreValue) → RunsTo n [] [] n
 runs_none n s shown = (s, refl, shown)
 
-pub runs_more : (old mid new : NodesValue) (es : List Event) (rs : List Reply) (e : Event) (r : Reply) → RunsTo old es rs mid → Follows mid.core (event_of e) (reply_of r) new.core → RunsTo old (es ++ e ∷ []) (rs ++ r ∷ []) new
+pub runs_more : (old mid new : StoreValue) (es : List Event) (rs : List Reply) (e : Event) (r : Reply) → RunsTo old es rs mid → FollowsStore mid (event_of e) (reply_of r) new → RunsTo old (es ++ e ∷ []) (rs ++ r ∷ []) new
 runs_more old mid new es rs e r runs follows s shown =
     let first = runs s shown in
     let then = follows first.0 first.2 in
@@ -67,12 +68,17 @@ traced_more old mid new (d ∷ es) (q ∷ rs) e r traced one = elim traced [
   | inr lost ↦ inr (lost.0, traced_more old mid new es rs e r lost.1 one)
 ]
 
+-- ---- failures
+
+pub counted_more : (rs : List Reply) (r : Reply) (old mid new : ℕ) → sum_by device_failures rs + old ≤ mid → device_failures r + mid ≤ new → sum_by device_failures (rs ++ r ∷ []) + old ≤ new
+counted_more rs r old mid new first then = rw (sum_by-append device_failures rs (r ∷ [])) (omega (arith, first, then))
+
 -- ---- the states that are reached
 
-pub reached_first : (due : Limits) (n : NodesValue) → AreNew due n → IsReached (record { nodes = n; trace = [] })
+pub reached_first : (due : Limits) (n : NodesValue) → AreNew due n → IsReached (record { nodes = up_store n; trace = [] })
 reached_first due n is = record { replies = []; state = first_state; run = refl; shown = is.shown }
 
-pub reached_more : (old new : NodesValue) (es : List Event) (e : Event) (r : Reply) → IsReached (record { nodes = old; trace = es }) → Follows old.core (event_of e) (reply_of r) new.core → IsReached (record { nodes = new; trace = es ++ e ∷ [] })
+pub reached_more : (old new : StoreValue) (es : List Event) (e : Event) (r : Reply) → IsReached (record { nodes = old; trace = es }) → FollowsStore old (event_of e) (reply_of r) new → IsReached (record { nodes = new; trace = es ++ e ∷ [] })
 reached_more old new es e r is follows =
     let then = follows is.state is.shown in
     record { replies = is.replies ++ r ∷ []; state = then.0; run = run_more first_state is.state then.0 es is.replies e r is.run then.1; shown = then.2 }

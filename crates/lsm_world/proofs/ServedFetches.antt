@@ -18,7 +18,7 @@ use Rattle.lsm_world.specs.Inner.Handing.{IsStored}
 use Rattle.lsm_world.specs.Nodes.{NodesValue}
 use Rattle.lsm_world.proofs.KnownMessages.{answer_known}
 use Rattle.lsm_world.proofs.OneSpelling.{stored_known}
-use Rattle.lsm_world.proofs.StoredMessages.{sends_keep}
+use Rattle.lsm_world.proofs.StoredMessages.{nodes_send}
 
 -- ---- answers
 
@@ -29,7 +29,7 @@ module _ (h : History) (old : NodesValue) (asked m : Message) (is : IsHistory h 
   body_may_be_sent : (n : ℕ) (o : Option (List ℕ)) → IsFileNumber n → IsKnown h (table_body n o) → IsBody (table_body n o)
   body_may_be_sent n None number known = number
   body_may_be_sent n (Some bytes) number known =
-      (number, subst AreTableBytes known.3 (table_may_be_sent known.0 (is.files.recorded known.0 known.1).table))
+      (number, subst AreTableBytes known.3 (table_may_be_sent known.0 (is.files.all.recorded known.0 known.1).table))
 
   answer_may_be_sent : (b : Body) → IsBody b → answer_message old.core asked b ≡ Some m → IsKnown h m.body → IsMessage m
   answer_may_be_sent (body.Fetch n) number e known =
@@ -52,10 +52,10 @@ module _ (old now : NodesValue) (asked m : Message) (same : old ≡ now) (known 
   stored_before = subst (λ (n : NodesValue). IsStored n.messages asked) (sym same) stored
 
   answer_is_known : IsKnown known.0 m.body
-  answer_is_known = answer_known known.0 old asked m known.1 (stored_known known.0 old asked known.1 stored_before) answered
+  answer_is_known = answer_known known.0 old.core asked m known.1.files (stored_known known.0 old.workers old.messages asked known.1.network stored_before) answered
 
   pub answer_is_sound : IsMessage m
   answer_is_sound = answer_may_be_sent known.0 old asked m known.1 stored.2.sound asked.body stored.2.sound.body answered answer_is_known
 
   pub answer_keeps : (told : Sent) (new : List (List ℕ)) → Sends old.messages (m ∷ []) told new → (h : History) × IsHistory h (record old { messages = new })
-  answer_keeps told new sends = (known.0, sends_keep known.0 old (m ∷ []) told new sends (λ x one. subst (λ (y : Message). IsKnown known.0 y.body) (sym (IsIn-one x m one)) answer_is_known) known.1)
+  answer_keeps told new sends = (known.0, nodes_send known.0 old (m ∷ []) told new sends (λ x one. subst (λ (y : Message). IsKnown known.0 y.body) (sym (IsIn-one x m one)) answer_is_known) known.1)

@@ -6,7 +6,8 @@ use Rattle.lsm_msg.specs.Messages.{IsSpelled}
 use Rattle.lsm_world.specs.declared.reply.Sent.{Sent}
 use Rattle.lsm_world.specs.declared.reply.Sent.TheVariants as sent
 use Rattle.lsm_world.specs.Asks.{AreSpelled, Sends}
-use Rattle.lsm_world.specs.History.{History, IsHistory, IsKnown, IsSent}
+use Rattle.lsm_work.specs.Workers.{WorkerValue}
+use Rattle.lsm_world.specs.History.{History, IsHistory, IsKnown, IsNetwork, IsSent}
 use Rattle.lsm_world.specs.Nodes.{NodesValue}
 use Rattle.lsm_world.proofs.KnownMessages.{more_sent}
 
@@ -19,9 +20,13 @@ spelled_sent h [] (m ∷ ms) all known bytes member = absurd all
 spelled_sent h (t ∷ texts) [] all known bytes member = absurd all
 
 -- MESSAGES THAT ARE KNOWN KEEP THE HISTORY WHEN THEY ARE STORED.
-pub sends_keep : (h : History) (old : NodesValue) (ms : List Message) (told : Sent) (new : List (List ℕ)) → Sends old.messages ms told new → ((m : Message) → IsIn m ms → IsKnown h m.body) → IsHistory h old → IsHistory h (record old { messages = new })
-sends_keep h old [] told new sends known is = subst (λ (texts : List (List ℕ)). IsHistory h (record old { messages = texts })) (sym sends.1) is
-sends_keep h old (m ∷ ms) sent.Nothing new sends known is = absurd sends
-sends_keep h old (m ∷ ms) sent.Lost new sends known is = subst (λ (texts : List (List ℕ)). IsHistory h (record old { messages = texts })) (sym sends) is
-sends_keep h old (m ∷ ms) (sent.Messages first last) new sends known is =
-    subst (λ (texts : List (List ℕ)). IsHistory h (record old { messages = texts })) (sym sends.2) (more_sent h old sends.0 (spelled_sent h sends.0 (m ∷ ms) sends.1 known) is)
+pub sends_keep : (h : History) (workers : List WorkerValue) (old : List (List ℕ)) (ms : List Message) (told : Sent) (new : List (List ℕ)) → Sends old ms told new → ((m : Message) → IsIn m ms → IsKnown h m.body) → IsNetwork h workers old → IsNetwork h workers new
+sends_keep h workers old [] told new sends known is = subst (IsNetwork h workers) (sym sends.1) is
+sends_keep h workers old (m ∷ ms) sent.Nothing new sends known is = absurd sends
+sends_keep h workers old (m ∷ ms) sent.Lost new sends known is = subst (IsNetwork h workers) (sym sends) is
+sends_keep h workers old (m ∷ ms) (sent.Messages first last) new sends known is =
+    subst (IsNetwork h workers) (sym sends.2) (more_sent h workers old sends.0 (spelled_sent h sends.0 (m ∷ ms) sends.1 known) is)
+
+-- the nodes, whose other parts stay
+pub nodes_send : (h : History) (old : NodesValue) (ms : List Message) (told : Sent) (new : List (List ℕ)) → Sends old.messages ms told new → ((m : Message) → IsIn m ms → IsKnown h m.body) → IsHistory h old → IsHistory h (record old { messages = new })
+nodes_send h old ms told new sends known is = record { files = is.files; jobs = is.jobs; claims = is.claims; network = sends_keep h old.workers old.messages ms told new sends known is.network }

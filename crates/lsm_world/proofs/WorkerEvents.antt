@@ -15,12 +15,10 @@ use Rattle.lsm_msg.specs.declared.message.Body.{Body}
 use Rattle.lsm_msg.specs.declared.message.Body.TheVariants as body
 use Rattle.lsm_msg.specs.declared.message.Message.{Message}
 use Rattle.lsm_merge.specs.Outputs.{IsMerge}
-use Rattle.lsm_coord.specs.Contract.Value.{CoordValue}
 use Rattle.lsm_store.specs.Compacting.{tables_at}
 use Rattle.lsm_store.proofs.ServedTables.{tables_found}
 use Rattle.lsm_work.specs.Workers.{IsAwaited, IsComplete, MergesInputs, Outcome, Proceeds, TakesTable, TaskValue, WorkerValue, Works, after_gone, after_job, drops, fetches, fetching, ignores, is_among, is_later, missing, new_task, numbers_of, received_tables, to_coordinator, with_input}
-use Rattle.lsm_world.specs.History.{AreFiles, AreJobs, History, IsHistory, IsKnown, IsNumbered, IsTableAt, IsTaskOf}
-use Rattle.lsm_world.specs.Nodes.{NodesValue}
+use Rattle.lsm_world.specs.History.{AreFilesOf, AreJobsOf, History, IsKnown, IsNetwork, IsNumbered, IsTableAt, IsTaskOf}
 
 -- the task that is left is of the history, and each message that is sent is known
 abbrev pub Keeps : History → Outcome → Type 0
@@ -31,7 +29,7 @@ by_test : (P : Outcome → Type 0) (b : Bool) (x y : Outcome) → P x → P y �
 by_test P true x y px py = px
 by_test P false x y px py = py
 
-module _ (h : History) (c : CoordValue) (files : AreFiles h c) (jobs : AreJobs h c) where
+module _ (h : History) (files : AreFilesOf h) (jobs : AreJobsOf h) where
   -- ---- jobs, and files that are gone
 
   input_numbered : (t : TaskValue) → IsTaskOf h (Some t) → (f : FileMeta) → IsIn f t.job.inputs → IsNumbered h f.number
@@ -184,12 +182,9 @@ set_cases (y ∷ ws) (suc place) new x m = elim m [
   | inr later ↦ elim (set_cases ws place new x later) [ inl here ↦ inl here | inr there ↦ inr (inr there) ]
 ]
 
-pub with_worker : (h : History) (old : NodesValue) (place : ℕ) (w new : WorkerValue) → slice_get old.workers place ≡ Some w → new.index ≡ w.index → IsTaskOf h new.task → IsHistory h old → IsHistory h (record old { workers = slice_set old.workers place new })
-with_worker h old place w new at same task is = record {
-  files = is.files;
-  jobs = is.jobs;
-  claims = is.claims;
-  indices = same_indices old.workers place w new at same ∙ is.indices;
-  tasks = λ x m. elim (set_cases old.workers place new x m) [ inl here ↦ subst (λ (y : WorkerValue). IsTaskOf h y.task) (sym here) task | inr before ↦ is.tasks x before ];
+pub with_worker : (h : History) (workers : List WorkerValue) (messages : List (List ℕ)) (place : ℕ) (w new : WorkerValue) → slice_get workers place ≡ Some w → new.index ≡ w.index → IsTaskOf h new.task → IsNetwork h workers messages → IsNetwork h (slice_set workers place new) messages
+with_worker h workers messages place w new at same task is = record {
+  indices = same_indices workers place w new at same ∙ is.indices;
+  tasks = λ x m. elim (set_cases workers place new x m) [ inl here ↦ subst (λ (y : WorkerValue). IsTaskOf h y.task) (sym here) task | inr before ↦ is.tasks x before ];
   sent = is.sent;
 }

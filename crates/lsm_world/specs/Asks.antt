@@ -1,5 +1,6 @@
 -- What an event makes of the nodes: it asks one node, whose own answer is the reply, and what that node sends is stored (RocksDB wiki, Remote Compaction: the primary schedules a job, a worker runs it, the primary installs its result).
-use Rattle.std.specs.Prelude.{◌≡◌, ◌⊎◌, ℕ, ◌+◌, List, [], ◌∷◌, ◌++◌, Option, None, Some, length, map, nat_eq, if◌then◌else◌}
+use Rattle.std.specs.Prelude.{◌≡◌, ◌⊎◌, ℕ, ◌+◌, List, [], ◌∷◌, ◌++◌, Option, None, Some, Result, Ok, Err, length, map, nat_eq, if◌then◌else◌}
+use Rattle.lsm_key.specs.declared.batch.KeyError.{KeyError}
 use Rattle.lsm_key.specs.Faults.{Refuses}
 use Rattle.lsm_key.specs.Limits.{batch_fault}
 use Rattle.lsm_claim.specs.declared.ending.Settled.TheVariants.{Live, Stale}
@@ -14,16 +15,18 @@ use Rattle.lsm_msg.specs.declared.message.Message.{Message}
 use Rattle.lsm_msg.specs.declared.node.Node.{Node}
 use Rattle.lsm_msg.specs.declared.node.Node.TheVariants.{Coordinator, Worker, Follower}
 use Rattle.lsm_msg.specs.Messages.{IsSpelled}
+use Rattle.lsm_versions.specs.declared.error.OpenError.{OpenError}
 use Rattle.lsm_coord.specs.declared.coord.install.Install.{Install}
 use Rattle.lsm_coord.specs.declared.coord.install.Install.TheVariants as became
 use Rattle.lsm_coord.specs.declared.dispatcher.Dispatcher.{Dispatcher}
 use Rattle.lsm_coord.specs.declared.dispatcher.Dispatcher.TheVariants.{Idle, Busy}
 use Rattle.lsm_coord.specs.declared.error.CoordError.TheVariants as error
-use Rattle.lsm_coord.specs.Contract.Calls.{write_fault, IsWritten, freeze_fault, after_freezing, flush_fault, Adds, snapshot_fault, after_snapshot, release_fault, after_release, after_give_back, GetRefuses, ScanRefuses}
+use Rattle.lsm_coord.specs.Contract.Calls.{write_fault, IsWritten, freeze_fault, after_freezing, flush_fault, Adds, FlushRefuses, snapshot_fault, after_snapshot, release_fault, after_release, after_give_back, GetRefuses, ScanRefuses}
 use Rattle.lsm_coord.specs.Contract.Desks.{dispatcher_of, with_dispatcher}
 use Rattle.lsm_coord.specs.Contract.Installing.{Became}
 use Rattle.lsm_coord.specs.Contract.Picking.{IsPicked, Picks, PickRefuses}
 use Rattle.lsm_coord.specs.Contract.Replies.{error_of}
+use Rattle.lsm_coord.specs.Contract.Restarts.{Restarts}
 use Rattle.lsm_coord.specs.Contract.Serving.{answer_message}
 use Rattle.lsm_coord.specs.Contract.Value.{CoordValue}
 use Rattle.lsm_work.specs.declared.change.WorkChange.{WorkChange}
@@ -31,13 +34,14 @@ use Rattle.lsm_work.specs.declared.change.WorkChange.TheVariants as change
 use Rattle.lsm_work.specs.Workers.{Outcome, WorkerValue, Works}
 use Rattle.lsm_world.specs.declared.event.Event.{Event}
 use Rattle.lsm_world.specs.declared.event.Event.TheVariants as event
+use Rattle.lsm_world.specs.declared.refusal.Refusal.{Refusal}
 use Rattle.lsm_world.specs.declared.refusal.Refusal.TheVariants as why
 use Rattle.lsm_world.specs.declared.reply.PickedJob.{PickedJob}
 use Rattle.lsm_world.specs.declared.reply.Reply.{Reply}
 use Rattle.lsm_world.specs.declared.reply.Reply.TheVariants as reply
 use Rattle.lsm_world.specs.declared.reply.Sent.{Sent}
 use Rattle.lsm_world.specs.declared.reply.Sent.TheVariants as sent
-use Rattle.lsm_world.specs.Nodes.{NodesValue, at_index, with_index}
+use Rattle.lsm_world.specs.Nodes.{NodesValue, StoreValue, at_index, nodes_with, up_store, with_index}
 
 -- ---- messages
 
@@ -62,7 +66,8 @@ Sends old (m ∷ ms) (sent.Messages first last) new =
 
 -- ---- what the coordinator is asked
 
--- The coordinator's call for each of its events: what it makes of the coordinator, and when it refuses. A refusal changes nothing.
+-- The coordinator's call for each of its events: what it makes of the coordinator, and when it refuses. A refusal changes nothing,
+-- but for what a flush may have stored in the vault.
 -- Which value a read returns, and which sequences a write gets, is what a step says.
 abbrev pub Calls : CoordValue → Event → Reply → CoordValue → Type 0
 Calls old (event.Write ops) (reply.Wrote first last) new = (batch_fault ops ≡ None) × (write_fault old ops ≡ None) × IsWritten old ops new
@@ -71,7 +76,7 @@ Calls old (event.Write ops) (reply.Refused (why.Coord e)) new = (batch_fault ops
 Calls old event.Freeze (reply.Froze seq) new = (freeze_fault old ≡ None) × (new ≡ after_freezing old)
 Calls old event.Freeze (reply.Refused (why.Coord e)) new = (freeze_fault old ≡ Some e) × (new ≡ old)
 Calls old event.Flush (reply.Flushed f) new = (flush_fault old ≡ None) × Adds old new
-Calls old event.Flush (reply.Refused (why.Coord e)) new = Refuses error.OutOfMemory (flush_fault old) e × (new ≡ old)
+Calls old event.Flush (reply.Refused (why.Coord e)) new = FlushRefuses old e new
 Calls old event.Snap (reply.Snapped id seq) new = (snapshot_fault old ≡ None) × (new ≡ after_snapshot old)
 Calls old event.Snap (reply.Refused (why.Coord e)) new = Refuses error.OutOfMemory (snapshot_fault old) e × (new ≡ old)
 Calls old (event.Release id) (reply.Released which) new = (release_fault old id ≡ None) × (which ≡ id) × (new ≡ after_release old id)
@@ -156,20 +161,20 @@ worker_reply change.Dropped told = reply.Dropped
 worker_reply change.Ignored told = reply.Ignored
 
 -- what the worker of this index does with a message, and what it sends
-pub record IsWork (old : NodesValue) (index : ℕ) (said : Body) (r : Reply) (new : NodesValue) : Type 0 where
+pub record IsWork (workers : List WorkerValue) (messages : List (List ℕ)) (index : ℕ) (said : Body) (r : Reply) (now : List WorkerValue) (stored : List (List ℕ)) : Type 0 where
   pub worker : WorkerValue
-  pub is_there : at_index old.workers index ≡ Some worker
+  pub is_there : at_index workers index ≡ Some worker
   pub outcome : Outcome
   pub works : Works worker said outcome
   pub told : Sent
   pub reply_is : r ≡ worker_reply outcome.change told
-  pub sends : Sends old.messages outcome.sent told new.messages
-  pub new_is : new ≡ record old { workers = with_index old.workers index outcome.worker; messages = new.messages }
+  pub sends : Sends messages outcome.sent told stored
+  pub now_is : now ≡ with_index workers index outcome.worker
 
 -- by its receiver; nothing is sent to a follower yet
 abbrev pub Delivers : NodesValue → Message → Node → Reply → NodesValue → Type 0
 Delivers old m Coordinator r new = Receives old m m.src m.body r new
-Delivers old m (Worker index) r new = IsWork old index m.body r new
+Delivers old m (Worker index) r new = IsWork old.workers old.messages index m.body r new.workers new.messages × (new ≡ record old { workers = new.workers; messages = new.messages })
 Delivers old m (Follower index) r new = Ignores old r new
 
 -- a number that no message has, or a message that is delivered, for the first time or once more
@@ -178,26 +183,80 @@ DeliversAt old number (reply.Refused why.NoMessage) new = (stored_message old.me
 DeliversAt old number r new =
     (text : List ℕ) × (stored_message old.messages number ≡ Some text) × (m : Message) × IsSpelled text m × Delivers old m m.dst r new
 
--- ---- each event
+-- ---- each event, while the coordinator is up
 
 -- memory ran out, and nothing was done
 abbrev pub LacksMemory : {X : Type 0} → X → Reply → X → Type 0
 LacksMemory old r new = (r ≡ reply.Refused why.OutOfMemory) × (new ≡ old)
 
 -- a worker is idle again
-abbrev pub StartsAnew : NodesValue → ℕ → Reply → NodesValue → Type 0
-StartsAnew old index r new =
-    (r ≡ reply.RestartedWorker index) × (w : WorkerValue) × (at_index old.workers index ≡ Some w)
-    × (new ≡ record old { workers = with_index old.workers index (record w { task = None }) })
+abbrev pub StartsAnew : List WorkerValue → ℕ → Reply → List WorkerValue → Type 0
+StartsAnew workers index r now =
+    (r ≡ reply.RestartedWorker index) × (w : WorkerValue) × (at_index workers index ≡ Some w) × (now ≡ with_index workers index (record w { task = None }))
 
 -- which node an event asks
 abbrev pub AsksNode : NodesValue → Event → Reply → NodesValue → Type 0
 AsksNode old (event.Pick d) r new = Dispatches old d r new
 AsksNode old (event.GiveUp d) r new = GivesUp old d r new
 AsksNode old (event.Deliver number) r new = DeliversAt old number r new
-AsksNode old (event.RestartWorker index) r new = StartsAnew old index r new
+AsksNode old (event.RestartWorker index) r new = StartsAnew old.workers index r new.workers × (new ≡ record old { workers = new.workers })
 AsksNode old e r new = Calls old.core e r new.core × (new ≡ record old { core = new.core })
 
 -- an event asks its node, unless memory runs out
 abbrev pub Asks : NodesValue → Event → Reply → NodesValue → Type 0
 Asks old e r new = LacksMemory old r new ⊎ AsksNode old e r new
+
+-- ---- each event, while the coordinator is down
+
+-- the coordinator and its dispatchers refuse
+abbrev pub IsDown : StoreValue → Reply → StoreValue → Type 0
+IsDown old r new = (r ≡ reply.Refused why.Down) × (new ≡ old)
+
+-- a batch's own fault is told first
+abbrev pub down_write : Option KeyError → Refusal
+down_write None = why.Down
+down_write (Some e) = why.Key e
+
+-- by its receiver; nothing is sent to a follower yet
+abbrev pub DeliversDown : StoreValue → Message → Node → Reply → StoreValue → Type 0
+DeliversDown old m Coordinator r new = IsDown old r new
+DeliversDown old m (Worker index) r new = IsWork old.workers old.messages index m.body r new.workers new.messages × (new ≡ record old { workers = new.workers; messages = new.messages })
+DeliversDown old m (Follower index) r new = (r ≡ reply.Ignored) × (new ≡ old)
+
+abbrev pub DeliversAtDown : StoreValue → ℕ → Reply → StoreValue → Type 0
+DeliversAtDown old number (reply.Refused why.NoMessage) new = (stored_message old.messages number ≡ None) × (new ≡ old)
+DeliversAtDown old number r new =
+    (text : List ℕ) × (stored_message old.messages number ≡ Some text) × (m : Message) × IsSpelled text m × DeliversDown old m m.dst r new
+
+-- workers go on
+abbrev pub AsksDown : StoreValue → Event → Reply → StoreValue → Type 0
+AsksDown old (event.Write ops) r new = (r ≡ reply.Refused (down_write (batch_fault ops))) × (new ≡ old)
+AsksDown old (event.Deliver number) r new = DeliversAtDown old number r new
+AsksDown old (event.RestartWorker index) r new = StartsAnew old.workers index r new.workers × (new ≡ record old { workers = new.workers })
+AsksDown old e r new = IsDown old r new
+
+-- ---- each event
+
+-- what a coordinator that is up again tells
+abbrev pub restarted_as : Option CoordValue → Reply
+restarted_as (Some c) = reply.Restarted c.served.version.epoch c.served.version.number c.last
+restarted_as None = reply.Ignored
+
+-- what is told of an opening
+abbrev pub restart_answer : Result (Unit {0}) OpenError → Option CoordValue → Reply
+restart_answer (Ok done) core = restarted_as core
+restart_answer (Err refused) core = reply.Refused (why.Open refused)
+
+-- The coordinator is opened over what its vault has. Dispatchers, workers and messages stay, and claims that are held are stale.
+abbrev pub RestartsCoordinator : StoreValue → Reply → StoreValue → Type 0
+RestartsCoordinator old r new =
+    (opened : Result (Unit {0}) OpenError) × Restarts old.seat opened new.seat × (r ≡ restart_answer opened new.seat.core) × (new ≡ record old { seat = new.seat })
+
+abbrev pub AsksBy : Option CoordValue → StoreValue → Event → Reply → StoreValue → Type 0
+AsksBy core old event.RestartCoordinator r new = RestartsCoordinator old r new
+AsksBy (Some c) old e r new = (n : NodesValue) × AsksNode (nodes_with c old) e r n × (new ≡ up_store n)
+AsksBy None old e r new = AsksDown old e r new
+
+-- an event asks its node, unless memory runs out
+abbrev pub AsksStore : StoreValue → Event → Reply → StoreValue → Type 0
+AsksStore old e r new = LacksMemory old r new ⊎ AsksBy old.seat.core old e r new

@@ -15,4 +15,5 @@ event_of event.Show = say.Show say.Coordinator
 event_of (event.Pick dispatcher) = say.Pick dispatcher
 event_of (event.GiveUp dispatcher) = say.GiveUp dispatcher
 event_of (event.Deliver message) = say.Deliver message
+event_of event.RestartCoordinator = say.Restart say.Coordinator
 event_of (event.RestartWorker worker) = say.Restart (say.Worker worker)

@@ -1,11 +1,13 @@
 -- What the nodes of a store have made so far, and what each of them, and each message, may have of it (RocksDB wiki, Remote Compaction: a job names its inputs, and its result stands for them; LevelDB, implementation notes: file numbers are not reused).
-use Rattle.std.specs.Prelude.{◌≡◌, ℕ, ◌∷◌, ◌<◌, List, [], Option, None, Some, length, true, map, slice_get}
+use Rattle.std.specs.Prelude.{◌≡◌, ◌⊎◌, ℕ, ◌∷◌, ◌<◌, ◌≤◌, List, [], Option, None, Some, length, true, map, slice_get}
+use Rattle.std.specs.FinMap.{get}
 use Rattle.lsm_key.specs.Sets.{IsIn}
+use Rattle.lsm_claim.specs.declared.job.JobId.{JobId}
 use Rattle.lsm_claim.specs.declared.job.LiveJob.{LiveJob}
-use Rattle.lsm_claim.specs.Book.{BookValue, IsGiven, holds}
+use Rattle.lsm_claim.specs.Book.{BookValue, IsGiven, holds, new_book}
 use Rattle.lsm_edit.specs.declared.file.FileMeta.{FileMeta}
 use Rattle.lsm_edit.specs.declared.served.Placed.{Placed}
-use Rattle.lsm_edit.specs.Served.{AllRecorded}
+use Rattle.lsm_edit.specs.Served.{AllRecorded, IsAsRecorded}
 use Rattle.lsm_edit.specs.Version.{VersionValue}
 use Rattle.lsm_msg.specs.declared.job.JobParts.{JobParts}
 use Rattle.lsm_msg.specs.declared.job.JobResult.{JobResult}
@@ -16,14 +18,16 @@ use Rattle.lsm_msg.specs.Jobs.{IsJob}
 use Rattle.lsm_msg.specs.Messages.{IsSpelled}
 use Rattle.lsm_merge.specs.Outputs.{IsMerge}
 use Rattle.lsm_versions.specs.declared.retired.Retired.{Retired}
+use Rattle.lsm_versions.specs.Kept.{Kept}
 use Rattle.lsm_versions.specs.Manifest.{versions_of}
+use Rattle.lsm_versions.specs.Opening.{manifest_version}
 use Rattle.lsm_coord.specs.declared.dispatcher.Dispatcher.{Dispatcher}
 use Rattle.lsm_coord.specs.declared.dispatcher.Dispatcher.TheVariants.{Busy}
 use Rattle.lsm_coord.specs.Contract.Sound.{IsSound}
 use Rattle.lsm_coord.specs.Contract.Value.{CoordValue}
 use Rattle.lsm_store.specs.Compacting.{tables_at}
 use Rattle.lsm_work.specs.Workers.{TaskValue, WorkerValue}
-use Rattle.lsm_world.specs.Nodes.{NodesValue}
+use Rattle.lsm_world.specs.Nodes.{NodesValue, StoreValue, nodes_with}
 
 pub record History : Type 0 where
   pub files : List Placed  -- each file that a version ever listed, with its table
@@ -43,11 +47,15 @@ IsNumbered h number = (p : Placed) × IsIn p h.files × (p.meta.number ≡ numbe
 abbrev pub IsTableAt : History → ℕ → List ℕ → Type 0
 IsTableAt h number bytes = (p : Placed) × IsIn p h.files × (p.meta.number ≡ number) × (p.table.bytes ≡ bytes)
 
--- Each number that was given names one file with one table, which is as the file's record says. Each file that a version ever
--- listed, that the coordinator serves or has retired is such a file.
-pub record AreFiles (h : History) (c : CoordValue) : Type 0 where
+-- each number names one file with one table, which is as the file's record says
+pub record AreFilesOf (h : History) : Type 0 where
   pub one : (p q : Placed) → IsIn p h.files → IsIn q h.files → p.meta.number ≡ q.meta.number → p ≡ q
   pub recorded : AllRecorded h.files
+
+-- The numbers of these files were given. Each file that a version ever listed, that the coordinator serves or has retired is one
+-- of them.
+pub record AreFiles (h : History) (c : CoordValue) : Type 0 where
+  pub all : AreFilesOf h
   pub given : (p : Placed) → IsIn p h.files → p.meta.number < c.served.version.next_file
   pub listed : (v : VersionValue) (f : FileMeta) → IsIn v (versions_of c.edits) → IsIn f v.files → IsFileOf h f
   pub served : (p : Placed) → IsIn p c.served.places → IsIn p h.files
@@ -55,13 +63,20 @@ pub record AreFiles (h : History) (c : CoordValue) : Type 0 where
 
 -- ---- jobs
 
--- Each job is within the rules of its format, has a name of its own that was given, merges files of the history, and is sound
--- while its claim is live.
-pub record AreJobs (h : History) (c : CoordValue) : Type 0 where
+-- each job is within the rules of its format, has a name of its own, and merges files of the history
+pub record AreJobsOf (h : History) : Type 0 where
   pub job : (j : JobParts) → IsIn j h.jobs → IsJob j
   pub one : (i j : JobParts) → IsIn i h.jobs → IsIn j h.jobs → i.id ≡ j.id → i ≡ j
-  pub given : (j : JobParts) → IsIn j h.jobs → IsGiven c.book j.id
   pub inputs : (j : JobParts) (f : FileMeta) → IsIn j h.jobs → IsIn f j.inputs → IsFileOf h f
+
+-- the name was given in an earlier epoch, or by this book
+abbrev pub WasGiven : BookValue → JobId → Type 0
+WasGiven book id = (id.epoch < book.epoch) ⊎ IsGiven book id
+
+-- each job's name was given, and the job is sound while its claim is live
+pub record AreJobs (h : History) (c : CoordValue) : Type 0 where
+  pub all : AreJobsOf h
+  pub given : (j : JobParts) → IsIn j h.jobs → WasGiven c.book j.id
   pub sound : (j : JobParts) → IsIn j h.jobs → holds c.book j.id ≡ true → IsSound c j
 
 -- the dispatcher at this place of a desk, from 0, holds this claim
@@ -106,11 +121,45 @@ IsSent h bytes = (m : Message) × IsSpelled bytes m × IsKnown h m.body
 abbrev pub first_indices : List ℕ
 first_indices = 1 ∷ 2 ∷ 3 ∷ 4 ∷ []
 
+-- the tasks of the workers are of the history, and each message that was sent says what was so
+pub record IsNetwork (h : History) (workers : List WorkerValue) (messages : List (List ℕ)) : Type 0 where
+  pub indices : map (λ w. w.index) workers ≡ first_indices
+  pub tasks : (w : WorkerValue) → IsIn w workers → IsTaskOf h w.task
+  pub sent : (bytes : List ℕ) → IsIn bytes messages → IsSent h bytes
+
+-- ---- the nodes
+
 -- what every schedule keeps of its nodes
 pub record IsHistory (h : History) (n : NodesValue) : Type 0 where
   pub files : AreFiles h n.core
   pub jobs : AreJobs h n.core
   pub claims : AreClaims h n.core.book n.desk
-  pub indices : map (λ w. w.index) n.workers ≡ first_indices
-  pub tasks : (w : WorkerValue) → IsIn w n.workers → IsTaskOf h w.task
-  pub sent : (bytes : List ℕ) → IsIn bytes n.messages → IsSent h bytes
+  pub network : IsNetwork h n.workers n.messages
+
+-- ---- the nodes, while the coordinator is down
+
+-- The numbers of these files were given. Each file that a version ever listed is one of them, and so is each file of the last
+-- version, with the vault's table.
+pub record AreFilesKept (h : History) (edits : List (List ℕ)) (kept : Kept) : Type 0 where
+  pub all : AreFilesOf h
+  pub given : (p : Placed) → IsIn p h.files → p.meta.number < (manifest_version edits).next_file
+  pub listed : (v : VersionValue) (f : FileMeta) → IsIn v (versions_of edits) → IsIn f v.files → IsFileOf h f
+  pub served : (p : Placed) → IsIn p.meta (manifest_version edits).files → IsAsRecorded p.meta p.table → get kept p.meta.number ≡ Some p.table.bytes → IsIn p h.files
+
+-- No job's epoch is to come yet, and no claim is live.
+pub record IsDownHistory (h : History) (edits : List (List ℕ)) (kept : Kept) (desk : List Dispatcher) (workers : List WorkerValue) (messages : List (List ℕ)) : Type 0 where
+  pub files : AreFilesKept h edits kept
+  pub jobs : AreJobsOf h
+  pub given : (j : JobParts) → IsIn j h.jobs → j.id.epoch ≤ (manifest_version edits).epoch
+  pub claims : AreClaims h (new_book (manifest_version edits).epoch) desk
+  pub network : IsNetwork h workers messages
+
+-- ---- either way
+
+abbrev pub IsHistoryBy : History → Option CoordValue → StoreValue → Type 0
+IsHistoryBy h (Some c) s = IsHistory h (nodes_with c s)
+IsHistoryBy h None s = IsDownHistory h s.seat.edits s.seat.kept s.desk s.workers s.messages
+
+-- what every schedule keeps of a store
+abbrev pub IsStoreHistory : History → StoreValue → Type 0
+IsStoreHistory h s = IsHistoryBy h s.seat.core s

@@ -1,3 +1,5 @@
 pub mod Upkeep
 pub mod Handing
 pub mod Working
+pub mod Stopping
+pub mod Storing

@@ -1,14 +1,28 @@
 -- What contracts see of the nodes of a store and of what they sent (RocksDB wiki, Remote Compaction: a primary, its workers, and what they exchange).
 use Rattle.std.specs.Prelude.{ℕ, ◌-◌, List, slice_get, slice_set, Option}
 use Rattle.lsm_coord.specs.declared.dispatcher.Dispatcher.{Dispatcher}
+use Rattle.lsm_coord.specs.Contract.Restarts.{up_seat}
+use Rattle.lsm_coord.specs.Contract.Seats.{SeatValue}
 use Rattle.lsm_coord.specs.Contract.Value.{CoordValue}
 use Rattle.lsm_work.specs.Workers.{WorkerValue}
 
+-- ---- the nodes
+
+-- while the coordinator is up
 pub record NodesValue : Type 0 where
   pub core : CoordValue  -- the coordinator
   pub desk : List Dispatcher  -- by index from 1
   pub workers : List WorkerValue  -- by index from 1
   pub messages : List (List ℕ)  -- the encoding of each message sent, from message 1
+
+-- whether the coordinator is up or down
+pub record StoreValue : Type 0 where
+  pub seat : SeatValue  -- the coordinator, or what outlives it
+  pub desk : List Dispatcher
+  pub workers : List WorkerValue
+  pub messages : List (List ℕ)
+
+-- ---- one of four
 
 -- one of those that are counted from 1
 abbrev pub at_index : {X : Type 0} → List X → ℕ → Option X
@@ -18,5 +32,18 @@ at_index xs index = slice_get xs (index - 1)
 abbrev pub with_index : {X : Type 0} → List X → ℕ → X → List X
 with_index xs index x = slice_set xs (index - 1) x
 
+-- ---- parts
+
 abbrev pub nodes_of : CoordValue → List Dispatcher → List WorkerValue → List (List ℕ) → NodesValue
 nodes_of core desk workers messages = record { core = core; desk = desk; workers = workers; messages = messages }
+
+-- a store whose coordinator is up
+abbrev pub up_store : NodesValue → StoreValue
+up_store n = record { seat = up_seat n.core; desk = n.desk; workers = n.workers; messages = n.messages }
+
+-- the nodes of a store with this coordinator
+abbrev pub nodes_with : CoordValue → StoreValue → NodesValue
+nodes_with core s = nodes_of core s.desk s.workers s.messages
+
+abbrev pub store_with : SeatValue → List Dispatcher → List WorkerValue → List (List ℕ) → StoreValue
+store_with seat desk workers messages = record { seat = seat; desk = desk; workers = workers; messages = messages }

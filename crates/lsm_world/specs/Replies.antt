@@ -4,6 +4,7 @@ use Rattle.lsm_coord.specs.Model.Event as say
 use Rattle.lsm_coord.specs.Model.Rules.{key_refusal}
 use Rattle.lsm_coord.specs.Contract.Shows.{place_of}
 use Rattle.lsm_coord.specs.Contract.Replies.{refusal_of}
+use Rattle.lsm_coord.specs.Contract.Seats.{open_refusal}
 use Rattle.lsm_world.specs.declared.refusal.Refusal.{Refusal}
 use Rattle.lsm_world.specs.declared.refusal.Refusal.TheVariants as why
 use Rattle.lsm_world.specs.declared.reply.Reply.{Reply}
@@ -12,6 +13,8 @@ use Rattle.lsm_world.specs.declared.reply.Reply.TheVariants as reply
 abbrev pub why_of : Refusal → say.Refusal
 why_of (why.Key error) = key_refusal error
 why_of (why.Coord error) = refusal_of error
+why_of (why.Open error) = open_refusal error
+why_of why.Down = say.Down
 why_of why.Busy = say.Busy
 why_of why.NoClaim = say.NoClaim
 why_of why.OldEpoch = say.OldEpoch
@@ -38,5 +41,6 @@ reply_of reply.Ignored = say.Other
 reply_of (reply.Collecting missing sent) = say.Other
 reply_of (reply.Merged sent) = say.Other
 reply_of reply.Dropped = say.Other
+reply_of (reply.Restarted epoch number last) = say.Restarted epoch number last
 reply_of (reply.RestartedWorker worker) = say.Reset
 reply_of (reply.Refused why) = say.Refused (why_of why)

@@ -1,26 +1,34 @@
 -- Schedules: lists of events, each with its reply, of the nodes of one store (the store's own).
-use Rattle.std.specs.Prelude.{◌≡◌, ◌⊎◌, ℕ, List, [], ◌∷◌, ◌++◌, None, map}
+use Rattle.std.specs.Prelude.{◌≡◌, ◌⊎◌, ℕ, List, [], ◌∷◌, ◌++◌, Option, None, Some, map}
 use Rattle.lsm_claim.specs.Book.{new_book}
 use Rattle.lsm_key.specs.declared.limits.Limits.{Limits}
+use Rattle.lsm_edit.specs.Edits.{RemovedOnce}
+use Rattle.lsm_versions.specs.declared.error.OpenError.TheVariants as opening
+use Rattle.lsm_versions.specs.Manifest.{Folds, read_edits}
+use Rattle.lsm_versions.specs.Opening.{manifest_version}
 use Rattle.lsm_coord.specs.declared.error.CoordError.TheVariants as error
 use Rattle.lsm_coord.specs.Contract.Desks.{new_desk}
 use Rattle.lsm_coord.specs.Contract.Memory.{IsFit}
+use Rattle.lsm_coord.specs.Contract.Seats.{SeatValue, ShowsSeat}
 use Rattle.lsm_coord.specs.Contract.Shows.{Shows}
+use Rattle.lsm_coord.specs.Contract.Value.{CoordValue}
+use Rattle.lsm_coord.specs.Model.Event as say
 use Rattle.lsm_coord.specs.Model.Run.{Run}
 use Rattle.lsm_coord.specs.Model.State.{State, first_state}
+use Rattle.lsm_coord.specs.Model.Step.{Step}
 use Rattle.lsm_work.specs.Workers.{WorkerValue}
 use Rattle.lsm_world.specs.declared.event.Event.{Event}
 use Rattle.lsm_world.specs.declared.refusal.Refusal.TheVariants as why
 use Rattle.lsm_world.specs.declared.reply.Reply.{Reply}
 use Rattle.lsm_world.specs.declared.reply.Reply.TheVariants as reply
-use Rattle.lsm_world.specs.Asks.{Asks}
+use Rattle.lsm_world.specs.Asks.{AsksStore}
 use Rattle.lsm_world.specs.Events.{event_of}
-use Rattle.lsm_world.specs.History.{History, IsHistory, first_indices}
-use Rattle.lsm_world.specs.Nodes.{NodesValue}
+use Rattle.lsm_world.specs.History.{History, IsStoreHistory, first_indices}
+use Rattle.lsm_world.specs.Nodes.{NodesValue, StoreValue, up_store}
 use Rattle.lsm_world.specs.Replies.{reply_of}
 
 pub record WorldValue : Type 0 where
-  pub nodes : NodesValue
+  pub nodes : StoreValue
   pub trace : List Event  -- the events that were taken
 
 -- an idle worker
@@ -38,18 +46,22 @@ pub record AreNew (due : Limits) (n : NodesValue) : Type 0 where
 
 -- and no event was taken
 abbrev pub IsNew : Limits → WorldValue → Type 0
-IsNew due w = AreNew due w.nodes × (w.trace ≡ [])
+IsNew due w = (n : NodesValue) × AreNew due n × (w.nodes ≡ up_store n) × (w.trace ≡ [])
 
 -- each event asked its node, and got the reply
-abbrev pub AskedAll : NodesValue → List Event → List Reply → NodesValue → Type 0
+abbrev pub AskedAll : StoreValue → List Event → List Reply → StoreValue → Type 0
 AskedAll old [] [] new = new ≡ old
-AskedAll old (e ∷ es) (r ∷ rs) new = (next : NodesValue) × Asks old e r next × AskedAll next es rs new
+AskedAll old (e ∷ es) (r ∷ rs) new = (next : StoreValue) × AsksStore old e r next × AskedAll next es rs new
 AskedAll old [] (r ∷ rs) new = ⊥
 AskedAll old (e ∷ es) [] new = ⊥
 
--- from each state that is shown before, the events and their replies are a run to one that is shown after
-abbrev pub RunsTo : NodesValue → List Event → List Reply → NodesValue → Type 0
-RunsTo old es rs new = (s : State) → Shows old.core s → (t : State) × Run s (map event_of es) (map reply_of rs) t × Shows new.core t
+-- from each state that is shown before, the event and its reply are a step to one that is shown after
+abbrev pub FollowsStore : StoreValue → say.Event → say.Reply → StoreValue → Type 0
+FollowsStore old e r new = (s : State) → ShowsSeat old.seat s → (t : State) × Step s e r t × ShowsSeat new.seat t
+
+-- the same of events, which with their replies are a run
+abbrev pub RunsTo : StoreValue → List Event → List Reply → StoreValue → Type 0
+RunsTo old es rs new = (s : State) → ShowsSeat old.seat s → (t : State) × Run s (map event_of es) (map reply_of rs) t × ShowsSeat new.seat t
 
 -- the event is taken, or there is no memory for it, and nothing happens
 abbrev pub IsTaken : WorldValue → Event → Reply → WorldValue → Type 0
@@ -62,26 +74,38 @@ IsTraced old (e ∷ es) (r ∷ rs) new = IsTraced (old ++ e ∷ []) es rs new �
 IsTraced old [] (r ∷ rs) new = ⊥
 IsTraced old (e ∷ es) [] new = ⊥
 
--- no manifest is bad, no table is missing, no device fails, and no result is of another job or not its merge
+-- no manifest is bad, no table is missing, and no result is of another job or not its merge
 abbrev pub IsPlain : Reply → Type 0
+IsPlain (reply.Refused (why.Open opening.BadManifest)) = ⊥
+IsPlain (reply.Refused (why.Open opening.MissingTable)) = ⊥
 IsPlain (reply.Refused (why.Coord error.BadManifest)) = ⊥
 IsPlain (reply.Refused (why.Coord error.MissingTable)) = ⊥
-IsPlain (reply.Refused (why.Coord error.Device)) = ⊥
 IsPlain (reply.Refused (why.Coord error.WrongJob)) = ⊥
 IsPlain (reply.Refused (why.Coord error.BadResult)) = ⊥
 IsPlain r = Unit {0}
 
--- the events that were taken, with replies, led from a new store to a state that the coordinator shows
+-- one for a reply that the vault's device failed
+abbrev pub device_failures : Reply → ℕ
+device_failures (reply.Refused (why.Coord error.Device)) = 1
+device_failures (reply.Refused (why.Open opening.Device)) = 1
+device_failures r = 0
+
+-- the events that were taken, with replies, led from a new store to a state that the coordinator shows, or its vault
 pub record IsReached (w : WorldValue) : Type 0 where
   pub replies : List Reply
   pub state : State
   pub run : Run first_state (map event_of w.trace) (map reply_of replies) state
-  pub shown : Shows w.nodes.core state
+  pub shown : ShowsSeat w.nodes.seat state
 
--- What every world is: its trace led to what its coordinator shows; what each job, result and table says of the history is so; and no
+-- the store's manifest replays to its last version, and no file is removed by two edits
+abbrev pub IsFitBy : Option CoordValue → SeatValue → Type 0
+IsFitBy (Some c) seat = IsFit c
+IsFitBy None seat = Folds seat.edits (manifest_version seat.edits) × RemovedOnce (read_edits seat.edits)
+
+-- What every world is: its trace led to what its coordinator shows, or its vault while that is down; what each job, result and table says of the history is so; and no
 -- file is removed by two edits.
 pub record IsWorld (w : WorldValue) : Type 0 where
   pub reached : IsReached w
   pub history : History
-  pub known : IsHistory history w.nodes
-  pub fit : IsFit w.nodes.core
+  pub known : IsStoreHistory history w.nodes
+  pub fit : IsFitBy w.nodes.seat.core w.nodes.seat

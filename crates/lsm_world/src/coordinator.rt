@@ -1,11 +1,11 @@
 //! What the coordinator answers to its events.
 
-ghost use Rattle.std.specs.Prelude.{◌≡◌, ◌⊎◌};
+ghost use Rattle.std.specs.Prelude.{◌≡◌, ◌⊎◌, Some};
 ghost use Rattle.lsm_coord.specs.Contract.Memory.{IsFit};
 ghost use Rattle.lsm_coord.specs.Contract.Shows.{Follows, Shows};
 ghost use Rattle.lsm_coord.specs.Model.State.{State};
 ghost use Rattle.lsm_world.specs.declared.event.Event.TheVariants.{Flush, Freeze, Get, Release, Scan, Show, Snap, Write};
-ghost use Rattle.lsm_world.specs.Asks.{Calls, LacksMemory};
+ghost use Rattle.lsm_world.specs.Asks.{Calls, LacksMemory, restarted_as};
 ghost use Rattle.lsm_world.specs.Events.{event_of};
 ghost use Rattle.lsm_world.specs.Inner.Handing.{IsOfCoordinator};
 ghost use Rattle.lsm_world.specs.Inner.Upkeep.{KeepsFiles};
@@ -18,10 +18,11 @@ use crate::reply::Reply;
 use bytes::Bytes;
 use lsm_coord::{Coord, ScanRange, ShownVersion, SnapId};
 use lsm_key::{Batch, Items, Op};
+use lsm_vault::Vault;
 use std::alloc::Global;
 
 /// Answers one of its events.
-pub(crate) fn answer(alloc: Global, coord: &mut Coord, event: &Event) -> Reply
+pub(crate) fn answer<V: Vault>(alloc: Global, coord: &mut Coord<V>, event: &Event) -> Reply
     requires own { IsOfCoordinator event.now }
     requires shown { (s : State) × Shows coord.old s }
     ensures calls { LacksMemory coord.old result coord.new ⊎ Calls coord.old event.now result coord.new }
@@ -43,7 +44,7 @@ pub(crate) fn answer(alloc: Global, coord: &mut Coord, event: &Event) -> Reply
 }
 
 // Applies the operations as one batch.
-fn write(alloc: Global, coord: &mut Coord, ops: &Items<Op>) -> Reply
+fn write<V: Vault>(alloc: Global, coord: &mut Coord<V>, ops: &Items<Op>) -> Reply
     ensures calls { LacksMemory coord.old result coord.new ⊎ Calls coord.old (Write ops.now) result coord.new }
     ensures follows { Follows coord.old (event_of (Write ops.now)) (reply_of result) coord.new }
     ensures files { KeepsFiles coord.old coord.new }
@@ -56,7 +57,7 @@ fn write(alloc: Global, coord: &mut Coord, ops: &Items<Op>) -> Reply
 }
 
 // The same of operations that are handed over.
-fn write_batch(coord: &mut Coord, ops: Vec<Op>) -> Reply
+fn write_batch<V: Vault>(coord: &mut Coord<V>, ops: Vec<Op>) -> Reply
     ensures calls { Calls coord.old (Write ops.items) result coord.new }
     ensures follows { Follows coord.old (event_of (Write ops.items)) (reply_of result) coord.new }
     ensures files { KeepsFiles coord.old coord.new }
@@ -72,7 +73,7 @@ fn write_batch(coord: &mut Coord, ops: Vec<Op>) -> Reply
 }
 
 // Freezes the memtable.
-fn freeze(coord: &mut Coord) -> Reply
+fn freeze<V: Vault>(coord: &mut Coord<V>) -> Reply
     ensures calls { Calls coord.old Freeze result coord.new }
     ensures follows { Follows coord.old (event_of Freeze) (reply_of result) coord.new }
     ensures files { KeepsFiles coord.old coord.new }
@@ -85,7 +86,7 @@ fn freeze(coord: &mut Coord) -> Reply
 }
 
 // Writes a memtable as a table.
-fn flush(coord: &mut Coord) -> Reply
+fn flush<V: Vault>(coord: &mut Coord<V>) -> Reply
     ensures calls { Calls coord.old Flush result coord.new }
     ensures follows { Follows coord.old (event_of Flush) (reply_of result) coord.new }
     ensures files { KeepsFiles coord.old coord.new }
@@ -102,7 +103,7 @@ fn flush(coord: &mut Coord) -> Reply
 }
 
 // Makes a snapshot.
-fn snapshot(coord: &mut Coord) -> Reply
+fn snapshot<V: Vault>(coord: &mut Coord<V>) -> Reply
     requires shown { (s : State) × Shows coord.old s }
     ensures calls { Calls coord.old Snap result coord.new }
     ensures follows { Follows coord.old (event_of Snap) (reply_of result) coord.new }
@@ -116,7 +117,7 @@ fn snapshot(coord: &mut Coord) -> Reply
 }
 
 // Releases a snapshot.
-fn release(coord: &mut Coord, id: SnapId) -> Reply
+fn release<V: Vault>(coord: &mut Coord<V>, id: SnapId) -> Reply
     ensures calls { Calls coord.old (Release id) result coord.new }
     ensures follows { Follows coord.old (event_of (Release id)) (reply_of result) coord.new }
     ensures files { KeepsFiles coord.old coord.new }
@@ -129,7 +130,7 @@ fn release(coord: &mut Coord, id: SnapId) -> Reply
 }
 
 // Reads a key.
-fn get(coord: &mut Coord, key: &Bytes, at: Option<SnapId>) -> Reply
+fn get<V: Vault>(coord: &mut Coord<V>, key: &Bytes, at: Option<SnapId>) -> Reply
     ensures calls { Calls coord.old (Get key.now at) result coord.new }
     ensures follows { Follows coord.old (event_of (Get key.now at)) (reply_of result) coord.new }
     ensures files { KeepsFiles coord.old coord.new }
@@ -142,7 +143,7 @@ fn get(coord: &mut Coord, key: &Bytes, at: Option<SnapId>) -> Reply
 }
 
 // Reads a range of keys.
-fn scan(coord: &mut Coord, range: &ScanRange) -> Reply
+fn scan<V: Vault>(coord: &mut Coord<V>, range: &ScanRange) -> Reply
     ensures calls { Calls coord.old (Scan range.now) result coord.new }
     ensures follows { Follows coord.old (event_of (Scan range.now)) (reply_of result) coord.new }
     ensures files { KeepsFiles coord.old coord.new }
@@ -155,7 +156,7 @@ fn scan(coord: &mut Coord, range: &ScanRange) -> Reply
 }
 
 // Lists the coordinator's version.
-fn show(alloc: Global, coord: &mut Coord) -> Reply
+fn show<V: Vault>(alloc: Global, coord: &mut Coord<V>) -> Reply
     ensures calls { LacksMemory coord.old result coord.new ⊎ Calls coord.old Show result coord.new }
     ensures follows { Follows coord.old (event_of Show) (reply_of result) coord.new }
     ensures files { KeepsFiles coord.old coord.new }
@@ -168,8 +169,17 @@ fn show(alloc: Global, coord: &mut Coord) -> Reply
 }
 
 // Proof hint: what a coordinator keeps is fit.
-pub(crate) fn know_fit(coord: &Coord)
+pub(crate) fn know_fit<V: Vault>(coord: &Coord<V>)
     ensures { IsFit coord.now }
 {
     let _listing = coord.show();
+}
+
+/// What a coordinator tells that was just opened.
+pub(crate) fn restarted<V: Vault>(coord: &Coord<V>) -> Reply
+    requires { coord.now.last ≡ coord.now.served.version.flushed }
+    ensures { result ≡ restarted_as (Some coord.now) }
+{
+    let listing = coord.show();
+    Reply::Restarted(coord.epoch(), listing.number, listing.flushed)
 }

@@ -33,6 +33,8 @@ pub enum Event {
     GiveUp(NodeIndex),
     /// Deliver the message of this number, from 1, to its receiver, for the first time or once more.
     Deliver(u64),
+    /// Stop the coordinator, if it is up, and open it again over what its vault has.
+    RestartCoordinator,
     /// Start a worker anew.
     RestartWorker(NodeIndex),
 }
@@ -57,6 +59,7 @@ impl Event {
             Event::Pick(dispatcher) => Ok(Event::Pick(*dispatcher)),
             Event::GiveUp(dispatcher) => Ok(Event::GiveUp(*dispatcher)),
             Event::Deliver(message) => Ok(Event::Deliver(*message)),
+            Event::RestartCoordinator => Ok(Event::RestartCoordinator),
             Event::RestartWorker(worker) => Ok(Event::RestartWorker(*worker)),
         }
     }

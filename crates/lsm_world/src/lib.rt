@@ -12,9 +12,12 @@ mod coordinator;
 mod event;
 mod four;
 mod messages;
+mod network;
 mod nodes;
 mod refusal;
 mod reply;
+mod stopped;
+mod store;
 #[cfg(test)]
 mod tests;
 mod world;

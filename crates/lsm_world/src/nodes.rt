@@ -4,79 +4,74 @@ mod claims;
 mod deliver;
 mod install;
 
-ghost use Rattle.std.specs.Prelude.{◌≡◌, ◌≤◌};
-ghost use Rattle.lsm_world.specs.Schedules.{idle_worker};
-
 use crate::coordinator::{self, know_fit};
 use crate::event::Event;
-use crate::four::Four;
-use crate::messages::Messages;
+use crate::network::Network;
 use crate::reply::Reply;
 use lsm_coord::{Coord, Desk};
-use lsm_key::Limits;
-use lsm_msg::NodeIndex;
-use lsm_work::Worker;
-use std::alloc::{AllocError, Global};
+use lsm_vault::Vault;
+use std::alloc::Global;
 use std::marker::Model;
 
 /// A coordinator, four dispatchers, four workers, and the messages that they sent. It is not `Drop`: a dispatcher may hold a
-/// claim, which only `close` settles.
-pub(crate) struct Nodes {
+/// claim, which only a close settles.
+pub(crate) struct Nodes<V: Vault> {
     alloc: Global,
-    coord: Coord,
+    coord: Coord<V>,
     desk: Desk,
-    workers: Four<Worker>,
-    messages: Messages,
+    network: Network,
 }
 
-impl Model for Nodes {
+impl<V: Vault> Model for Nodes<V> {
+    ghost use Rattle.std.specs.Coded.{codes};
+    ghost use Rattle.lsm_versions.specs.Kept.{kept_code};
     ghost use Rattle.lsm_world.specs.History.{History, IsHistory};
     ghost use Rattle.lsm_world.specs.Nodes.{NodesValue, nodes_of};
 
     ghost Value = { NodesValue };
 
-    ghost view = { λ n. nodes_of n.coord n.desk n.workers n.messages };
+    ghost coded = { Prim.hlevel (codes, kept_code) };
 
-    ghost invariant = { λ n. (h : History) × IsHistory h (nodes_of n.coord n.desk n.workers n.messages) };
+    ghost view = { λ n. nodes_of n.coord n.desk n.network.workers n.network.messages };
+
+    ghost invariant = { λ n. (h : History) × IsHistory h (nodes_of n.coord n.desk n.network.workers n.network.messages) };
 }
 
-impl Nodes {
-    ghost use Rattle.std.specs.Prelude.{◌≡◌, IfOk};
+impl<V: Vault> Nodes<V> {
+    ghost use Rattle.std.specs.Prelude.{◌≡◌};
     ghost use Rattle.lsm_coord.specs.Contract.Memory.{IsFit};
     ghost use Rattle.lsm_coord.specs.Contract.Shows.{Follows, Shows};
-    ghost use Rattle.lsm_coord.specs.Model.State.{State};
+    ghost use Rattle.lsm_claim.specs.Book.{new_book};
+    ghost use Rattle.lsm_coord.specs.Model.State.{State, first_state};
     ghost use Rattle.lsm_world.specs.Asks.{Asks};
     ghost use Rattle.lsm_world.specs.Events.{event_of};
     ghost use Rattle.lsm_world.specs.History.{History, IsHistory};
-    ghost use Rattle.lsm_world.specs.Inner.Handing.{IsOfCoordinator};
+    ghost use Rattle.lsm_world.specs.Inner.Handing.{IsNoRestart, IsOfCoordinator};
     ghost use Rattle.lsm_world.specs.Replies.{reply_of};
+    ghost use Rattle.lsm_world.specs.Nodes.{nodes_of};
     ghost use Rattle.lsm_world.specs.Schedules.{AreNew, IsPlain};
 
-    /// The nodes of a new store, of which none has been asked.
-    pub(crate) fn new(alloc: Global, limits: Limits) -> Result<Nodes, AllocError>
-        ensures { IfOk result (AreNew limits) }
+    /// The nodes of a new store, whose coordinator was just opened. None has been asked.
+    pub(crate) fn new(alloc: Global, coord: Coord<V>) -> Nodes<V>
+        requires shown { Shows coord first_state }
+        requires book { coord.book ≡ new_book 1 }
+        ensures new { AreNew coord.limits result }
+        ensures core { result.core ≡ coord }
     {
-        let coord = Coord::new(alloc, limits)?;
         // Proof hint: the history of a new store has no file.
         know_fit(&coord);
-        let workers = Four::new(
-            worker(alloc, 1),
-            worker(alloc, 2),
-            worker(alloc, 3),
-            worker(alloc, 4),
-        );
-        Ok(Nodes {
+        Nodes {
             alloc,
             coord,
             desk: Desk::new(),
-            workers,
-            messages: Messages::new(alloc),
-        })
+            network: Network::new(alloc),
+        }
     }
 
     /// Lets one node answer an event.
     pub(crate) fn answer(&mut self, event: &Event) -> Reply
         requires shown { (s : State) × Shows self.old.core s }
+        requires other { IsNoRestart event.now }
         ensures asks { Asks self.old event.now result self.new }
         ensures follows { Follows self.old.core (event_of event.now) (reply_of result) self.new.core }
         ensures plain { IsPlain result }
@@ -109,25 +104,35 @@ impl Nodes {
         know_fit(&self.coord);
     }
 
-    /// Gives back each claim that a dispatcher holds.
-    pub(crate) fn close(self) {
+    /// The coordinator, the dispatchers, and the workers with the messages.
+    pub(crate) fn parts(self) -> (Coord<V>, Desk, Network)
+        ensures core { result.0 ≡ self.core }
+        ensures desk { result.1 ≡ self.desk }
+        ensures workers { result.2.workers ≡ self.workers }
+        ensures messages { result.2.messages ≡ self.messages }
+        ensures history { (h : History) × IsHistory h self }
+        ensures fit { IsFit self.core }
+    {
+        self.known();
         let Nodes {
             alloc: _,
             coord,
             desk,
-            workers: _,
-            messages: _,
+            network,
         } = self;
-        let mut coord = coord;
-        desk.close(&mut coord);
+        (coord, desk, network)
     }
-}
 
-// The worker of this number, idle.
-fn worker(alloc: Global, number: u8) -> Worker
-    requires low { 1 ≤ number }
-    requires high { number ≤ 4 }
-    ensures { result ≡ idle_worker number }
-{
-    Worker::new(alloc, NodeIndex::new(number).unwrap())
+    /// The nodes with these parts.
+    pub(crate) fn of(alloc: Global, coord: Coord<V>, desk: Desk, network: Network) -> Nodes<V>
+        requires { (h : History) × IsHistory h (nodes_of coord desk network.workers network.messages) }
+        ensures { result ≡ nodes_of coord desk network.workers network.messages }
+    {
+        Nodes {
+            alloc,
+            coord,
+            desk,
+            network,
+        }
+    }
 }

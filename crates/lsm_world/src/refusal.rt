@@ -2,9 +2,10 @@
 
 use lsm_coord::CoordError;
 use lsm_key::KeyError;
+use lsm_versions::OpenError;
 use thiserror::Error;
 
-/// Why an event is refused. Nothing changes then, but for a stale claim, which is spent.
+/// Why an event is refused. Nothing changes then, but for a stale claim, which is spent, and for an opening that is refused.
 #[derive(Clone, Copy, Debug, PartialEq, Eq, Error)]
 pub enum Refusal {
     /// A batch refuses an operation.
@@ -13,6 +14,12 @@ pub enum Refusal {
     /// The coordinator refuses the call.
     #[error("{0}")]
     Coord(CoordError),
+    /// The coordinator is not opened, and is down.
+    #[error("{0}")]
+    Open(OpenError),
+    /// The coordinator is down.
+    #[error("the coordinator is down")]
+    Down,
     /// The dispatcher has a job already.
     #[error("the dispatcher has a job already")]
     Busy,

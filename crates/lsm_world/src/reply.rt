@@ -63,6 +63,8 @@ pub enum Reply {
     Merged(Sent),
     /// A worker gave its job up.
     Dropped,
+    /// The epoch and the version that an opening began, and the last sequence that the vault had.
+    Restarted(u64, VersionNumber, Seq),
     RestartedWorker(NodeIndex),
     Refused(Refusal),
 }

@@ -1,5 +1,6 @@
 //! Worked schedules: each event with its reply. Want of memory is reported, and never another reply in its place.
 
+mod fuses;
 mod schedules;
 
 use crate::{Event, Refusal, Reply, Sent, World};
@@ -8,17 +9,19 @@ use lsm_coord::{CoordError, ScanRange, SnapId};
 use lsm_edit::FileMeta;
 use lsm_key::{FileNumber, Items, KeyError, Limits, Op};
 use lsm_msg::NodeIndex;
+use lsm_vault::{FusedVault, MemoryVault, Vault};
+use lsm_versions::OpenError;
 use schedules::*;
 use std::alloc::{AllocError, Global};
 use std::process::Abort;
 use std::test::Fail;
 
 /// The calls without their promises, which a test that runs does not need: so its proof is short.
-fn step(world: &mut World, event: Event) -> Reply {
+fn step<V: Vault>(world: &mut World<V>, event: Event) -> Reply {
     world.step(event)
 }
 
-fn run(world: &mut World, events: &[Event]) -> Result<Vec<Reply>, AllocError> {
+fn run(world: &mut World<MemoryVault>, events: &[Event]) -> Result<Vec<Reply>, AllocError> {
     world.run(events)
 }
 
@@ -56,6 +59,7 @@ fn event_of(alloc: Global, does: Does) -> Result<Event, Fail> {
         Does::Pick(dispatcher) => Ok(Event::Pick(index_of(dispatcher)?)),
         Does::GiveUp(dispatcher) => Ok(Event::GiveUp(index_of(dispatcher)?)),
         Does::Deliver(message) => Ok(Event::Deliver(message)),
+        Does::RestartCoordinator => Ok(Event::RestartCoordinator),
         Does::RestartWorker(worker) => Ok(Event::RestartWorker(index_of(worker)?)),
     }
 }
@@ -71,6 +75,7 @@ fn lacks_memory(reply: &Reply) -> bool {
             *why == Refusal::OutOfMemory
                 || *why == Refusal::Coord(CoordError::OutOfMemory)
                 || *why == Refusal::Key(KeyError::OutOfMemory)
+                || *why == Refusal::Open(OpenError::OutOfMemory)
         }
         Reply::Picked(_, sent)
         | Reply::Served(sent)
@@ -133,12 +138,13 @@ fn is_told(reply: &Reply, wanted: Tells) -> bool {
         (Reply::Shown(v), Tells::Shown(number, seq, places)) => v.number.number() == number
             && v.flushed.number() == seq
             && are_placed(v.files.as_slice(), places),
-        (Reply::Picked(job, sent), Tells::Picked(number, level, inputs, message)) => {
-            (job.id.epoch, job.id.number, job.level) == (1, number, level)
+        (Reply::Picked(job, sent), Tells::Picked(epoch, number, level, inputs, message)) => {
+            (job.id.epoch, job.id.number, job.level) == (epoch, number, level)
                 && are_numbered(job.inputs.as_slice(), inputs)
                 && is_one(*sent, message)
         }
         (Reply::Returned(id), Tells::Returned(number)) => (id.epoch, id.number) == (1, number),
+        (Reply::StaleClaim(id), Tells::StaleClaim(number)) => (id.epoch, id.number) == (1, number),
         (Reply::Served(sent), Tells::Served(message)) => is_one(*sent, message),
         (Reply::Installed(version, files), Tells::Installed(number, new)) => version.number()
             == number
@@ -148,7 +154,10 @@ fn is_told(reply: &Reply, wanted: Tells) -> bool {
         (Reply::Collecting(missing, sent), Tells::Kept(count)) => *missing == count
             && *sent == Sent::Nothing,
         (Reply::Merged(sent), Tells::Merged(message)) => is_one(*sent, message),
-        (Reply::RestartedWorker(index), Tells::Restarted(worker)) => index.number() == worker,
+        (Reply::Restarted(epoch, version, last), Tells::Restarted(wanted, number, seq)) => {
+            (*epoch, version.number(), last.number()) == (wanted, number, seq)
+        }
+        (Reply::RestartedWorker(index), Tells::RestartedWorker(worker)) => index.number() == worker,
         (Reply::Refused(why), Tells::Refused(wanted)) => *why == wanted,
         (Reply::Idle, Tells::Idle) => true,
         (Reply::Ignored, Tells::Ignored) => true,
@@ -156,11 +165,20 @@ fn is_told(reply: &Reply, wanted: Tells) -> bool {
     }
 }
 
+/// A new world over a vault in memory.
+fn new_world(alloc: Global, limits: Limits) -> Result<World<MemoryVault>, Fail> {
+    match World::new(alloc, MemoryVault::new(alloc), limits) {
+        Ok(world) => Ok(world),
+        Err((OpenError::OutOfMemory, _)) => Err(AllocError.into()),
+        Err(_) => Err("a new store is refused".into()),
+    }
+}
+
 /// Plays schedules in a world, one after another.
-fn play(
+fn play<V: Vault>(
     rt: &impl Abort,
     alloc: Global,
-    world: &mut World,
+    world: &mut World<V>,
     schedules: &[&[Turn]],
 ) -> Result<(), Fail> {
     for schedule in schedules {
@@ -184,9 +202,9 @@ fn see(
     schedules: &[&[Turn]],
 ) -> Result<(), Fail> {
     let limits = Limits::new(files, base).ok_or("no limits")?;
-    let mut world = World::new(alloc, limits)?;
+    let mut world = new_world(alloc, limits)?;
     let seen = play(rt, alloc, &mut world, schedules);
-    world.close();
+    let _vault = world.close();
     seen
 }
 
@@ -250,12 +268,49 @@ fn messages_that_come_twice(rt: HostRuntime) -> Result<(), Fail> {
 }
 
 #[test]
+fn a_result_of_an_earlier_epoch(rt: HostRuntime) -> Result<(), Fail> {
+    see(&rt, rt.alloc(), 2, BASE, &[&PICKED, &RESTARTED])
+}
+
+#[test]
+fn a_restart_without_a_flush(rt: HostRuntime) -> Result<(), Fail> {
+    see(&rt, rt.alloc(), 2, BASE, &[&LOST])
+}
+
+#[test]
+fn a_claim_that_is_given_up_after_a_restart(rt: HostRuntime) -> Result<(), Fail> {
+    see(&rt, rt.alloc(), 2, BASE, &[&PICKED, &STALE])
+}
+
+/// The same over a vault of which the call after so many fails.
+fn see_fail(rt: &impl Abort, alloc: Global, calls: u64, schedule: &[Turn]) -> Result<(), Fail> {
+    let limits = Limits::new(2, BASE).ok_or("no limits")?;
+    let vault = FusedVault::new(MemoryVault::new(alloc), calls);
+    let Ok(mut world) = World::new(alloc, vault, limits) else {
+        return Err(AllocError.into());
+    };
+    let seen = play(rt, alloc, &mut world, &[schedule]);
+    let _vault = world.close();
+    seen
+}
+
+#[test]
+fn a_flush_whose_device_fails(rt: HostRuntime) -> Result<(), Fail> {
+    see_fail(&rt, rt.alloc(), 3, &FAILED)
+}
+
+#[test]
+fn a_restart_whose_device_fails(rt: HostRuntime) -> Result<(), Fail> {
+    see_fail(&rt, rt.alloc(), 5, &STOPPED)
+}
+
+#[test]
 fn the_other_calls(rt: HostRuntime) -> Result<(), Fail> {
     see(&rt, rt.alloc(), 2, BASE, &[&CALLS])
 }
 
 /// Runs no event, and then one, and asks for the trace.
-fn run_in(rt: &impl Abort, alloc: Global, world: &mut World) -> Result<(), Fail> {
+fn run_in(rt: &impl Abort, alloc: Global, world: &mut World<MemoryVault>) -> Result<(), Fail> {
     assert!(rt; run(world, &[])?.is_empty());
     let events = [write(
         alloc,
@@ -274,8 +329,8 @@ fn run_in(rt: &impl Abort, alloc: Global, world: &mut World) -> Result<(), Fail>
 #[test]
 fn runs_of_no_event_and_of_one(rt: HostRuntime) -> Result<(), Fail> {
     let limits = Limits::new(2, BASE).ok_or("no limits")?;
-    let mut world = World::new(rt.alloc(), limits)?;
+    let mut world = new_world(rt.alloc(), limits)?;
     let seen = run_in(&rt, rt.alloc(), &mut world);
-    world.close();
+    let _vault = world.close();
     seen
 }

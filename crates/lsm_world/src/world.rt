@@ -1,19 +1,25 @@
 //! The world: the nodes of a store, under one schedule.
 
-ghost use Rattle.std.specs.Prelude.{◌≡◌, ◌⊎◌, ◌++◌, ◌∷◌, [], IfOk, OnErr, All};
-ghost use Rattle.lsm_coord.specs.Contract.Shows.{Follows};
+ghost use Rattle.std.specs.Prelude.{◌≡◌, ◌⊎◌, ◌+◌, ◌≤◌, ◌++◌, ◌∷◌, [], All, IfErr, IfOk, OnErr, sum_by};
+ghost use Rattle.std.specs.FinMap as map;
+ghost use Rattle.lsm_versions.specs.declared.error.OpenError.TheVariants.{Device, OutOfMemory};
+ghost use Rattle.lsm_versions.specs.Opening.{CountsRefusal};
 ghost use Rattle.lsm_world.specs.declared.refusal.Refusal.TheVariants as why;
 ghost use Rattle.lsm_world.specs.declared.reply.Reply.TheVariants as reply;
-ghost use Rattle.lsm_world.specs.Asks.{Asks};
+ghost use Rattle.lsm_world.specs.Asks.{AsksStore};
 ghost use Rattle.lsm_world.specs.Events.{event_of};
 ghost use Rattle.lsm_world.specs.Replies.{reply_of};
-ghost use Rattle.lsm_world.specs.Schedules.{AskedAll, IsNew, IsPlain, IsTaken, IsTraced, IsWorld, RunsTo};
+ghost use Rattle.lsm_world.specs.Schedules.{AskedAll, FollowsStore, IsNew, IsPlain, IsTaken, IsTraced, IsWorld, RunsTo, device_failures};
 
 use crate::event::Event;
 use crate::nodes::Nodes;
 use crate::refusal::Refusal;
 use crate::reply::Reply;
+use crate::store::{Store, answer};
+use lsm_coord::Coord;
 use lsm_key::Limits;
+use lsm_vault::Vault;
+use lsm_versions::OpenError;
 use std::alloc::{AllocError, Global};
 use std::marker::Model;
 
@@ -21,60 +27,80 @@ use std::marker::Model;
 /// what they send. Messages are numbered from 1 and stay, so that each may be delivered whenever, and as often as, the
 /// schedule says. It is a model of the network, not a node: it keeps the bytes of every message. It is not `Drop`: `close`
 /// ends it.
-pub struct World {
+pub struct World<V: Vault> {
     alloc: Global,
-    nodes: Nodes,
+    // It is `Some` between calls.
+    store: Option<Store<V>>,
     trace: Vec<Event>,
 }
 
-impl Model for World {
+impl<V: Vault> Model for World<V> {
+    ghost use Rattle.std.specs.Prelude.{IsSome};
+    ghost use Rattle.std.specs.Coded.{codes};
+    ghost use Rattle.lsm_versions.specs.Kept.{kept_code};
+    ghost use Rattle.lsm_world.specs.Inner.Storing.{store_in};
     ghost use Rattle.lsm_world.specs.Schedules.{IsReached, WorldValue};
 
     ghost Value = { WorldValue };
 
-    ghost view = { λ w. record { nodes = w.nodes; trace = w.trace.items } };
+    ghost coded = { Prim.hlevel (codes, kept_code) };
 
-    ghost invariant = { λ w. IsReached (record { nodes = w.nodes; trace = w.trace.items }) };
+    ghost view = { λ w. record { nodes = store_in w.store; trace = w.trace.items } };
+
+    ghost invariant = { λ w. IsSome w.store × IsReached (record { nodes = store_in w.store; trace = w.trace.items }) };
 }
 
-impl World {
-    /// The nodes of a new store.
-    pub fn new(alloc: Global, limits: Limits) -> Result<World, AllocError>
-        ensures { IfOk result (IsNew limits) }
+impl<V: Vault> World<V> {
+    /// The nodes of a new store, over a vault that has nothing yet. It is refused only if memory runs out or the device fails, and
+    /// then the vault, which still has nothing, is handed back.
+    pub fn new(alloc: Global, vault: V, limits: Limits) -> Result<World<V>, (OpenError, V)>
+        requires edits { V.edits vault ≡ [] }
+        requires tables { V.tables vault ≡ map.empty }
+        ensures new { IfOk result (IsNew limits) }
+        ensures refused { IfErr result (λ e. (e.0 ≡ OutOfMemory) ⊎ (e.0 ≡ Device)) }
+        ensures edits { IfErr result (λ e. V.edits e.1 ≡ []) }
+        ensures tables { IfErr result (λ e. V.tables e.1 ≡ map.empty) }
+        ensures counted { IfErr result (λ e. CountsRefusal e.0 (V.failures vault) (V.failures e.1)) }
     {
-        Ok(World {
-            alloc,
-            nodes: Nodes::new(alloc, limits)?,
-            trace: Vec::new(alloc),
-        })
+        match Coord::open(alloc, vault, limits) {
+            Ok(coord) => Ok(World {
+                alloc,
+                store: Some(Store::Up(Nodes::new(alloc, coord))),
+                trace: Vec::new(alloc),
+            }),
+            Err((why, vault)) => Err((why, vault)),
+        }
     }
 
     /// Lets one event happen. If there is no memory for it in the trace, it is refused, and nothing happens; otherwise it is
     /// in the trace, also if it is refused.
     pub fn step(&mut self, event: Event) -> Reply
         // One node is asked, and the reply is its answer.
-        ensures asks { Asks self.old.nodes event result self.new.nodes }
+        ensures asks { AsksStore self.old.nodes event result self.new.nodes }
         // From each state that is shown before, the event and its reply are a step to one that is shown after.
-        ensures step { Follows self.old.nodes.core (event_of event) (reply_of result) self.new.nodes.core }
+        ensures step { FollowsStore self.old.nodes (event_of event) (reply_of result) self.new.nodes }
         ensures trace { IsTaken self.old event result self.new }
         // Some refusals never come.
         ensures plain { IsPlain result }
+        // The vault counts a failure more where its device is said to have failed, and never fewer.
+        ensures counted { device_failures result + self.old.nodes.seat.failures ≤ self.new.nodes.seat.failures }
     {
         match self.trace.reserve(1) {
             Err(_) => return Reply::Refused(Refusal::OutOfMemory),
             Ok(()) => {}
         }
-        let reply = self.nodes.answer(&event);
+        let reply = answer(&mut self.store, self.alloc, &event);
         self.trace.push_reserved(event);
         reply
     }
 
     // The same of an event that is lent.
     fn step_of(&mut self, event: &Event) -> Reply
-        ensures asks { Asks self.old.nodes event.now result self.new.nodes }
-        ensures step { Follows self.old.nodes.core (event_of event.now) (reply_of result) self.new.nodes.core }
+        ensures asks { AsksStore self.old.nodes event.now result self.new.nodes }
+        ensures step { FollowsStore self.old.nodes (event_of event.now) (reply_of result) self.new.nodes }
         ensures trace { IsTaken self.old event.now result self.new }
         ensures plain { IsPlain result }
+        ensures counted { device_failures result + self.old.nodes.seat.failures ≤ self.new.nodes.seat.failures }
     {
         match event.copy(self.alloc) {
             Err(_) => Reply::Refused(Refusal::OutOfMemory),
@@ -89,6 +115,7 @@ impl World {
         ensures run { IfOk result (λ replies. RunsTo self.old.nodes events.now replies.items self.new.nodes) }
         ensures trace { IfOk result (λ replies. IsTraced self.old.trace events.now replies.items self.new.trace) }
         ensures plain { IfOk result (λ replies. All IsPlain replies.items) }
+        ensures counted { IfOk result (λ replies. sum_by device_failures replies.items + self.old.nodes.seat.failures ≤ self.new.nodes.seat.failures) }
         ensures err { OnErr result (self.new ≡ self.old) }
         // Whatever happened, what every world is.
         ensures world { IsWorld self.new }
@@ -116,16 +143,24 @@ impl World {
     fn known(&self)
         ensures { IsWorld self.now }
     {
-        self.nodes.known();
+        match &self.store {
+            Some(store) => store.known(),
+            None => unreachable!(),
+        }
     }
 
-    /// Ends it. Each claim that a dispatcher holds is given back.
-    pub fn close(self) {
+    /// Ends it, and hands over the vault. Each claim that a dispatcher holds is given back.
+    pub fn close(self) -> V
+        ensures edits { V.edits result ≡ self.nodes.seat.edits }
+        ensures tables { V.tables result ≡ self.nodes.seat.kept }
+        ensures failures { V.failures result ≡ self.nodes.seat.failures }
+    {
         let World {
             alloc: _,
-            nodes,
+            store,
             trace: _,
         } = self;
-        nodes.close();
+        let Some(store) = store else { unreachable!() };
+        store.close()
     }
 }

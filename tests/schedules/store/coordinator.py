@@ -15,11 +15,18 @@ from .writes import answer, answers, batch_of, entries_of
 class Coordinator:
     def __init__(self, limits):
         self.limits = limits
-        self.writes, self.frozen = [], None
+        self.writes, self.versions, self.tables = [], [Version()], {}
+        self.open()
+
+    def open(self):
+        """Begins an epoch with what was flushed, and without memtables, snapshots, claims and older versions (LevelDB: recovery)."""
+        self.writes, self.frozen = self.writes[: self.version.flushed], None
         self.snapshots, self.snapshots_made = {}, 0
-        self.versions, self.floor, self.tables = [Version()], 1, {}
-        self.book = ClaimBook(1)
-        self.append(EPOCH, epoch=1)
+        self.append(EPOCH, epoch=self.version.epoch + 1)
+        self.floor = self.version.number
+        self.tables = {it.number: self.tables[it.number] for it in self.version.files}
+        self.book = ClaimBook(self.version.epoch)
+        return self.version.epoch, self.version.number, self.last
 
     @property
     def version(self):

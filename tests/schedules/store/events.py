@@ -48,6 +48,10 @@ class Deliver(NamedTuple):
     message: int
 
 
+class RestartCoordinator(NamedTuple):
+    pass
+
+
 class RestartWorker(NamedTuple):
     worker: int
 
@@ -126,6 +130,14 @@ class Worked(NamedTuple):
 
 class Ignored(NamedTuple):
     pass
+
+
+class Opened(NamedTuple):
+    """What a restart of the coordinator begins with: its epoch, its version, and the last sequence that is in a file."""
+
+    epoch: int
+    version: int
+    last: int
 
 
 class Restarted(NamedTuple):

@@ -52,6 +52,7 @@ LINES = {
     events.Installed: lambda it: f"installed version {it.version} files {commas(it.files) or 'none'}",
     events.Worked: worked,
     events.Ignored: lambda _: "ignored",
+    events.Opened: lambda it: f"epoch {it.epoch} version {it.version} last {it.last}",
     events.Restarted: lambda it: f"restarted {it.node}",
     events.Shown: shown,
     events.Refusal: lambda it: f"refused {it.name}",

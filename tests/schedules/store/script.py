@@ -140,8 +140,8 @@ def deliver(words):
 
 def restart(words):
     role, which = node(words[0])
-    fault_if(role != "w", "unknown command")
-    return [events.RestartWorker(which)]
+    fault_if(role == "f", "unknown command")
+    return [events.RestartCoordinator() if role == "c" else events.RestartWorker(which)]
 
 
 def show(words):

@@ -108,6 +108,12 @@ class World:
         change, missing, bodies = self.workers[message.dst.index].on_message(message.body)
         return events.Worked(change, missing, self.send(message.dst, COORDINATOR, bodies))
 
+    # Restarts.
+
+    def restart_coordinator(self, _):
+        """Dispatchers keep their claims, which are stale from now on, and workers their jobs."""
+        return events.Opened(*self.coordinator.open())
+
     def restart_worker(self, event):
         self.workers[event.worker] = Worker()
         return events.Restarted(f"w{event.worker}")
@@ -124,5 +130,6 @@ class World:
         events.Pick: pick,
         events.GiveUp: give_up,
         events.Deliver: deliver,
+        events.RestartCoordinator: restart_coordinator,
         events.RestartWorker: restart_worker,
     }

@@ -1,5 +1,6 @@
 -- What each call of the coordinator refuses and does, on the value that contracts see (LevelDB, db_impl.cc: Write, CompactMemTable, Get, GetSnapshot, RemoveObsoleteFiles).
-use Rattle.std.specs.Prelude.{◌≡◌, ℕ, ◌+◌, not, List, ◌++◌, [], ◌∷◌, Option, None, Some, IsSome, MatchOption, length, filter, max, sum_by, is_none, is_some, nat_eq, nat_lt, nat_le, ◌&&◌, ◌||◌, ◌⊎◌, if◌then◌else◌}
+use Rattle.std.specs.Prelude.{◌≡◌, ℕ, ◌+◌, ◌<◌, ◌≤◌, not, List, ◌++◌, [], ◌∷◌, Option, None, Some, IsSome, MatchOption, length, filter, max, sum_by, is_none, is_some, nat_eq, nat_lt, nat_le, ◌&&◌, ◌||◌, ◌⊎◌, if◌then◌else◌}
+use Rattle.std.specs.FinMap as map
 use Rattle.std.specs.List.Sorted.{IsPermutation}
 use Rattle.lsm_key.specs.declared.entry.Entry.{Entry}
 use Rattle.lsm_key.specs.declared.op.Op.{Op}
@@ -19,15 +20,17 @@ use Rattle.lsm_edit.specs.Edit.{IsSpelledEdit}
 use Rattle.lsm_edit.specs.Next.{flush_edit}
 use Rattle.lsm_edit.specs.Version.{apply_fault}
 use Rattle.lsm_msg.specs.Installs.{with_flushed}
+use Rattle.lsm_versions.specs.Kept.{StaysBelow}
+use Rattle.lsm_versions.specs.Opening.{MayHaveLost, is_live}
 use Rattle.lsm_versions.specs.Retention.{kept_from}
 use Rattle.lsm_coord.specs.declared.error.CoordError.{CoordError}
-use Rattle.lsm_coord.specs.declared.error.CoordError.TheVariants.{EmptyBatch, SequenceExhausted, MemtableFull, FrozenWaiting, NothingToFreeze, NothingToFlush, TooManySnapshots, NoSnapshot, BadFloor, NumbersExhausted, OutOfMemory}
+use Rattle.lsm_coord.specs.declared.error.CoordError.TheVariants.{EmptyBatch, SequenceExhausted, MemtableFull, FrozenWaiting, NothingToFreeze, NothingToFlush, TooManySnapshots, NoSnapshot, BadFloor, NumbersExhausted, OutOfMemory, Device}
 use Rattle.lsm_coord.specs.declared.frozen.Frozen.{Frozen}
 use Rattle.lsm_coord.specs.declared.snapshot.SnapId.{SnapId}
 use Rattle.lsm_coord.specs.declared.snapshot.Snapshot.{Snapshot}
 use Rattle.lsm_coord.specs.Model.State.{State, same_snapshot_id, snapshot_at}
 use Rattle.lsm_coord.specs.Model.Range.{IsRange}
-use Rattle.lsm_coord.specs.Contract.Value.{CoordValue}
+use Rattle.lsm_coord.specs.Contract.Value.{CoordValue, version_set}
 use Rattle.lsm_coord.specs.Contract.Shows.{Shows}
 
 -- ---- writes
@@ -56,6 +59,18 @@ freeze_fault c =
 abbrev pub after_freezing : CoordValue → CoordValue
 after_freezing c = record c { active = []; frozen = Some (record { memtable = c.active; end = c.last }) }
 
+-- ---- the vault
+
+-- the same, but that the vault may have a table under a number that no file has been given yet, and its device may have failed
+pub record MayHaveStored (old new : CoordValue) : Type 0 where
+  pub rest : new ≡ record old { kept = new.kept; failures = new.failures }
+  pub below : StaysBelow old.served.version.next_file old.kept new.kept
+  pub counted : old.failures ≤ new.failures
+
+-- the same, and its device has failed
+abbrev pub HasFailed : CoordValue → CoordValue → Type 0
+HasFailed old new = MayHaveStored old new × (old.failures < new.failures)
+
 -- ---- flushes
 
 -- why nothing is flushed: the first reason that holds
@@ -83,7 +98,7 @@ abbrev pub without_flush_source : CoordValue → CoordValue
 without_flush_source c = record c { active = active_after c.active c.frozen; frozen = None }
 
 -- The edit of the flush applies and is the last of the manifest, the version after it has the table's file, which is searched
--- first, and the memtable that was taken is gone.
+-- first, the vault has the table, and the memtable that was taken is gone.
 pub record AddsTable (old : CoordValue) (file : FileMeta) (table : Opened) (new : CoordValue) : Type 0 where
   pub edit : Edit
   pub edit_is : edit ≡ flush_edit old.served.version (flush_source old).end file
@@ -93,11 +108,20 @@ pub record AddsTable (old : CoordValue) (file : FileMeta) (table : Opened) (new 
   pub new_is : new ≡ record (without_flush_source old) {
     served = with_flushed old.served (flush_source old).end file table;
     edits = old.edits ++ text ∷ [];
+    kept = map.insert old.kept file.number table.bytes;
+    failures = new.failures;
   }
+  pub counted : old.failures ≤ new.failures
 
 -- one file more, of a table with exactly the entries of the memtable that was taken
 abbrev pub Adds : CoordValue → CoordValue → Type 0
 Adds old new = (file : FileMeta) × (table : Opened) × (table.entries ≡ (flush_source old).memtable) × AddsTable old file table new
+
+-- why nothing is flushed, and what is left: nothing has changed, unless memory ran out or the device failed after the table was put
+abbrev pub FlushRefuses : CoordValue → CoordError → CoordValue → Type 0
+FlushRefuses old OutOfMemory new = (flush_fault old ≡ None) × MayHaveStored old new
+FlushRefuses old Device new = (flush_fault old ≡ None) × HasFailed old new
+FlushRefuses old e new = (flush_fault old ≡ Some e) × (new ≡ old)
 
 -- ---- snapshots
 
@@ -132,6 +156,22 @@ trim_fault c n = if nat_lt c.served.version.number n then Some BadFloor else Non
 -- the floor rises, and never falls; the retired files that no version from it on lists are let go
 abbrev pub with_floor : CoordValue → ℕ → CoordValue
 with_floor c n = record c { floor = max c.floor n; retired = kept_from (max c.floor n) c.retired }
+
+-- and the vault has the tables of live files alone
+abbrev pub with_live_tables : CoordValue → ℕ → CoordValue
+with_live_tables c n = record (with_floor c n) { kept = map.retain_keys c.kept (is_live (version_set (with_floor c n))) }
+
+-- the floor has risen, and some tables of files that are not live may be gone
+pub record MayHaveTrimmed (old : CoordValue) (n : ℕ) (new : CoordValue) : Type 0 where
+  pub rest : new ≡ record (with_floor old n) { kept = new.kept; failures = new.failures }
+  pub lost : MayHaveLost (is_live (version_set (with_floor old n))) old.kept new.kept
+  pub counted : old.failures ≤ new.failures
+
+-- why tables are left that are not needed, and what has changed
+abbrev pub TrimRefuses : CoordValue → ℕ → CoordError → CoordValue → Type 0
+TrimRefuses old n OutOfMemory new = (trim_fault old n ≡ None) × MayHaveTrimmed old n new
+TrimRefuses old n Device new = (trim_fault old n ≡ None) × MayHaveTrimmed old n new × (old.failures < new.failures)
+TrimRefuses old n e new = (trim_fault old n ≡ Some e) × (new ≡ old)
 
 -- ---- claims
 

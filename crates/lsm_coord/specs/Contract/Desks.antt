@@ -4,8 +4,6 @@ use Rattle.lsm_claim.specs.declared.job.JobId.{JobId}
 use Rattle.lsm_claim.specs.declared.job.LiveJob.{LiveJob}
 use Rattle.lsm_coord.specs.declared.dispatcher.Dispatcher.{Dispatcher}
 use Rattle.lsm_coord.specs.declared.dispatcher.Dispatcher.TheVariants.{Idle, Busy}
-use Rattle.lsm_coord.specs.Contract.Value.{CoordValue}
-use Rattle.lsm_coord.specs.Contract.Calls.{after_give_back}
 
 -- the job whose claim a dispatcher holds
 abbrev pub job_of : Dispatcher → Option LiveJob
@@ -32,8 +30,3 @@ dispatcher_of desk index = get_or desk (index - 1) Idle
 -- another one in its place
 abbrev pub with_dispatcher : List Dispatcher → ℕ → Dispatcher → List Dispatcher
 with_dispatcher desk index dispatcher = slice_set desk (index - 1) dispatcher
-
--- claims are given back, one after another
-abbrev pub after_giving_back_all : CoordValue → List JobId → CoordValue
-after_giving_back_all c [] = c
-after_giving_back_all c (id ∷ ids) = after_giving_back_all (after_give_back c id) ids

@@ -18,17 +18,19 @@ use Rattle.lsm_edit.specs.declared.edit.Edit.{Edit}
 use Rattle.lsm_edit.specs.Edit.{IsSpelledEdit}
 use Rattle.lsm_edit.specs.Next.{install_edit}
 use Rattle.lsm_edit.specs.declared.served.Placed.{Placed}
-use Rattle.lsm_edit.specs.Served.{ServedValue, after_advance}
+use Rattle.lsm_edit.specs.Served.{ServedValue, after_advance, placed_of}
 use Rattle.lsm_edit.specs.Version.{VersionValue, apply_fault}
 use Rattle.lsm_msg.specs.declared.job.JobParts.{JobParts}
 use Rattle.lsm_msg.specs.declared.job.JobResult.{JobResult}
 use Rattle.lsm_msg.specs.Merge.{HoldsKept}
 use Rattle.lsm_msg.specs.Installs.{entries_of}
+use Rattle.lsm_versions.specs.Kept.{put_tables}
 use Rattle.lsm_versions.specs.Retention.{retired_after}
 use Rattle.lsm_coord.specs.declared.coord.install.Install.{Install}
 use Rattle.lsm_coord.specs.declared.coord.install.Install.TheVariants as became
 use Rattle.lsm_coord.specs.declared.coord.install.InstallError.{InstallError}
-use Rattle.lsm_coord.specs.declared.coord.install.InstallError.TheVariants.{WrongJob, BadResult, NumbersExhausted, OutOfMemory}
+use Rattle.lsm_coord.specs.declared.coord.install.InstallError.TheVariants.{WrongJob, BadResult, NumbersExhausted, OutOfMemory, Device}
+use Rattle.lsm_coord.specs.Contract.Calls.{HasFailed, MayHaveStored}
 use Rattle.lsm_coord.specs.Contract.Sound.{IsSound}
 use Rattle.lsm_coord.specs.Contract.Value.{CoordValue}
 
@@ -107,7 +109,7 @@ pub record IsAcceptable (v : VersionValue) (live : LiveJob) (made : JobResult) (
   pub numbers : HasNumbers v ts
 
 -- The version after an install: the outputs replace the inputs, one level deeper; the inputs retire; the edit is the last of the
--- manifest, and the claim is settled.
+-- manifest, the vault has the outputs, and the claim is settled.
 pub record IsInstallDone (old : CoordValue) (live : LiveJob) (ts : List Opened) (new : CoordValue) : Type 0 where
   pub edit : Edit
   pub edit_is : edit ≡ install_edit_of old.served.version live.want ts
@@ -119,7 +121,10 @@ pub record IsInstallDone (old : CoordValue) (live : LiveJob) (ts : List Opened) 
     edits = old.edits ++ text ∷ [];
     retired = retired_after old.retired old.served live.want.files;
     book = after_settling old.book live.id ending.Installed;
+    kept = put_tables old.kept (placed_of edit.added ts);
+    failures = new.failures;
   }
+  pub counted : old.failures ≤ new.failures
 
 -- why a result is rejected: the first reason that holds, unless memory runs out
 abbrev pub Rejects : VersionValue → LiveJob → JobResult → InstallError → Type 0
@@ -128,6 +133,15 @@ Rejects v live made BadResult = (made.job ≡ live.id) × (HasOutputs live.want.
 Rejects v live made NumbersExhausted =
     (made.job ≡ live.id) × (ts : List Opened) × AreOutputTables live.want.hull made.tables ts × (HasNumbers v ts → ⊥)
 Rejects v live made OutOfMemory = made.job ≡ live.id
+Rejects v live made Device = (ts : List Opened) × IsAcceptable v live made ts
+
+-- what a rejected result leaves: nothing has changed, unless memory ran out or the device failed after an output was put
+abbrev pub LeavesRejected : InstallError → CoordValue → CoordValue → Type 0
+LeavesRejected WrongJob old new = new ≡ old
+LeavesRejected BadResult old new = new ≡ old
+LeavesRejected NumbersExhausted old new = new ≡ old
+LeavesRejected OutOfMemory old new = MayHaveStored old new
+LeavesRejected Device old new = HasFailed old new
 
 -- ---- what becomes of a claim
 
@@ -145,7 +159,7 @@ Became old claim made (became.Done number files) new =
 Became old claim made (became.Stale job epoch) new =
     (holds old.book claim.id ≡ false) × (job ≡ claim.id) × (epoch ≡ old.book.epoch) × (new ≡ old)
 Became old claim made (became.Kept back why) new =
-    (live : LiveJob) × IsLive old claim.id live × (back ≡ claim) × Rejects old.served.version live made why × (new ≡ old)
+    (live : LiveJob) × IsLive old claim.id live × (back ≡ claim) × Rejects old.served.version live made why × LeavesRejected why old new
 
 -- the result was installed
 abbrev pub IsDone : Install → Type 0

@@ -14,6 +14,7 @@ use Rattle.lsm_edit.specs.Version.{IsVersion}
 use Rattle.lsm_key.specs.declared.limits.TheConstants.{MAX_JOB_LEVEL, MAX_SNAPSHOTS}
 use Rattle.lsm_msg.specs.Legal.{IsLegal}
 use Rattle.lsm_versions.specs.Manifest.{Folds, read_edits, versions_of}
+use Rattle.lsm_versions.specs.Kept.{AreKept}
 use Rattle.lsm_versions.specs.Retention.{AreRetired}
 use Rattle.lsm_coord.specs.declared.frozen.Frozen.{Frozen}
 use Rattle.lsm_coord.specs.declared.snapshot.Snapshot.{Snapshot}
@@ -47,14 +48,15 @@ pub record IsCoord (active : List Entry) (frozen : Option Frozen) (last : ℕ) (
 
 -- What a store keeps of its versions, files and claims, whatever the results held that were installed: the manifest replays to
 -- the current version, no file is removed by two of its edits, each file has its table as recorded, the retired files are those
--- that versions from the floor on list and the current one lacks, claims are counted, and each live one is of a job whose inputs
--- may still be merged.
+-- that versions from the floor on list and the current one lacks, the vault has the same tables, claims are counted, and each live
+-- one is of a job whose inputs may still be merged.
 pub record IsFit (c : CoordValue) : Type 0 where
   pub manifest : Folds c.edits c.served.version
   pub once : RemovedOnce (read_edits c.edits)
   pub version : IsVersion c.served.version
   pub served : IsServed c.served
   pub retired : AreRetired (versions_of c.edits) c.served.version c.retired c.floor
+  pub kept : AreKept c.kept c.served.places c.retired
   pub book : IsBook c.book
   pub epoch : c.book.epoch ≡ c.served.version.epoch
   pub legal : AreLegal c.served.version.files c.book.live

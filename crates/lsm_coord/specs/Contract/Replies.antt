@@ -3,6 +3,8 @@ use Rattle.std.specs.Prelude.{ℕ, Vec, List, Option, Result, Ok, Err, map}
 use Rattle.lsm_claim.specs.declared.job.LiveJob.{LiveJob}
 use Rattle.lsm_msg.specs.declared.job.JobParts.{JobParts}
 use Rattle.lsm_edit.specs.declared.served.Listing.{Listing}
+use Rattle.lsm_vault.specs.declared.error.VaultError.{VaultError}
+use Rattle.lsm_vault.specs.declared.error.VaultError.TheVariants as vault
 use Rattle.lsm_coord.specs.declared.error.CoordError.{CoordError}
 use Rattle.lsm_coord.specs.declared.error.CoordError.TheVariants as error
 use Rattle.lsm_coord.specs.declared.coord.flush.Flushed.{Flushed}
@@ -41,6 +43,16 @@ error_of kept.WrongJob = error.WrongJob
 error_of kept.BadResult = error.BadResult
 error_of kept.NumbersExhausted = error.NumbersExhausted
 error_of kept.OutOfMemory = error.OutOfMemory
+error_of kept.Device = error.Device
+
+-- why a vault refuses a call, as a refusal of the coordinator, and of a result
+abbrev pub call_error : VaultError → CoordError
+call_error vault.OutOfMemory = error.OutOfMemory
+call_error vault.Device = error.Device
+
+abbrev pub install_error : VaultError → InstallError
+install_error vault.OutOfMemory = kept.OutOfMemory
+install_error vault.Device = kept.Device
 
 abbrev pub write_reply : Result (ℕ × ℕ) CoordError → Reply
 write_reply (Ok r) = say.Wrote r.0 r.1

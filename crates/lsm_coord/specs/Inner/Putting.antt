@@ -1,5 +1,6 @@
 -- What becomes of a version set at an install and at a flush.
-use Rattle.std.specs.Prelude.{◌≡◌, ℕ, ◌+◌, ◌≤◌, List, [], ◌∷◌, ◌++◌, None}
+use Rattle.std.specs.Prelude.{◌≡◌, ℕ, ◌+◌, ◌<◌, ◌≤◌, List, [], ◌∷◌, ◌++◌, None}
+use Rattle.std.specs.FinMap as map
 use Rattle.lsm_key.specs.declared.limits.TheConstants.{MAX_NUMBER}
 use Rattle.lsm_claim.specs.declared.job.LiveJob.{LiveJob}
 use Rattle.lsm_table.specs.Tables.{Opened}
@@ -10,7 +11,9 @@ use Rattle.lsm_edit.specs.Next.{flush_edit}
 use Rattle.lsm_edit.specs.Version.{VersionValue, apply_fault}
 use Rattle.lsm_msg.specs.declared.job.JobResult.{JobResult}
 use Rattle.lsm_msg.specs.Installs.{with_flushed}
-use Rattle.lsm_versions.specs.Manifest.{VersionSetValue, after_logging}
+use Rattle.lsm_versions.specs.Manifest.{MayHavePut, VersionSetValue, after_logging}
+use Rattle.lsm_coord.specs.declared.coord.install.InstallError.{InstallError}
+use Rattle.lsm_coord.specs.declared.coord.install.InstallError.TheVariants.{WrongJob, BadResult, NumbersExhausted, OutOfMemory, Device}
 use Rattle.lsm_coord.specs.declared.coord.install.Put.{Put}
 use Rattle.lsm_coord.specs.Contract.Installing.{IsAcceptable, install_edit_of, output_numbers}
 
@@ -22,9 +25,18 @@ pub record PutsOutputs (old : VersionSetValue) (live : LiveJob) (made : JobResul
   pub edit_is : edit ≡ install_edit_of old.served.version live.want tables
   pub valid : IsEdit edit
   pub applies : apply_fault old.served.version edit ≡ None
-  pub new_is : new ≡ after_logging old edit tables
+  pub new_is : new ≡ record (after_logging old edit tables) { failures = new.failures }
+  pub counted : old.failures ≤ new.failures
   pub number_is : put.number ≡ old.served.version.number + 1
   pub files_are : put.files ≡ output_numbers old.served.version live.want tables
+
+-- what a rejected result leaves of the version set
+abbrev pub PutLeaves : InstallError → VersionSetValue → VersionSetValue → Type 0
+PutLeaves WrongJob old new = new ≡ old
+PutLeaves BadResult old new = new ≡ old
+PutLeaves NumbersExhausted old new = new ≡ old
+PutLeaves OutOfMemory old new = MayHavePut old new × (old.failures ≤ new.failures)
+PutLeaves Device old new = MayHavePut old new × (old.failures < new.failures)
 
 -- the edit of a flush to a file is logged and applied, and the file is searched first
 pub record AddsFile (old : VersionSetValue) (end : ℕ) (file : FileMeta) (table : Opened) (new : VersionSetValue) : Type 0 where
@@ -32,7 +44,8 @@ pub record AddsFile (old : VersionSetValue) (end : ℕ) (file : FileMeta) (table
   pub edit_is : edit ≡ flush_edit old.served.version end file
   pub valid : IsEdit edit
   pub applies : apply_fault old.served.version edit ≡ None
-  pub new_is : new ≡ record old { served = with_flushed old.served end file table; edits = old.edits ++ edit_bytes edit ∷ []; kept = new.kept }
+  pub new_is : new ≡ record old { served = with_flushed old.served end file table; edits = old.edits ++ edit_bytes edit ∷ []; kept = map.insert old.kept file.number table.bytes; failures = new.failures }
+  pub counted : old.failures ≤ new.failures
 
 -- the version's number and the next file number fit
 pub record CanNumber (v : VersionValue) : Type 0 where

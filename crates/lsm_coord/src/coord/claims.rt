@@ -19,9 +19,10 @@ use lsm_claim::{Claim, Ending, JobId, Settled, Want};
 use lsm_key::{Items, MAX_LIVE_CLAIMS, MAX_NUMBER, MAX_TABLE_BYTES};
 use lsm_msg::{Job, JobParts};
 use lsm_pick::{PickError, pick};
+use lsm_vault::Vault;
 use std::alloc::AllocError;
 
-impl Coord {
+impl<V: Vault> Coord<V> {
     /// Claims the next job, and returns its claim with the job, or `None` if no level needs compaction or all
     /// candidates conflict with running jobs. A refusal changes nothing.
     pub fn pick(&mut self) -> Result<Option<(Claim, Job)>, CoordError>

@@ -1,12 +1,13 @@
 //! Flushes: a memtable becomes a table.
 
-ghost use Rattle.std.specs.Prelude.{◌≡◌, ◌<◌, ◌≤◌, None, Some, IfErr, OnOk, OnErr};
-ghost use Rattle.lsm_key.specs.Faults.{Refuses};
+ghost use Rattle.std.specs.Prelude.{◌≡◌, ◌<◌, ◌≤◌, None, IfErr, OnOk, OnErr};
 ghost use Rattle.lsm_edit.specs.File.{IsFile};
 ghost use Rattle.lsm_edit.specs.Served.{IsAsRecorded};
+ghost use Rattle.lsm_vault.specs.Failures.{CountsFailures};
+ghost use Rattle.lsm_versions.specs.Manifest.{MayHavePut};
 ghost use Rattle.lsm_coord.specs.Model.Event.{Flush};
 ghost use Rattle.lsm_coord.specs.Contract.Shows.{Follows};
-ghost use Rattle.lsm_coord.specs.Contract.Calls.{Adds, AddsTable, flush_fault, flush_source};
+ghost use Rattle.lsm_coord.specs.Contract.Calls.{Adds, AddsTable, FlushRefuses, MayHaveStored, flush_fault, flush_source};
 ghost use Rattle.lsm_coord.specs.Contract.Sound.{KeepsSound};
 ghost use Rattle.lsm_coord.specs.Contract.Replies.{flush_reply};
 ghost use Rattle.lsm_coord.specs.Inner.Putting.{AddsFile, CanNumber};
@@ -17,9 +18,9 @@ use lsm_edit::{Edit, FileMeta};
 use lsm_key::{FileNumber, MAX_NUMBER, Seq, VersionNumber};
 use lsm_mem::Memtable;
 use lsm_table::Table;
-use lsm_vault::MemoryVault;
+use lsm_vault::{Vault, VaultError};
 use lsm_versions::VersionSet;
-use std::alloc::{AllocError, Global};
+use std::alloc::Global;
 
 /// What a flush produced.
 #[derive(Clone, Copy, Debug, PartialEq, Eq)]
@@ -32,14 +33,15 @@ pub struct Flushed {
     pub file: FileNumber,
 }
 
-impl Coord {
-    /// Turns the frozen memtable, or the active one if none is frozen, into a table of level 0 in the next version. A
-    /// refusal changes nothing.
+impl<V: Vault> Coord<V> {
+    /// Turns the frozen memtable, or the active one if none is frozen, into a table of level 0 in the next version: the vault gets
+    /// the table first, and then the edit. A refusal changes nothing, but that the vault may have the table; a later flush puts
+    /// one under the same number.
     pub fn flush(&mut self) -> Result<Flushed, CoordError>
         ensures step { Follows self.old Flush (flush_reply result) self.new }
         ensures ok { OnOk result ((flush_fault self.old ≡ None) × Adds self.old self.new) }
-        ensures err { OnErr result (self.new ≡ self.old) }
-        ensures refused { IfErr result (Refuses CoordError.OutOfMemory (flush_fault self.old)) }
+        ensures refused { IfErr result (λ e. FlushRefuses self.old e self.new) }
+        ensures failures { self.old.failures ≤ self.new.failures }
         ensures sound { KeepsSound self.old self.new }
     {
         match self.flush_fault() {
@@ -94,8 +96,8 @@ impl Coord {
         }
     }
 
-    // Adds a table with the entries of the memtable that a flush takes, which goes. A refusal changes nothing.
-    fn add_table(&mut self, meta: FileMeta, table: Table, end: Seq) -> Result<(), AllocError>
+    // Adds a table with the entries of the memtable that a flush takes, which goes. After a refusal the vault may have it.
+    fn add_table(&mut self, meta: FileMeta, table: Table, end: Seq) -> Result<(), VaultError>
         requires room { CanNumber self.old.served.version }
         requires end { end ≡ (flush_source self.old).end }
         requires newer { self.old.served.version.flushed < end }
@@ -104,7 +106,8 @@ impl Coord {
         requires recorded { IsAsRecorded meta table }
         ensures ok { OnOk result (AddsTable self.old meta table self.new) }
         ensures sound { OnOk result (KeepsSound self.old self.new) }
-        ensures err { OnErr result (self.new ≡ self.old) }
+        ensures err { OnErr result (MayHaveStored self.old self.new) }
+        ensures counted { CountsFailures result self.old.failures self.new.failures }
     {
         // Proof hint: all files of the version have lower numbers.
         let _files = self.versions.version().files();
@@ -118,14 +121,14 @@ impl Coord {
     }
 }
 
-// Logs and applies the edit of a flush up to a sequence, to a table of level 0. If memory runs out, a table may have been put.
-fn put_table(
+// Logs and applies the edit of a flush up to a sequence, to a table of level 0. After a refusal the vault may have the table.
+fn put_table<V: Vault>(
     alloc: Global,
-    versions: &mut VersionSet<MemoryVault>,
+    versions: &mut VersionSet<V>,
     meta: FileMeta,
     table: Table,
     end: Seq,
-) -> Result<(), AllocError>
+) -> Result<(), VaultError>
     requires room { CanNumber versions.old.served.version }
     requires epoch { 1 ≤ versions.old.served.version.epoch }
     requires newer { versions.old.served.version.flushed < end }
@@ -133,11 +136,12 @@ fn put_table(
     requires place { (meta.number ≡ versions.old.served.version.next_file) × (meta.level ≡ 0) }
     requires recorded { IsAsRecorded meta table }
     ensures ok { OnOk result (AddsFile versions.old end meta table versions.new) }
-    ensures err { OnErr result (versions.new ≡ record versions.old { kept = versions.new.kept; failures = versions.new.failures }) }
+    ensures err { OnErr result (MayHavePut versions.old versions.new) }
+    ensures counted { CountsFailures result versions.old.failures versions.new.failures }
 {
     let edit = Edit::flush(alloc, versions.served().version(), end, meta)?;
     let mut tables = Vec::with_capacity(alloc, 1)?;
     tables.push(table)?;
-    versions.log_in_memory(&edit, tables)?;
+    versions.log_and_apply(&edit, tables)?;
     Ok(())
 }

@@ -14,7 +14,7 @@ ghost use Rattle.lsm_coord.specs.Contract.Memory.{IsJobWant};
 ghost use Rattle.lsm_coord.specs.Contract.Replies.{install_reply};
 ghost use Rattle.lsm_coord.specs.Contract.Shows.{Follows};
 ghost use Rattle.lsm_coord.specs.Contract.Sound.{KeepsSound};
-ghost use Rattle.lsm_coord.specs.Inner.Putting.{PutsOutputs};
+ghost use Rattle.lsm_coord.specs.Inner.Putting.{PutLeaves, PutsOutputs};
 ghost use Rattle.lsm_coord.specs.Model.Event.{Deliver};
 
 use super::Coord;
@@ -24,7 +24,7 @@ use lsm_edit::{Edit, FileMeta, Version};
 use lsm_key::{FileNumber, Items, MAX_NUMBER, VersionNumber};
 use lsm_msg::JobResult;
 use lsm_table::Table;
-use lsm_vault::MemoryVault;
+use lsm_vault::{Vault, VaultError};
 use lsm_versions::VersionSet;
 use std::alloc::{AllocError, AllocFailed, Global};
 use thiserror::Error;
@@ -40,6 +40,8 @@ pub enum InstallError {
     NumbersExhausted,
     #[error("out of memory")]
     OutOfMemory,
+    #[error("the vault failed")]
+    Device,
 }
 
 /// What became of a claim and its result.
@@ -48,7 +50,7 @@ pub enum Install {
     Done(VersionNumber, Items<FileNumber>),
     /// The claim's job is no longer running. The claim is consumed; carries the current epoch.
     Stale(JobId, u64),
-    /// The result is not installed, nothing changed, and the claim is handed back.
+    /// The result is not installed, the version is as before, and the claim is handed back.
     Kept(Claim, InstallError),
 }
 
@@ -81,17 +83,33 @@ impl<T: Drop> From<AllocFailed<T>> for InstallError {
     }
 }
 
-impl Coord {
+impl From<VaultError> for InstallError {
+    ghost use Rattle.std.specs.Prelude.{◌≡◌};
+    ghost use Rattle.lsm_coord.specs.Contract.Replies.{install_error};
+
+    ghost from_gives = { λ why e. e ≡ install_error why };
+
+    fn from(why: VaultError) -> InstallError {
+        match why {
+            VaultError::OutOfMemory => InstallError::OutOfMemory,
+            VaultError::Device => InstallError::Device,
+        }
+    }
+}
+
+impl<V: Vault> Coord<V> {
     /// Replaces the inputs of a job by its outputs, one level deeper, and settles its claim. Level, inputs and keys are
     /// those that the book has under the claim's name. A claim whose job is not live is consumed and nothing else
-    /// changes. If the result is of another job or invalid, if file numbers are exhausted or memory runs out, nothing
-    /// changes and the claim is handed back: its job is still live, and it still has to be settled.
+    /// changes. If the result is of another job or invalid, if file numbers are exhausted, memory runs out or the device
+    /// fails, nothing changes, but that the vault may have outputs, and the claim is handed back: its job is still live, and
+    /// it still has to be settled.
     ///
     /// Of the outputs' contents it tests only the keys: that they are what a merge keeps of the inputs is the worker's
     /// responsibility. The inputs' tables stay in memory, and are served, until `Coord::trim` raises the floor past the
     /// last version that lists them.
     pub fn install(&mut self, claim: Claim, made: &JobResult) -> Install
         ensures became { Became self.old claim made.now result self.new }
+        ensures failures { self.old.failures ≤ self.new.failures }
         ensures step { (message : ℕ) → (IsDone result → HoldsSoundMerge self.old claim.id made.now) → Follows self.old (Deliver message) (install_reply result) self.new }
         ensures sound { HoldsSoundMerge self.old claim.id made.now → KeepsSound self.old self.new }
     {
@@ -124,9 +142,9 @@ fn job_named(jobs: &[LiveJob], id: JobId) -> Option<&LiveJob>
 }
 
 // Makes the next version, in which the outputs replace the inputs. A refusal changes nothing, but may have put tables.
-fn put_outputs(
+fn put_outputs<V: Vault>(
     alloc: Global,
-    versions: &mut VersionSet<MemoryVault>,
+    versions: &mut VersionSet<V>,
     job: &LiveJob,
     made: &JobResult,
 ) -> Result<Put, InstallError>
@@ -134,7 +152,7 @@ fn put_outputs(
     requires legal { IsLegal versions.old.served.version.files job.now.want }
     requires orderly { IsJobWant job.now.want }
     ensures ok { IfOk result (λ put. PutsOutputs versions.old job.now made.now put versions.new) }
-    ensures err { OnErr result (versions.new ≡ record versions.old { kept = versions.new.kept; failures = versions.new.failures }) }
+    ensures left { IfErr result (λ e. PutLeaves e versions.old versions.new) }
     ensures why { IfErr result (Rejects versions.old.served.version job.now made.now) }
 {
     let want = &job.want;
@@ -150,7 +168,7 @@ fn put_outputs(
     let number = VersionNumber::new(version.number() + 1);
     let edit = edit_of(alloc, version, want, &tables)?;
     let files = numbers_of(alloc, edit.added.as_slice())?;
-    versions.log_in_memory(&edit, tables)?;
+    versions.log_and_apply(&edit, tables)?;
     Ok(Put {
         number,
         files: Items::from_vec(files),

@@ -17,9 +17,10 @@ use crate::snapshot::SnapId;
 use bytes::Bytes;
 use lsm_edit::{Listing, Served};
 use lsm_key::{EntryRef, Kind, Seq};
+use lsm_vault::Vault;
 use std::alloc::{AllocError, Global};
 
-impl Coord {
+impl<V: Vault> Coord<V> {
     /// The value of a key, latest or at a live snapshot, as a copy.
     pub fn get(&mut self, key: &[u8], at: Option<SnapId>) -> Result<Option<Bytes>, CoordError>
         ensures step { Follows self.old (Get key.now at) (get_reply result) self.new }

@@ -18,9 +18,10 @@ use crate::CoordError;
 use crate::snapshot::SnapId;
 use bytes::Bytes;
 use lsm_key::{Entry, Kind, Seq, merge_lists};
+use lsm_vault::Vault;
 use std::alloc::{AllocError, Global};
 
-impl Coord {
+impl<V: Vault> Coord<V> {
     /// The first `limit` keys at or after `lo` and before `hi` that have a value, latest or at a live snapshot:
     /// ascending, each with its value. Shares the bytes. The cost is that of the entries returned and skipped, not of
     /// the whole range.

@@ -10,9 +10,10 @@ ghost use Rattle.lsm_coord.specs.Contract.Serving.{FetchesTable, Serves, answer_
 use super::Coord;
 use lsm_key::FileNumber;
 use lsm_msg::{Body, Message, Node};
+use lsm_vault::Vault;
 use std::alloc::AllocError;
 
-impl Coord {
+impl<V: Vault> Coord<V> {
     /// Replies to `Fetch`: the table if some version from the floor on lists the file, else `Gone`. Ignores other messages.
     /// The table shares its bytes, so it runs out of memory only if their reference count is full.
     pub fn serve(&self, message: &Message) -> Result<Option<Message>, AllocError>

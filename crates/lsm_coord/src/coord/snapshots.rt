@@ -13,8 +13,9 @@ use super::Coord;
 use crate::CoordError;
 use crate::snapshot::{SnapId, Snapshot};
 use lsm_key::{MAX_NUMBER, MAX_SNAPSHOTS, Seq};
+use lsm_vault::Vault;
 
-impl Coord {
+impl<V: Vault> Coord<V> {
     /// Makes a snapshot of the latest sequence, and returns its name and that sequence. A refusal changes nothing.
     pub fn snapshot(&mut self) -> Result<(SnapId, Seq), CoordError>
         ensures step { Follows self.old Snap (snapshot_reply result) self.new }

@@ -8,6 +8,7 @@ use super::Coord;
 use bytes::Bytes;
 use lsm_edit::Served;
 use lsm_key::{Entry, NUM_LEVELS};
+use lsm_vault::Vault;
 use std::alloc::AllocError;
 
 /// How many keys or entries of a source a window has, at least and at most, if they have one version each.
@@ -18,7 +19,7 @@ const MOST: u64 = 4_096;
 /// How often a window doubles before a scan takes all that is left at once.
 const MAX_GROWTHS: u32 = 32;
 
-impl Coord {
+impl<V: Vault> Coord<V> {
     // The end of a window that begins at `from`, of a scan that may still return `wanted` pairs, or `None` if the
     // window would reach `hi`. A window that has only versions of one key grows.
     pub(super) fn window_end(

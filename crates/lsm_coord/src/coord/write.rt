@@ -13,9 +13,10 @@ use crate::CoordError;
 use crate::frozen::Frozen;
 use lsm_key::{Batch, MAX_MEMTABLE_WEIGHT, Seq};
 use lsm_mem::Memtable;
+use lsm_vault::Vault;
 use std::mem;
 
-impl Coord {
+impl<V: Vault> Coord<V> {
     /// Applies a batch, and returns the first and the last of its sequences. A refusal changes nothing.
     pub fn write(&mut self, batch: &Batch) -> Result<(Seq, Seq), CoordError>
         ensures step { Follows self.old (Write batch.now) (write_reply result) self.new }

@@ -1,12 +1,12 @@
 //! Messages of a worker, and whether they are answered as they should be.
 
-use crate::Coord;
+use super::steps::Store;
 use lsm_key::{FileNumber, VersionNumber};
 use lsm_msg::{Body, Message, Node, NodeIndex};
 use std::alloc::AllocError;
 
 /// The answer to a worker.
-fn served(coord: &Coord, worker: NodeIndex, body: Body) -> Result<Option<Message>, AllocError> {
+fn served(coord: &Store, worker: NodeIndex, body: Body) -> Result<Option<Message>, AllocError> {
     let asked = Message {
         src: Node::Worker(worker),
         dst: Node::Coordinator,
@@ -26,7 +26,7 @@ fn brings(body: &Body, file: u64, table: Option<&[u8]>) -> bool {
 
 /// Whether a fetched file is answered with this table, or reported as gone.
 pub(super) fn is_fetched(
-    coord: &Coord,
+    coord: &Store,
     worker: NodeIndex,
     file: u64,
     table: Option<&[u8]>,
@@ -42,6 +42,6 @@ pub(super) fn is_fetched(
 }
 
 /// Whether a message that is no fetch is not answered.
-pub(super) fn is_silent(coord: &Coord, worker: NodeIndex) -> Result<bool, AllocError> {
+pub(super) fn is_silent(coord: &Store, worker: NodeIndex) -> Result<bool, AllocError> {
     Ok(served(coord, worker, Body::Ask(VersionNumber::new(1)))?.is_none())
 }

@@ -11,7 +11,7 @@ pub(super) const OF_A: &[u8] =
     b"LSMT\x01\x01\0\0\0\0\0\0\x01\0\0\0\x01\0\0\0\x10\0\x01a\0\0\0\0\0\0\x01\x01\0\x01a\0\0\0\0\0\0\x01\x01\0\0\0\x011";
 
 // The deletion of a at sequence 2 and its put at sequence 1.
-const MERGED: &[u8] =
+pub(super) const MERGED: &[u8] =
     b"LSMT\x01\x01\0\0\0\0\0\0\x02\0\0\0\x01\0\0\0\x1f\0\x01a\0\0\0\0\0\0\x01\x01\0\x01a\0\0\0\0\0\0\x02\0\0\0\0\0\0\x01a\0\0\0\0\0\0\x01\x01\0\0\0\x011";
 
 // The same without its last byte.
@@ -68,7 +68,7 @@ const SNAPSHOT: [(Step, Made); 9] = [
     (Step::Get(b"a"), Made::Absent),
 ];
 
-const TEXTS: [(InstallError, &str); 4] = [
+const TEXTS: [(InstallError, &str); 5] = [
     (InstallError::WrongJob, "the result is of another job"),
     (
         InstallError::BadResult,
@@ -79,6 +79,7 @@ const TEXTS: [(InstallError, &str); 4] = [
         "the version or file numbers are exhausted",
     ),
     (InstallError::OutOfMemory, "out of memory"),
+    (InstallError::Device, "the vault failed"),
 ];
 
 #[test]

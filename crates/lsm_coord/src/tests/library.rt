@@ -3,13 +3,15 @@
 use crate::Coord;
 use bytes::Bytes;
 use lsm_key::{Batch, DEFAULT_BASE, DEFAULT_L0, Limits, Op};
+use lsm_vault::MemoryVault;
 use std::test::Fail;
 
 #[test]
 fn a_store_as_a_library(rt: HostRuntime) -> Result<(), Fail> {
     let alloc = rt.alloc();
     let limits = Limits::new(DEFAULT_L0, DEFAULT_BASE).unwrap();
-    let mut store = Coord::new(alloc, limits)?;
+    let vault = MemoryVault::new(alloc);
+    let mut store = Coord::open(alloc, vault, limits).map_err(|(why, _vault)| why)?;
 
     let mut batch = Batch::new(alloc);
     batch.push(Op::Put(Bytes::from_static(b"a"), Bytes::from_static(b"1")))?;

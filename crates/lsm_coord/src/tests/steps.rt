@@ -2,16 +2,24 @@
 
 use super::batch_of;
 use super::fetches::{is_fetched, is_silent};
-use crate::{Coord, CoordError, Desk, Install, InstallError, SnapId};
+use super::jobs::{first_of, gave_back, held, installed, picked, result_of};
+use crate::{Coord, CoordError, Desk, InstallError, Seat, SnapId};
 use bytes::Bytes;
-use lsm_claim::{Claim, JobId, Settled};
-use lsm_edit::FileMeta;
-use lsm_key::{Batch, FileNumber, Items, Limits, Op, Seq, VersionNumber};
-use lsm_msg::{Job, JobResult, NodeIndex};
+use lsm_claim::{ClaimBook, Settled};
+use lsm_key::{Batch, Limits, Op, VersionNumber};
+use lsm_msg::NodeIndex;
+use lsm_vault::{FusedVault, MemoryVault};
+use lsm_versions::OpenError;
 use std::alloc::Global;
 use std::mem;
 use std::process::Abort;
 use std::test::Fail;
+
+/// A store in memory, whose device fails when a test says so.
+pub(super) type Store = Coord<FusedVault<MemoryVault>>;
+
+/// The seat of its coordinator.
+pub(super) type TestSeat = Seat<FusedVault<MemoryVault>>;
 
 /// A call. Snapshots have the first epoch, and dispatchers a number.
 #[derive(Clone, Copy)]
@@ -38,6 +46,8 @@ pub(super) enum Step {
     Install(u8, u64, &'static [&'static [u8]]),
     /// Gives back each claim that is held.
     Close,
+    /// Restarts the coordinator.
+    Restart,
     /// Whether a fetched file is answered with this table, or reported as gone.
     Fetch(u64, Option<&'static [u8]>),
     /// Whether a message that is no fetch is not answered.
@@ -75,6 +85,10 @@ pub(super) enum Made {
     /// The version and the first new file, or 0 for none.
     Installed(u64, u64),
     KeptBack(InstallError),
+    /// The current epoch.
+    Stale(u64),
+    /// Why the coordinator was not opened.
+    NotOpened(OpenError),
     Is(bool),
     /// The floor, how many files were let go, and the first one, or 0 for none.
     Trimmed(u64, usize, u64),
@@ -82,19 +96,19 @@ pub(super) enum Made {
     Other,
 }
 
-fn wrote(coord: &mut Coord, batch: &Batch) -> Made {
+fn wrote(coord: &mut Store, batch: &Batch) -> Made {
     match coord.write(batch) {
         Ok((first, last)) => Made::Wrote(first.number(), last.number()),
         Err(why) => Made::Refused(why),
     }
 }
 
-fn wrote_one(alloc: Global, coord: &mut Coord, op: Op) -> Result<Made, Fail> {
+fn wrote_one(alloc: Global, coord: &mut Store, op: Op) -> Result<Made, Fail> {
     let batch = batch_of(alloc, op)?;
     Ok(wrote(coord, &batch))
 }
 
-fn filled(alloc: Global, coord: &mut Coord, count: u32, len: usize) -> Result<Made, Fail> {
+fn filled(alloc: Global, coord: &mut Store, count: u32, len: usize) -> Result<Made, Fail> {
     let value = vec![in alloc; 49; len]?;
     let value = Bytes::copy_from_slice(alloc, &value)?;
     let batch = batch_of(alloc, Op::Put(Bytes::from_static(b"a"), value))?;
@@ -108,14 +122,14 @@ fn filled(alloc: Global, coord: &mut Coord, count: u32, len: usize) -> Result<Ma
     Ok(made)
 }
 
-fn frozen(coord: &mut Coord) -> Made {
+fn frozen(coord: &mut Store) -> Made {
     match coord.freeze() {
         Ok(seq) => Made::Frozen(seq.number()),
         Err(why) => Made::Refused(why),
     }
 }
 
-fn flushed(coord: &mut Coord) -> Made {
+fn flushed(coord: &mut Store) -> Made {
     match coord.flush() {
         Ok(flushed) => Made::Flushed(
             flushed.number.number(),
@@ -126,7 +140,7 @@ fn flushed(coord: &mut Coord) -> Made {
     }
 }
 
-fn snapped(coord: &mut Coord, count: u32) -> Made {
+fn snapped(coord: &mut Store, count: u32) -> Made {
     let mut made = Made::Done;
     for _ in 0..count {
         match coord.snapshot() {
@@ -142,14 +156,14 @@ fn snapshot_of(number: u64) -> SnapId {
     SnapId { epoch: 1, number }
 }
 
-fn released(coord: &mut Coord, number: u64) -> Made {
+fn released(coord: &mut Store, number: u64) -> Made {
     match coord.release(snapshot_of(number)) {
         Ok(()) => Made::Done,
         Err(why) => Made::Refused(why),
     }
 }
 
-fn got(coord: &mut Coord, key: &[u8], at: Option<SnapId>) -> Made {
+fn got(coord: &mut Store, key: &[u8], at: Option<SnapId>) -> Made {
     match coord.get(key, at) {
         Ok(Some(value)) => value_of(value.as_slice()),
         Ok(None) => Made::Absent,
@@ -164,7 +178,7 @@ fn value_of(value: &[u8]) -> Made {
     }
 }
 
-fn listed(coord: &Coord) -> Made {
+fn listed(coord: &Store) -> Made {
     let shown = coord.show();
     Made::Listed(
         shown.number.number(),
@@ -173,143 +187,39 @@ fn listed(coord: &Coord) -> Made {
     )
 }
 
-fn few(numbers: &[u64]) -> Few {
-    let first = match numbers {
-        [] => [0, 0, 0],
-        [one] => [*one, 0, 0],
-        [one, two] => [*one, *two, 0],
-        [one, two, three, ..] => [*one, *two, *three],
-    };
-    (numbers.len(), first)
-}
-
-fn few_points(points: &[Seq]) -> Few {
-    let first = match points {
-        [] => [0, 0, 0],
-        [one] => [one.number(), 0, 0],
-        [one, two] => [one.number(), two.number(), 0],
-        [one, two, three, ..] => [one.number(), two.number(), three.number()],
-    };
-    (points.len(), first)
-}
-
-/// Whether the files have these numbers.
-fn are_numbered(files: &[FileMeta], numbers: &[u64]) -> bool {
-    for (file, number) in files.iter().zip(numbers) {
-        if file.number != *number {
-            return false;
-        }
-    }
-    files.len() == numbers.len()
-}
-
-/// Whether the job is that of the claim, of level 0, with the greatest block target and no deeper file.
-fn is_job_of(job: &Job, claim: &Claim) -> bool {
-    job.id() == claim.id()
-        && job.id().epoch == 1
-        && job.level() == 0
-        && job.block() == 16_777_216
-        && job.deeper().is_empty()
-        && are_numbered(job.inputs(), claim.inputs())
-}
-
-fn described(claim: &Claim, job: &Job) -> Made {
-    if is_job_of(job, claim) {
-        Made::Picked(
-            claim.id().number,
-            few(claim.inputs()),
-            few_points(job.points()),
-        )
-    } else {
-        Made::Other
-    }
-}
-
-/// Lets a dispatcher hold a claim. One that it held before is given back.
-fn hold(coord: &mut Coord, desk: &mut Desk, index: NodeIndex, claim: Claim) {
-    match desk.hold(index, claim) {
-        None => {}
-        Some(before) => {
-            coord.give_back(before);
-        }
-    }
-}
-
-fn picked(coord: &mut Coord, desk: &mut Desk, index: NodeIndex) -> Made {
-    match coord.pick() {
-        Ok(None) => Made::Idle,
-        Ok(Some((claim, job))) => {
-            let made = described(&claim, &job);
-            hold(coord, desk, index, claim);
-            made
-        }
-        Err(why) => Made::Refused(why),
-    }
-}
-
-fn held(desk: &Desk, index: NodeIndex) -> Made {
-    match desk.dispatcher(index).id() {
-        Some(JobId { epoch: 1, number }) => Made::Holds(number),
-        Some(_) => Made::Other,
-        None => Made::Holds(0),
-    }
-}
-
-fn gave_back(coord: &mut Coord, desk: &mut Desk, index: NodeIndex) -> Made {
-    match desk.take(index) {
-        Some(claim) => Made::GaveBack(coord.give_back(claim)),
-        None => Made::Other,
-    }
-}
-
-/// The result of a job with these tables.
-fn result_of(alloc: Global, number: u64, tables: &[&'static [u8]]) -> Result<JobResult, Fail> {
-    let mut list = Items::new(alloc);
-    for table in tables {
-        list.push(Bytes::from_static(table))?;
-    }
-    let job = JobId { epoch: 1, number };
-    Ok(JobResult { job, tables: list })
-}
-
-fn first_of(files: &Items<FileNumber>) -> u64 {
-    match files.as_slice().first() {
-        Some(file) => file.number(),
-        None => 0,
-    }
-}
-
-fn installed(coord: &mut Coord, desk: &mut Desk, index: NodeIndex, made: &JobResult) -> Made {
-    let Some(claim) = desk.take(index) else {
-        return Made::Other;
-    };
-    match coord.install(claim, made) {
-        Install::Done(number, files) => Made::Installed(number.number(), first_of(&files)),
-        Install::Kept(claim, why) => {
-            hold(coord, desk, index, claim);
-            Made::KeptBack(why)
-        }
-        Install::Stale(_job, _epoch) => Made::Other,
-    }
-}
-
-fn trimmed(coord: &mut Coord, to: u64) -> Made {
+fn trimmed(coord: &mut Store, to: u64) -> Made {
     match coord.trim(VersionNumber::new(to)) {
         Ok((floor, files)) => Made::Trimmed(floor.number(), files.len(), first_of(&files)),
         Err(why) => Made::Refused(why),
     }
 }
 
-fn closed(coord: &mut Coord, desk: &mut Desk) -> Made {
-    mem::replace(desk, Desk::new()).close(coord);
+fn closed(seat: &mut TestSeat, desk: &mut Desk) -> Made {
+    mem::replace(desk, Desk::new()).close(seat);
     Made::Done
+}
+
+fn restarted(alloc: Global, seat: &mut TestSeat) -> Made {
+    let Some(limits) = Limits::new(1, 1) else {
+        return Made::Other;
+    };
+    // It stands there while the seat is restarted.
+    let vault = FusedVault::new(MemoryVault::new(alloc), 0);
+    let other = Seat::Down(vault, ClaimBook::new(alloc, 0), limits);
+    let (restarted, answer) = mem::replace(seat, other).restart(alloc);
+    *seat = restarted;
+    match answer {
+        Ok(()) => Made::Done,
+        Err(why) => Made::NotOpened(why),
+    }
 }
 
 fn index_of(number: u8) -> Result<NodeIndex, Fail> {
     Ok(NodeIndex::new(number).ok_or("no such node")?)
 }
 
-fn done(alloc: Global, coord: &mut Coord, desk: &mut Desk, step: Step) -> Result<Made, Fail> {
+/// What a call of the coordinator returns.
+fn called(alloc: Global, coord: &mut Store, desk: &mut Desk, step: Step) -> Result<Made, Fail> {
     Ok(match step {
         Step::Empty => wrote(coord, &Batch::new(alloc)),
         Step::Put(key, value) => {
@@ -327,22 +237,36 @@ fn done(alloc: Global, coord: &mut Coord, desk: &mut Desk, step: Step) -> Result
         Step::Show => listed(coord),
         Step::Pick(at) => picked(coord, desk, index_of(at)?),
         Step::Holds(at) => held(desk, index_of(at)?),
-        Step::GiveBack(at) => gave_back(coord, desk, index_of(at)?),
         Step::Install(at, number, tables) => {
             let made = result_of(alloc, number, tables)?;
             installed(coord, desk, index_of(at)?, &made)
         }
-        Step::Close => closed(coord, desk),
         Step::Fetch(file, table) => Made::Is(is_fetched(coord, index_of(1)?, file, table)?),
         Step::Ask => Made::Is(is_silent(coord, index_of(1)?)?),
         Step::Trim(to) => trimmed(coord, to),
+        Step::GiveBack(_) | Step::Close | Step::Restart => Made::Other,
     })
+}
+
+fn done(alloc: Global, seat: &mut TestSeat, desk: &mut Desk, step: Step) -> Result<Made, Fail> {
+    match step {
+        Step::GiveBack(at) => return Ok(gave_back(seat, desk, index_of(at)?)),
+        Step::Close => return Ok(closed(seat, desk)),
+        Step::Restart => return Ok(restarted(alloc, seat)),
+        _ => {}
+    }
+    match seat {
+        Seat::Up(coord) => called(alloc, coord, desk, step),
+        Seat::Down(..) => Ok(Made::Other),
+    }
 }
 
 /// Whether memory ran out.
 fn is_out_of_memory(made: Made) -> bool {
     match made {
-        Made::Refused(CoordError::OutOfMemory) | Made::KeptBack(InstallError::OutOfMemory) => true,
+        Made::Refused(CoordError::OutOfMemory)
+        | Made::KeptBack(InstallError::OutOfMemory)
+        | Made::NotOpened(OpenError::OutOfMemory) => true,
         _ => false,
     }
 }
@@ -350,12 +274,12 @@ fn is_out_of_memory(made: Made) -> bool {
 fn see_each(
     rt: &impl Abort,
     alloc: Global,
-    coord: &mut Coord,
+    seat: &mut TestSeat,
     desk: &mut Desk,
     steps: &[(Step, Made)],
 ) -> Result<(), Fail> {
     for (at, (step, wanted)) in steps.iter().enumerate() {
-        let made = done(alloc, coord, desk, *step)?;
+        let made = done(alloc, seat, desk, *step)?;
         if is_out_of_memory(made) {
             return Err("out of memory")?;
         }
@@ -364,17 +288,38 @@ fn see_each(
     Ok(())
 }
 
-/// Checks that the steps return what is beside them, in a new store with this limit of level 0, in files.
+/// A new store with this limit of level 0, in files, whose vault lets this many calls pass before its device fails.
+fn opened(alloc: Global, due: u64, calls: u64) -> Result<Store, Fail> {
+    let limits = Limits::new(due, 10_485_760).ok_or("no limits")?;
+    let vault = FusedVault::new(MemoryVault::new(alloc), calls);
+    match Coord::open(alloc, vault, limits) {
+        Ok(coord) => Ok(coord),
+        Err((why, _vault)) => Err(why)?,
+    }
+}
+
+/// Checks that the steps return what is beside them, in a new store whose vault's device fails once, after this many calls. The
+/// opening takes three of them.
+pub(super) fn see_fused(
+    rt: &impl Abort,
+    alloc: Global,
+    due: u64,
+    calls: u64,
+    steps: &[(Step, Made)],
+) -> Result<(), Fail> {
+    let mut seat = Seat::Up(opened(alloc, due, calls)?);
+    let mut desk = Desk::new();
+    let seen = see_each(rt, alloc, &mut seat, &mut desk, steps);
+    desk.close(&mut seat);
+    seen
+}
+
+/// The same where no device fails.
 pub(super) fn see(
     rt: &impl Abort,
     alloc: Global,
     due: u64,
     steps: &[(Step, Made)],
 ) -> Result<(), Fail> {
-    let limits = Limits::new(due, 10_485_760).ok_or("no limits")?;
-    let mut coord = Coord::new(alloc, limits)?;
-    let mut desk = Desk::new();
-    let seen = see_each(rt, alloc, &mut coord, &mut desk, steps);
-    desk.close(&mut coord);
-    seen
+    see_fused(rt, alloc, due, u64::MAX, steps)
 }

@@ -25,8 +25,22 @@ abbrev pub IsOfCoordinator : Event → Type 0
 IsOfCoordinator (event.Pick d) = ⊥
 IsOfCoordinator (event.GiveUp d) = ⊥
 IsOfCoordinator (event.Deliver number) = ⊥
+IsOfCoordinator event.RestartCoordinator = ⊥
 IsOfCoordinator (event.RestartWorker index) = ⊥
 IsOfCoordinator e = Unit {0}
+
+-- the event is no restart of the coordinator
+abbrev pub IsNoRestart : Event → Type 0
+IsNoRestart event.RestartCoordinator = ⊥
+IsNoRestart e = Unit {0}
+
+-- the coordinator or a dispatcher is asked, and no batch is refused before
+abbrev pub IsForCoordinator : Event → Type 0
+IsForCoordinator (event.Write ops) = ⊥
+IsForCoordinator (event.Deliver number) = ⊥
+IsForCoordinator event.RestartCoordinator = ⊥
+IsForCoordinator (event.RestartWorker index) = ⊥
+IsForCoordinator e = Unit {0}
 
 -- the message was sent
 abbrev pub IsStored : List (List ℕ) → Message → Type 0

@@ -22,8 +22,9 @@ use lsm_claim::{Claim, JobId, Settled};
 use lsm_coord::Desk;
 use lsm_key::{FileNumber, Items, MAX_INPUTS, Seq};
 use lsm_msg::{Body, Job, Message, Node, NodeIndex};
+use lsm_vault::Vault;
 
-impl Nodes {
+impl<V: Vault> Nodes<V> {
     /// Lets a dispatcher pick a job and send it to its worker. What the reply takes is reserved before the pick, so that a
     /// refusal leaves no claim.
     pub(super) fn pick(&mut self, dispatcher: NodeIndex) -> Reply
@@ -43,7 +44,7 @@ impl Nodes {
             Ok(None) => Reply::Idle,
             Ok(Some((claim, job))) => hand_out(
                 &mut self.desk,
-                &mut self.messages,
+                &mut self.network.messages,
                 dispatcher,
                 claim,
                 job,

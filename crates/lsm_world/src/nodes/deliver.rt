@@ -1,39 +1,34 @@
 //! Deliveries: a message reaches its receiver.
 
-ghost use Rattle.std.specs.Prelude.{◌≡◌, ◌⊎◌, ◌∷◌, [], ℕ, All, IfOk, OnErr};
+ghost use Rattle.std.specs.Prelude.{◌≡◌, ◌⊎◌, ◌∷◌, [], ℕ};
 ghost use Rattle.lsm_coord.specs.Contract.Shows.{Follows};
 ghost use Rattle.lsm_coord.specs.Model.Event as say;
 ghost use Rattle.lsm_msg.specs.declared.message.Body.TheVariants as body;
+ghost use Rattle.lsm_msg.specs.declared.node.Node.TheVariants.{Worker};
 ghost use Rattle.lsm_msg.specs.Messages.{IsMessage};
 ghost use Rattle.lsm_world.specs.declared.event.Event.TheVariants.{Deliver, RestartWorker};
-ghost use Rattle.lsm_world.specs.Asks.{Asks, Delivers, IsWork, LacksMemory, Receives, Sends, worker_reply};
+ghost use Rattle.lsm_world.specs.Asks.{Asks, Delivers, LacksMemory, Receives, Sends};
 ghost use Rattle.lsm_world.specs.Events.{event_of};
 ghost use Rattle.lsm_world.specs.Inner.Handing.{IsStored};
-ghost use Rattle.lsm_world.specs.Inner.Working.{HasWorked};
 ghost use Rattle.lsm_world.specs.Replies.{reply_of};
 ghost use Rattle.lsm_world.specs.Schedules.{IsPlain};
 
 use super::Nodes;
-use crate::four::Four;
-use crate::messages::{Messages, message_of};
+use crate::messages::Messages;
 use crate::refusal::Refusal;
 use crate::reply::{Reply, Sent};
 use lsm_msg::{Body, Message, Node, NodeIndex};
-use lsm_work::{WorkChange, Worker};
-use std::alloc::{AllocError, Global};
+use lsm_vault::Vault;
 
-impl Nodes {
+impl<V: Vault> Nodes<V> {
     /// Delivers the message of a number to its receiver.
     pub(super) fn deliver(&mut self, number: u64) -> Reply
         ensures asks { Asks self.old (Deliver number) result self.new }
         ensures follows { Follows self.old.core (event_of (Deliver number)) (reply_of result) self.new.core }
         ensures plain { IsPlain result }
     {
-        let Some(text) = self.messages.text(number) else {
-            return Reply::Refused(Refusal::NoMessage);
-        };
-        match message_of(self.alloc, text) {
-            Err(_) => Reply::Refused(Refusal::OutOfMemory),
+        match self.network.message(number) {
+            Err(why) => Reply::Refused(why),
             Ok(message) => self.hand_over(&message),
         }
     }
@@ -81,21 +76,18 @@ impl Nodes {
         match self.coord.serve(message) {
             Err(_) => Reply::Refused(Refusal::OutOfMemory),
             Ok(None) => unreachable!(),
-            Ok(Some(answer)) => Reply::Served(send(&mut self.messages, answer)),
+            Ok(Some(answer)) => Reply::Served(send(&mut self.network.messages, answer)),
         }
     }
 
     // Lets a worker have it.
     fn work(&mut self, index: NodeIndex, message: &Message) -> Reply
         requires stored { IsStored self.old.messages message.now }
-        ensures asks { LacksMemory self.old result self.new ⊎ IsWork self.old index message.now.body result self.new }
+        ensures asks { LacksMemory self.old result self.new ⊎ Delivers self.old message.now (Worker index) result self.new }
         ensures follows { (number : ℕ) → Follows self.old.core (say.Deliver number) (reply_of result) self.new.core }
         ensures plain { IsPlain result }
     {
-        match tell(self.alloc, &mut self.workers, index, message) {
-            Err(_) => Reply::Refused(Refusal::OutOfMemory),
-            Ok((change, sent)) => reply_of(change, send_all(&mut self.messages, sent)),
-        }
+        self.network.work(index, message)
     }
 
     /// Starts a worker anew.
@@ -104,10 +96,7 @@ impl Nodes {
         ensures follows { Follows self.old.core (event_of (RestartWorker index)) (reply_of result) self.new.core }
         ensures plain { IsPlain result }
     {
-        let mut worker = self.workers.replace(index, Worker::new(self.alloc, index));
-        worker.restart();
-        self.workers.replace(index, worker);
-        Reply::RestartedWorker(index)
+        self.network.restart_worker(index)
     }
 }
 
@@ -117,41 +106,4 @@ fn send(messages: &mut Messages, message: Message) -> Sent
     ensures { Sends messages.old (message ∷ []) result messages.new }
 {
     messages.send_one(&message)
-}
-
-// Stores messages.
-fn send_all(messages: &mut Messages, sent: Vec<Message>) -> Sent
-    requires { All IsMessage sent.items }
-    ensures { Sends messages.old sent.items result messages.new }
-{
-    messages.send(sent.as_slice())
-}
-
-// Lets the worker of an index have a message.
-fn tell(
-    alloc: Global,
-    workers: &mut Four<Worker>,
-    index: NodeIndex,
-    message: &Message,
-) -> Result<(WorkChange, Vec<Message>), AllocError>
-    ensures ok { IfOk result (λ r. HasWorked workers.old index message.now.body r.0 r.1.items workers.new) }
-    ensures err { OnErr result (workers.new ≡ workers.old) }
-    ensures sound { IfOk result (λ r. All IsMessage r.1.items) }
-{
-    let mut worker = workers.replace(index, Worker::new(alloc, index));
-    let done = worker.on_message(message);
-    workers.replace(index, worker);
-    done
-}
-
-// What is told of a message to a worker.
-fn reply_of(change: WorkChange, sent: Sent) -> Reply
-    ensures { result ≡ worker_reply change sent }
-{
-    match change {
-        WorkChange::Collecting(missing) => Reply::Collecting(missing, sent),
-        WorkChange::Merged => Reply::Merged(sent),
-        WorkChange::Dropped => Reply::Dropped,
-        WorkChange::Ignored => Reply::Ignored,
-    }
 }

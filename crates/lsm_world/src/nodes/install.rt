@@ -17,8 +17,9 @@ use crate::refusal::Refusal;
 use crate::reply::Reply;
 use lsm_coord::{Desk, Install};
 use lsm_msg::{JobResult, NodeIndex};
+use lsm_vault::Vault;
 
-impl Nodes {
+impl<V: Vault> Nodes<V> {
     // Installs a result under the claim that a dispatcher holds, if it is of that claim's job.
     pub(super) fn install(&mut self, dispatcher: NodeIndex, made: &JobResult) -> Reply
         requires known { (h : History) × IsHistory h self.old × IsResultOf h made.now }

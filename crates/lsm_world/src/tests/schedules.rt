@@ -2,6 +2,7 @@
 
 use crate::Refusal;
 use lsm_coord::CoordError;
+use lsm_versions::OpenError;
 
 /// What happens.
 #[derive(Clone, Copy, Debug)]
@@ -22,6 +23,7 @@ pub(super) enum Does {
     Pick(u8),
     GiveUp(u8),
     Deliver(u64),
+    RestartCoordinator,
     RestartWorker(u8),
 }
 
@@ -40,10 +42,12 @@ pub(super) enum Tells {
     Scanned(&'static [u8], &'static [u8]),
     /// The version, its flushed sequence, and level and number of each file.
     Shown(u64, u64, &'static [(u8, u64)]),
-    /// The job's number, its level and inputs, and the message.
-    Picked(u64, u8, &'static [u64], u64),
+    /// The job's epoch and number, its level and inputs, and the message.
+    Picked(u64, u64, u8, &'static [u64], u64),
     Idle,
     Returned(u64),
+    /// The number of a job of the first epoch.
+    StaleClaim(u64),
     Served(u64),
     /// The version and the new files.
     Installed(u64, &'static [u64]),
@@ -53,7 +57,9 @@ pub(super) enum Tells {
     /// How many inputs are missing. Nothing is sent.
     Kept(u32),
     Merged(u64),
-    Restarted(u8),
+    /// The epoch, the version, and the last sequence.
+    Restarted(u64, u64, u64),
+    RestartedWorker(u8),
     Refused(Refusal),
 }
 
@@ -66,7 +72,7 @@ pub(super) const PICKED: [Turn; 5] = [
     (Does::Flush, Tells::Flushed(2, 1, 1)),
     (Does::Delete(b"a"), Tells::Wrote(2)),
     (Does::Flush, Tells::Flushed(3, 2, 2)),
-    (Does::Pick(1), Tells::Picked(1, 0, &[1, 2], 1)),
+    (Does::Pick(1), Tells::Picked(1, 1, 0, &[1, 2], 1)),
 ];
 
 /// The first worker gets both tables, and merges them.
@@ -103,7 +109,7 @@ pub(super) const SNAPSHOT: [Turn; 6] = [
     (Does::Snap, Tells::Snapped(1, 1)),
     (Does::Delete(b"a"), Tells::Wrote(2)),
     (Does::Flush, Tells::Flushed(3, 2, 2)),
-    (Does::Pick(1), Tells::Picked(1, 0, &[1, 2], 1)),
+    (Does::Pick(1), Tells::Picked(1, 1, 0, &[1, 2], 1)),
 ];
 
 pub(super) const KEPT: [Turn; 3] = [
@@ -115,7 +121,7 @@ pub(super) const KEPT: [Turn; 3] = [
 /// The job is given up and picked again, before the result comes.
 pub(super) const GIVEN_UP: [Turn; 3] = [
     (Does::GiveUp(1), Tells::Returned(1)),
-    (Does::Pick(1), Tells::Picked(2, 0, &[1, 2], 7)),
+    (Does::Pick(1), Tells::Picked(1, 2, 0, &[1, 2], 7)),
     (Does::Deliver(6), Tells::Refused(Refusal::NoClaim)),
 ];
 
@@ -141,8 +147,8 @@ pub(super) const TWO: [Turn; 8] = [
 
 /// Two jobs at a time; the later one is merged last and installed first.
 pub(super) const TWO_JOBS: [Turn; 16] = [
-    (Does::Pick(1), Tells::Picked(1, 0, &[1, 2], 1)),
-    (Does::Pick(2), Tells::Picked(2, 0, &[3, 4], 2)),
+    (Does::Pick(1), Tells::Picked(1, 1, 0, &[1, 2], 1)),
+    (Does::Pick(2), Tells::Picked(1, 2, 0, &[3, 4], 2)),
     (Does::Deliver(1), Tells::Asked(2, 3, 4)),
     (Does::Deliver(2), Tells::Asked(2, 5, 6)),
     (Does::Deliver(3), Tells::Served(7)),
@@ -164,7 +170,7 @@ pub(super) const BEFORE: [Turn; 5] = [
     (Does::Flush, Tells::Flushed(2, 1, 1)),
     (Does::Put(b"a", b"2"), Tells::Wrote(2)),
     (Does::Flush, Tells::Flushed(3, 2, 2)),
-    (Does::Pick(1), Tells::Picked(1, 0, &[1, 2], 1)),
+    (Does::Pick(1), Tells::Picked(1, 1, 0, &[1, 2], 1)),
 ];
 
 /// A snapshot and a write while the job runs.
@@ -183,12 +189,12 @@ pub(super) const AFTER: [Turn; 3] = [
 pub(super) const DOWN: [Turn; 12] = [
     (Does::Put(b"a", b"1"), Tells::Wrote(1)),
     (Does::Flush, Tells::Flushed(2, 1, 1)),
-    (Does::Pick(1), Tells::Picked(1, 0, &[1], 1)),
+    (Does::Pick(1), Tells::Picked(1, 1, 0, &[1], 1)),
     (Does::Deliver(1), Tells::Asked(1, 2, 2)),
     (Does::Deliver(2), Tells::Served(3)),
     (Does::Deliver(3), Tells::Merged(4)),
     (Does::Deliver(4), Tells::Installed(3, &[2])),
-    (Does::Pick(1), Tells::Picked(2, 1, &[2], 5)),
+    (Does::Pick(1), Tells::Picked(1, 2, 1, &[2], 5)),
     (Does::Deliver(5), Tells::Asked(1, 6, 6)),
     (Does::Deliver(6), Tells::Served(7)),
     (Does::Deliver(7), Tells::Merged(8)),
@@ -199,7 +205,7 @@ pub(super) const DOWN: [Turn; 12] = [
 pub(super) const OVER: [Turn; 9] = [
     (Does::Delete(b"a"), Tells::Wrote(2)),
     (Does::Flush, Tells::Flushed(5, 2, 4)),
-    (Does::Pick(1), Tells::Picked(3, 0, &[4], 9)),
+    (Does::Pick(1), Tells::Picked(1, 3, 0, &[4], 9)),
     (Does::Deliver(9), Tells::Asked(1, 10, 10)),
     (Does::Deliver(10), Tells::Served(11)),
     (Does::Deliver(11), Tells::Merged(12)),
@@ -220,7 +226,7 @@ pub(super) const TWICE: [Turn; 6] = [
 
 /// A worker that is started anew awaits nothing.
 pub(super) const ANEW: [Turn; 3] = [
-    (Does::RestartWorker(1), Tells::Restarted(1)),
+    (Does::RestartWorker(1), Tells::RestartedWorker(1)),
     (Does::Deliver(7), Tells::Ignored),
     (Does::Deliver(1), Tells::Asked(2, 8, 9)),
 ];
@@ -243,4 +249,66 @@ pub(super) const CALLS: [Turn; 10] = [
     (Does::Deliver(0), Tells::Refused(Refusal::NoMessage)),
     (Does::Deliver(1), Tells::Refused(Refusal::NoMessage)),
     (Does::GiveUp(4), Tells::Refused(Refusal::NoClaim)),
+];
+
+/// The coordinator restarts while a job is merged: the result is of an earlier epoch, and its claim is spent.
+pub(super) const RESTARTED: [Turn; 9] = [
+    (Does::Deliver(1), Tells::Asked(2, 2, 3)),
+    (Does::Deliver(2), Tells::Served(4)),
+    (Does::Deliver(3), Tells::Served(5)),
+    (Does::RestartCoordinator, Tells::Restarted(2, 4, 2)),
+    (Does::Deliver(4), Tells::Kept(1)),
+    (Does::Deliver(5), Tells::Merged(6)),
+    (Does::Pick(1), Tells::Refused(Refusal::Busy)),
+    (Does::Deliver(6), Tells::Refused(Refusal::OldEpoch)),
+    (Does::Deliver(6), Tells::Refused(Refusal::NoClaim)),
+];
+
+/// The coordinator restarts after the merge: the result is refused, and the next job is of the next epoch.
+pub(super) const REFUSED: [Turn; 3] = [
+    (Does::RestartCoordinator, Tells::Restarted(2, 4, 2)),
+    (Does::Deliver(6), Tells::Refused(Refusal::OldEpoch)),
+    (Does::Pick(1), Tells::Picked(2, 1, 0, &[1, 2], 7)),
+];
+
+/// A write that was not flushed is lost.
+pub(super) const LOST: [Turn; 4] = [
+    (Does::Put(b"a", b"1"), Tells::Wrote(1)),
+    (Does::RestartCoordinator, Tells::Restarted(2, 2, 0)),
+    (Does::Get(b"a"), Tells::Got(None)),
+    (Does::Put(b"b", b"2"), Tells::Wrote(1)),
+];
+
+pub(super) const STALE: [Turn; 4] = [
+    (Does::RestartCoordinator, Tells::Restarted(2, 4, 2)),
+    (Does::GiveUp(1), Tells::StaleClaim(1)),
+    (Does::GiveUp(1), Tells::Refused(Refusal::NoClaim)),
+    (Does::RestartCoordinator, Tells::Restarted(3, 5, 2)),
+];
+
+/// A flush that is refused is done again.
+pub(super) const FAILED: [Turn; 4] = [
+    (Does::Put(b"a", b"1"), Tells::Wrote(1)),
+    (
+        Does::Flush,
+        Tells::Refused(Refusal::Coord(CoordError::Device)),
+    ),
+    (Does::Flush, Tells::Flushed(2, 1, 1)),
+    (Does::Get(b"a"), Tells::Got(Some(b"1"))),
+];
+
+/// The coordinator is down after a restart that is refused, and a worker goes on.
+pub(super) const STOPPED: [Turn; 9] = [
+    (Does::Put(b"a", b"1"), Tells::Wrote(1)),
+    (Does::Flush, Tells::Flushed(2, 1, 1)),
+    (
+        Does::RestartCoordinator,
+        Tells::Refused(Refusal::Open(OpenError::Device)),
+    ),
+    (Does::Get(b"a"), Tells::Refused(Refusal::Down)),
+    (Does::Pick(1), Tells::Refused(Refusal::Down)),
+    (Does::RestartWorker(1), Tells::RestartedWorker(1)),
+    (Does::Deliver(1), Tells::Refused(Refusal::NoMessage)),
+    (Does::RestartCoordinator, Tells::Restarted(2, 3, 1)),
+    (Does::Get(b"a"), Tells::Got(Some(b"1"))),
 ];

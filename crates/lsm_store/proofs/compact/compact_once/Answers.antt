@@ -4,20 +4,20 @@ use Rattle.lsm_store.proofs.Compactions.{back_keeps, inputs_of_version, left_aga
 use Rattle.lsm_store.proofs.compact.compact_once.Goals as goal
 
 pub returns-clause-err : goal.returns-clause-err
-returns-clause-err c =
+returns-clause-err g c =
     let know = c.show-listing.ensures.fit in
     left_again _ _ c.in-Some.claim c.in-Some.job know.version know.served know.book (picked_by _ _ _ _ _ c.in-Some.is c.in_ok-claim.ensures.ok) _ c.give_back-in-Err.ensures.book
 
 pub returns-clause-refused : goal.returns-clause-refused
-returns-clause-refused c = rw c.into.ensures (wants_memory c.args.coord.now _ (picked_by _ _ _ _ _ c.in-Some.is c.in_ok-claim.ensures.ok).may)
+returns-clause-refused g c = rw c.into.ensures (wants_memory c.args.coord.now _ (picked_by _ _ _ _ _ c.in-Some.is c.in_ok-claim.ensures.ok).may)
 
 pub returns-clause-sound : goal.returns-clause-sound
-returns-clause-sound c =
+returns-clause-sound g c =
     let know = c.show-listing.ensures.fit in
     back_keeps _ _ c.in-Some.claim c.in-Some.job know.version know.served know.book (picked_by _ _ _ _ _ c.in-Some.is c.in_ok-claim.ensures.ok) _ c.pick.ensures.sound c.give_back-in-Err.ensures.sound c.give_back-in-Err.ensures.book
 
 pub returns-in-Ok-None-clause-ok : goal.returns-in-Ok-None-clause-ok
-returns-in-Ok-None-clause-ok c =
+returns-in-Ok-None-clause-ok g c =
     let know = c.show-listing.ensures.fit in
     let picked = picked_by _ _ _ _ _ c.in-Some.is c.in_ok-claim.ensures.ok in (
       left_again _ _ c.in-Some.claim c.in-Some.job know.version know.served know.book picked _ c.give_back.ensures.book,
@@ -25,29 +25,29 @@ returns-in-Ok-None-clause-ok c =
     )
 
 pub returns-in-Ok-None-clause-sound : goal.returns-in-Ok-None-clause-sound
-returns-in-Ok-None-clause-sound c =
+returns-in-Ok-None-clause-sound g c =
     let know = c.show-listing.ensures.fit in
     back_keeps _ _ c.in-Some.claim c.in-Some.job know.version know.served know.book (picked_by _ _ _ _ _ c.in-Some.is c.in_ok-claim.ensures.ok) _ c.pick.ensures.sound c.give_back.ensures.sound c.give_back.ensures.book
 
 pub returns-in-Ok-Some-clause-err : goal.returns-in-Ok-Some-clause-err
-returns-in-Ok-Some-clause-err c =
+returns-in-Ok-Some-clause-err g c =
     let know = c.show-listing.ensures.fit in
     answers_left _ _ _ c.in-Some.claim c.in-Some.job know.version know.served know.book (picked_by _ _ _ _ _ c.in-Some.is c.in_ok-claim.ensures.ok) c.install.result c.install.ensures.err
 
 pub returns-in-Ok-Some-clause-ok : goal.returns-in-Ok-Some-clause-ok
-returns-in-Ok-Some-clause-ok c =
+returns-in-Ok-Some-clause-ok g c =
     let know = c.show-listing.ensures.fit in
     let merge = merges_by _ _ _ _ c.in-Ok-Some.field-0-is (c.in-Ok-Some.ensures (inputs_of_version _ _ c.in-Some.claim c.in-Some.job know.version know.served know.book (picked_by _ _ _ _ _ c.in-Some.is c.in_ok-claim.ensures.ok))) in
     answers_made _ _ _ c.in-Some.claim c.in-Some.job know.version know.served know.book (picked_by _ _ _ _ _ c.in-Some.is c.in_ok-claim.ensures.ok) _ merge.0 merge.1 c.install.result c.install.ensures.done c.install.ensures.stale
 
 pub returns-in-Ok-Some-clause-refused : goal.returns-in-Ok-Some-clause-refused
-returns-in-Ok-Some-clause-refused c =
+returns-in-Ok-Some-clause-refused g c =
     let know = c.show-listing.ensures.fit in
     let merge = merges_by _ _ _ _ c.in-Ok-Some.field-0-is (c.in-Ok-Some.ensures (inputs_of_version _ _ c.in-Some.claim c.in-Some.job know.version know.served know.book (picked_by _ _ _ _ _ c.in-Some.is c.in_ok-claim.ensures.ok))) in
     answers_refused _ _ c.install.new.coord c.in-Some.claim c.in-Some.job know.version know.served know.book (picked_by _ _ _ _ _ c.in-Some.is c.in_ok-claim.ensures.ok) _ merge.0 merge.1 c.install.result c.install.ensures.refused
 
 pub returns-in-Ok-Some-clause-sound : goal.returns-in-Ok-Some-clause-sound
-returns-in-Ok-Some-clause-sound c =
+returns-in-Ok-Some-clause-sound g c =
     let know = c.show-listing.ensures.fit in
     let merge = merges_by _ _ _ _ c.in-Ok-Some.field-0-is (c.in-Ok-Some.ensures (inputs_of_version _ _ c.in-Some.claim c.in-Some.job know.version know.served know.book (picked_by _ _ _ _ _ c.in-Some.is c.in_ok-claim.ensures.ok))) in
     let picked = picked_by _ _ _ _ _ c.in-Some.is c.in_ok-claim.ensures.ok in
@@ -56,7 +56,7 @@ returns-in-Ok-Some-clause-sound c =
     answers_sound _ _ _ c.in-Some.claim c.in-Some.job know.version know.served know.book picked _ merge.0 merge.1 c.install.result c.pick.ensures.sound second c.install.ensures.done c.install.ensures.stale c.install.ensures.err
 
 pub returns-in-Ok-Some-clause-step : goal.returns-in-Ok-Some-clause-step
-returns-in-Ok-Some-clause-step c = λ dispatcher message index s h.
+returns-in-Ok-Some-clause-step g c = λ dispatcher message index s h.
     let know = c.show-listing.ensures.fit in
     let merge = merges_by _ _ _ _ c.in-Ok-Some.field-0-is (c.in-Ok-Some.ensures (inputs_of_version _ _ c.in-Some.claim c.in-Some.job know.version know.served know.book (picked_by _ _ _ _ _ c.in-Some.is c.in_ok-claim.ensures.ok))) in
     let picked = picked_by _ _ _ _ _ c.in-Some.is c.in_ok-claim.ensures.ok in

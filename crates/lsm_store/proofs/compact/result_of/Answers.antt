@@ -7,7 +7,7 @@ use Rattle.lsm_store.proofs.ServedTables.{are_recorded}
 use Rattle.lsm_store.proofs.compact.result_of.Goals as goal
 
 pub returns-in-Err-WrongInputs : goal.returns-in-Err-WrongInputs
-returns-in-Err-WrongInputs c = λ served.
+returns-in-Err-WrongInputs g c = λ served.
     let know = c.show-listing.ensures.fit in
     let tables = c.as_slice.ensures.value ∙ c.in_ok-tables.ensures in
     let refused = subst (λ (e : MergeError). IsRefused c.as_slice.result.now c.args.job.now e) c.in-Err-WrongInputs.field-0-is c.in-Err-WrongInputs.ensures.refused in

@@ -1,4 +1,5 @@
 use Rattle.std.proofs.Common.{◌≡◌, ◌∙◌, ◌++◌, ℕ, List, ◌∷◌, [], None, refl, ap, sym, subst, arith}
+use Rattle.std.specs.FinMap as fin
 use Rattle.lsm_key.specs.declared.entry.Entry.{Entry}
 use Rattle.lsm_edit.specs.Edit.{edit as spelling}
 use Rattle.lsm_edit.specs.Next.{flush_edit}
@@ -15,7 +16,7 @@ use Rattle.lsm_coord.proofs.JobsStaySound.{flush_keeps}
 use Rattle.lsm_coord.proofs.coord.Coord.add_table.Goals as goal
 
 pub invariant_of-self-then-is_some : goal.invariant_of-self-then-is_some
-invariant_of-self-then-is_some c =
+invariant_of-self-then-is_some g c =
     let m = c.self.inside in
     let from = flush_source_of m.active m.newest m.frozen in
     let new : VersionSetValue = c.put_table.new.versions in
@@ -29,7 +30,7 @@ invariant_of-self-then-is_some c =
     (after_flush m.active m.frozen m.newest m.versions.served (with_flushed m.versions.served c.args.end c.args.meta c.args.table) m.book m.live.items c.self.invariant end refl legal))
 
 pub invariant_of-self-2 : goal.invariant_of-self-2
-invariant_of-self-2 c =
+invariant_of-self-2 g c =
     let m = c.self.inside in
     let from = flush_source_of m.active m.newest m.frozen in
     let new : VersionSetValue = c.put_table.new.versions in
@@ -44,7 +45,7 @@ invariant_of-self-2 c =
     (after_flush m.active m.frozen m.newest m.versions.served (with_flushed m.versions.served c.args.end c.args.meta c.args.table) m.book m.live.items c.self.invariant end refl legal))
 
 pub returns-then-is_some-clause-ok : goal.returns-then-is_some-clause-ok
-returns-then-is_some-clause-ok c =
+returns-then-is_some-clause-ok g c =
     let m = c.self.inside in
     let s = m.versions.served in
     let from = flush_source_of m.active m.newest m.frozen in
@@ -58,11 +59,12 @@ returns-then-is_some-clause-ok c =
       applies = adds.applies;
       text = spelling adds.edit;
       spelled = record { sound = adds.valid; spelled = refl };
-      new_is = λ i. record { limits = m.limits; active = active i; frozen = None; served = with_flushed s (end i) c.args.meta c.args.table; edits = m.versions.edits ++ spelling adds.edit ∷ []; last = m.newest; snapshots = m.live.items; made = m.made; floor = m.versions.floor; retired = m.versions.retired; book = m.book };
+      new_is = λ i. record { limits = m.limits; active = active i; frozen = None; served = with_flushed s (end i) c.args.meta c.args.table; edits = m.versions.edits ++ spelling adds.edit ∷ []; last = m.newest; snapshots = m.live.items; made = m.made; floor = m.versions.floor; retired = m.versions.retired; book = m.book; kept = fin.insert m.versions.kept c.args.meta.number c.args.table.bytes; failures = c.put_table.new.versions.failures };
+      counted = adds.counted;
     })
 
 pub returns-clause-ok : goal.returns-clause-ok
-returns-clause-ok c =
+returns-clause-ok g c =
     let m = c.self.inside in
     let s = m.versions.served in
     let from = flush_source_of m.active m.newest m.frozen in
@@ -76,17 +78,18 @@ returns-clause-ok c =
       applies = adds.applies;
       text = spelling adds.edit;
       spelled = record { sound = adds.valid; spelled = refl };
-      new_is = λ i. record { limits = m.limits; active = active i; frozen = none i; served = with_flushed s (end i) c.args.meta c.args.table; edits = m.versions.edits ++ spelling adds.edit ∷ []; last = m.newest; snapshots = m.live.items; made = m.made; floor = m.versions.floor; retired = m.versions.retired; book = m.book };
+      new_is = λ i. record { limits = m.limits; active = active i; frozen = none i; served = with_flushed s (end i) c.args.meta c.args.table; edits = m.versions.edits ++ spelling adds.edit ∷ []; last = m.newest; snapshots = m.live.items; made = m.made; floor = m.versions.floor; retired = m.versions.retired; book = m.book; kept = fin.insert m.versions.kept c.args.meta.number c.args.table.bytes; failures = c.put_table.new.versions.failures };
+      counted = adds.counted;
     })
 
 pub returns-then-is_some-clause-sound : goal.returns-then-is_some-clause-sound
-returns-then-is_some-clause-sound c =
+returns-then-is_some-clause-sound g c =
     let version : IsVersion c.args.self.now.served.version = subst (λ (v : CoordValue). IsVersion v.served.version) c.self.view_is (subst IsVersion c.version.ensures c.files-files.ensures.sound) in
     let legal : AreLegal c.args.self.now.served.version.files c.args.self.now.book.live = subst (λ (v : CoordValue). AreLegal v.served.version.files v.book.live) c.self.view_is c.self.invariant.legal in
-    flush_keeps c.args.self.now _ c.args.meta c.args.table version c.requires.place.0 c.requires.place.1 legal (returns-then-is_some-clause-ok c)
+    flush_keeps c.args.self.now _ c.args.meta c.args.table version c.requires.place.0 c.requires.place.1 legal (returns-then-is_some-clause-ok g c)
 
 pub returns-clause-sound : goal.returns-clause-sound
-returns-clause-sound c =
+returns-clause-sound g c =
     let version : IsVersion c.args.self.now.served.version = subst (λ (v : CoordValue). IsVersion v.served.version) c.self.view_is (subst IsVersion c.version.ensures c.files-files.ensures.sound) in
     let legal : AreLegal c.args.self.now.served.version.files c.args.self.now.book.live = subst (λ (v : CoordValue). AreLegal v.served.version.files v.book.live) c.self.view_is c.self.invariant.legal in
-    flush_keeps c.args.self.now _ c.args.meta c.args.table version c.requires.place.0 c.requires.place.1 legal (returns-clause-ok c)
+    flush_keeps c.args.self.now _ c.args.meta c.args.table version c.requires.place.0 c.requires.place.1 legal (returns-clause-ok g c)

@@ -7,7 +7,7 @@ use Rattle.lsm_coord.proofs.PickedJobs.{claimed_or_not, legal_claimed, orderly_c
 use Rattle.lsm_coord.proofs.coord.Coord.claim.Goals as goal
 
 pub invariant_of-self : goal.invariant_of-self
-invariant_of-self c =
+invariant_of-self g c =
     let m = c.self.inside in
     let i = c.self.invariant in
     let want = c.args.want in

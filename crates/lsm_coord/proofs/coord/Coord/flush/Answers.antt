@@ -20,30 +20,32 @@ use Rattle.lsm_coord.proofs.ForcedRefusals.{flush_forced, flush_refused}
 use Rattle.lsm_coord.proofs.FlushSteps.{end_of, shows_after}
 use Rattle.lsm_coord.proofs.ShownVersions.{version_count}
 use Rattle.lsm_coord.proofs.CoordInvariant.{flush_free, taken_newer}
+use Rattle.lsm_coord.proofs.VaultRefusals.{flush_failed, stored_keeps, stored_shows}
+use Rattle.lsm_coord.proofs.GiveBackSteps.{Shows-beside}
 use Rattle.lsm_coord.proofs.coord.Coord.flush.Goals as goal
 
 pub returns-in-Some-clause-step : goal.returns-in-Some-clause-step
-returns-in-Some-clause-step c = λ s h.
+returns-in-Some-clause-step g c = λ s h.
     let forced : refusal s say.Flush ≡ Some (refusal_of c.in-Some.why) = flush_forced c.args.self.now s h ∙ ap (option_map refusal_of) (sym c.flush_fault.ensures ∙ c.in-Some.is) in
     (s, flush_refused s (refusal_of c.in-Some.why) forced, h)
 
 pub from_entries-requires-clause-each : goal.from_entries-requires-clause-each
-from_entries-requires-clause-each c = subst AreSound (sym c.in_ok-entries.ensures.all) c.in_ok-entries.ensures.sound.sound
+from_entries-requires-clause-each g c = subst AreSound (sym c.in_ok-entries.ensures.all) c.in_ok-entries.ensures.sound.sound
 
 pub from_entries-requires-clause-small : goal.from_entries-requires-clause-small
-from_entries-requires-clause-small c =
+from_entries-requires-clause-small g c =
     let es = c.in_ok-entries.entries.items in
     let some : 0 < length es = search rules in
     light_fits es some (subst (λ (entries : List Entry). sum_by entry_weight entries ≤ MAX_MEMTABLE_WEIGHT) (sym c.in_ok-entries.ensures.all) c.in_ok-entries.ensures.sound.light)
 
 pub add_table-requires-clause-newer : goal.add_table-requires-clause-newer
-add_table-requires-clause-newer c =
+add_table-requires-clause-newer g c =
     let none : flush_fault c.args.self.now ≡ None = sym c.flush_fault.ensures ∙ c.in-None.is in
     let free = flush_free _ _ (ap flush_fault c.self.view_is ∙ none) in
     rw (c.flush_end-seq.ensures, ← c.self.view_is) (taken_newer c.self.inside.active c.self.inside.frozen c.self.inside.newest c.self.inside.versions.served c.self.inside.book c.self.inside.live.items c.self.invariant free.0).0
 
 pub returns-clause-step : goal.returns-clause-step
-returns-clause-step c = λ s h.
+returns-clause-step g c = λ s h.
     let v : CoordValue = c.args.self.now in
     let none : flush_fault v ≡ None = sym c.flush_fault.ensures ∙ c.in-None.is in
     let may : refusal s say.Flush ≡ None = flush_forced v s h ∙ ap (option_map refusal_of) none in
@@ -55,7 +57,16 @@ returns-clause-step c = λ s h.
     let spelled = subst (IsSpelledEdit adds.text) adds.edit_is adds.spelled in
     let applies = subst (λ (e : Edit). apply_fault v.served.version e ≡ None) adds.edit_is adds.applies in
     let shows = shows_after v v.frozen s c.in_ok-meta.meta c.in_ok-table.table adds.text h refl whole (c.in_ok-meta.ensures.place.0 ∙ file) c.in_ok-meta.ensures.place.1 spelled applies in
-    (after_flush s, (may, (omega (arith, versions, number, c.new.ensures), c.flush_end-seq.ensures ∙ sym (end_of v v.frozen s h refl), c.new-2.ensures ∙ file ∙ sym h.tables.next_file, refl)), subst (λ (x : CoordValue). Shows x (after_flush s)) (sym adds.new_is) shows)
+    (after_flush s, (may, (omega (arith, versions, number, c.new.ensures), c.flush_end-seq.ensures ∙ sym (end_of v v.frozen s h refl), c.new-2.ensures ∙ file ∙ sym h.tables.next_file, refl)), subst (λ (x : CoordValue). Shows x (after_flush s)) (sym adds.new_is) (Shows-beside _ _ _ _ (after_flush s) shows))
 
 pub returns-clause-ok : goal.returns-clause-ok
-returns-clause-ok c = (sym c.flush_fault.ensures ∙ c.in-None.is, (c.in_ok-meta.meta, c.in_ok-table.table, c.in_ok-table.ensures ∙ c.in_ok-entries.ensures.all ∙ c.flushable.ensures, c.in_ok-add_table.ensures.ok))
+returns-clause-ok g c = (sym c.flush_fault.ensures ∙ c.in-None.is, (c.in_ok-meta.meta, c.in_ok-table.table, c.in_ok-table.ensures ∙ c.in_ok-entries.ensures.all ∙ c.flushable.ensures, c.in_ok-add_table.ensures.ok))
+
+pub returns-in_err-add_table-clause-step : goal.returns-in_err-add_table-clause-step
+returns-in_err-add_table-clause-step g c = λ s h.
+    let none : flush_fault c.args.self.now ≡ None = sym c.flush_fault.ensures ∙ c.in-None.is in
+    let may : refusal s say.Flush ≡ None = flush_forced c.args.self.now s h ∙ ap (option_map refusal_of) none in
+    (s, flush_failed s c.from_residual-in_err-add_table.result c.in_err-add_table.field-0.0 c.from_residual-in_err-add_table.ensures.1 may, stored_shows _ _ c.in_err-add_table.ensures.err s h)
+
+pub returns-in_err-add_table-clause-sound : goal.returns-in_err-add_table-clause-sound
+returns-in_err-add_table-clause-sound g c = stored_keeps _ _ c.in_err-add_table.ensures.err

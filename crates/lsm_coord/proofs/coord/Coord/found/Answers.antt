@@ -9,19 +9,19 @@ use Rattle.lsm_coord.proofs.SearchAnswers.{searched_first, searched_second, sear
 use Rattle.lsm_coord.proofs.coord.Coord.found.Goals as goal
 
 pub returns-in-Some : goal.returns-in-Some
-returns-in-Some c =
+returns-in-Some g c =
     let point = subst (λ (v : CoordValue). IsPoint v c.args.point) (sym c.self.view_is) c.requires in
     rw (← c.self.view_is) (λ s h. searched_first _ c.args.point c.args.key.now point s h (lent_entry c.in-Some.entry) (sym c.in-Some.ensures))
 
 pub returns-in-Some-frozen_entry : goal.returns-in-Some-frozen_entry
-returns-in-Some-frozen_entry c =
+returns-in-Some-frozen_entry g c =
     let point = subst (λ (v : CoordValue). IsPoint v c.args.point) (sym c.self.view_is) c.requires in
     let found : visible (frozen_entries c.self.inside.frozen) c.args.key.now c.args.point ≡ Some (lent_entry c.in-Some-frozen_entry.entry) =
     ap (λ (v : CoordValue). visible (frozen_entries v.frozen) c.args.key.now c.args.point) c.self.view_is ∙ sym c.in-Some-frozen_entry.ensures in
     rw (← c.self.view_is) (λ s h. searched_second _ c.args.point c.args.key.now point s h (lent_entry c.in-Some-frozen_entry.entry) (sym c.in-None.ensures) found)
 
 pub returns-in-None-frozen_entry : goal.returns-in-None-frozen_entry
-returns-in-None-frozen_entry c =
+returns-in-None-frozen_entry g c =
     let point = subst (λ (v : CoordValue). IsPoint v c.args.point) (sym c.self.view_is) c.requires in
     let empty : visible (frozen_entries c.self.inside.frozen) c.args.key.now c.args.point ≡ None =
     ap (λ (v : CoordValue). visible (frozen_entries v.frozen) c.args.key.now c.args.point) c.self.view_is ∙ sym c.in-None-frozen_entry.ensures in

@@ -1,11 +1,11 @@
 use Rattle.std.proofs.Common.{◌∙◌, refl}
 use Rattle.lsm_claim.specs.declared.ending.Ending.TheVariants.{Returned}
 use Rattle.lsm_coord.proofs.StateRefusals.{give_up_may}
-use Rattle.lsm_coord.proofs.GiveBackSteps.{epoch_after, legal_after, orderly_after, Shows-with_book, gives_back_keeps}
+use Rattle.lsm_coord.proofs.GiveBackSteps.{epoch_after, legal_after, orderly_after, Shows-beside, gives_back_keeps}
 use Rattle.lsm_coord.proofs.coord.Coord.give_back.Goals as goal
 
 pub invariant_of-self : goal.invariant_of-self
-invariant_of-self c =
+invariant_of-self g c =
     let m = c.self.inside in
     let i = c.self.invariant in
     rw c.settle.ensures.book (record {
@@ -20,7 +20,7 @@ invariant_of-self c =
     })
 
 pub returns-clause-step : goal.returns-clause-step
-returns-clause-step c = rw (c.settle.ensures.book, ← c.self.view_is) (λ dispatcher index s h. (s, (give_up_may s dispatcher h.up, (index, refl)), Shows-with_book _ _ s h))
+returns-clause-step g c = rw (c.settle.ensures.book, ← c.self.view_is) (λ dispatcher index s h. (s, (give_up_may s dispatcher h.up, (index, refl)), Shows-beside _ _ _ _ s h))
 
 pub returns-clause-sound : goal.returns-clause-sound
-returns-clause-sound c = rw (c.settle.ensures.book, ← c.self.view_is) (gives_back_keeps _ c.args.claim.id)
+returns-clause-sound g c = rw (c.settle.ensures.book, ← c.self.view_is) (gives_back_keeps _ c.args.claim.id)

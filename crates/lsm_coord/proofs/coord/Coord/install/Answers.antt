@@ -12,7 +12,7 @@ use Rattle.lsm_edit.specs.Served.{IsServed, ServedValue}
 use Rattle.lsm_edit.specs.Version.{IsVersion}
 use Rattle.lsm_coord.specs.Contract.Memory.{AreLegal, AreJobWants}
 use Rattle.lsm_coord.specs.Contract.Value.{CoordValue}
-use Rattle.lsm_coord.proofs.InstallRefusals.{kept_steps, stale_steps}
+use Rattle.lsm_coord.proofs.InstallRefusals.{kept_steps, put_left, rejected_keeps, rejected_stored, stale_steps}
 use Rattle.lsm_coord.proofs.InstallKeepsJobs.{install_keeps}
 use Rattle.lsm_coord.proofs.InstallSteps.{install_steps}
 use Rattle.lsm_coord.proofs.JobsStaySound.{nothing_keeps}
@@ -20,7 +20,7 @@ use Rattle.lsm_coord.proofs.GiveBackSteps.{epoch_after, legal_after, orderly_aft
 use Rattle.lsm_coord.proofs.coord.Coord.install.Goals as goal
 
 pub invariant_of-self : goal.invariant_of-self
-invariant_of-self c =
+invariant_of-self g c =
     let m = c.self.inside in
     let i = c.self.invariant in
     rw c.settle.ensures.book (record {
@@ -35,24 +35,24 @@ invariant_of-self c =
     })
 
 pub put_outputs-requires-clause-legal : goal.put_outputs-requires-clause-legal
-put_outputs-requires-clause-legal c =
+put_outputs-requires-clause-legal g c =
     let found = found_some (λ j. same_job_id j.id c.id-id.result) c.live.result.now c.in-Some.job.now (sym c.job_named.ensures ∙ ap option_copied c.in-Some.is) in
     c.self.invariant.legal c.in-Some.job.now (subst (IsIn c.in-Some.job.now) c.live.ensures.all found.0)
 
 pub put_outputs-requires-clause-orderly : goal.put_outputs-requires-clause-orderly
-put_outputs-requires-clause-orderly c =
+put_outputs-requires-clause-orderly g c =
     let found = found_some (λ j. same_job_id j.id c.id-id.result) c.live.result.now c.in-Some.job.now (sym c.job_named.ensures ∙ ap option_copied c.in-Some.is) in
     c.self.invariant.orderly c.in-Some.job.now (subst (IsIn c.in-Some.job.now) c.live.ensures.all found.0)
 
 pub returns-in-None-clause-became : goal.returns-in-None-clause-became
-returns-in-None-clause-became c =
+returns-in-None-clause-became g c =
     let none = found_none (λ j. same_job_id j.id c.id-id.result) c.live.result.now (sym c.job_named.ensures ∙ ap option_copied c.in-None.is) in
     let unheld = ap (λ (js : List LiveJob). list_any (λ j. same_job_id j.id c.id-id.result) js) (sym c.live.ensures.all) ∙ none in
     let held = subst (λ (id : JobId). holds c.self.inside.book id ≡ false) c.id-id.ensures unheld in
     rw (c.settle.ensures.book, ← c.self.view_is) (held, c.id-id.ensures, c.epoch-epoch.ensures, with_book _ _ (unheld_after c.self.inside.book c.args.claim.id held))
 
 pub invariant_of-self-in-Ok : goal.invariant_of-self-in-Ok
-invariant_of-self-in-Ok c =
+invariant_of-self-in-Ok g c =
     let m = c.self.inside in
     let listed = c.listing-listing.ensures.sound in
     let served : IsServed m.versions.served = subst IsServed c.served.ensures.served listed.0 in
@@ -64,14 +64,14 @@ invariant_of-self-in-Ok c =
     c.self.invariant c.live.ensures.sound served version live c.in-Ok.ensures.ok)
 
 pub returns-in-Ok-clause-became : goal.returns-in-Ok-clause-became
-returns-in-Ok-clause-became c =
+returns-in-Ok-clause-became g c =
     let found = sym c.job_named.ensures ∙ ap option_copied c.in-Some.is in
     let live = (λ i. find (λ (j : LiveJob). same_job_id j.id (sym c.id-id.ensures i)) (sym c.live.ensures.all i)) ∙ found in
     rw (c.settle-in-Ok.ensures.book, ← c.self.view_is)
-    (became_done _ c.args.claim c.in-Some.job.now c.args.made.now c.in-Ok.put.number c.in-Ok.put.files c.self.inside.versions.kept c.self.inside.versions.failures c.put_outputs.new.versions live c.in-Ok.ensures.ok)
+    (became_done _ c.args.claim c.in-Some.job.now c.args.made.now c.in-Ok.put.number c.in-Ok.put.files c.put_outputs.new.versions live c.in-Ok.ensures.ok)
 
 pub returns-in-Ok-clause-step : goal.returns-in-Ok-clause-step
-returns-in-Ok-clause-step c = λ message holds.
+returns-in-Ok-clause-step g c = λ message holds.
     let view = c.self.view_is in
     install_steps c.args.self.now _ c.args.claim c.args.made.now c.in-Ok.put.number c.in-Ok.put.files
     (subst (λ (v : CoordValue). IsBook v.book) view c.live.ensures.sound)
@@ -79,37 +79,38 @@ returns-in-Ok-clause-step c = λ message holds.
     (subst (λ (v : CoordValue). IsVersion v.served.version) view (subst (λ (s : ServedValue). IsVersion s.version) c.served.ensures.served c.listing-listing.ensures.sound.1))
     (subst (λ (v : CoordValue). AreLegal v.served.version.files v.book.live) view c.self.invariant.legal)
     (subst (λ (v : CoordValue). AreJobWants v.book.live) view c.self.invariant.orderly)
-    (returns-in-Ok-clause-became c) (holds tt) message
+    (returns-in-Ok-clause-became g c) (holds tt) message
 
 pub returns-in-Err-clause-became : goal.returns-in-Err-clause-became
-returns-in-Err-clause-became c =
+returns-in-Err-clause-became g c =
     let m = c.self.inside in
     let found = sym c.job_named.ensures ∙ ap option_copied c.in-Some.is in
     let live = (λ i. find (λ (j : LiveJob). same_job_id j.id (sym c.id-id.ensures i)) (sym c.live.ensures.all i)) ∙ found in
-    let same = c.in-Err.ensures.err in
-    rw (← c.self.view_is)
-    (c.in-Some.job.now, live, refl, c.in-Err.ensures.why, λ i. record { limits = m.limits; active = m.active; frozen = m.frozen; served = (same i).served; edits = (same i).edits; last = m.newest; snapshots = m.live.items; made = m.made; floor = (same i).floor; retired = (same i).retired; book = m.book })
+    rw (← c.self.view_is) (c.in-Some.job.now, live, refl, c.in-Err.ensures.why, put_left c.in-Err.why _ c.put_outputs.new.versions c.in-Err.ensures.left)
 
 pub returns-in-None-clause-sound : goal.returns-in-None-clause-sound
-returns-in-None-clause-sound c = λ holds. nothing_keeps c.args.self.now _ (returns-in-None-clause-became c).3
+returns-in-None-clause-sound g c = λ holds. nothing_keeps c.args.self.now _ (returns-in-None-clause-became g c).3
 
 pub returns-in-Err-clause-sound : goal.returns-in-Err-clause-sound
-returns-in-Err-clause-sound c = λ holds. nothing_keeps c.args.self.now _ (returns-in-Err-clause-became c).4
+returns-in-Err-clause-sound g c = λ holds. rejected_keeps c.in-Err.why c.args.self.now _ (returns-in-Err-clause-became g c).4
+
+pub returns-in-Err-clause-failures : goal.returns-in-Err-clause-failures
+returns-in-Err-clause-failures g c = (rejected_stored c.in-Err.why c.args.self.now _ (returns-in-Err-clause-became g c).4).counted
 
 pub returns-in-Ok-clause-sound : goal.returns-in-Ok-clause-sound
-returns-in-Ok-clause-sound c = λ merge.
+returns-in-Ok-clause-sound g c = λ merge.
     let view = c.self.view_is in
     install_keeps c.args.self.now _ c.args.claim c.args.made.now c.in-Ok.put.number c.in-Ok.put.files
     (subst (λ (v : CoordValue). IsBook v.book) view c.live.ensures.sound)
     (subst (λ (v : CoordValue). IsServed v.served) view (subst IsServed c.served.ensures.served c.listing-listing.ensures.sound.0))
     (subst (λ (v : CoordValue). IsVersion v.served.version) view (subst (λ (s : ServedValue). IsVersion s.version) c.served.ensures.served c.listing-listing.ensures.sound.1))
     (subst (λ (v : CoordValue). AreLegal v.served.version.files v.book.live) view c.self.invariant.legal)
-    (returns-in-Ok-clause-became c) merge
+    (returns-in-Ok-clause-became g c) merge
 
 pub returns-in-None-clause-step : goal.returns-in-None-clause-step
-returns-in-None-clause-step c = λ message holds. stale_steps c.args.self.now _ (returns-in-None-clause-became c).3 message
+returns-in-None-clause-step g c = λ message holds. stale_steps c.args.self.now _ (returns-in-None-clause-became g c).3 message
 
 pub returns-in-Err-clause-step : goal.returns-in-Err-clause-step
-returns-in-Err-clause-step c = λ message holds.
-    let b = returns-in-Err-clause-became c in
+returns-in-Err-clause-step g c = λ message holds.
+    let b = returns-in-Err-clause-became g c in
     kept_steps c.args.self.now _ b.0 c.args.made.now c.in-Err.why b.3 b.4 message

@@ -12,7 +12,7 @@ use Rattle.lsm_coord.proofs.PickedJobs.{within_rules}
 use Rattle.lsm_coord.proofs.coord.Coord.job_of.Goals as goal
 
 pub unwrap-requires : goal.unwrap-requires
-unwrap-requires c =
+unwrap-requires g c =
     let m = c.self.inside in
     let want = c.args.want.now in
     let parts : JobParts = record { id = record { epoch = c.epoch.result; number = c.made.result + 1 }; level = want.level; block = MAX_TABLE_BYTES; points = c.from_vec.result; inputs = c.from_vec-2.result; deeper = c.from_vec-3.result } in

@@ -9,23 +9,23 @@ use Rattle.lsm_coord.proofs.ShownWindows.{scans_nothing, scans_full}
 use Rattle.lsm_coord.proofs.coord.Coord.pairs_between.Goals as goal
 
 pub returns-then-is_ge : goal.returns-then-is_ge
-returns-then-is_ge c =
+returns-then-is_ge g c =
     let back = upto_back c.args.lo.now c.args.hi.now (sym (ap is_ge c.cmp.ensures) ∙ sym c.if-is_ge.ensures) in
     rw c.new-pairs.ensures.items (scans_nothing c.args.self.now c.args.point c.args.lo.now c.args.hi.now c.args.limit back)
 
 pub loop-window-init : goal.loop-window-init
-loop-window-init c =
+loop-window-init g c =
     let on = upto_on c.args.lo.now c.args.hi.now (sym (ap is_ge c.cmp.ensures) ∙ sym c.if-is_ge.ensures) in
     let self = key_le_refl c.args.lo.now in
     rw (c.new-pairs.ensures.items, c.in_ok-from.ensures) (scans_nothing c.args.self.now c.args.point c.args.lo.now c.args.lo.now c.args.limit self, omega arith, self, on)
 
 pub returns-then-len-limit : goal.returns-then-len-limit
-returns-then-len-limit c =
+returns-then-len-limit g c =
     let i = c.loop-window.invariant in
     scans_full c.args.self.now c.args.point c.args.lo.now c.loop-window.from c.args.hi.now c.args.limit c.loop-window.pairs.items i.3 (omega (arith, c.loop-window.pairs.ok.0, c.len.ensures)) i.0
 
 pub loop-window-preserved : goal.loop-window-preserved
-loop-window-preserved c =
+loop-window-preserved g c =
     let i = c.loop-window.invariant in
     let onward : key_lt c.deref.result.now c.in-Some.end ≡ true = subst (λ (o : Option (List ℕ)). IfSome o (λ end. key_lt c.deref.result.now end ≡ true)) c.in-Some.is c.in_ok-end.ensures.onward in
     let within : key_le c.in-Some.end c.args.hi.now ≡ true = subst (λ (o : Option (List ℕ)). IfSome o (λ end. key_le end c.args.hi.now ≡ true)) c.in-Some.is c.in_ok-end.ensures.within in
@@ -40,9 +40,9 @@ loop-window-preserved c =
     )
 
 pub go_on-requires-2-clause-onward : goal.go_on-requires-2-clause-onward
-go_on-requires-2-clause-onward c = rw c.deref-2.ensures c.loop-window.invariant.3
+go_on-requires-2-clause-onward g c = rw c.deref-2.ensures c.loop-window.invariant.3
 
 pub returns : goal.returns
-returns c =
+returns g c =
     let i = c.loop-window.invariant in
     c.in_ok-go_on-2.ensures.more c.args.lo.now (rw c.deref-2.ensures i.2) (rw c.deref-2.ensures i.0)

@@ -16,7 +16,7 @@ use Rattle.lsm_coord.proofs.SnapshotSteps.{releasable, Shows-released}
 use Rattle.lsm_coord.proofs.coord.Coord.release.Goals as goal
 
 pub returns-clause-step : goal.returns-clause-step
-returns-clause-step c =
+returns-clause-step g c =
     let others : c.retain.new.self.items ≡ filter (λ (x : Snapshot). not (same_snapshot_id x.id c.args.id)) c.self.inside.live.items = filter_same _ _ _ (λ x b f k. search rules) _ _ c.retain.ensures.filtered in
     let free : release_fault c.args.self.now c.args.id ≡ None = releasable (snapshot_at c.args.self.now.snapshots c.args.id) (ap is_some (sym c.seq_of.ensures) ∙ c.is_none.ensures ∙ ap not c.if-is_none.false) in
     rw (others, ← c.self.view_is) (λ s h.
@@ -24,10 +24,10 @@ returns-clause-step c =
     (without_snapshot s c.args.id, (may, (refl, refl)), Shows-released _ s c.args.id h))
 
 pub returns-clause-ok : goal.returns-clause-ok
-returns-clause-ok c =
+returns-clause-ok g c =
     let others : c.retain.new.self.items ≡ filter (λ (x : Snapshot). not (same_snapshot_id x.id c.args.id)) c.self.inside.live.items = filter_same _ _ _ (λ x b f k. search rules) _ _ c.retain.ensures.filtered in
     let free : release_fault c.args.self.now c.args.id ≡ None = releasable (snapshot_at c.args.self.now.snapshots c.args.id) (ap is_some (sym c.seq_of.ensures) ∙ c.is_none.ensures ∙ ap not c.if-is_none.false) in
     (free, rw others (ap (λ (v : CoordValue). after_release v c.args.id) c.self.view_is))
 
 pub returns-clause-sound : goal.returns-clause-sound
-returns-clause-sound c = subst (λ (v : CoordValue). KeepsSound c.args.self.now v) (sym (returns-clause-ok c).1) (release_keeps c.args.self.now c.args.id)
+returns-clause-sound g c = subst (λ (v : CoordValue). KeepsSound c.args.self.now v) (sym (returns-clause-ok g c).1) (release_keeps c.args.self.now c.args.id)

@@ -13,7 +13,7 @@ use Rattle.lsm_coord.proofs.ServedFiles.{serves}
 use Rattle.lsm_coord.proofs.coord.Coord.serve.Goals as goal
 
 pub returns-in_ok-file_body-in-Fetch-clause-listed : goal.returns-in_ok-file_body-in-Fetch-clause-listed
-returns-in_ok-file_body-in-Fetch-clause-listed c = λ s h.
+returns-in_ok-file_body-in-Fetch-clause-listed g c = λ s h.
     let v = c.args.self.now in
     let n = c.in-Fetch.file in
     let view = c.self.view_is in

@@ -13,7 +13,7 @@ use Rattle.lsm_coord.proofs.ShownVersions.{version_count, flushed_is, files_are}
 use Rattle.lsm_coord.proofs.coord.Coord.show.Goals as goal
 
 pub returns-clause-step : goal.returns-clause-step
-returns-clause-step c =
+returns-clause-step g c =
     rw (← c.self.view_is) (λ s h.
     let t = h.tables in
     let count = version_count c.self.inside.versions.edits c.self.inside.versions.served s t in
@@ -25,12 +25,13 @@ returns-clause-step c =
     (s, (show_may s h.up, (number, lists, refl)), h))
 
 pub returns-clause-fit : goal.returns-clause-fit
-returns-clause-fit c = subst IsFit c.self.view_is (record {
+returns-clause-fit g c = subst IsFit c.self.view_is (record {
   manifest = c.served.ensures.set.folds;
   once = removed_by_one _ _ c.served.ensures.set.folds;
   version = subst (λ (v : ServedValue). IsVersion v.version) c.served.ensures.served c.listing.ensures.sound.1;
   served = subst IsServed c.served.ensures.served c.listing.ensures.sound.0;
   retired = c.served.ensures.set.retired;
+  kept = c.served.ensures.set.kept;
   book = c.live-live.ensures.sound;
   epoch = c.self.invariant.same_epoch;
   legal = c.self.invariant.legal;

@@ -12,12 +12,12 @@ use Rattle.lsm_coord.proofs.JobsStaySound.{snapshot_keeps}
 use Rattle.lsm_coord.proofs.coord.Coord.snapshot.Goals as goal
 
 pub returns-in-Some-clause-step : goal.returns-in-Some-clause-step
-returns-in-Some-clause-step c = λ s h.
+returns-in-Some-clause-step g c = λ s h.
     let forced : refusal s say.Snap ≡ Some (refusal_of c.in-Some.why) = snapshot_forced c.args.self.now s h ∙ ap (option_map refusal_of) (sym c.snapshot_fault.ensures ∙ c.in-Some.is) in
     (s, snapshot_refused s (refusal_of c.in-Some.why) forced, h)
 
 pub returns-clause-step : goal.returns-clause-step
-returns-clause-step c =
+returns-clause-step g c =
     let none : snapshot_fault c.args.self.now ≡ None = sym c.snapshot_fault.ensures ∙ c.in-None.is in
     let epoch : c.epoch.result ≡ c.self.inside.versions.served.version.epoch = c.epoch.ensures.value ∙ ap (λ (v : VersionValue). v.epoch) c.version.ensures in
     rw (c.in_ok-push.ensures.items, epoch, ← c.self.view_is) (λ s h.
@@ -26,6 +26,6 @@ returns-clause-step c =
     (with_snapshot s, (may, (id, sym h.last, refl)), Shows-snapped _ s h))
 
 pub returns-clause-sound : goal.returns-clause-sound
-returns-clause-sound c =
+returns-clause-sound g c =
     let epoch : c.epoch.result ≡ c.self.inside.versions.served.version.epoch = c.epoch.ensures.value ∙ ap (λ (v : VersionValue). v.epoch) c.version.ensures in
     rw (c.in_ok-push.ensures.items, epoch, ← c.self.view_is) (λ s h. snapshot_keeps _ s h)

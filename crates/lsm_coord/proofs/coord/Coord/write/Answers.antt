@@ -15,18 +15,18 @@ use Rattle.lsm_coord.proofs.JobsStaySound.{same_keeps}
 use Rattle.lsm_coord.proofs.coord.Coord.write.Goals as goal
 
 pub returns-in-Some-clause-step : goal.returns-in-Some-clause-step
-returns-in-Some-clause-step c = λ s h.
+returns-in-Some-clause-step g c = λ s h.
     let forced : refusal s (say.Write c.args.batch.now) ≡ Some (refusal_of c.in-Some.why) =
     write_forced c.args.self.now s c.args.batch.now h c.ops.ensures.within ∙ ap (option_map refusal_of) (sym c.write_fault.ensures ∙ c.in-Some.is) in
     (s, write_refused s c.args.batch.now (refusal_of c.in-Some.why) forced, h)
 
 pub apply-requires-clause-newer : goal.apply-requires-clause-newer
-apply-requires-clause-newer c =
+apply-requires-clause-newer g c =
     let first : c.new-first.result ≡ c.self.inside.newest + 1 = omega (arith, c.new-first.ensures, c.number-before.ensures.value) in
     rw first (last_below c.self.inside.active c.self.inside.frozen c.self.inside.newest c.self.inside.versions.served c.self.inside.book c.self.inside.live.items c.self.invariant)
 
 pub invariant_of-self-2 : goal.invariant_of-self-2
-invariant_of-self-2 c =
+invariant_of-self-2 g c =
     let ops = c.args.batch.now in
     let count : length c.ops.result.now ≡ length ops = ap (λ (x : List Op). length x) c.ops.ensures.all in
     let last : c.new-self-inside.result ≡ c.self.inside.newest + length ops = omega (arith, c.new-self-inside.ensures, count, c.number-before.ensures.value) in
@@ -35,7 +35,7 @@ invariant_of-self-2 c =
     rw last (after_write c.self.inside.active c.apply.new.self c.self.inside.frozen c.self.inside.newest c.self.inside.versions.served c.self.inside.book c.self.inside.live.items ops c.self.invariant perm)
 
 pub returns-clause-step : goal.returns-clause-step
-returns-clause-step c =
+returns-clause-step g c =
     let ops = c.args.batch.now in
     let count : length c.ops.result.now ≡ length ops = ap (λ (x : List Op). length x) c.ops.ensures.all in
     let last : c.new-self-inside.result ≡ c.self.inside.newest + length ops = omega (arith, c.new-self-inside.ensures, count, c.number-before.ensures.value) in
@@ -49,4 +49,4 @@ returns-clause-step c =
     (record s { writes = s.writes ++ ops }, (may, (first, end, refl)), Shows-written _ c.apply.new.self s ops perm h))
 
 pub returns-clause-sound : goal.returns-clause-sound
-returns-clause-sound c = rw (← c.self.view_is) (same_keeps _ _ refl refl refl)
+returns-clause-sound g c = rw (← c.self.view_is) (same_keeps _ _ refl refl refl)

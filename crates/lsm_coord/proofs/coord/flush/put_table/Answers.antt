@@ -1,23 +1,21 @@
-use Rattle.std.proofs.Common.{◌≡◌, ◌∙◌, ◌∷◌, ◌++◌, [], List, None, ap, subst, sym}
+use Rattle.std.proofs.Common.{◌≡◌, ◌∙◌, ◌∷◌, ◌++◌, [], List, None, ap, subst}
 use Rattle.lsm_table.specs.Tables.{Opened}
 use Rattle.lsm_edit.specs.declared.edit.Edit.{Edit}
-use Rattle.lsm_edit.specs.Edit.{edit as spelling}
 use Rattle.lsm_edit.specs.Next.{flush_edit}
 use Rattle.lsm_edit.specs.Served.{AreAsRecorded, IsServed, ServedValue}
 use Rattle.lsm_edit.specs.Version.{VersionValue, IsVersion, apply_fault}
-use Rattle.lsm_msg.specs.Installs.{with_flushed}
 use Rattle.lsm_versions.specs.Manifest.{VersionSetValue}
 use Rattle.lsm_coord.proofs.FlushSteps.{logged_is}
 use Rattle.lsm_coord.proofs.coord.flush.put_table.Goals as goal
 
-pub log_in_memory-requires-clause-recorded : goal.log_in_memory-requires-clause-recorded
-log_in_memory-requires-clause-recorded c =
+pub log_and_apply-requires-clause-recorded : goal.log_and_apply-requires-clause-recorded
+log_and_apply-requires-clause-recorded g c =
     let files : c.in_ok-edit.edit.added ≡ c.args.meta ∷ [] = ap (λ (e : Edit). e.added) c.in_ok-edit.ensures.edit in
     let tables : c.push.new.self.items ≡ c.args.table ∷ [] = c.in_ok-push.ensures.items ∙ ap (λ (ts : List Opened). ts ++ c.args.table ∷ []) c.in_ok-tables.ensures.items in
     rw (files, tables) (c.requires.recorded, tt)
 
 pub returns-clause-ok : goal.returns-clause-ok
-returns-clause-ok c =
+returns-clause-ok g c =
     let old : VersionSetValue = c.args.versions.now in
     let s = old.served in
     let e = c.in_ok-edit.edit in
@@ -35,7 +33,7 @@ returns-clause-ok c =
       valid = c.in_ok-edit.ensures.sound;
       applies = applies;
       new_is =
-          c.in_ok-log_in_memory.ensures.ok
-          ∙ logged_is old c.args.end c.args.meta c.args.table c.push.new.self.items e version served c.in_ok-edit.ensures.sound recorded applies is tables
-          ∙ ap (λ (v : VersionSetValue). record old { served = with_flushed old.served c.args.end c.args.meta c.args.table; edits = old.edits ++ spelling e ∷ []; kept = v.kept }) (sym c.in_ok-log_in_memory.ensures.ok);
+          c.in_ok-log_and_apply.ensures.ok
+          ∙ ap (λ (v : VersionSetValue). record v { failures = c.log_and_apply.new.self.failures }) (logged_is old c.args.end c.args.meta c.args.table c.push.new.self.items e version served c.in_ok-edit.ensures.sound recorded applies is tables);
+      counted = c.in_ok-log_and_apply.ensures.counted;
     }

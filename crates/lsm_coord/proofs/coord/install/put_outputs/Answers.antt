@@ -12,7 +12,7 @@ use Rattle.lsm_coord.proofs.OpenedOutputs.{tables_each, tables_length}
 use Rattle.lsm_coord.proofs.coord.install.put_outputs.Goals as goal
 
 pub edit_of-requires-clause-few : goal.edit_of-requires-clause-few
-edit_of-requires-clause-few c =
+edit_of-requires-clause-few g c =
     let o = c.in_ok-tables.ensures.ok in
     let len = tables_length c.as_slice.result.now c.in_ok-tables.tables.items o.tables in
     let same = ap length c.deref.ensures.value in
@@ -20,19 +20,19 @@ edit_of-requires-clause-few c =
     omega (arith, len, same, few)
 
 pub edit_of-requires-clause-sound : goal.edit_of-requires-clause-sound
-edit_of-requires-clause-sound c = λ t m.
+edit_of-requires-clause-sound g c = λ t m.
     let o = c.in_ok-tables.ensures.ok in
     tables_each c.as_slice.result.now c.in_ok-tables.tables.items o.tables t (subst (IsIn t) c.deref.ensures.value m)
 
-pub log_in_memory-requires-clause-recorded : goal.log_in_memory-requires-clause-recorded
-log_in_memory-requires-clause-recorded c =
+pub log_and_apply-requires-clause-recorded : goal.log_and_apply-requires-clause-recorded
+log_and_apply-requires-clause-recorded g c =
     let o = c.in_ok-tables.ensures.ok in
     let is = ap (λ (e : Edit). e.added) (c.in_ok-edit.ensures.edit ∙ ap (install_edit_of c.version-version.result.now c.args.job.now.want) c.deref.ensures.value) in
     subst (λ (fs : List FileMeta). AreAsRecorded fs c.in_ok-tables.tables.items) (sym is)
     (records_recorded _ _ c.in_ok-tables.tables.items (tables_each c.as_slice.result.now c.in_ok-tables.tables.items o.tables))
 
 pub returns-clause-ok : goal.returns-clause-ok
-returns-clause-ok c =
+returns-clause-ok g c =
     let s = c.args.versions.now.served in
     let want = c.args.job.now.want in
     let ts = c.in_ok-tables.tables.items in
@@ -50,13 +50,14 @@ returns-clause-ok c =
       edit_is = is;
       valid = c.in_ok-edit.ensures.sound;
       applies = subst (λ (v : VersionValue). apply_fault v c.in_ok-edit.edit ≡ None) c.version-version.ensures c.in_ok-edit.ensures.applies;
-      new_is = c.in_ok-log_in_memory.ensures.ok;
+      new_is = c.in_ok-log_and_apply.ensures.ok;
+      counted = c.in_ok-log_and_apply.ensures.counted;
       number_is = c.new-number.ensures ∙ ap (λ (n : ℕ). n + 1) (c.number.ensures.value ∙ ap (λ (v : VersionValue). v.number) c.version-version.ensures);
       files_are = c.from_vec.ensures ∙ c.in_ok-files.ensures ∙ ap (map (λ (f : FileMeta). f.number)) (c.as_slice-2.ensures ∙ ap (λ (e : Edit). e.added) is);
     }
 
 pub returns-in-Some-clause-why : goal.returns-in-Some-clause-why
-returns-in-Some-clause-why c =
+returns-in-Some-clause-why g c =
     let ts = c.in_ok-tables.tables.items in
     let len : c.len.result ≡ length ts = grind (arith, common_steps) in
     let outputs : AreOutputTables c.args.job.now.want.hull c.args.made.now.tables ts = subst (λ (texts : List (List ℕ)). AreOutputTables c.args.job.now.want.hull texts ts) c.as_slice.ensures c.in_ok-tables.ensures.ok in

@@ -14,7 +14,7 @@ invariant_of-self g c =
     let e = c.epoch-edit.result in
     let made : new ≡ record (after_logging mid e []) { failures = new.failures } = c.in_ok-log_and_apply.ensures.ok ∙ ap (λ (ts : List Opened). record (after_logging mid e ts) { failures = new.failures }) c.new.ensures.items in
     let start = c.version-version.ensures ∙ ap (λ (v : VersionSetValue). v.served.version) c.self.view_is in
-    let none = next_retired old mid new e new.failures c.requires c.in_ok-remove_obsolete.ensures.rest c.in_ok-remove_obsolete.ensures.ok (c.epoch-edit.ensures.edit ∙ ap epoch_edit start) made in
+    let none = next_retired old mid new e new.failures c.requires c.in_ok-remove_obsolete.ensures.rest (ap (λ (v : VersionSetValue). v.kept) c.in_ok-remove_obsolete.ensures.ok) (c.epoch-edit.ensures.edit ∙ ap epoch_edit start) made in
     raised_set _ c.new-self-inside.result c.self-2.invariant (ap (λ (v : VersionSetValue). v.retired) c.self-2.view_is ∙ none) (c.new-self-inside.ensures ∙ c.number-2.ensures.value ∙ ap (λ (v : VersionValue). v.number) c.version.ensures)
 
 pub returns-clause-ok : goal.returns-clause-ok
@@ -26,7 +26,7 @@ returns-clause-ok g c =
     let made : new ≡ record (after_logging mid e []) { failures = new.failures } = c.in_ok-log_and_apply.ensures.ok ∙ ap (λ (ts : List Opened). record (after_logging mid e ts) { failures = new.failures }) c.new.ensures.items in
     let view = c.self-2.view_is in
     let start = c.version-version.ensures ∙ ap (λ (v : VersionSetValue). v.served.version) c.self.view_is in
-    next_epoch old mid new e new.failures c.requires c.in_ok-remove_obsolete.ensures.rest c.in_ok-remove_obsolete.ensures.ok (c.epoch-edit.ensures.edit ∙ ap epoch_edit start) made _
+    next_epoch old mid new e new.failures c.requires c.in_ok-remove_obsolete.ensures.rest (ap (λ (v : VersionSetValue). v.kept) c.in_ok-remove_obsolete.ensures.ok) (c.epoch-edit.ensures.edit ∙ ap epoch_edit start) made _
     (ap (λ (v : VersionSetValue). v.served) view)
     (ap (λ (v : VersionSetValue). v.edits) view)
     (ap (λ (v : VersionSetValue). v.retired) view)

@@ -1,59 +1,45 @@
-use Rattle.std.proofs.Common.{◌≡◌, ◌∙◌, ◌≤◌, ℕ, List, ap, sym, subst, max, leb, rules}
+use Rattle.std.proofs.Common.{◌≡◌, ◌≤◌, ◌∙◌, ℕ, List, IfOk, OnOk, ap, sym, subst, max, leb, rules}
 use Rattle.std.proofs.lemmas.Fn.{filter_same}
 use Rattle.lsm_versions.specs.declared.retired.Retired.{Retired}
-use Rattle.lsm_versions.specs.Kept.{MayHaveRemoved}
 use Rattle.lsm_versions.specs.Manifest.{IsVersionSet, VersionSetValue, after_trimming}
-use Rattle.lsm_versions.specs.Retention.{dropped_below, kept_from}
+use Rattle.lsm_versions.specs.Opening.{MayHaveLost, is_live, obsolete_tables, without_obsolete}
+use Rattle.lsm_versions.specs.Retention.{kept_from}
 use Rattle.lsm_versions.proofs.KeptTables.{kept_trimmed}
 use Rattle.lsm_versions.proofs.RetiredFiles.{retired-trimmed}
 use Rattle.lsm_versions.proofs.version_set.VersionSet.trim.Given.{Over}
 use Rattle.lsm_versions.proofs.version_set.VersionSet.trim.Goals as goal
 
--- what the set has then
-trimmed : (g : Over) (c : goal.After-remove_tables-removed g) →
-    ◌≡◌ {A = VersionSetValue}
-    (record {
-      served = c.self.inside.current;
-      edits = g.V.Vault.edits c.remove_tables-removed.new.vault;
-      retired = c.retain.new.self.items;
-      floor = c.max-floor.result;
-      kept = g.V.Vault.tables c.remove_tables-removed.new.vault;
-      failures = g.V.Vault.failures c.remove_tables-removed.new.vault;
-    })
-    (record {
-      served = c.self.inside.current;
-      edits = g.V.Vault.edits c.self.inside.vault;
-      retired = kept_from (max c.self.inside.floor c.args.to) c.self.inside.retired.items;
-      floor = max c.self.inside.floor c.args.to;
-      kept = g.V.Vault.tables c.remove_tables-removed.new.vault;
-      failures = g.V.Vault.failures c.remove_tables-removed.new.vault;
-    })
-trimmed g c =
-    let m = c.self.inside in
-    let floor : c.max-floor.result ≡ max m.floor c.args.to = search rules in
-    let kept : c.retain.new.self.items ≡ kept_from c.max-floor.result m.retired.items = filter_same _ (λ (r : Retired). leb c.max-floor.result r.until) _ (λ x b f k. search rules) _ _ c.retain.ensures.filtered in
-    let retired : c.retain.new.self.items ≡ kept_from (max m.floor c.args.to) m.retired.items = kept ∙ ap (λ (n : ℕ). kept_from n m.retired.items) floor in
-    λ i. record { served = m.current; edits = c.remove_tables-removed.ensures.edits i; retired = retired i; floor = floor i; kept = g.V.Vault.tables c.remove_tables-removed.new.vault; failures = g.V.Vault.failures c.remove_tables-removed.new.vault }
+-- a set whose floor has risen
+raised : (v : VersionSetValue) (to floor : ℕ) (retired : List Retired) → floor ≡ max v.floor to → retired ≡ kept_from floor v.retired → record v { floor = floor; retired = retired } ≡ after_trimming v to
+raised v to floor retired floor_is retired_is = let all = retired_is ∙ ap (λ (n : ℕ). kept_from n v.retired) floor_is in λ i. record v { floor = floor_is i; retired = all i }
 
--- which tables may be gone
-removed : (g : Over) (c : goal.After-remove_tables-removed g) → MayHaveRemoved (dropped_below (max c.self.inside.floor c.args.to) c.self.inside.retired.items) (g.V.Vault.tables c.self.inside.vault) (g.V.Vault.tables c.remove_tables-removed.new.vault)
-removed g c =
-    let m = c.self.inside in
-    let floor : c.max-floor.result ≡ max m.floor c.args.to = search rules in
-    let numbers : c.as_slice.result.now ≡ dropped_below (max m.floor c.args.to) m.retired.items = c.as_slice.ensures.value ∙ c.in_ok-dropped.ensures ∙ (λ i. dropped_below (floor i) (c.deref.ensures.value i)) in
-    subst (λ (ns : List ℕ). MayHaveRemoved ns (g.V.Vault.tables m.vault) (g.V.Vault.tables c.remove_tables-removed.new.vault)) numbers c.remove_tables-removed.ensures.removed
+-- what the set has then
+raised_to : (g : Over) (c : goal.After-remove_obsolete g) → record (record { served = c.self.inside.current; edits = g.V.Vault.edits c.self.inside.vault; retired = c.self.inside.retired.items; floor = c.self.inside.floor; kept = g.V.Vault.tables c.self.inside.vault; failures = g.V.Vault.failures c.self.inside.vault }) { floor = c.max-floor.result; retired = c.retain.new.self.items } ≡ after_trimming c.args.self.now c.args.to
+raised_to g c =
+    let v : VersionSetValue = record { served = c.self.inside.current; edits = g.V.Vault.edits c.self.inside.vault; retired = c.self.inside.retired.items; floor = c.self.inside.floor; kept = g.V.Vault.tables c.self.inside.vault; failures = g.V.Vault.failures c.self.inside.vault } in
+    raised v c.args.to c.max-floor.result c.retain.new.self.items (search rules) (filter_same _ (λ (r : Retired). leb c.max-floor.result r.until) _ (λ x b f k. search rules) _ _ c.retain.ensures.filtered)
+    ∙ ap (λ (w : VersionSetValue). after_trimming w c.args.to) c.self.view_is
 
 pub invariant_of-self : goal.invariant_of-self
 invariant_of-self g c =
     let m = c.self.inside in
-    let texts = g.V.Vault.edits m.vault in
     let low : c.args.to ≤ m.current.version.number = subst (λ (v : VersionSetValue). c.args.to ≤ v.served.version.number) (sym c.self.view_is) c.requires in
-    subst IsVersionSet (sym (trimmed g c)) (record {
+    let v : VersionSetValue = record { served = c.self.inside.current; edits = g.V.Vault.edits c.self.inside.vault; retired = c.self.inside.retired.items; floor = c.self.inside.floor; kept = g.V.Vault.tables c.self.inside.vault; failures = g.V.Vault.failures c.self.inside.vault } in
+    let is = raised v c.args.to c.max-floor.result c.retain.new.self.items (search rules) (filter_same _ (λ (r : Retired). leb c.max-floor.result r.until) _ (λ x b f k. search rules) _ _ c.retain.ensures.filtered) in
+    subst IsVersionSet (sym is) (record {
       folds = c.self.invariant.folds;
       retired = retired-trimmed _ m.current.version m.retired.items m.floor c.args.to c.self.invariant.retired low;
-      kept = kept_trimmed texts m.current m.retired.items m.floor c.self.invariant.folds c.self.invariant.retired c.places-places.ensures.sound.0 (max m.floor c.args.to) (g.V.Vault.tables m.vault) (g.V.Vault.tables c.remove_tables-removed.new.vault) c.self.invariant.kept (removed g c);
+      kept = kept_trimmed m.current m.retired.items (max m.floor c.args.to) (g.V.Vault.tables m.vault) c.self.invariant.kept;
     })
 
+pub returns-clause-removed : goal.returns-clause-removed
+returns-clause-removed g c = subst (λ (v : VersionSetValue). IfOk c.remove_obsolete.result (λ removed. removed.items ≡ obsolete_tables v)) (raised_to g c) c.remove_obsolete.ensures.removed
+
 pub returns-clause-ok : goal.returns-clause-ok
-returns-clause-ok g c =
-    trimmed g c ∙ ap (λ (v : VersionSetValue). record (after_trimming v c.args.to) { kept = g.V.Vault.tables c.remove_tables-removed.new.vault; failures = g.V.Vault.failures c.remove_tables-removed.new.vault }) c.self.view_is
+returns-clause-ok g c = subst (λ (v : VersionSetValue). OnOk c.remove_obsolete.result (c.remove_obsolete.new.self ≡ record (without_obsolete v) { failures = c.remove_obsolete.new.self.failures })) (raised_to g c) c.remove_obsolete.ensures.ok
+
+pub returns-clause-rest : goal.returns-clause-rest
+returns-clause-rest g c = subst (λ (v : VersionSetValue). c.remove_obsolete.new.self ≡ record v { kept = c.remove_obsolete.new.self.kept; failures = c.remove_obsolete.new.self.failures }) (raised_to g c) c.remove_obsolete.ensures.rest
+
+pub returns-clause-lost : goal.returns-clause-lost
+returns-clause-lost g c = subst (λ (v : VersionSetValue). MayHaveLost (is_live v) v.kept c.remove_obsolete.new.self.kept) (raised_to g c) c.remove_obsolete.ensures.lost

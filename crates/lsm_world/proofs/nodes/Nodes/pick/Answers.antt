@@ -7,30 +7,30 @@ use Rattle.lsm_world.proofs.DispatcherEvents.{is_busy, is_idle, pick_asks, pick_
 use Rattle.lsm_world.proofs.nodes.Nodes.pick.Goals as goal
 
 pub returns-then-is_some-clause-asks : goal.returns-then-is_some-clause-asks
-returns-then-is_some-clause-asks c =
+returns-then-is_some-clause-asks g c =
     let busy = is_busy c.dispatcher.result.now c.id.result c.id.ensures (sym c.is_some.ensures ∙ c.if-is_some.true) in
     rw (← c.self.view_is) (inr ((busy.0, sym c.dispatcher.ensures ∙ busy.1), refl))
 
 pub invariant_of-self-in-Ok-Some : goal.invariant_of-self-in-Ok-Some
-invariant_of-self-in-Ok-Some c =
+invariant_of-self-in-Ok-Some g c =
     let idle : dispatcher_of c.self.inside.desk c.args.dispatcher ≡ Idle = sym c.dispatcher.ensures ∙ is_idle c.dispatcher.result.now c.id.result c.id.ensures (sym c.is_some.ensures ∙ c.if-is_some.false) in
     let picked = picked_by _ _ _ _ _ c.in-Ok-Some.field-0-is c.in-Ok-Some.ensures.ok in
     let sound = sound_by _ _ _ _ c.in-Ok-Some.field-0-is c.in-Ok-Some.ensures.job in
     rw c.hand_out.ensures.desk (pick_keeps _ _ _ _ _ idle picked _ _ c.hand_out.ensures.reply c.self.invariant.0 c.know_fit.ensures sound c.in-Ok-Some.ensures.sound c.hand_out.ensures.job c.self.invariant.1)
 
 pub returns-in-Err-clause-asks : goal.returns-in-Err-clause-asks
-returns-in-Err-clause-asks c =
+returns-in-Err-clause-asks g c =
     let idle : dispatcher_of c.self.inside.desk c.args.dispatcher ≡ Idle = sym c.dispatcher.ensures ∙ is_idle c.dispatcher.result.now c.id.result c.id.ensures (sym c.is_some.ensures ∙ c.if-is_some.false) in
     rw (← c.self.view_is, c.in-Err.ensures.err) (inr (idle, c.in-Err.ensures.refused, refl))
 
 pub returns-in-Ok-None-clause-asks : goal.returns-in-Ok-None-clause-asks
-returns-in-Ok-None-clause-asks c =
+returns-in-Ok-None-clause-asks g c =
     let idle : dispatcher_of c.self.inside.desk c.args.dispatcher ≡ Idle = sym c.dispatcher.ensures ∙ is_idle c.dispatcher.result.now c.id.result c.id.ensures (sym c.is_some.ensures ∙ c.if-is_some.false) in
     let none : Picks c.self.inside.coord c.pick.new.self None = subst (Picks c.self.inside.coord c.pick.new.self) c.in-Ok-None.field-0-is c.in-Ok-None.ensures.ok in
     rw (← c.self.view_is, none.2) (inr (idle, (none.0, none.1, refl), refl))
 
 pub returns-in-Ok-Some-clause-asks : goal.returns-in-Ok-Some-clause-asks
-returns-in-Ok-Some-clause-asks c =
+returns-in-Ok-Some-clause-asks g c =
     let idle : dispatcher_of c.self.inside.desk c.args.dispatcher ≡ Idle = sym c.dispatcher.ensures ∙ is_idle c.dispatcher.result.now c.id.result c.id.ensures (sym c.is_some.ensures ∙ c.if-is_some.false) in
     let picked = picked_by _ _ _ _ _ c.in-Ok-Some.field-0-is c.in-Ok-Some.ensures.ok in
     rw (← c.self.view_is, c.hand_out.ensures.desk) (inr (pick_asks _ _ _ _ _ idle picked _ _ c.hand_out.ensures.reply))

@@ -1,12 +1,13 @@
--- A worker that is started anew has no task.
-use Rattle.std.proofs.Common.{inr}
-use Rattle.lsm_world.proofs.WorkersInPlace.{anew_keeps, starts_anew}
+-- The coordinator and its desk are as before.
+use Rattle.std.proofs.Common.{ℕ, List, ap, inr}
+use Rattle.lsm_world.specs.Nodes.{nodes_of}
+use Rattle.lsm_world.proofs.NetworkEvents.{network_keeps}
 use Rattle.lsm_world.proofs.nodes.Nodes.restart_worker.Goals as goal
 
 pub invariant_of-self : goal.invariant_of-self
-invariant_of-self c =
-    anew_keeps _ _ c.args.index c.replace-worker.result c.new.result c.restart.new.self c.replace-worker.new.self c.replace.new.self c.self.view_is c.replace-worker.ensures.before c.replace-worker.ensures.after c.restart.ensures c.replace.ensures.after c.self.invariant
+invariant_of-self g c =
+    network_keeps (nodes_of c.self.inside.coord c.self.inside.desk c.self.inside.network.workers c.self.inside.network.messages) c.restart_worker.new.self.workers c.restart_worker.new.self.messages c.restart_worker.ensures.keeps c.self.invariant
 
 pub returns-clause-asks : goal.returns-clause-asks
-returns-clause-asks c =
-    inr (starts_anew _ _ c.args.index c.replace-worker.result c.new.result c.restart.new.self c.replace-worker.new.self c.replace.new.self c.self.view_is c.replace-worker.ensures.before c.replace-worker.ensures.after c.restart.ensures c.replace.ensures.after)
+returns-clause-asks g c =
+    rw (← c.self.view_is) (inr (c.restart_worker.ensures.asks, ap (λ (ms : List (List ℕ)). nodes_of c.self.inside.coord c.self.inside.desk c.restart_worker.new.self.workers ms) c.restart_worker.ensures.messages))

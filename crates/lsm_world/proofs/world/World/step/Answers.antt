@@ -1,5 +1,6 @@
+use Rattle.lsm_world.specs.Inner.Storing.{store_in}
 use Rattle.lsm_world.proofs.RunningSchedules.{reached_more}
 use Rattle.lsm_world.proofs.world.World.step.Goals as goal
 
 pub invariant_of-self-2 : goal.invariant_of-self-2
-invariant_of-self-2 c = rw (c.push_reserved.ensures.items, c.in-Ok.ensures.items) (reached_more c.self.inside.nodes c.answer-reply.new.self _ c.args.event c.answer-reply.result c.self.invariant c.answer-reply.ensures.follows)
+invariant_of-self-2 g c = (c.answer-reply.ensures.some, rw (c.push_reserved.ensures.items, c.in-Ok.ensures.items) (reached_more (store_in c.self.inside.store) (store_in c.answer-reply.new.place) _ c.args.event c.answer-reply.result c.self.invariant.1 c.answer-reply.ensures.follows))

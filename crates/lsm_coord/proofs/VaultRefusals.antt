@@ -1,0 +1,45 @@
+-- What a call leaves that the vault may have refused: the same states are shown, and the same jobs are sound.
+use Rattle.std.proofs.Common.{◌≡◌, ℕ, Err, List, None, Ok, Result, ap, arith, inl, inr, refl, subst, sym}
+use Rattle.std.specs.Result.{IsErrAnd}
+use Rattle.lsm_vault.specs.declared.error.VaultError.{VaultError}
+use Rattle.lsm_vault.specs.declared.error.VaultError.TheVariants.{OutOfMemory, Device}
+use Rattle.lsm_coord.specs.declared.coord.flush.Flushed.{Flushed}
+use Rattle.lsm_coord.specs.declared.error.CoordError.{CoordError}
+use Rattle.lsm_coord.specs.Model.Changes.{after_trim}
+use Rattle.lsm_coord.specs.Model.Event as say
+use Rattle.lsm_coord.specs.Model.Rules.{refusal}
+use Rattle.lsm_coord.specs.Model.State.{State}
+use Rattle.lsm_coord.specs.Model.Step.{Step}
+use Rattle.lsm_coord.specs.Contract.Replies.{call_error, flush_reply, refusal_of, trim_reply}
+use Rattle.lsm_coord.specs.Contract.Calls.{MayHaveStored}
+use Rattle.lsm_coord.specs.Contract.Shows.{Shows}
+use Rattle.lsm_coord.specs.Contract.Sound.{KeepsSound}
+use Rattle.lsm_coord.specs.Contract.Value.{CoordValue}
+use Rattle.lsm_coord.proofs.GiveBackSteps.{Shows-beside}
+use Rattle.lsm_coord.proofs.JobsStaySound.{same_keeps}
+
+pub stored_shows : (old new : CoordValue) → MayHaveStored old new → (s : State) → Shows old s → Shows new s
+stored_shows old new may s h = subst (λ (c : CoordValue). Shows c s) (sym may.rest) (Shows-beside old old.book new.kept new.failures s h)
+
+pub stored_keeps : (old new : CoordValue) → MayHaveStored old new → KeepsSound old new
+stored_keeps old new may =
+    let is = may.rest in
+    same_keeps old new (ap (λ (c : CoordValue). c.served) is) (ap (λ (c : CoordValue). c.book) is) (ap (λ (c : CoordValue). c.snapshots) is)
+
+-- nothing was stored
+pub nothing_stored : (c : CoordValue) → MayHaveStored c c
+nothing_stored c = record { rest = refl; below = λ n lt. refl; counted = omega arith }
+
+-- ---- the refusals
+
+-- a flush that the vault refuses
+pub flush_failed : (s : State) (r : Result Flushed CoordError) (why : VaultError) → IsErrAnd r (λ e. e ≡ call_error why) → refusal s say.Flush ≡ None → Step s say.Flush (flush_reply r) s
+flush_failed s (Ok f) why is may = absurd is
+flush_failed s (Err e) OutOfMemory is may = subst (λ (x : CoordError). Step s say.Flush (say.Refused (refusal_of x)) s) (sym is) (tt, refl)
+flush_failed s (Err e) Device is may = subst (λ (x : CoordError). Step s say.Flush (say.Refused (refusal_of x)) s) (sym is) (inr (may, tt), refl)
+
+-- a trim whose removals the vault refuses
+pub trim_failed : (s : State) (n : ℕ) (r : Result (ℕ × List ℕ) CoordError) (why : VaultError) → IsErrAnd r (λ e. e ≡ call_error why) → refusal s (say.Trim n) ≡ None → Step s (say.Trim n) (trim_reply r) (after_trim s n)
+trim_failed s n (Ok f) why is may = absurd is
+trim_failed s n (Err e) OutOfMemory is may = subst (λ (x : CoordError). Step s (say.Trim n) (say.Refused (refusal_of x)) (after_trim s n)) (sym is) (tt, inl (may, refl))
+trim_failed s n (Err e) Device is may = subst (λ (x : CoordError). Step s (say.Trim n) (say.Refused (refusal_of x)) (after_trim s n)) (sym is) (inr (may, tt), refl)

@@ -1,0 +1,201 @@
+-- Replies that the device failed, and the failures that the vault counts: a call reports one only where the count has risen.
+use Rattle.std.proofs.Common.{◌≡◌, ℕ, ◌+◌, ◌≤◌, List, Option, None, Some, refl, sym, ap, subst, ◌∙◌, arith, inl, inr}
+use Rattle.std.specs.Prelude.{length, nat_eq, nat_le, nat_lt, is_none, is_some, sum_by, MatchOption}
+use Rattle.lsm_key.specs.declared.limits.TheConstants.{MAX_MEMTABLE_WEIGHT, MAX_NUMBER, MAX_SNAPSHOTS}
+use Rattle.lsm_key.specs.declared.op.Op.{Op}
+use Rattle.lsm_key.specs.declared.seq.TheConstants.Seq as seq
+use Rattle.lsm_key.specs.Limits.{entry_weight, total_weight}
+use Rattle.lsm_key.specs.Faults.{Refuses}
+use Rattle.lsm_claim.specs.declared.job.LiveJob.{LiveJob}
+use Rattle.lsm_msg.specs.declared.job.JobResult.{JobResult}
+use Rattle.lsm_msg.specs.declared.message.Body.{Body}
+use Rattle.lsm_msg.specs.declared.message.Body.TheVariants as body
+use Rattle.lsm_msg.specs.declared.message.Message.{Message}
+use Rattle.lsm_msg.specs.declared.node.Node.{Node}
+use Rattle.lsm_msg.specs.declared.node.Node.TheVariants.{Coordinator, Worker, Follower}
+use Rattle.lsm_coord.specs.declared.coord.install.Install.{Install}
+use Rattle.lsm_coord.specs.declared.coord.install.Install.TheVariants as became
+use Rattle.lsm_coord.specs.declared.coord.install.InstallError.{InstallError}
+use Rattle.lsm_coord.specs.declared.coord.install.InstallError.TheVariants as kept
+use Rattle.lsm_coord.specs.declared.error.CoordError.{CoordError}
+use Rattle.lsm_coord.specs.declared.error.CoordError.TheVariants as error
+use Rattle.lsm_coord.specs.declared.snapshot.SnapId.{SnapId}
+use Rattle.lsm_coord.specs.Contract.Calls.{FlushRefuses, HasValue, freeze_fault, point_of, release_fault, snapshot_fault, write_fault}
+use Rattle.lsm_coord.specs.Contract.Installing.{Became, LeavesRejected}
+use Rattle.lsm_coord.specs.Contract.Picking.{PickRefuses}
+use Rattle.lsm_coord.specs.Contract.Replies.{error_of}
+use Rattle.lsm_coord.specs.Contract.Value.{CoordValue}
+use Rattle.lsm_coord.specs.Model.State.{snapshot_at}
+use Rattle.lsm_work.specs.declared.change.WorkChange.{WorkChange}
+use Rattle.lsm_work.specs.declared.change.WorkChange.TheVariants as change
+use Rattle.lsm_world.specs.declared.event.Event.{Event}
+use Rattle.lsm_world.specs.declared.event.Event.TheVariants as event
+use Rattle.lsm_world.specs.declared.refusal.Refusal.TheVariants as why
+use Rattle.lsm_world.specs.declared.reply.Reply.{Reply}
+use Rattle.lsm_world.specs.declared.reply.Reply.TheVariants as reply
+use Rattle.lsm_world.specs.declared.reply.Sent.{Sent}
+use Rattle.lsm_world.specs.Asks.{Asks, AsksNode, Calls, Delivers, DeliversAt, Dispatches, GivesUp, Receives, TakesResult, install_answer, worker_reply}
+use Rattle.lsm_world.specs.Nodes.{NodesValue}
+use Rattle.lsm_world.specs.Schedules.{device_failures}
+use Rattle.lsm_world.proofs.PlainReplies.{one_reason, three_reasons, two_reasons}
+
+-- the failures that are counted go up by what the reply says, or more
+abbrev pub Counts : ℕ → Reply → ℕ → Type 0
+Counts before r after = device_failures r + before ≤ after
+
+pub still : (before after : ℕ) → after ≡ before → 0 + before ≤ after
+still before after same = omega (arith, same)
+
+-- ---- refusals of another cause
+
+-- one that is not the device's
+counts_none : (before after : ℕ) (e : CoordError) → (e ≡ error.Device → ⊥) → after ≡ before → Counts before (reply.Refused (why.Coord e)) after
+counts_none before after error.Device other same = absurd (other refl)
+counts_none before after e other same = still before after same
+
+-- a reason of the call, or memory
+refuses_none : (o : Option CoordError) (e : CoordError) → (o ≡ Some error.Device → ⊥) → Refuses error.OutOfMemory o e → e ≡ error.Device → ⊥
+refuses_none o e none (inl forced) is = none (forced ∙ ap (λ (x : CoordError). Some x) is)
+refuses_none o e none (inr memory) is = let m = memory.1 in cc
+
+write_none : (c : CoordValue) (ops : List Op) → write_fault c ops ≡ Some error.Device → ⊥
+write_none c ops is =
+    elim (three_reasons (nat_eq (length ops) 0) (nat_lt seq.MAX (c.last + length ops)) (nat_lt MAX_MEMTABLE_WEIGHT (sum_by entry_weight c.active + total_weight ops)) error.EmptyBatch error.SequenceExhausted error.MemtableFull error.Device is) [
+      | inl a ↦ let x : error.EmptyBatch ≡ error.Device = a in cc
+      | inr rest ↦ elim rest [ inl b ↦ let x : error.SequenceExhausted ≡ error.Device = b in cc | inr d ↦ let x : error.MemtableFull ≡ error.Device = d in cc ]
+    ]
+
+freeze_none : (c : CoordValue) → freeze_fault c ≡ Some error.Device → ⊥
+freeze_none c is = elim (two_reasons (is_some c.frozen) (nat_eq (length c.active) 0) error.FrozenWaiting error.NothingToFreeze error.Device is) [
+  | inl a ↦ let x : error.FrozenWaiting ≡ error.Device = a in cc
+  | inr b ↦ let x : error.NothingToFreeze ≡ error.Device = b in cc
+]
+
+snapshot_none : (c : CoordValue) → snapshot_fault c ≡ Some error.Device → ⊥
+snapshot_none c is = elim (two_reasons (nat_le MAX_SNAPSHOTS (length c.snapshots)) (nat_le MAX_NUMBER c.made) error.TooManySnapshots error.NumbersExhausted error.Device is) [
+  | inl a ↦ let x : error.TooManySnapshots ≡ error.Device = a in cc
+  | inr b ↦ let x : error.NumbersExhausted ≡ error.Device = b in cc
+]
+
+release_none : (c : CoordValue) (id : SnapId) → release_fault c id ≡ Some error.Device → ⊥
+release_none c id is = let x : error.NoSnapshot ≡ error.Device = one_reason (is_none (snapshot_at c.snapshots id)) error.NoSnapshot error.Device is in cc
+
+get_none : (c : CoordValue) (key : List ℕ) (o : Option ℕ) (e : CoordError) → MatchOption o (e ≡ error.NoSnapshot) (λ point. (e ≡ error.OutOfMemory) × HasValue c point key) → e ≡ error.Device → ⊥
+get_none c key None e refuses is = cc
+get_none c key (Some point) e refuses is = let m = refuses.0 in cc
+
+scan_none : (o : Option ℕ) (e : CoordError) → MatchOption o (e ≡ error.NoSnapshot) (λ point. e ≡ error.OutOfMemory) → e ≡ error.Device → ⊥
+scan_none None e refuses is = cc
+scan_none (Some point) e refuses is = cc
+
+-- ---- the coordinator's own calls
+
+flush_counted : (old new : CoordValue) (e : CoordError) → FlushRefuses old e new → Counts old.failures (reply.Refused (why.Coord e)) new.failures
+flush_counted old new error.OutOfMemory is = let counted = is.1.counted in omega (arith, counted)
+flush_counted old new error.Device is = let failed = is.1.1 in omega (arith, failed)
+flush_counted old new e is = still old.failures new.failures (ap (λ (c : CoordValue). c.failures) is.1)
+
+module _ (old new : CoordValue) where
+  -- nothing has changed
+  unchanged : new ≡ old → new.failures ≡ old.failures
+  unchanged same = ap (λ (c : CoordValue). c.failures) same
+
+  pub calls_counted : (e : Event) (r : Reply) → Calls old e r new → Counts old.failures r new.failures
+  calls_counted (event.Write ops) (reply.Wrote first last) is = still old.failures new.failures (ap (λ (c : CoordValue). c.failures) is.2.rest)
+  calls_counted (event.Write ops) (reply.Refused (why.Key k)) is = still old.failures new.failures (unchanged is.1)
+  calls_counted (event.Write ops) (reply.Refused (why.Coord e)) is = counts_none old.failures new.failures e (refuses_none (write_fault old ops) e (write_none old ops) is.1) (unchanged is.2)
+  calls_counted event.Freeze (reply.Froze seq) is = still old.failures new.failures (ap (λ (c : CoordValue). c.failures) is.1)
+  calls_counted event.Freeze (reply.Refused (why.Coord e)) is = counts_none old.failures new.failures e (λ device. freeze_none old (is.0 ∙ ap (λ (x : CoordError). Some x) device)) (unchanged is.1)
+  calls_counted event.Flush (reply.Flushed f) is = let counted = is.1.3.counted in omega (arith, counted)
+  calls_counted event.Flush (reply.Refused (why.Coord e)) is = flush_counted old new e is
+  calls_counted event.Snap (reply.Snapped id seq) is = still old.failures new.failures (ap (λ (c : CoordValue). c.failures) is.1)
+  calls_counted event.Snap (reply.Refused (why.Coord e)) is = counts_none old.failures new.failures e (refuses_none (snapshot_fault old) e (snapshot_none old) is.0) (unchanged is.1)
+  calls_counted (event.Release id) (reply.Released which) is = still old.failures new.failures (ap (λ (c : CoordValue). c.failures) is.2)
+  calls_counted (event.Release id) (reply.Refused (why.Coord e)) is = counts_none old.failures new.failures e (λ device. release_none old id (is.0 ∙ ap (λ (x : CoordError). Some x) device)) (unchanged is.1)
+  calls_counted (event.Get key at) (reply.Got value) is = still old.failures new.failures (unchanged is)
+  calls_counted (event.Get key at) (reply.Refused (why.Coord e)) is = counts_none old.failures new.failures e (get_none old key (point_of old at) e is.0) (unchanged is.1)
+  calls_counted (event.Scan range) (reply.Scanned pairs) is = still old.failures new.failures (unchanged is)
+  calls_counted (event.Scan range) (reply.Refused (why.Coord e)) is = counts_none old.failures new.failures e (scan_none (point_of old range.at) e is.0) (unchanged is.1)
+  calls_counted event.Show (reply.Shown v) is = still old.failures new.failures (unchanged is.3)
+  calls_counted e r is = absurd is
+
+-- ---- results
+
+rejected_counted : (old new : CoordValue) (e : InstallError) → LeavesRejected e old new → Counts old.failures (reply.Refused (why.Coord (error_of e))) new.failures
+rejected_counted old new kept.WrongJob is = still old.failures new.failures (ap (λ (c : CoordValue). c.failures) is)
+rejected_counted old new kept.BadResult is = still old.failures new.failures (ap (λ (c : CoordValue). c.failures) is)
+rejected_counted old new kept.NumbersExhausted is = still old.failures new.failures (ap (λ (c : CoordValue). c.failures) is)
+rejected_counted old new kept.OutOfMemory is = let counted = is.counted in omega (arith, counted)
+rejected_counted old new kept.Device is = let failed = is.1 in omega (arith, failed)
+
+installed_counted : (old new : CoordValue) (claim : LiveJob) (made : JobResult) (what : Install) → Became old claim made what new → Counts old.failures (install_answer what) new.failures
+installed_counted old new claim made (became.Done number files) is = let counted = is.4.counted in omega (arith, counted)
+installed_counted old new claim made (became.Stale job epoch) is = still old.failures new.failures (ap (λ (c : CoordValue). c.failures) is.3)
+installed_counted old new claim made (became.Kept back e) is = rejected_counted old new e is.4
+
+-- ---- the nodes
+
+pub worker_counted : (n : ℕ) (what : WorkChange) (told : Sent) → Counts n (worker_reply what told) n
+worker_counted n (change.Collecting missing) told = omega arith
+worker_counted n change.Merged told = omega arith
+worker_counted n change.Dropped told = omega arith
+worker_counted n change.Ignored told = omega arith
+
+module _ (old new : NodesValue) where
+  abbrev before : ℕ
+  before = old.core.failures
+
+  abbrev after : ℕ
+  after = new.core.failures
+
+  -- a reply of no failure, and the coordinator as it was
+  told : (r q : Reply) → r ≡ q → Counts before q after → Counts before r after
+  told r q same is = subst (λ (x : Reply). Counts before x after) (sym same) is
+
+  kept_core : (n : NodesValue) → new ≡ n → n.core.failures ≡ before → after ≡ before
+  kept_core n is same = ap (λ (x : NodesValue). x.core.failures) is ∙ same
+
+  dispatched : (d : ℕ) (r : Reply) → Dispatches old d r new → Counts before r after
+  dispatched d (reply.Refused why.Busy) is = still before after (kept_core old is.1 refl)
+  dispatched d (reply.Refused (why.Coord e)) is = counts_none before after e (λ device. subst (PickRefuses old.core) device is.1) (kept_core old is.2 refl)
+  dispatched d reply.Idle is = still before after (kept_core old is.2 refl)
+  dispatched d (reply.Picked job sent) is = still before after (ap (λ (c : CoordValue). c.failures) is.3.new_is)
+  dispatched d r is = absurd is
+
+  gave_up : (d : ℕ) (r : Reply) → GivesUp old d r new → Counts before r after
+  gave_up d (reply.Refused why.NoClaim) is = still before after (kept_core old is.1 refl)
+  gave_up d (reply.Returned id) is = still before after (ap (λ (x : NodesValue). x.core.failures) is.4)
+  gave_up d (reply.StaleClaim id) is = still before after (ap (λ (x : NodesValue). x.core.failures) is.4)
+  gave_up d r is = absurd is
+
+  took : (d : ℕ) (made : JobResult) (r : Reply) → TakesResult old d made r new → Counts before r after
+  took d made (reply.Refused why.NoClaim) is = still before after (kept_core old is.1 refl)
+  took d made r is = told r (install_answer is.3) is.5 (installed_counted old.core new.core is.0 made is.3 is.4)
+
+  received : (m : Message) (src : Node) (said : Body) (r : Reply) → Receives old m src said r new → Counts before r after
+  received m src (body.Fetch file) r is = told r (reply.Served is.2) is.3 (still before after (ap (λ (x : NodesValue). x.core.failures) is.5))
+  received m (Worker d) (body.Result made) r is = took d made r is
+  received m src said r is = told r reply.Ignored is.0 (still before after (kept_core old is.1 refl))
+
+  delivered : (m : Message) (dst : Node) (r : Reply) → Delivers old m dst r new → Counts before r after
+  delivered m Coordinator r is = received m m.src m.body r is
+  delivered m (Worker index) r is =
+      let same : after ≡ before = ap (λ (x : NodesValue). x.core.failures) is.1 in
+      told r (worker_reply is.0.outcome.change is.0.told) is.0.reply_is (subst (λ (n : ℕ). Counts before (worker_reply is.0.outcome.change is.0.told) n) (sym same) (worker_counted before is.0.outcome.change is.0.told))
+  delivered m (Follower index) r is = told r reply.Ignored is.0 (still before after (kept_core old is.1 refl))
+
+  delivered_at : (number : ℕ) (r : Reply) → DeliversAt old number r new → Counts before r after
+  delivered_at number (reply.Refused why.NoMessage) is = still before after (kept_core old is.1 refl)
+  delivered_at number r is = delivered is.2 is.2.dst r is.4
+
+  node_counted : (e : Event) (r : Reply) → AsksNode old e r new → Counts before r after
+  node_counted (event.Pick d) r is = dispatched d r is
+  node_counted (event.GiveUp d) r is = gave_up d r is
+  node_counted (event.Deliver number) r is = delivered_at number r is
+  node_counted (event.RestartWorker index) r is = told r (reply.RestartedWorker index) is.0.0 (still before after (ap (λ (x : NodesValue). x.core.failures) is.1))
+  node_counted e r is = calls_counted old.core new.core e r is.0
+
+  -- WHAT THE NODES ANSWER OF A FAILURE, THE VAULT HAS COUNTED.
+  pub nodes_counted : (e : Event) (r : Reply) → Asks old e r new → Counts before r after
+  nodes_counted e r (inl lacks) = told r (reply.Refused why.OutOfMemory) lacks.0 (still before after (kept_core old lacks.1 refl))
+  nodes_counted e r (inr is) = node_counted e r is

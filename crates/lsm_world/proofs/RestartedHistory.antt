@@ -1,0 +1,167 @@
+-- A history over a restart: what the files of a coordinator are when it stops, those of its vault are, and those of what opens over it.
+use Rattle.std.proofs.Common.{◌≡◌, ℕ, ◌^◌, ◌<◌, Bool, true, false, cond, List, [], ◌∷◌, ◌++◌, None, Some, refl, sym, ap, subst, ◌∙◌, arith, inl, inr}
+use Rattle.std.specs.FinMap.{get, get-retain_keys, nat_cmp-IsAntisymmetric}
+use Rattle.std.proofs.lemmas.Option.{same_Some}
+use Rattle.std.proofs.lemmas.List.{append-nil}
+use Rattle.lsm_key.specs.declared.limits.Limits.{Limits}
+use Rattle.lsm_key.specs.Sets.{IsIn}
+use Rattle.lsm_key.proofs.Membership.{IsIn-append_cases, IsIn-one}
+use Rattle.lsm_table.specs.Tables.{IsTable}
+use Rattle.lsm_table.proofs.TableContents.{table_one}
+use Rattle.lsm_edit.specs.declared.file.FileMeta.{FileMeta}
+use Rattle.lsm_edit.specs.declared.served.Placed.{Placed}
+use Rattle.lsm_edit.specs.Edit.{IsSpelledEdit, edit}
+use Rattle.lsm_edit.specs.Next.{epoch_edit}
+use Rattle.lsm_edit.specs.Served.{IsAsRecorded, ServedValue}
+use Rattle.lsm_edit.specs.File.{IsFile}
+use Rattle.lsm_edit.specs.Version.{FileNumbersRise, IsVersion, VersionValue, files_without, has_overlap}
+use Rattle.lsm_edit.proofs.NextLaws.{epoch_sound}
+use Rattle.lsm_edit.proofs.ServedPlaces.{file_of, place_of}
+use Rattle.lsm_edit.proofs.VersionLaws.{without-none}
+use Rattle.lsm_versions.specs.declared.error.OpenError.{OpenError}
+use Rattle.lsm_versions.specs.declared.error.OpenError.TheVariants as opening
+use Rattle.lsm_versions.specs.declared.retired.Retired.{Retired}
+use Rattle.lsm_versions.specs.Kept.{Kept}
+use Rattle.lsm_versions.specs.Manifest.{VersionSetValue, versions_of}
+use Rattle.lsm_versions.specs.Opening.{MayHaveDropped, MayHaveLost, is_live_file, manifest_version}
+use Rattle.lsm_versions.proofs.ManifestReplay.{versions_of-push}
+use Rattle.lsm_coord.specs.Contract.Memory.{IsFit}
+use Rattle.lsm_coord.specs.Contract.Seats.{OpensCoord}
+use Rattle.lsm_coord.specs.Contract.Value.{CoordValue}
+use Rattle.lsm_world.specs.History.{AreFiles, AreFilesKept, History, IsFileOf}
+
+-- the record and the bytes of a table determine its place
+one_table : (p q : Placed) → p.meta ≡ q.meta → p.table.bytes ≡ q.table.bytes → IsAsRecorded p.meta p.table → IsAsRecorded q.meta q.table → p ≡ q
+one_table p q meta bytes is also =
+    let same = subst (λ (bs : List ℕ). IsTable bs p.table.entries) bytes is.table in
+    let entries = table_one q.table.bytes p.table.entries q.table.entries same also.table in
+    λ i. record { meta = meta i; table = record { bytes = bytes i; entries = entries i } }
+
+-- ---- a coordinator that stops
+
+module _ (h : History) (c : CoordValue) (fit : IsFit c) (is : AreFiles h c) where
+  current_is : c.served.version ≡ manifest_version c.edits
+  current_is = sym fit.manifest.makes
+
+  -- a file of the version with the vault's table has that place
+  served_place : (p : Placed) → IsIn p.meta (manifest_version c.edits).files → IsAsRecorded p.meta p.table → get c.kept p.meta.number ≡ Some p.table.bytes → IsIn p h.files
+  served_place p listed recorded kept =
+      let q = place_of c.served fit.version fit.served p.meta (subst (λ (v : VersionValue). IsIn p.meta v.files) (sym current_is) listed) in
+      let number : q.0.meta.number ≡ p.meta.number = ap (λ (f : FileMeta). f.number) (sym q.2) in
+      let bytes : q.0.table.bytes ≡ p.table.bytes = same_Some q.0.table.bytes p.table.bytes (sym (fit.kept.listed q.0 q.1) ∙ ap (get c.kept) number ∙ kept) in
+      subst (λ (x : Placed). IsIn x h.files) (one_table q.0 p (sym q.2) bytes (fit.served.recorded q.0 q.1) recorded) (is.served q.0 q.1)
+
+  -- WHAT THE COORDINATOR HAS OF A HISTORY, ITS VAULT HAS.
+  pub stopped_files : AreFilesKept h c.edits c.kept
+  stopped_files = record {
+    all = is.all;
+    given = λ p m. subst (λ (v : VersionValue). p.meta.number < v.next_file) current_is (is.given p m);
+    listed = is.listed;
+    served = served_place;
+  }
+
+-- ---- an opening that is refused
+
+lost_none : (needed : ℕ → Bool) (old new : Kept) → MayHaveLost needed old new → (n : ℕ) (bytes : List ℕ) → get new n ≡ Some bytes → get old n ≡ Some bytes
+lost_none needed old new lost n bytes found = elim (lost n) [ inl same ↦ sym same ∙ found | inr gone ↦ let none = gone.1 in absurd cc ]
+
+dropped_none : (why : OpenError) (edits : List (List ℕ)) (old new : Kept) → MayHaveDropped why edits old new → (n : ℕ) (bytes : List ℕ) → get new n ≡ Some bytes → get old n ≡ Some bytes
+dropped_none opening.OutOfMemory edits old new (inl same) n bytes found = ap (λ (k : Kept). get k n) (sym same) ∙ found
+dropped_none opening.OutOfMemory edits old new (inr lost) n bytes found = lost_none (is_live_file (manifest_version edits).files []) old new lost.1 n bytes found
+dropped_none opening.Device edits old new (inl same) n bytes found = ap (λ (k : Kept). get k n) (sym same) ∙ found
+dropped_none opening.Device edits old new (inr lost) n bytes found = lost_none (is_live_file (manifest_version edits).files []) old new lost.1 n bytes found
+dropped_none opening.BadManifest edits old new same n bytes found = ap (λ (k : Kept). get k n) (sym same) ∙ found
+dropped_none opening.MissingTable edits old new same n bytes found = ap (λ (k : Kept). get k n) (sym same) ∙ found
+dropped_none opening.NumbersExhausted edits old new same n bytes found = ap (λ (k : Kept). get k n) (sym same) ∙ found
+
+-- WHAT A VAULT HAS OF A HISTORY, IT STILL HAS AFTER AN OPENING THAT IS REFUSED.
+pub refused_files : (h : History) (why : OpenError) (edits : List (List ℕ)) (old new : Kept) → MayHaveDropped why edits old new → AreFilesKept h edits old → AreFilesKept h edits new
+refused_files h why edits old new dropped is = record {
+  all = is.all;
+  given = is.given;
+  listed = is.listed;
+  served = λ p listed recorded kept. is.served p listed recorded (dropped_none why edits old new dropped p.meta.number p.table.bytes kept);
+}
+
+-- ---- an opening
+
+-- a table that is still there
+retained_by : (needed : ℕ → Bool) (kept : Kept) (n : ℕ) (bytes : List ℕ) (t : Bool) → needed n ≡ t → cond (needed n) (get kept n) None ≡ Some bytes → get kept n ≡ Some bytes
+retained_by needed kept n bytes true is found = sym (ap (λ (b : Bool). cond b (get kept n) None) is) ∙ found
+retained_by needed kept n bytes false is found = let none = ap (λ (b : Bool). cond b (get kept n) None) is in absurd cc
+
+module _ (h : History) (edits : List (List ℕ)) (kept : Kept) (limits : Limits) (c : CoordValue) (opens : OpensCoord edits kept limits c) (is : AreFilesKept h edits kept) where
+  abbrev before : VersionValue
+  before = manifest_version edits
+
+  abbrev set : VersionSetValue
+  set = opens.versions
+
+  served_is : c.served ≡ set.served
+  served_is = ap (λ (x : CoordValue). x.served) opens.is
+
+  files_are : set.served.version.files ≡ before.files
+  files_are = ap (λ (v : VersionValue). v.files) opens.opens.version ∙ append-nil (files_without [] before.files) ∙ without-none before.files
+
+  next_is : set.served.version.next_file ≡ before.next_file
+  next_is = ap (λ (v : VersionValue). v.next_file) opens.opens.version
+
+  -- the version before it is sound too
+  sound_before : IsVersion before
+  sound_before =
+      let now = opens.version in
+      let number = ap (λ (v : VersionValue). v.number) opens.opens.version in
+      let epoch = ap (λ (v : VersionValue). v.epoch) opens.opens.version in
+      let next = next_is in
+      record {
+        number = omega (arith, now.number, number);
+        flushed = subst (λ (v : VersionValue). v.flushed < 2 ^ 56) opens.opens.version now.flushed;
+        epoch = omega (arith, now.epoch, epoch);
+        some_file = omega (arith, now.some_file, next);
+        next_file = omega (arith, now.next_file, next);
+        files = subst (λ (fs : List FileMeta). (f : FileMeta) → IsIn f fs → IsFile f) files_are now.files;
+        below = λ f m. subst (λ (n : ℕ). f.number < n) next (now.below f (subst (λ (fs : List FileMeta). IsIn f fs) (sym files_are) m));
+        rising = subst FileNumbersRise files_are now.rising;
+        disjoint = subst (λ (fs : List FileMeta). has_overlap fs ≡ false) files_are now.disjoint;
+      }
+
+  spelled : IsSpelledEdit (edit (epoch_edit before)) (epoch_edit before)
+  spelled =
+      let number = ap (λ (v : VersionValue). v.number) opens.opens.version in
+      let epoch = ap (λ (v : VersionValue). v.epoch) opens.opens.version in
+      let now = opens.version in
+      record { sound = epoch_sound before sound_before (omega (arith, now.number, number)) (omega (arith, now.epoch, epoch)); spelled = refl }
+
+  versions_are : versions_of c.edits ≡ versions_of edits ++ set.served.version ∷ []
+  versions_are =
+      ap (λ (x : CoordValue). versions_of x.edits) opens.is
+      ∙ ap versions_of opens.opens.edits
+      ∙ versions_of-push edits before (edit (epoch_edit before)) (epoch_edit before) opens.opens.folds spelled
+      ∙ ap (λ (v : VersionValue). versions_of edits ++ v ∷ []) (sym opens.opens.version)
+
+  kept_before : (p : Placed) → IsIn p set.served.places → get kept p.meta.number ≡ Some p.table.bytes
+  kept_before p m =
+      let needed = is_live_file before.files [] in
+      let n = p.meta.number in
+      let found : cond (needed n) (get kept n) None ≡ Some p.table.bytes = sym (get-retain_keys kept needed n (λ x tied. ap needed (sym (nat_cmp-IsAntisymmetric n x tied)))) ∙ ap (λ (k : Kept). get k n) (sym opens.opens.tables) ∙ opens.set.kept.listed p m in
+      retained_by needed kept n p.table.bytes (needed n) refl found
+
+  opened_place : (p : Placed) → IsIn p set.served.places → IsIn p h.files
+  opened_place p m =
+      is.served p (subst (λ (fs : List FileMeta). IsIn p.meta fs) files_are (file_of set.served opens.version opens.served p m)) (opens.served.recorded p m) (kept_before p m)
+
+  opened_file : (f : FileMeta) → IsIn f set.served.version.files → IsFileOf h f
+  opened_file f m = let p = place_of set.served opens.version opens.served f m in (p.0, opened_place p.0 p.1, sym p.2)
+
+  -- WHAT A VAULT HAS OF A HISTORY, THE COORDINATOR HAS THAT IS OPENED OVER IT.
+  pub opened_files : AreFiles h c
+  opened_files = record {
+    all = is.all;
+    given = λ p m. let low = is.given p m in let next = next_is in subst (λ (s : ServedValue). p.meta.number < s.version.next_file) (sym served_is) (omega (arith, low, next));
+    listed = λ v f mv mf. elim (IsIn-append_cases v (versions_of edits) (set.served.version ∷ []) (subst (λ (vs : List VersionValue). IsIn v vs) versions_are mv)) [
+      | inl earlier ↦ is.listed v f earlier mf
+      | inr last ↦ opened_file f (subst (λ (x : VersionValue). IsIn f x.files) (IsIn-one v set.served.version last) mf)
+    ];
+    served = λ p m. opened_place p (subst (λ (s : ServedValue). IsIn p s.places) served_is m);
+    retired = λ r m. absurd (subst (λ (rs : List Retired). IsIn r rs) (ap (λ (x : CoordValue). x.retired) opens.is ∙ opens.opens.retired) m);
+  }

@@ -1,0 +1,11 @@
+-- A message under the number was sent.
+use Rattle.std.proofs.Common.{subst}
+use Rattle.lsm_world.specs.Inner.Stopping.{StoppedValue}
+use Rattle.lsm_world.specs.Inner.Working.{IsMessageAt}
+use Rattle.lsm_world.proofs.DeliveredMessages.{stored_at}
+use Rattle.lsm_world.proofs.stopped.Stopped.deliver.Goals as goal
+
+pub hand_over-requires : goal.hand_over-requires
+hand_over-requires g c =
+    let at = subst (λ (n : StoppedValue). IsMessageAt n.messages c.args.number c.in-Ok.message) c.self.view_is c.in-Ok.ensures.ok in
+    record { stored = stored_at c.args.self.now.messages c.args.number c.in-Ok.message at }

@@ -1,0 +1,27 @@
+-- What contracts see of a store's nodes, whether its coordinator is up or down (the store's own).
+use Rattle.std.specs.Prelude.{◌≡◌, [], Option, None, Some}
+use Rattle.std.specs.FinMap.{empty}
+use Rattle.std.proofs.Common.{lit≤}
+use Rattle.lsm_claim.specs.Book.{new_book}
+use Rattle.lsm_coord.specs.Contract.Value.{CoordValue}
+use Rattle.lsm_world.specs.declared.store.Store.{Store}
+use Rattle.lsm_world.specs.declared.store.Store.TheVariants.{Up, Down}
+use Rattle.lsm_world.specs.Inner.Stopping.{down_store}
+use Rattle.lsm_world.specs.Nodes.{StoreValue, up_store}
+
+abbrev pub store_of : {V : Type 0} → Store V → StoreValue
+store_of (Up nodes) = up_store nodes
+store_of (Down stopped) = down_store stopped
+
+-- no store: never between calls
+abbrev pub no_store : StoreValue
+no_store = down_store (record { edits = []; kept = empty; failures = 0; book = new_book 0; limits = record { l0 = 1; base = 1; l0_some = lit≤ tt; l0_most = lit≤ tt; base_some = lit≤ tt; base_most = lit≤ tt }; desk = []; workers = []; messages = [] })
+
+abbrev pub store_in : {V : Type 0} → Option (Store V) → StoreValue
+store_in None = no_store
+store_in (Some store) = store_of store
+
+-- each write was flushed, if the coordinator is up
+abbrev pub IsCaughtUp : Option CoordValue → Type 0
+IsCaughtUp (Some c) = c.last ≡ c.served.version.flushed
+IsCaughtUp None = Unit {0}

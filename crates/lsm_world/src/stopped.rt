@@ -1,0 +1,175 @@
+//! The nodes of a store whose coordinator is down.
+
+ghost use Rattle.std.specs.Prelude.{◌≡◌, ◌⊎◌};
+ghost use Rattle.lsm_key.specs.Limits.{batch_fault};
+ghost use Rattle.lsm_world.specs.Asks.{AsksDown, DeliversDown, LacksMemory, down_write};
+ghost use Rattle.lsm_world.specs.declared.event.Event.TheVariants.{Deliver, RestartWorker};
+ghost use Rattle.lsm_world.specs.Inner.Handing.{IsForCoordinator};
+ghost use Rattle.lsm_world.specs.declared.refusal.Refusal.TheVariants.{Down, OutOfMemory};
+ghost use Rattle.lsm_world.specs.declared.reply.Reply.TheVariants.{Refused};
+
+use crate::event::Event;
+use crate::network::Network;
+use crate::refusal::Refusal;
+use crate::reply::Reply;
+use lsm_claim::ClaimBook;
+use lsm_coord::{Desk, Seat};
+use lsm_key::{Batch, Items, Limits, Op};
+use lsm_msg::{Message, Node, NodeIndex};
+use lsm_vault::Vault;
+use std::alloc::Global;
+use std::marker::Model;
+
+/// A vault, four dispatchers, four workers, and the messages that they sent, with what the next opening takes. It is not
+/// `Drop`: a dispatcher may hold a claim, which only `close` settles.
+pub(crate) struct Stopped<V: Vault> {
+    alloc: Global,
+    vault: V,
+    book: ClaimBook,
+    limits: Limits,
+    desk: Desk,
+    network: Network,
+}
+
+impl<V: Vault> Model for Stopped<V> {
+    ghost use Rattle.std.specs.Coded.{codes};
+    ghost use Rattle.lsm_versions.specs.Kept.{kept_code};
+    ghost use Rattle.lsm_world.specs.History.{History, IsDownHistory};
+    ghost use Rattle.lsm_world.specs.Inner.Stopping.{StoppedValue};
+
+    ghost Value = { StoppedValue };
+
+    ghost coded = { Prim.hlevel (codes, kept_code) };
+
+    ghost view = { λ s. record { edits = V.edits s.vault; kept = V.tables s.vault; failures = V.failures s.vault; book = s.book; limits = s.limits; desk = s.desk; workers = s.network.workers; messages = s.network.messages } };
+
+    ghost invariant = { λ s. (h : History) × IsDownHistory h (V.edits s.vault) (V.tables s.vault) s.desk s.network.workers s.network.messages };
+}
+
+impl<V: Vault> Stopped<V> {
+    ghost use Rattle.std.specs.Prelude.{◌≡◌, ◌⊎◌, false};
+    ghost use Rattle.lsm_coord.specs.Model.State.{State};
+    ghost use Rattle.lsm_coord.specs.Model.Step.{Step};
+    ghost use Rattle.lsm_world.specs.Events.{event_of};
+    ghost use Rattle.lsm_world.specs.Replies.{reply_of};
+    ghost use Rattle.lsm_coord.specs.Contract.Restarts.{seat_of};
+    ghost use Rattle.lsm_world.specs.History.{History, IsDownHistory};
+    ghost use Rattle.lsm_world.specs.Inner.Handing.{IsNoRestart, IsStored};
+    ghost use Rattle.lsm_world.specs.Inner.Stopping.{down_store};
+
+    /// Lets a worker answer an event, or refuses what the coordinator or a dispatcher is asked.
+    pub(crate) fn answer(&mut self, event: &Event) -> Reply
+        requires { IsNoRestart event.now }
+        ensures asks { LacksMemory (down_store self.old) result (down_store self.new) ⊎ AsksDown (down_store self.old) event.now result (down_store self.new) }
+        ensures step { (s : State) → s.up ≡ false → Step s (event_of event.now) (reply_of result) s }
+    {
+        match event {
+            Event::Write(ops) => refused_write(self.alloc, ops),
+            Event::Deliver(message) => self.deliver(*message),
+            Event::RestartWorker(index) => self.restart_worker(*index),
+            _ => refuse(event),
+        }
+    }
+
+    // Delivers the message of a number, if it is for a worker.
+    fn deliver(&mut self, number: u64) -> Reply
+        ensures asks { LacksMemory (down_store self.old) result (down_store self.new) ⊎ AsksDown (down_store self.old) (Deliver number) result (down_store self.new) }
+    {
+        match self.network.message(number) {
+            Err(why) => Reply::Refused(why),
+            Ok(message) => self.hand_over(&message),
+        }
+    }
+
+    // Lets its receiver have a message that was sent.
+    fn hand_over(&mut self, message: &Message) -> Reply
+        requires stored { IsStored self.old.messages message.now }
+        ensures asks { LacksMemory (down_store self.old) result (down_store self.new) ⊎ DeliversDown (down_store self.old) message.now message.now.dst result (down_store self.new) }
+    {
+        match message.dst {
+            Node::Coordinator => Reply::Refused(Refusal::Down),
+            Node::Worker(index) => self.network.work(index, message),
+            Node::Follower(_) => Reply::Ignored,
+        }
+    }
+
+    // Starts a worker anew.
+    fn restart_worker(&mut self, index: NodeIndex) -> Reply
+        ensures asks { AsksDown (down_store self.old) (RestartWorker index) result (down_store self.new) }
+        ensures step { (s : State) → Step s (event_of (RestartWorker index)) (reply_of result) s }
+    {
+        self.network.restart_worker(index)
+    }
+
+    /// The nodes with these parts.
+    pub(crate) fn of(
+        alloc: Global,
+        vault: V,
+        book: ClaimBook,
+        limits: Limits,
+        desk: Desk,
+        network: Network,
+    ) -> Stopped<V>
+        requires { (h : History) × IsDownHistory h (V.edits vault) (V.tables vault) desk network.workers network.messages }
+        ensures { result ≡ record { edits = V.edits vault; kept = V.tables vault; failures = V.failures vault; book = book; limits = limits; desk = desk; workers = network.workers; messages = network.messages } }
+    {
+        Stopped {
+            alloc,
+            vault,
+            book,
+            limits,
+            desk,
+            network,
+        }
+    }
+
+    /// The seat, and what goes on without a coordinator.
+    pub(crate) fn parts(self) -> (Seat<V>, Desk, Network)
+        ensures seat { seat_of V.edits V.tables V.failures result.0 ≡ (down_store self).seat }
+        ensures desk { result.1 ≡ self.desk }
+        ensures workers { result.2.workers ≡ self.workers }
+        ensures messages { result.2.messages ≡ self.messages }
+        ensures history { (h : History) × IsDownHistory h self.edits self.kept self.desk self.workers self.messages }
+    {
+        self.known();
+        let Stopped {
+            alloc: _,
+            vault,
+            book,
+            limits,
+            desk,
+            network,
+        } = self;
+        (Seat::Down(vault, book, limits), desk, network)
+    }
+
+    /// What is so of all nodes. Does nothing.
+    pub(crate) fn known(&self)
+        ensures { (h : History) × IsDownHistory h self.now.edits self.now.kept self.now.desk self.now.workers self.now.messages }
+    {
+        let _vault = &self.vault;
+    }
+}
+
+// Refuses what the coordinator or a dispatcher is asked.
+fn refuse(event: &Event) -> Reply
+    requires { IsForCoordinator event.now }
+    ensures own { IsForCoordinator event.now }
+    ensures down { result ≡ Refused Down }
+{
+    let _asked = event;
+    Reply::Refused(Refusal::Down)
+}
+
+// What a write is refused for: its batch, or that the coordinator is down.
+fn refused_write(alloc: Global, ops: &Items<Op>) -> Reply
+    ensures { (result ≡ Refused OutOfMemory) ⊎ (result ≡ Refused (down_write (batch_fault ops.now))) }
+{
+    let Ok(ops) = ops.as_slice().to_vec(alloc) else {
+        return Reply::Refused(Refusal::OutOfMemory);
+    };
+    match Batch::from_vec(ops) {
+        Err(error) => Reply::Refused(Refusal::Key(error)),
+        Ok(_) => Reply::Refused(Refusal::Down),
+    }
+}

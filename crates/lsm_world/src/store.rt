@@ -1,0 +1,207 @@
+//! The nodes of a store, whether its coordinator is up or down.
+
+ghost use Rattle.std.specs.Prelude.{◌≡◌, ◌+◌, ◌≤◌, IsSome, None, Some};
+ghost use Rattle.lsm_coord.specs.Contract.Restarts.{seat_of};
+ghost use Rattle.lsm_coord.specs.Contract.Seats.{ShowsSeat};
+ghost use Rattle.lsm_coord.specs.Model.State.{State};
+ghost use Rattle.lsm_world.specs.declared.event.Event.TheVariants.{RestartCoordinator};
+ghost use Rattle.lsm_world.specs.Asks.{AsksStore, restart_answer, restarted_as};
+ghost use Rattle.lsm_world.specs.Events.{event_of};
+ghost use Rattle.lsm_world.specs.History.{History, IsStoreHistory};
+ghost use Rattle.lsm_world.specs.Inner.Storing.{IsCaughtUp, store_in, store_of};
+ghost use Rattle.lsm_world.specs.Nodes.{store_with};
+ghost use Rattle.lsm_world.specs.Replies.{reply_of};
+ghost use Rattle.lsm_world.specs.Schedules.{FollowsStore, IsPlain, device_failures};
+
+use crate::coordinator;
+use crate::event::Event;
+use crate::network::Network;
+use crate::nodes::Nodes;
+use crate::refusal::Refusal;
+use crate::reply::Reply;
+use crate::stopped::Stopped;
+use lsm_coord::{Desk, Seat};
+use lsm_vault::Vault;
+use lsm_versions::OpenError;
+use std::alloc::Global;
+use std::mem;
+
+/// The nodes of a store.
+pub(crate) enum Store<V: Vault> {
+    /// The coordinator is up.
+    Up(Nodes<V>),
+    /// It is down, since an opening was refused.
+    Down(Stopped<V>),
+}
+
+impl<V: Vault> Store<V> {
+    ghost use Rattle.std.specs.Prelude.{◌≡◌, ◌+◌, ◌≤◌};
+    ghost use Rattle.lsm_coord.specs.Contract.Restarts.{seat_of};
+    ghost use Rattle.lsm_coord.specs.Contract.Seats.{ShowsSeat};
+    ghost use Rattle.lsm_coord.specs.Model.State.{State};
+    ghost use Rattle.lsm_world.specs.declared.event.Event.TheVariants.{RestartCoordinator};
+    ghost use Rattle.lsm_world.specs.Asks.{AsksStore};
+    ghost use Rattle.lsm_world.specs.Events.{event_of};
+    ghost use Rattle.lsm_world.specs.History.{History, IsDownHistory, IsStoreHistory};
+    ghost use Rattle.lsm_world.specs.Inner.Handing.{IsNoRestart};
+    ghost use Rattle.lsm_world.specs.Inner.Storing.{store_of};
+    ghost use Rattle.lsm_world.specs.Replies.{reply_of};
+    ghost use Rattle.lsm_world.specs.Schedules.{FollowsStore, IsFitBy, IsPlain, device_failures};
+
+    // Lets one node answer an event.
+    fn answer(self, alloc: Global, event: &Event) -> (Store<V>, Reply)
+        requires { (s : State) × ShowsSeat (store_of self).seat s }
+        ensures asks { AsksStore (store_of self) event.now result.1 (store_of result.0) }
+        ensures follows { FollowsStore (store_of self) (event_of event.now) (reply_of result.1) (store_of result.0) }
+        ensures plain { IsPlain result.1 }
+        ensures counted { device_failures result.1 + (store_of self).seat.failures ≤ (store_of result.0).seat.failures }
+    {
+        match event {
+            Event::RestartCoordinator => self.restart(alloc),
+            _ => self.ask(event),
+        }
+    }
+
+    // Lets a node answer another event than a restart of the coordinator.
+    fn ask(self, event: &Event) -> (Store<V>, Reply)
+        requires shown { (s : State) × ShowsSeat (store_of self).seat s }
+        requires other { IsNoRestart event.now }
+        ensures asks { AsksStore (store_of self) event.now result.1 (store_of result.0) }
+        ensures follows { FollowsStore (store_of self) (event_of event.now) (reply_of result.1) (store_of result.0) }
+        ensures plain { IsPlain result.1 }
+        ensures counted { device_failures result.1 + (store_of self).seat.failures ≤ (store_of result.0).seat.failures }
+    {
+        match self {
+            Store::Up(nodes) => {
+                let mut nodes = nodes;
+                let reply = nodes.answer(event);
+                (Store::Up(nodes), reply)
+            }
+            Store::Down(stopped) => {
+                let mut stopped = stopped;
+                let reply = stopped.answer(event);
+                (Store::Down(stopped), reply)
+            }
+        }
+    }
+
+    // Opens the coordinator over what its vault has.
+    fn restart(self, alloc: Global) -> (Store<V>, Reply)
+        requires { (s : State) × ShowsSeat (store_of self).seat s }
+        ensures asks { AsksStore (store_of self) RestartCoordinator result.1 (store_of result.0) }
+        ensures follows { FollowsStore (store_of self) (event_of RestartCoordinator) (reply_of result.1) (store_of result.0) }
+        ensures plain { IsPlain result.1 }
+        ensures counted { device_failures result.1 + (store_of self).seat.failures ≤ (store_of result.0).seat.failures }
+    {
+        let (seat, desk, network) = self.parts();
+        let (seat, opened) = seat.restart(alloc);
+        let reply = restarted(&seat, opened);
+        let store = seated(alloc, seat, desk, network);
+        (store, reply)
+    }
+
+    // The seat, and what goes on without a coordinator.
+    fn parts(self) -> (Seat<V>, Desk, Network)
+        ensures seat { seat_of V.edits V.tables V.failures result.0 ≡ (store_of self).seat }
+        ensures desk { result.1 ≡ (store_of self).desk }
+        ensures workers { result.2.workers ≡ (store_of self).workers }
+        ensures messages { result.2.messages ≡ (store_of self).messages }
+        ensures history { (h : History) × IsDownHistory h (store_of self).seat.edits (store_of self).seat.kept (store_of self).desk (store_of self).workers (store_of self).messages }
+    {
+        match self {
+            Store::Up(nodes) => {
+                let (coord, desk, network) = nodes.parts();
+                (Seat::Up(coord), desk, network)
+            }
+            Store::Down(stopped) => stopped.parts(),
+        }
+    }
+
+    /// What is so of all nodes. Does nothing.
+    pub(crate) fn known(&self)
+        requires { (s : State) × ShowsSeat (store_of self.now).seat s }
+        ensures history { (h : History) × IsStoreHistory h (store_of self.now) }
+        ensures fit { IsFitBy (store_of self.now).seat.core (store_of self.now).seat }
+    {
+        match self {
+            Store::Up(nodes) => nodes.known(),
+            Store::Down(stopped) => stopped.known(),
+        }
+    }
+
+    /// Gives back each claim that a dispatcher holds, and hands over the vault.
+    pub(crate) fn close(self) -> V
+        ensures edits { V.edits result ≡ (store_of self).seat.edits }
+        ensures tables { V.tables result ≡ (store_of self).seat.kept }
+        ensures failures { V.failures result ≡ (store_of self).seat.failures }
+    {
+        let (seat, desk, _network) = self.parts();
+        let mut seat = seat;
+        desk.close(&mut seat);
+        seat.close()
+    }
+}
+
+/// Lets one node of the store in its place answer an event.
+pub(crate) fn answer<V: Vault>(place: &mut Option<Store<V>>, alloc: Global, event: &Event) -> Reply
+    requires some { IsSome place.old }
+    requires shown { (s : State) × ShowsSeat (store_in place.old).seat s }
+    ensures some { IsSome place.new }
+    ensures asks { AsksStore (store_in place.old) event.now result (store_in place.new) }
+    ensures follows { FollowsStore (store_in place.old) (event_of event.now) (reply_of result) (store_in place.new) }
+    ensures plain { IsPlain result }
+    ensures counted { device_failures result + (store_in place.old).seat.failures ≤ (store_in place.new).seat.failures }
+{
+    let Some(store) = place.take() else {
+        unreachable!()
+    };
+    let (store, reply) = store.answer(alloc, event);
+    put(place, store);
+    reply
+}
+
+// Puts a store into its place.
+fn put<V: Vault>(place: &mut Option<Store<V>>, store: Store<V>)
+    requires { place.old ≡ None }
+    ensures { place.new ≡ Some store }
+{
+    match mem::replace(place, Some(store)) {
+        None => {}
+        Some(_before) => unreachable!(),
+    }
+}
+
+// A store with this seat.
+fn seated<V: Vault>(alloc: Global, seat: Seat<V>, desk: Desk, network: Network) -> Store<V>
+    requires { (h : History) × IsStoreHistory h (store_with (seat_of V.edits V.tables V.failures seat) desk network.workers network.messages) }
+    ensures { store_of result ≡ store_with (seat_of V.edits V.tables V.failures seat) desk network.workers network.messages }
+{
+    match seat {
+        Seat::Up(coord) => Store::Up(Nodes::of(alloc, coord, desk, network)),
+        Seat::Down(vault, book, limits) => Store::Down(Stopped::of(
+            alloc, vault, book, limits, desk, network,
+        )),
+    }
+}
+
+// What is told of an opening.
+fn restarted<V: Vault>(seat: &Seat<V>, opened: Result<(), OpenError>) -> Reply
+    requires { IsCaughtUp (seat_of V.edits V.tables V.failures seat.now).core }
+    ensures { result ≡ restart_answer opened (seat_of V.edits V.tables V.failures seat.now).core }
+{
+    match opened {
+        Err(why) => Reply::Refused(Refusal::Open(why)),
+        Ok(()) => restarted_seat(seat),
+    }
+}
+
+// What is told of an opening that succeeded.
+fn restarted_seat<V: Vault>(seat: &Seat<V>) -> Reply
+    requires { IsCaughtUp (seat_of V.edits V.tables V.failures seat.now).core }
+    ensures { result ≡ restarted_as (seat_of V.edits V.tables V.failures seat.now).core }
+{
+    match seat {
+        Seat::Up(coord) => coordinator::restarted(coord),
+        Seat::Down(_, _, _) => Reply::Ignored,
+    }
+}
