@@ -29,7 +29,8 @@ use Rattle.lsm_key.specs.declared.range.KeyRange.{KeyRange}
 use Rattle.lsm_msg.specs.Jobs.{IsJob}
 use Rattle.lsm_msg.specs.Legal.{IsLegal, KnowsDeeper, Takes, touches}
 use Rattle.lsm_msg.specs.Merge.{is_in_ranges}
-use Rattle.lsm_msg.specs.Rules.{AreDeeper, AreInputs, AreKeys, IsInput, IsJobId}
+use Rattle.lsm_edit.specs.File.{AreKeys}
+use Rattle.lsm_msg.specs.Rules.{AreDeeper, AreInputs, IsInput, IsJobId}
 use Rattle.lsm_pick.specs.Rule.{inputs_of, is_deeper}
 use Rattle.lsm_pick.proofs.ProposedIsLegal.{input_taken, taken_input}
 use Rattle.lsm_coord.specs.declared.error.CoordError.TheVariants.{OutOfMemory}

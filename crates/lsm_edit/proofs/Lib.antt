@@ -21,3 +21,6 @@ pub mod ServedPlaces
 pub mod SameFiles
 pub mod NumberSearch
 pub mod PlaceSpots
+pub mod AdjacentPairs
+pub mod ListedFiles
+pub mod ServedAfterRebase

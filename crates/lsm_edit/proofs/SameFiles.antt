@@ -1,13 +1,11 @@
 -- File records are the same where their fields are.
-use Rattle.std.proofs.Common.{◌≡◌, Bool, ◌&&◌, ap, nat_eq}
+use Rattle.std.proofs.Common.{◌≡◌, ap, nat_eq}
 use Rattle.std.specs.Bool.{Decides}
 use Rattle.std.specs.Str.{bytes_eq}
 use Rattle.std.proofs.lemmas.Bool.Decides.{Decides-and, Decides-eqb, Decides-like}
 use Rattle.std.proofs.lemmas.Slice.Eq.{bytes_eq-Decides}
 use Rattle.lsm_edit.specs.declared.file.FileMeta.{FileMeta}
-
-abbrev pub file_eq : FileMeta → FileMeta → Bool
-file_eq f g = nat_eq f.number g.number && (nat_eq f.level g.level && (bytes_eq f.smallest g.smallest && (bytes_eq f.largest g.largest && (nat_eq f.bytes g.bytes && nat_eq f.entries g.entries))))
+use Rattle.lsm_edit.specs.File.{same_file}
 
 abbrev HasFieldsOf : FileMeta → FileMeta → Type 0
 HasFieldsOf f g = (f.number ≡ g.number) × ((f.level ≡ g.level) × ((f.smallest ≡ g.smallest) × ((f.largest ≡ g.largest) × ((f.bytes ≡ g.bytes) × (f.entries ≡ g.entries)))))
@@ -21,10 +19,10 @@ fields f g e = (
   (ap (λ (x : FileMeta). x.level) e, (ap (λ (x : FileMeta). x.smallest) e, (ap (λ (x : FileMeta). x.largest) e, (ap (λ (x : FileMeta). x.bytes) e, ap (λ (x : FileMeta). x.entries) e)))),
 )
 
-pub file_Decides : (f g : FileMeta) → Decides (file_eq f g) (f ≡ g)
+pub file_Decides : (f g : FileMeta) → Decides (same_file f g) (f ≡ g)
 file_Decides f g =
     let sizes = Decides-and (nat_eq f.bytes g.bytes) (nat_eq f.entries g.entries) (Decides-eqb f.bytes g.bytes) (Decides-eqb f.entries g.entries) in
     let largest = Decides-and (bytes_eq f.largest g.largest) _ (bytes_eq-Decides f.largest g.largest) sizes in
     let smallest = Decides-and (bytes_eq f.smallest g.smallest) _ (bytes_eq-Decides f.smallest g.smallest) largest in
     let level = Decides-and (nat_eq f.level g.level) _ (Decides-eqb f.level g.level) smallest in
-    Decides-like (file_eq f g) (by_fields f g) (fields f g) (Decides-and (nat_eq f.number g.number) _ (Decides-eqb f.number g.number) level)
+    Decides-like (same_file f g) (by_fields f g) (fields f g) (Decides-and (nat_eq f.number g.number) _ (Decides-eqb f.number g.number) level)

@@ -31,7 +31,7 @@ put_all-members (p ∷ ps) qs x = (
   ]),
 )
 
-put_all-ordered : (ps qs : List Placed) → AreWhole ps → AreWhole qs → AreApart ps → ((p : Placed) → IsIn p ps → StandsApart p qs) → AreInSearchOrder qs → AreInSearchOrder (put_all ps qs)
+pub put_all-ordered : (ps qs : List Placed) → AreWhole ps → AreWhole qs → AreApart ps → ((p : Placed) → IsIn p ps → StandsApart p qs) → AreInSearchOrder qs → AreInSearchOrder (put_all ps qs)
 put_all-ordered [] qs whole wholes out outs up = up
 put_all-ordered (p ∷ ps) qs whole wholes out outs up =
     put_ordered p (put_all ps qs) (λ q m. elim ((put_all-members ps qs q).0 m) [ inl a ↦ whole q (inr a) | inr b ↦ wholes q b ])
@@ -53,7 +53,7 @@ ordered-without numbers ps up = ordered-filter (λ p. stays numbers p.meta) ps u
 
 -- ---- files of one version
 
-apart_in : (fs : List FileMeta) → FileNumbersRise fs → has_overlap fs ≡ false → (f g : FileMeta) → IsIn f fs → IsIn g fs → f.number < g.number → Apart f g
+pub apart_in : (fs : List FileMeta) → FileNumbersRise fs → has_overlap fs ≡ false → (f g : FileMeta) → IsIn f fs → IsIn g fs → f.number < g.number → Apart f g
 apart_in [] up none f g m n lt = absurd m
 apart_in (x ∷ fs) up none f g m n lt =
     let parts = or_parts (list_any (clashes x) fs) (has_overlap fs) none in
@@ -72,7 +72,7 @@ overlap-right : (fs gs : List FileMeta) → has_overlap (fs ++ gs) ≡ false →
 overlap-right [] gs none = none
 overlap-right (f ∷ fs) gs none = overlap-right fs gs (or_parts (list_any (clashes f) (fs ++ gs)) (has_overlap (fs ++ gs)) none).1
 
-either_way : (f g : FileMeta) → Apart f g → Apart g f
+pub either_way : (f g : FileMeta) → Apart f g → Apart g f
 either_way f g (inl a) = inr a
 either_way f g (inr b) = inl b
 

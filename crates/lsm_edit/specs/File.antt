@@ -2,6 +2,7 @@
 use Rattle.std.specs.Prelude.{◌≡◌, ℕ, ◌<◌, ◌≤◌, ◌^◌, ◌-◌, Bool, true, not, ◌&&◌, ◌||◌, List, ◌++◌, length, min, Result, Ok, Err, nat_eq, nat_lt, if◌then◌else◌}
 use Rattle.std.specs.Int.{w8, w32, w64, to_be_bytes}
 use Rattle.std.specs.List.{list_any}
+use Rattle.std.specs.Str.{bytes_eq}
 use Rattle.lsm_key.specs.declared.limits.TheConstants.{MAX_KEY_BYTES, MAX_NUMBER, MAX_TABLE_BYTES, MAX_LEVEL}
 use Rattle.lsm_key.specs.Order.{key_le}
 use Rattle.lsm_key.specs.KeyRanges.{ranges_meet}
@@ -9,6 +10,12 @@ use Rattle.lsm_key.specs.Spelling.{key, IsKey}
 use Rattle.lsm_key.specs.Reading.{◌>>=◌, ranged_number_at, key_at}
 use Rattle.lsm_edit.specs.declared.file.FileMeta.{FileMeta}
 use Rattle.lsm_edit.specs.declared.file.FileBounds.{FileBounds}
+
+-- two keys, the first not after the second
+pub record AreKeys (lo hi : List ℕ) : Type 0 where
+  pub first : IsKey MAX_KEY_BYTES lo
+  pub last : IsKey MAX_KEY_BYTES hi
+  pub ordered : key_le lo hi ≡ true
 
 pub record IsFile (f : FileMeta) : Type 0 where
   pub first : 1 ≤ f.number
@@ -21,6 +28,10 @@ pub record IsFile (f : FileMeta) : Type 0 where
   pub most_bytes : f.bytes ≤ MAX_TABLE_BYTES
   pub some_entries : 1 ≤ f.entries
   pub most_entries : f.entries < 2 ^ 32
+
+-- two records say the same
+abbrev pub same_file : FileMeta → FileMeta → Bool
+same_file f g = nat_eq f.number g.number && (nat_eq f.level g.level && (bytes_eq f.smallest g.smallest && (bytes_eq f.largest g.largest && (nat_eq f.bytes g.bytes && nat_eq f.entries g.entries))))
 
 abbrev pub file : FileMeta → List ℕ
 file f = to_be_bytes w64 f.number ++ to_be_bytes w8 f.level ++ key f.smallest ++ key f.largest ++ to_be_bytes w32 f.bytes ++ to_be_bytes w32 f.entries

@@ -10,7 +10,7 @@ use Rattle.lsm_table.specs.Tables.{Opened, IsTable, smallest_key, largest_key}
 use Rattle.lsm_edit.specs.declared.file.FileMeta.{FileMeta}
 use Rattle.lsm_edit.specs.declared.edit.Edit.{Edit}
 use Rattle.lsm_edit.specs.declared.served.Placed.{Placed}
-use Rattle.lsm_edit.specs.Version.{VersionValue, first_version, after_apply, has_number}
+use Rattle.lsm_edit.specs.Version.{VersionValue, first_version, after_apply, has_number, is_listed, lacking}
 
 -- a table is as its record says
 pub record IsAsRecorded (f : FileMeta) (t : Opened) : Type 0 where
@@ -71,6 +71,31 @@ places_without numbers ps = filter (λ p. not (list_any (λ n. has_number n p.me
 abbrev pub after_advance : ServedValue → Edit → List Opened → ServedValue
 after_advance s edit tables = record { version = after_apply s.version edit; places = put_all (placed_of edit.added tables) (places_without edit.removed s.places) }
 
+abbrev pub AllRecorded : List Placed → Type 0
+AllRecorded ps = (p : Placed) → IsIn p ps → IsAsRecorded p.meta p.table
+
+-- the bytes are the table of one of these files, the one of this number
+pub record IsAwaited (files : List FileMeta) (n : ℕ) (text : List ℕ) (p : Placed) : Type 0 where
+  pub file : IsIn p.meta files
+  pub number : p.meta.number ≡ n
+  pub bytes : p.table.bytes ≡ text
+  pub recorded : IsAsRecorded p.meta p.table
+
+-- each has a record of its own
+abbrev pub AreDistinct : List Placed → Type 0
+AreDistinct [] = Unit {0}
+AreDistinct (p ∷ ps) = ((q : Placed) → IsIn q ps → p.meta ≡ q.meta → ⊥) × AreDistinct ps
+
+-- tables are those of the files that another version lists and this one does not, each once
+pub record AreLacking (old new : VersionValue) (received : List Placed) : Type 0 where
+  pub recorded : AllRecorded received
+  pub files : SameMembers (map (λ p. p.meta) received) (lacking old new)
+  pub once : AreDistinct received
+
+-- another version: the places of its files that stay, and among them those that came
+abbrev pub after_rebase : ServedValue → VersionValue → List Placed → ServedValue
+after_rebase s v received = record { version = v; places = put_all received (filter (λ p. is_listed v.files p.meta) s.places) }
+
 -- the entries of each table, in the order of a search
 abbrev pub tables_of : List Placed → List (List Entry)
 tables_of ps = map (λ p. p.table.entries) ps
@@ -95,9 +120,6 @@ comes_left level key p = nat_lt p.meta.level level || (nat_eq p.meta.level level
 abbrev pub table_at : List Placed → ℕ → Option Opened
 table_at [] n = None
 table_at (p ∷ ps) n = if nat_eq p.meta.number n then Some p.table else table_at ps n
-
-abbrev pub AllRecorded : List Placed → Type 0
-AllRecorded ps = (p : Placed) → IsIn p ps → IsAsRecorded p.meta p.table
 
 -- a version whose files have each their table, as their records say
 pub record IsServed (s : ServedValue) : Type 0 where

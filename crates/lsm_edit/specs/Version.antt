@@ -10,7 +10,7 @@ use Rattle.lsm_edit.specs.declared.edit.EditKind.{EditKind}
 use Rattle.lsm_edit.specs.declared.edit.EditKind.TheVariants.{Flush, Install, Epoch}
 use Rattle.lsm_edit.specs.declared.version.ApplyError.{ApplyError}
 use Rattle.lsm_edit.specs.declared.version.ApplyError.TheVariants.{WrongNumber, NoSuchFile, FileExists, Overlap, FlushedBack, BadCounter}
-use Rattle.lsm_edit.specs.File.{IsFile}
+use Rattle.lsm_edit.specs.File.{IsFile, same_file}
 
 pub record VersionValue : Type 0 where
   pub number : ℕ
@@ -25,6 +25,14 @@ first_version = record { number = 0; flushed = 0; epoch = 0; next_file = 1; file
 
 abbrev pub has_number : ℕ → FileMeta → Bool
 has_number n f = nat_eq f.number n
+
+-- a file is one of these, by its whole record
+abbrev pub is_listed : List FileMeta → FileMeta → Bool
+is_listed files f = list_any (same_file f) files
+
+-- the files of a version that another one does not list
+abbrev pub lacking : VersionValue → VersionValue → List FileMeta
+lacking old new = filter (λ f. not (is_listed old.files f)) new.files
 
 -- the files without those of these numbers
 abbrev pub files_without : List ℕ → List FileMeta → List FileMeta

@@ -83,12 +83,12 @@ impl Edit {
 /// How many files an edit may remove and add, and between which levels the added ones may be.
 #[derive(Clone, Copy)]
 pub(crate) struct Shape {
-    least_removed: u32,
-    most_removed: u32,
-    least_added: u32,
-    most_added: u32,
-    lowest: u8,
-    deepest: u8,
+    pub(crate) least_removed: u32,
+    pub(crate) most_removed: u32,
+    pub(crate) least_added: u32,
+    pub(crate) most_added: u32,
+    pub(crate) lowest: u8,
+    pub(crate) deepest: u8,
 }
 
 impl EditKind {
@@ -104,7 +104,7 @@ impl EditKind {
     }
 
     /// What such an edit may say.
-    fn shape(self) -> Shape
+    pub(crate) fn shape(self) -> Shape
         ensures { result ≡ shape self }
     {
         let plain = Shape {

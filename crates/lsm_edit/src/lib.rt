@@ -15,6 +15,7 @@ mod recorded;
 mod served;
 #[cfg(test)]
 mod tests;
+mod valid;
 mod version;
 
 pub use base::{base_bytes, decode_base, encode_base, read_base, write_base};
@@ -25,5 +26,6 @@ pub use file::{FileBounds, FileMeta, files_bytes, read_file, same_files, write_f
 pub use format::{FormatError, FormatFault};
 pub use laws::{a_number_names_one_file, no_file_is_removed_twice, worked_edits};
 pub use recorded::{is_as_recorded, open_as_recorded};
-pub use served::{Listing, Placed, Prepared, Served};
-pub use version::{ApplyError, Version, is_among, removed_by};
+pub use served::{Listing, Placed, Prepared, Room, Served};
+pub use valid::{are_keys, files_rise};
+pub use version::{ApplyError, Version, has_file, is_among, is_listed, removed_by};

@@ -2,6 +2,7 @@
 
 mod prepared;
 mod range;
+mod rebase;
 
 ghost use Rattle.std.specs.Prelude.{◌≡◌, ◌+◌, ◌<◌, ◌≤◌, ◌++◌, ◌∷◌, length, take, drop, vec_capacity, true, false, not, filter, OnOk, OnErr, IfOk, IfErr, IfSome, IfNone, None};
 ghost use Rattle.std.specs.List.Sorted.{IsPartitionPoint};
@@ -20,6 +21,7 @@ use crate::{ApplyError, Edit, FileMeta, Version};
 use lsm_key::{EntryRef, MAX_LEVEL, Seq, VersionNumber};
 use lsm_table::Table;
 pub use prepared::Prepared;
+pub use rebase::Room;
 use std::alloc::{AllocError, Global};
 use std::marker::Model;
 
@@ -44,6 +46,19 @@ pub struct Listing<'a> {
 pub struct Served {
     current: Version,
     placed: Vec<Placed>,
+}
+
+impl Placed {
+    ghost use Rattle.std.specs.Prelude.{◌≡◌, IfOk};
+
+    // The same file with the same table, which shares its bytes and entries.
+    fn copy(&self) -> Result<Placed, AllocError>
+        ensures { IfOk result (λ copy. copy ≡ self.now) }
+    {
+        let meta = self.meta.clone()?;
+        let table = self.table.copy()?;
+        Ok(Placed { meta, table })
+    }
 }
 
 impl Model for Served {
@@ -101,17 +116,44 @@ impl Served {
         }
     }
 
+    /// A version with a table for each of its files, by number.
+    pub fn from_tables(version: Version, tables: Vec<Table>) -> Result<Served, AllocError>
+        requires { AreAsRecorded version.files tables.items }
+        ensures version { IfOk result (λ s. s.version ≡ version) }
+        ensures places { IfOk result (λ s. SameMembers s.places (placed_of version.files tables.items)) }
+    {
+        let placed = places_of(version.alloc(), version.files(), tables)?;
+        Ok(Served {
+            current: version,
+            placed,
+        })
+    }
+
+    /// The same version with the same tables, which share their bytes and entries.
+    pub fn copy(&self, alloc: Global) -> Result<Served, AllocError>
+        ensures { IfOk result (λ copy. copy ≡ self.now) }
+    {
+        let current = self.current.copy(alloc)?;
+        let placed = copies_of_places(alloc, self.placed.as_slice())?;
+        Ok(Served { current, placed })
+    }
+
     /// Becomes the next version by an edit, with the tables of the files that it adds, by number. Refuses as
-    /// `Version::apply` does. A refusal changes nothing.
-    pub fn advance(&mut self, edit: &Edit, tables: Vec<Table>) -> Result<(), ApplyError>
+    /// `Version::apply` does. A refusal changes nothing, and the tables come back.
+    pub fn advance(
+        &mut self,
+        edit: &Edit,
+        tables: Vec<Table>,
+    ) -> Result<(), (ApplyError, Vec<Table>)>
         requires sound { IsEdit edit.now }
         requires recorded { AreAsRecorded edit.now.added tables.items }
         ensures ok { OnOk result ((apply_fault self.old.version edit.now ≡ None) × (self.new ≡ after_advance self.old edit.now tables.items)) }
         ensures err { OnErr result (self.new ≡ self.old) }
-        ensures refused { IfErr result (Refuses ApplyError.OutOfMemory (apply_fault self.old.version edit.now)) }
+        ensures refused { IfErr result (λ e. Refuses ApplyError.OutOfMemory (apply_fault self.old.version edit.now) e.0) }
+        ensures returned { IfErr result (λ e. e.1.items ≡ tables.items) }
     {
         match self.current.fault_of(edit) {
-            Some(fault) => return Err(fault),
+            Some(fault) => return Err((fault, tables)),
             None => {}
         }
         match self.prepare(edit, tables) {
@@ -119,21 +161,8 @@ impl Served {
                 self.take_up(prepared);
                 Ok(())
             }
-            Err(_) => Err(ApplyError::OutOfMemory),
+            Err((_, tables)) => Err((ApplyError::OutOfMemory, tables)),
         }
-    }
-
-    /// Becomes another version, with a table for each of its files, by number. A refusal changes nothing.
-    pub fn rebase(&mut self, version: Version, tables: Vec<Table>) -> Result<(), AllocError>
-        requires { AreAsRecorded version.files tables.items }
-        ensures version { OnOk result (self.new.version ≡ version) }
-        ensures places { OnOk result (SameMembers self.new.places (placed_of version.files tables.items)) }
-        ensures err { OnErr result (self.new ≡ self.old) }
-    {
-        let placed = places_of(version.alloc(), version.files(), tables)?;
-        self.current = version;
-        self.placed = placed;
-        Ok(())
     }
 
     /// The entry of the key with the greatest sequence at most `at`. Allocates nothing.
@@ -175,6 +204,18 @@ impl Served {
         }
         None
     }
+}
+
+// The same files with the same tables, which share their bytes and entries.
+fn copies_of_places(alloc: Global, places: &[Placed]) -> Result<Vec<Placed>, AllocError>
+    ensures { IfOk result (λ copies. copies.items ≡ places.now) }
+{
+    let mut copies = Vec::with_capacity(alloc, places.len())?;
+    for placed in places {
+        let copy = placed.copy()?;
+        copies.push(copy)?;
+    }
+    Ok(copies)
 }
 
 // The files with their tables, in search order.

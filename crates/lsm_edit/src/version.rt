@@ -5,7 +5,7 @@ ghost use Rattle.std.specs.List.{list_any};
 ghost use Rattle.std.specs.List.Sorted.{IsNonDecreasing};
 ghost use Rattle.lsm_key.specs.Faults.{Refuses};
 ghost use Rattle.lsm_edit.specs.Edit.{IsEdit};
-ghost use Rattle.lsm_edit.specs.Version.{clashes, goes_back, has_number, has_overlap, is_low, miscounts, files_without, FileNumbersRise};
+ghost use Rattle.lsm_edit.specs.Version.{clashes, goes_back, has_number, has_overlap, is_low, miscounts, files_without, is_listed, FileNumbersRise};
 
 use crate::file::same_files;
 use crate::{Edit, EditKind, FileMeta};
@@ -164,6 +164,13 @@ impl Version {
         has_file(self.files(), number)
     }
 
+    /// Whether it lists the file, by its whole record. O(log n).
+    pub fn lists(&self, file: &FileMeta) -> bool
+        ensures { result ≡ is_listed self.now.files file.now }
+    {
+        is_listed(self.files(), file)
+    }
+
     /// Becomes the next version by an edit. A refusal changes nothing.
     pub fn apply(&mut self, edit: &Edit) -> Result<(), ApplyError>
         requires { IsEdit edit.now }
@@ -231,8 +238,8 @@ impl Version {
         self.alloc
     }
 
-    // Why the edit does not apply, if it does not.
-    pub(crate) fn fault_of(&self, edit: &Edit) -> Option<ApplyError>
+    /// Why the edit does not apply, if it does not. Allocates nothing.
+    pub fn fault_of(&self, edit: &Edit) -> Option<ApplyError>
         requires { IsEdit edit.now }
         ensures fault { result ≡ apply_fault self.now edit.now }
         ensures sound { IsVersion self.now }
@@ -294,14 +301,25 @@ fn lacks(files: &[FileMeta], numbers: &[u64]) -> bool
     numbers.iter().any(|number| !has_file(files, *number))
 }
 
-// Whether the number is a file's.
-fn has_file(files: &[FileMeta], number: u64) -> bool
+/// Whether the number is one of the files', whose numbers rise. O(log n).
+pub fn has_file(files: &[FileMeta], number: u64) -> bool
     requires { FileNumbersRise files.now }
     ensures { result ≡ list_any (has_number number) files.now }
 {
     files
         .binary_search_by_key(&number, |file| file.number)
         .is_ok()
+}
+
+/// Whether the file is one of these, whose numbers rise, by its whole record. O(log n).
+pub fn is_listed(files: &[FileMeta], file: &FileMeta) -> bool
+    requires { FileNumbersRise files.now }
+    ensures { result ≡ is_listed files.now file.now }
+{
+    match files.binary_search_by_key(&file.number, |other| other.number) {
+        Ok(at) => *file == files[at],
+        Err(_) => false,
+    }
 }
 
 // Whether two of the files overlap, once these are removed and added.

@@ -12,7 +12,7 @@ use Rattle.lsm_key.proofs.FieldLaws.{Takes, Takes-then, bind_ok, wide8, wide16, 
 use Rattle.lsm_key.proofs.ReaderLaws.{Reads, Goes, field, field_as, unless, done, whole, within_reads, key_reads, reads_as}
 use Rattle.lsm_claim.specs.declared.job.JobId.{JobId}
 use Rattle.lsm_edit.specs.declared.file.FileMeta.{FileMeta}
-use Rattle.lsm_edit.specs.File.{file, file_at}
+use Rattle.lsm_edit.specs.File.{AreKeys, file, file_at}
 use Rattle.lsm_edit.specs.Edit.{after_number}
 use Rattle.lsm_edit.proofs.Ascending.{IsFileFrom, IsNumberFrom, numbers_each, numbers_ascend, numbers_in_turn}
 use Rattle.lsm_edit.proofs.FileLaws.{file_reads}
@@ -24,7 +24,7 @@ use Rattle.lsm_msg.specs.declared.reading.inputs.InputsLeft.{InputsLeft}
 use Rattle.lsm_msg.specs.Jobs.{IsJob}
 use Rattle.lsm_msg.specs.Messages.{AreSequences, job, job_id, points, range, ranges}
 use Rattle.lsm_msg.specs.MessageReading.{after_input, each_input_at, input_bounds, inputs_at, job_at, job_id_at, points_at, range_at, ranges_at}
-use Rattle.lsm_msg.specs.Rules.{AreDeeper, AreInputs, AreKeys, ArePoints, IsJobId}
+use Rattle.lsm_msg.specs.Rules.{AreDeeper, AreInputs, ArePoints, IsJobId}
 use Rattle.lsm_msg.proofs.InputsInTurn.{AreNextInputs, inputs_of_turn, turn_of_inputs}
 use Rattle.lsm_msg.proofs.EachInTurn.{counted_each}
 

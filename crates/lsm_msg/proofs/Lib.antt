@@ -1,4 +1,3 @@
-pub mod NumbersRise
 pub mod EachInTurn
 pub mod InputsInTurn
 pub mod JobLaws

@@ -1,11 +1,12 @@
 -- Messages: what they may say, and how they are encoded (RocksDB wiki: remote compaction, secondary instances; the layout is the store's own).
-use Rattle.std.specs.Prelude.{◌≡◌, ℕ, ◌<◌, ◌≤◌, ◌^◌, List, ◌++◌, length, All, Result, Ok, Err, nat_lt, if◌then◌else◌}
+use Rattle.std.specs.Prelude.{◌≡◌, ℕ, ◌<◌, ◌≤◌, ◌^◌, List, ◌++◌, length, map, All, Result, Ok, Err, nat_lt, if◌then◌else◌}
 use Rattle.std.specs.Int.{w8, w16, w32, w64, to_be_bytes}
 use Rattle.std.specs.List.{flat_map}
 use Rattle.lsm_key.specs.declared.limits.TheConstants.{MAX_NODES, MAX_NUMBER, MAX_TABLE_BYTES}
 use Rattle.lsm_key.specs.declared.range.KeyRange.{KeyRange}
 use Rattle.lsm_key.specs.Spelling.{key}
 use Rattle.lsm_claim.specs.declared.job.JobId.{JobId}
+use Rattle.lsm_edit.specs.declared.file.FileMeta.{FileMeta}
 use Rattle.lsm_edit.specs.File.{file}
 use Rattle.lsm_edit.specs.Edit.{IsEdit, edit}
 use Rattle.lsm_edit.specs.Base.{IsBase, base}
@@ -57,6 +58,15 @@ pub record IsMessage (m : Message) : Type 0 where
   pub src : IsNode m.src
   pub dst : IsNode m.dst
   pub body : IsBody m.body
+
+-- ---- messages to the coordinator
+
+abbrev pub to_coordinator : Node → Body → Message
+to_coordinator src said = record { src = src; dst = Coordinator; body = said }
+
+-- the table of each file is asked for
+abbrev pub fetches : Node → List FileMeta → List Message
+fetches src files = map (λ f. to_coordinator src (body.Fetch f.number)) files
 
 -- ---- how they are encoded
 

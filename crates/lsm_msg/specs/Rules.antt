@@ -1,12 +1,10 @@
 -- What the parts of a job may be (RocksDB wiki, Remote Compaction: the input of a compaction service; the limits are the store's own).
 use Rattle.std.specs.Prelude.{◌≡◌, ℕ, ◌<◌, ◌≤◌, true, List, length, All, AllPairs, Any}
-use Rattle.lsm_key.specs.declared.limits.TheConstants.{MAX_KEY_BYTES, MAX_NUMBER, MAX_DEEPER, MAX_INPUTS, MAX_POINTS}
-use Rattle.lsm_key.specs.Order.{key_le}
-use Rattle.lsm_key.specs.Spelling.{IsKey}
+use Rattle.lsm_key.specs.declared.limits.TheConstants.{MAX_NUMBER, MAX_DEEPER, MAX_INPUTS, MAX_POINTS}
 use Rattle.lsm_claim.specs.declared.job.JobId.{JobId}
 use Rattle.lsm_claim.specs.Levels.{uses_level}
 use Rattle.lsm_edit.specs.declared.file.FileMeta.{FileMeta}
-use Rattle.lsm_edit.specs.File.{IsFile}
+use Rattle.lsm_edit.specs.File.{AreKeys, IsFile}
 use Rattle.lsm_key.specs.declared.range.KeyRange.{KeyRange}
 
 -- a name that an epoch may issue
@@ -32,12 +30,6 @@ pub record AreInputs (upper : ℕ) (files : List FileMeta) : Type 0 where
   pub each : All (IsInput upper) files
   pub rising : AllPairs (λ f g. f.number < g.number) files
   pub own : Any (λ f. f.level ≡ upper) files
-
--- two keys, the first not after the second
-pub record AreKeys (lo hi : List ℕ) : Type 0 where
-  pub first : IsKey MAX_KEY_BYTES lo
-  pub last : IsKey MAX_KEY_BYTES hi
-  pub ordered : key_le lo hi ≡ true
 
 -- ranges of keys
 pub record AreDeeper (ranges : List KeyRange) : Type 0 where

@@ -2,7 +2,7 @@
 
 ghost use Rattle.std.specs.Prelude.{◌≡◌, ◌↔◌, IfOk, IsTrue};
 
-use crate::{Job, JobResult, Node};
+use crate::{Job, JobResult, Node, NodeIndex};
 use bytes::Bytes;
 use lsm_edit::{Edit, Version};
 use lsm_key::{FileNumber, VersionNumber};
@@ -80,6 +80,33 @@ impl Body {
 }
 
 impl Message {
+    ghost use Rattle.lsm_msg.specs.declared.node.Node.TheVariants as node;
+    ghost use Rattle.lsm_msg.specs.Messages.{IsBody, IsMessage, to_coordinator};
+
+    /// A message of a worker to the coordinator.
+    pub fn from_worker(index: NodeIndex, body: Body) -> Message
+        ensures all { result ≡ to_coordinator (node.Worker index) body }
+        ensures sound { IsBody body → IsMessage result }
+    {
+        Message {
+            src: Node::Worker(index),
+            dst: Node::Coordinator,
+            body,
+        }
+    }
+
+    /// A message of a follower to the coordinator.
+    pub fn from_follower(index: NodeIndex, body: Body) -> Message
+        ensures all { result ≡ to_coordinator (node.Follower index) body }
+        ensures sound { IsBody body → IsMessage result }
+    {
+        Message {
+            src: Node::Follower(index),
+            dst: Node::Coordinator,
+            body,
+        }
+    }
+
     /// The same message. Its keys and tables share the bytes.
     pub fn copy(&self, alloc: Global) -> Result<Message, AllocError>
         ensures { IfOk result (λ copy. copy ≡ self.now) }

@@ -2,17 +2,11 @@
 
 ghost use Rattle.std.specs.Prelude.{◌≡◌, ◌<◌, ◌↔◌, All, AllPairs, Any, IsTrue};
 ghost use Rattle.lsm_claim.specs.Levels.{uses_level};
-ghost use Rattle.lsm_edit.specs.File.{IsFile};
-ghost use Rattle.lsm_key.specs.Spelling.{IsKey};
-ghost use Rattle.lsm_msg.specs.Rules.{IsJobId, AreKeys, IsInput, ArePoints, AreInputs, AreDeeper};
+ghost use Rattle.lsm_msg.specs.Rules.{IsJobId, IsInput, ArePoints, AreInputs, AreDeeper};
 
-use bytes::Bytes;
 use lsm_claim::JobId;
-use lsm_edit::FileMeta;
-use lsm_key::{
-    KeyRange, MAX_DEEPER, MAX_INPUTS, MAX_KEY_BYTES, MAX_LEVEL, MAX_NUMBER, MAX_POINTS,
-    MAX_TABLE_BYTES, Seq,
-};
+use lsm_edit::{FileMeta, are_keys, files_rise};
+use lsm_key::{KeyRange, MAX_DEEPER, MAX_INPUTS, MAX_NUMBER, MAX_POINTS, Seq};
 
 // Whether an epoch may issue this name.
 pub(crate) fn is_job_id(id: JobId) -> bool
@@ -46,19 +40,8 @@ pub(crate) fn are_inputs(level: u8, files: &[FileMeta]) -> bool
 {
     files.len() <= MAX_INPUTS
         && are_each_input(level, files)
-        && numbers_rise(files)
+        && files_rise(files)
         && has_level(level, files)
-}
-
-fn numbers_rise(files: &[FileMeta]) -> bool
-    ensures { IsTrue result ↔ AllPairs (λ f g. f.number < g.number) files.now }
-{
-    for i in 1..files.len() {
-        if files[i].number <= files[i - 1].number {
-            return false;
-        }
-    }
-    true
 }
 
 fn are_each_input(level: u8, files: &[FileMeta]) -> bool
@@ -76,7 +59,7 @@ fn has_level(level: u8, files: &[FileMeta]) -> bool
 fn is_input(level: u8, file: &FileMeta) -> bool
     ensures { IsTrue result ↔ IsInput level file.now }
 {
-    uses_level(level, file.level) && is_file(file)
+    uses_level(level, file.level) && file.is_valid()
 }
 
 fn uses_level(job: u8, level: u8) -> bool
@@ -85,35 +68,9 @@ fn uses_level(job: u8, level: u8) -> bool
     level == job || level as u16 == job as u16 + 1
 }
 
-// Whether a file record is within its limits.
-fn is_file(file: &FileMeta) -> bool
-    ensures { IsTrue result ↔ IsFile file.now }
-{
-    file.number >= 1
-        && file.number <= MAX_NUMBER
-        && file.level <= MAX_LEVEL
-        && are_keys(&file.smallest, &file.largest)
-        && file.bytes >= 1
-        && file.bytes <= MAX_TABLE_BYTES as u32
-        && file.entries >= 1
-}
-
 // Whether there are at most `MAX_DEEPER` ranges, each in order.
 pub(crate) fn are_deeper(ranges: &[KeyRange]) -> bool
     ensures { IsTrue result ↔ AreDeeper ranges.now }
 {
     ranges.len() <= MAX_DEEPER && ranges.iter().all(|range| are_keys(&range.lo, &range.hi))
-}
-
-// Whether these are two keys, the first not after the second.
-fn are_keys(lo: &Bytes, hi: &Bytes) -> bool
-    ensures { IsTrue result ↔ AreKeys lo.now hi.now }
-{
-    is_key(lo) && is_key(hi) && lo.cmp(hi).is_le()
-}
-
-fn is_key(key: &Bytes) -> bool
-    ensures { IsTrue result ↔ IsKey MAX_KEY_BYTES key.now }
-{
-    !key.is_empty() && key.len() <= MAX_KEY_BYTES
 }

@@ -99,7 +99,9 @@ fn open_epoch(alloc: Global, served: &mut Served) -> Result<(), TimingError> {
         return Err(EXHAUSTED);
     }
     let edit = Edit::epoch(alloc, version);
-    served.advance(&edit, Vec::new(alloc))?;
+    served
+        .advance(&edit, Vec::new(alloc))
+        .map_err(|(why, _)| why)?;
     Ok(())
 }
 
@@ -140,7 +142,7 @@ fn go_on(alloc: Global, served: &mut Served, edit: &Edit, table: Table) -> Resul
     requires recorded { AreAsRecorded edit.now.added (table ∷ []) }
 {
     let tables = alone(alloc, table)?;
-    served.advance(edit, tables)?;
+    served.advance(edit, tables).map_err(|(why, _)| why)?;
     Ok(())
 }
 

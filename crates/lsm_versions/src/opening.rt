@@ -34,8 +34,7 @@ pub(crate) fn recover<V: Vault>(alloc: Global, vault: &mut V) -> Result<Served, 
     let Some(tables) = tables_of(alloc, vault, version.files())? else {
         return Err(OpenError::MissingTable);
     };
-    let mut served = Served::new(alloc);
-    served.rebase(version, tables)?;
+    let served = Served::from_tables(version, tables)?;
     Ok(served)
 }
 

@@ -4,15 +4,15 @@ use Rattle.lsm_table.specs.Tables.{Opened}
 use Rattle.lsm_key.specs.Sets.{IsIn}
 use Rattle.lsm_edit.specs.declared.file.FileMeta.{FileMeta}
 use Rattle.lsm_edit.specs.declared.served.Placed.{Placed}
-use Rattle.lsm_edit.specs.Served.{IsAsRecorded, AreAsRecorded}
+use Rattle.lsm_edit.specs.Served.{IsAsRecorded, AreAsRecorded, IsAwaited}
 use Rattle.lsm_msg.specs.declared.job.JobParts.{JobParts}
 use Rattle.lsm_work.specs.Held.{AreHeld, IsSpot, StandsAt, task_of}
-use Rattle.lsm_work.specs.Workers.{IsAwaited, IsComplete, TaskValue, missing, numbers_of, received_tables, with_input}
+use Rattle.lsm_work.specs.Workers.{IsComplete, TaskValue, missing, numbers_of, received_tables, with_input}
 use Rattle.lsm_work.proofs.HeldInputs.{missing_count, one_less, complete_more, recorded_all}
 
 -- a table that was asked for, with its file and its place
 pub record IsFound (t : TaskValue) (n : ℕ) (text : List ℕ) (p : Placed) (place : ℕ) : Type 0 where
-  pub awaited : IsAwaited t n text p
+  pub awaited : IsAwaited (missing t) n text p
   pub stands : StandsAt t p place
 
 pub found : (t : TaskValue) (n place : ℕ) (text : List ℕ) (f : FileMeta) (o : Option Opened) (u : Opened) → IsIn f (missing t) × (f.number ≡ n) → IsSpot (numbers_of t.received) n place → IfSome o (λ v. (v.bytes ≡ text) × IsAsRecorded f v) → o ≡ Some u
@@ -20,7 +20,7 @@ pub found : (t : TaskValue) (n place : ℕ) (text : List ℕ) (f : FileMeta) (o 
 found t n place text f o u own spot some is =
     let taken = subst (λ (x : Option Opened). IfSome x (λ v. (v.bytes ≡ text) × IsAsRecorded f v)) is some in
     record {
-      awaited = record { input = own.0; number = own.1; bytes = taken.0; recorded = taken.1 };
+      awaited = record { file = own.0; number = own.1; bytes = taken.0; recorded = taken.1 };
       stands = record { input = own.0; recorded = taken.1; spot = subst (λ (m : ℕ). IsSpot (numbers_of t.received) m place) (sym own.1) spot };
     }
 

@@ -12,7 +12,9 @@ use Rattle.std.proofs.lemmas.List.Elements.{All-cons, filter_more}
 use Rattle.lsm_edit.specs.declared.file.FileMeta.{FileMeta}
 use Rattle.lsm_msg.specs.declared.message.Body.TheVariants as body
 use Rattle.lsm_msg.specs.declared.message.Message.{Message}
-use Rattle.lsm_work.specs.Workers.{WorkerValue, TaskValue, Outcome, IsComplete, MergesInputs, Proceeds, collects, fetches, is_among, to_coordinator}
+use Rattle.lsm_msg.specs.Messages.{fetches, to_coordinator}
+use Rattle.lsm_msg.specs.declared.node.Node.TheVariants.{Worker}
+use Rattle.lsm_work.specs.Workers.{WorkerValue, TaskValue, Outcome, IsComplete, MergesInputs, Proceeds, collects, is_among}
 
 pub All-one : {X : Type 0} (P : X → Type 0) (x : X) → P x → All P (x ∷ [])
 All-one P x h = All-cons P x [] h (λ k d lt. absurd (omega (arith, lt)))
@@ -29,27 +31,27 @@ proceeds_last w t (f ∷ fs) o none all merged = absurd (omega (arith, none))
 abbrev pub lacks : List ℕ → FileMeta → Bool
 lacks ns f = not (is_among ns f.number)
 
-asked-if : (b : Bool) (index : ℕ) (f : FileMeta) → fetches index (cond b (f ∷ []) []) ≡ cond b (to_coordinator index (body.Fetch f.number) ∷ []) []
+asked-if : (b : Bool) (index : ℕ) (f : FileMeta) → fetches (Worker index) (cond b (f ∷ []) []) ≡ cond b (to_coordinator (Worker index) (body.Fetch f.number) ∷ []) []
 asked-if true index f = refl
 asked-if false index f = refl
 
 -- one file more was looked at
-asked_more : (index : ℕ) (ns : List ℕ) (files : List FileMeta) (k : ℕ) (f : FileMeta) (sent : List Message) → k < length files → f ≡ get_or files k f → sent ≡ fetches index (filter (lacks ns) (take k files))
-    → fetches index (filter (lacks ns) (take (k + 1) files)) ≡ sent ++ cond (lacks ns f) (to_coordinator index (body.Fetch f.number) ∷ []) []
+asked_more : (index : ℕ) (ns : List ℕ) (files : List FileMeta) (k : ℕ) (f : FileMeta) (sent : List Message) → k < length files → f ≡ get_or files k f → sent ≡ fetches (Worker index) (filter (lacks ns) (take k files))
+    → fetches (Worker index) (filter (lacks ns) (take (k + 1) files)) ≡ sent ++ cond (lacks ns f) (to_coordinator (Worker index) (body.Fetch f.number) ∷ []) []
 asked_more index ns files k f sent lt at before =
-    ap (λ (fs : List FileMeta). fetches index fs) (filter_more (lacks ns) files k f lt)
-    ∙ ap (λ (g : FileMeta). fetches index (filter (lacks ns) (take k files) ++ cond (lacks ns g) (g ∷ []) [])) (sym at)
-    ∙ map-append (λ g. to_coordinator index (body.Fetch g.number)) (filter (lacks ns) (take k files)) (cond (lacks ns f) (f ∷ []) [])
-    ∙ ap (λ (ms : List Message). ms ++ fetches index (cond (lacks ns f) (f ∷ []) [])) (sym before)
+    ap (λ (fs : List FileMeta). fetches (Worker index) fs) (filter_more (lacks ns) files k f lt)
+    ∙ ap (λ (g : FileMeta). fetches (Worker index) (filter (lacks ns) (take k files) ++ cond (lacks ns g) (g ∷ []) [])) (sym at)
+    ∙ map-append (λ g. to_coordinator (Worker index) (body.Fetch g.number)) (filter (lacks ns) (take k files)) (cond (lacks ns f) (f ∷ []) [])
+    ∙ ap (λ (ms : List Message). ms ++ fetches (Worker index) (cond (lacks ns f) (f ∷ []) [])) (sym before)
     ∙ ap (λ (ms : List Message). sent ++ ms) (asked-if (lacks ns f) index f)
 
-pub asked_one : (index : ℕ) (ns : List ℕ) (files : List FileMeta) (k : ℕ) (f : FileMeta) (sent : List Message) → k < length files → f ≡ get_or files k f → sent ≡ fetches index (filter (lacks ns) (take k files)) → is_among ns f.number ≡ false
-    → sent ++ to_coordinator index (body.Fetch f.number) ∷ [] ≡ fetches index (filter (lacks ns) (take (k + 1) files))
-asked_one index ns files k f sent lt at before new = sym (asked_more index ns files k f sent lt at before ∙ ap (λ (b : Bool). sent ++ cond (not b) (to_coordinator index (body.Fetch f.number) ∷ []) []) new)
+pub asked_one : (index : ℕ) (ns : List ℕ) (files : List FileMeta) (k : ℕ) (f : FileMeta) (sent : List Message) → k < length files → f ≡ get_or files k f → sent ≡ fetches (Worker index) (filter (lacks ns) (take k files)) → is_among ns f.number ≡ false
+    → sent ++ to_coordinator (Worker index) (body.Fetch f.number) ∷ [] ≡ fetches (Worker index) (filter (lacks ns) (take (k + 1) files))
+asked_one index ns files k f sent lt at before new = sym (asked_more index ns files k f sent lt at before ∙ ap (λ (b : Bool). sent ++ cond (not b) (to_coordinator (Worker index) (body.Fetch f.number) ∷ []) []) new)
 
-pub asked_none : (index : ℕ) (ns : List ℕ) (files : List FileMeta) (k : ℕ) (f : FileMeta) (sent : List Message) → k < length files → f ≡ get_or files k f → sent ≡ fetches index (filter (lacks ns) (take k files)) → is_among ns f.number ≡ true
-    → sent ≡ fetches index (filter (lacks ns) (take (k + 1) files))
-asked_none index ns files k f sent lt at before old = sym (asked_more index ns files k f sent lt at before ∙ ap (λ (b : Bool). sent ++ cond (not b) (to_coordinator index (body.Fetch f.number) ∷ []) []) old ∙ append-nil sent)
+pub asked_none : (index : ℕ) (ns : List ℕ) (files : List FileMeta) (k : ℕ) (f : FileMeta) (sent : List Message) → k < length files → f ≡ get_or files k f → sent ≡ fetches (Worker index) (filter (lacks ns) (take k files)) → is_among ns f.number ≡ true
+    → sent ≡ fetches (Worker index) (filter (lacks ns) (take (k + 1) files))
+asked_none index ns files k f sent lt at before old = sym (asked_more index ns files k f sent lt at before ∙ ap (λ (b : Bool). sent ++ cond (not b) (to_coordinator (Worker index) (body.Fetch f.number) ∷ []) []) old ∙ append-nil sent)
 
 -- whether a missing file of the number was found
 pub lacks-is : {X : Type 0} (o : Option X) (file : X → FileMeta) (fs : List FileMeta) (n : ℕ) → IfSome o (λ r. IsIn (file r) fs × ((file r).number ≡ n)) → IfNone o ((f : FileMeta) → IsIn f fs → f.number ≡ n → ⊥) → is_some o ≡ is_among (map (λ f. f.number) fs) n

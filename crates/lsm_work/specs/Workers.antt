@@ -7,12 +7,13 @@ use Rattle.lsm_claim.specs.declared.job.JobId.{JobId}
 use Rattle.lsm_claim.specs.Jobs.{same_job_id}
 use Rattle.lsm_edit.specs.declared.file.FileMeta.{FileMeta}
 use Rattle.lsm_edit.specs.declared.served.Placed.{Placed}
-use Rattle.lsm_edit.specs.Served.{IsAsRecorded}
+use Rattle.lsm_edit.specs.Served.{IsAwaited}
 use Rattle.lsm_msg.specs.declared.job.JobParts.{JobParts}
 use Rattle.lsm_msg.specs.declared.message.Body.{Body}
 use Rattle.lsm_msg.specs.declared.message.Body.TheVariants as body
 use Rattle.lsm_msg.specs.declared.message.Message.{Message}
-use Rattle.lsm_msg.specs.declared.node.Node.TheVariants.{Coordinator, Worker}
+use Rattle.lsm_msg.specs.declared.node.Node.TheVariants.{Worker}
+use Rattle.lsm_msg.specs.Messages.{fetches, to_coordinator}
 use Rattle.lsm_merge.specs.Inputs.{HaveSameEntry, CanMerge, lists_of}
 use Rattle.lsm_merge.specs.Outputs.{IsMerge}
 use Rattle.lsm_work.specs.declared.change.WorkChange.{WorkChange}
@@ -59,25 +60,11 @@ received_tables t = map (λ p. p.table) t.received
 abbrev pub with_input : Placed → TaskValue → TaskValue
 with_input p t = record t { received = filter (λ q. nat_lt q.meta.number p.meta.number) t.received ++ p ∷ filter (λ q. nat_lt p.meta.number q.meta.number) t.received }
 
--- the bytes are the table of a missing input, as its record says
-pub record IsAwaited (t : TaskValue) (n : ℕ) (text : List ℕ) (p : Placed) : Type 0 where
-  pub input : IsIn p.meta (missing t)
-  pub number : p.meta.number ≡ n
-  pub bytes : p.table.bytes ≡ text
-  pub recorded : IsAsRecorded p.meta p.table
-
 -- a job is later than another by its epoch, and in one epoch by its number
 abbrev pub is_later : JobId → JobId → Bool
 is_later a b = nat_lt b.epoch a.epoch || (nat_eq a.epoch b.epoch && nat_lt b.number a.number)
 
 -- ---- what comes of a message
-
-abbrev pub to_coordinator : ℕ → Body → Message
-to_coordinator index said = record { src = Worker index; dst = Coordinator; body = said }
-
--- each file's table is asked for
-abbrev pub fetches : ℕ → List FileMeta → List Message
-fetches index files = map (λ f. to_coordinator index (body.Fetch f.number)) files
 
 abbrev pub ignores : WorkerValue → Outcome
 ignores w = record { change = Ignored; sent = []; worker = w }
@@ -88,14 +75,14 @@ collects w t sent = record { change = Collecting (length (missing t)); sent = se
 
 -- it has this task, and asks for each missing input
 abbrev pub fetching : WorkerValue → TaskValue → Outcome
-fetching w t = collects w t (fetches w.index (missing t))
+fetching w t = collects w t (fetches (Worker w.index) (missing t))
 
 abbrev pub drops : WorkerValue → Outcome
 drops w = record { change = Dropped; sent = []; worker = record w { task = None } }
 
 abbrev pub sends_result : WorkerValue → JobId → List (List ℕ) → Outcome
 sends_result w id outputs =
-    record { change = Merged; sent = to_coordinator w.index (body.Result (record { job = id; tables = outputs })) ∷ []; worker = record w { task = None } }
+    record { change = Merged; sent = to_coordinator (Worker w.index) (body.Result (record { job = id; tables = outputs })) ∷ []; worker = record w { task = None } }
 
 -- a job: an idle worker takes each; another asks again for what it lacks, takes a later one in place of its own, and ignores the rest
 abbrev pub after_job : WorkerValue → JobParts → Option TaskValue → Outcome
@@ -125,8 +112,8 @@ Proceeds w t [] o = IsComplete t × MergesInputs w t o
 abbrev pub TakesTable : WorkerValue → ℕ → List ℕ → Option TaskValue → Outcome → Type 0
 TakesTable w number bytes None o = o ≡ ignores w
 TakesTable w number bytes (Some t) o =
-    ((p : Placed) × IsAwaited t number bytes p × Proceeds w (with_input p t) (missing (with_input p t)) o)
-    ⊎ (((p : Placed) → IsAwaited t number bytes p → ⊥) × (o ≡ ignores w))
+    ((p : Placed) × IsAwaited (missing t) number bytes p × Proceeds w (with_input p t) (missing (with_input p t)) o)
+    ⊎ (((p : Placed) → IsAwaited (missing t) number bytes p → ⊥) × (o ≡ ignores w))
 
 -- what comes of a message to a worker
 abbrev pub Works : WorkerValue → Body → Outcome → Type 0

@@ -1,8 +1,6 @@
 //! A job of which inputs are collected.
 
 ghost use Rattle.std.specs.Prelude.{◌≡◌};
-ghost use Rattle.lsm_msg.specs.Messages.{IsBody, IsMessage};
-ghost use Rattle.lsm_work.specs.Workers.{to_coordinator};
 
 use crate::change::WorkChange;
 use bytes::Bytes;
@@ -10,7 +8,7 @@ use lsm_claim::JobId;
 use lsm_edit::{FileMeta, open_as_recorded};
 use lsm_key::{FileNumber, Items};
 use lsm_merge::{MergeError, merge};
-use lsm_msg::{Body, Job, JobResult, Message, Node, NodeIndex};
+use lsm_msg::{Body, Job, JobResult, Message, NodeIndex};
 use lsm_table::Table;
 use std::alloc::{AllocError, Global};
 use std::marker::Model;
@@ -44,8 +42,9 @@ impl Task {
     ghost use Rattle.lsm_merge.specs.Inputs.{CanMerge, IsRefused};
     ghost use Rattle.lsm_merge.specs.Outputs.{IsMerge};
     ghost use Rattle.lsm_msg.specs.declared.message.Body.TheVariants as body;
-    ghost use Rattle.lsm_msg.specs.Messages.{AreTableBytes, IsMessage};
-    ghost use Rattle.lsm_work.specs.Workers.{TakesTable, fetches, is_among, missing, new_task, numbers_of, received_tables, with_input};
+    ghost use Rattle.lsm_msg.specs.declared.node.Node.TheVariants.{Worker};
+    ghost use Rattle.lsm_msg.specs.Messages.{AreTableBytes, IsMessage, fetches, to_coordinator};
+    ghost use Rattle.lsm_work.specs.Workers.{TakesTable, is_among, missing, new_task, numbers_of, received_tables, with_input};
     ghost use Rattle.lsm_work.specs.Held.{IsSpot, StandsAt, left_after};
 
     /// The task of a job of which no input has come.
@@ -83,14 +82,14 @@ impl Task {
         alloc: Global,
         index: NodeIndex,
     ) -> Result<Vec<Message>, AllocError>
-        ensures all { IfOk result (λ sent. sent.items ≡ fetches index (missing self.now)) }
+        ensures all { IfOk result (λ sent. sent.items ≡ fetches (Worker index) (missing self.now)) }
         ensures sound { IfOk result (λ sent. All IsMessage sent.items) }
     {
         let mut sent = Vec::with_capacity(alloc, self.missing() as usize)?;
         for file in self.job.inputs() {
             if self.numbers.binary_search(&file.number).is_err() {
                 let body = Body::Fetch(FileNumber::new(file.number));
-                sent.push(to_coordinator(index, body))?;
+                sent.push(Message::from_worker(index, body))?;
             }
         }
         Ok(sent)
@@ -185,24 +184,13 @@ impl Task {
     }
 
     fn result_message(&self, index: NodeIndex, outputs: Vec<Bytes>) -> Message
-        ensures all { result ≡ to_coordinator index (body.Result (record { job = self.now.job.id; tables = outputs.items })) }
+        ensures all { result ≡ to_coordinator (Worker index) (body.Result (record { job = self.now.job.id; tables = outputs.items })) }
         ensures sound { All AreTableBytes outputs.items → IsMessage result }
     {
         let made = JobResult {
             job: self.job.id(),
             tables: Items::from_vec(outputs),
         };
-        to_coordinator(index, Body::Result(made))
-    }
-}
-
-fn to_coordinator(index: NodeIndex, body: Body) -> Message
-    ensures all { result ≡ to_coordinator index body }
-    ensures sound { IsBody body → IsMessage result }
-{
-    Message {
-        src: Node::Worker(index),
-        dst: Node::Coordinator,
-        body,
+        Message::from_worker(index, Body::Result(made))
     }
 }

@@ -17,7 +17,10 @@ use Rattle.lsm_msg.specs.declared.message.Message.{Message}
 use Rattle.lsm_merge.specs.Outputs.{IsMerge}
 use Rattle.lsm_store.specs.Compacting.{tables_at}
 use Rattle.lsm_store.proofs.ServedTables.{tables_found}
-use Rattle.lsm_work.specs.Workers.{IsAwaited, IsComplete, MergesInputs, Outcome, Proceeds, TakesTable, TaskValue, WorkerValue, Works, after_gone, after_job, drops, fetches, fetching, ignores, is_among, is_later, missing, new_task, numbers_of, received_tables, to_coordinator, with_input}
+use Rattle.lsm_edit.specs.Served.{IsAwaited}
+use Rattle.lsm_msg.specs.Messages.{fetches, to_coordinator}
+use Rattle.lsm_msg.specs.declared.node.Node.TheVariants.{Worker}
+use Rattle.lsm_work.specs.Workers.{IsComplete, MergesInputs, Outcome, Proceeds, TakesTable, TaskValue, WorkerValue, Works, after_gone, after_job, drops, fetching, ignores, is_among, is_later, missing, new_task, numbers_of, received_tables, with_input}
 use Rattle.lsm_world.specs.History.{AreFilesOf, AreJobsOf, History, IsKnown, IsNetwork, IsNumbered, IsTableAt, IsTaskOf}
 
 -- the task that is left is of the history, and each message that is sent is known
@@ -35,9 +38,9 @@ module _ (h : History) (files : AreFilesOf h) (jobs : AreJobsOf h) where
   input_numbered : (t : TaskValue) → IsTaskOf h (Some t) → (f : FileMeta) → IsIn f t.job.inputs → IsNumbered h f.number
   input_numbered t own f m = let p = jobs.inputs t.job f own.0 m in (p.0, p.1, ap (λ (g : FileMeta). g.number) p.2)
 
-  fetched : (index : ℕ) (fs : List FileMeta) → ((f : FileMeta) → IsIn f fs → IsNumbered h f.number) → (m : Message) → IsIn m (fetches index fs) → IsKnown h m.body
+  fetched : (index : ℕ) (fs : List FileMeta) → ((f : FileMeta) → IsIn f fs → IsNumbered h f.number) → (m : Message) → IsIn m (fetches (Worker index) fs) → IsKnown h m.body
   fetched index fs all m sent =
-      let f = IsIn-mapped (λ (g : FileMeta). to_coordinator index (body.Fetch g.number)) m fs sent in
+      let f = IsIn-mapped (λ (g : FileMeta). to_coordinator (Worker index) (body.Fetch g.number)) m fs sent in
       subst (λ (x : Message). IsKnown h x.body) (sym f.2) (all f.0 f.1)
 
   -- a missing input is one of the job's
@@ -70,9 +73,9 @@ module _ (h : History) (files : AreFilesOf h) (jobs : AreJobsOf h) where
 
   module _ (t : TaskValue) (own : IsTaskOf h (Some t)) where
     -- what is awaited is a file with its table: numbers name one file, and bytes have one list of entries
-    awaited_is : (number : ℕ) (bytes : List ℕ) (p : Placed) → IsTableAt h number bytes → IsAwaited t number bytes p → IsIn p h.files
+    awaited_is : (number : ℕ) (bytes : List ℕ) (p : Placed) → IsTableAt h number bytes → IsAwaited (missing t) number bytes p → IsIn p h.files
     awaited_is number bytes p known awaited =
-        let q = jobs.inputs t.job p.meta own.0 (is_input t p.meta awaited.input) in
+        let q = jobs.inputs t.job p.meta own.0 (is_input t p.meta awaited.file) in
         let one : q.0 ≡ known.0 = files.one q.0 known.0 q.1 known.1 (ap (λ (f : FileMeta). f.number) q.2 ∙ awaited.number ∙ sym known.2) in
         let text : q.0.table.bytes ≡ p.table.bytes = ap (λ (x : Placed). x.table.bytes) one ∙ known.3 ∙ sym awaited.bytes in
         let is_table = subst (λ (bs : List ℕ). IsTable bs q.0.table.entries) text (files.recorded q.0 q.1).table in
@@ -112,7 +115,7 @@ module _ (h : History) (files : AreFilesOf h) (jobs : AreJobsOf h) where
   table_keeps w number bytes (Some t) o own has known (inl taken) =
       let p = taken.0 in
       let there = awaited_is t has number bytes p known taken.1 in
-      proceeds_keeps (with_input p t) (more_of t has p there (is_input t p.meta taken.1.input)) w (missing (with_input p t)) o taken.2
+      proceeds_keeps (with_input p t) (more_of t has p there (is_input t p.meta taken.1.file)) w (missing (with_input p t)) o taken.2
   table_keeps w number bytes (Some t) o own has known (inr other) = subst (Keeps h) (sym other.1) (ignores_keeps w own)
 
   -- ---- any message

@@ -67,7 +67,9 @@ fn step(alloc: Global, served: &mut Served, edit: &[u8], table: Table) -> Result
     if !is_recorded(edit.added.as_slice(), &table) {
         return Err("another table")?;
     }
-    served.advance(&edit, just(alloc, table)?)?;
+    served
+        .advance(&edit, just(alloc, table)?)
+        .map_err(|(why, _)| why)?;
     Ok(())
 }
 
@@ -75,7 +77,9 @@ fn step(alloc: Global, served: &mut Served, edit: &[u8], table: Table) -> Result
 fn opened(alloc: Global) -> Result<Served, Fail> {
     let mut served = Served::new(alloc);
     let opening = Edit::epoch(alloc, served.version());
-    served.advance(&opening, Vec::new(alloc))?;
+    served
+        .advance(&opening, Vec::new(alloc))
+        .map_err(|(why, _)| why)?;
     Ok(served)
 }
 
@@ -99,8 +103,7 @@ fn rebased(alloc: Global) -> Result<Served, Fail> {
     if !is_recorded(version.files(), &table) {
         return Err("another table")?;
     }
-    let mut served = Served::new(alloc);
-    served.rebase(version, just(alloc, table)?)?;
+    let served = Served::from_tables(version, just(alloc, table)?)?;
     Ok(served)
 }
 

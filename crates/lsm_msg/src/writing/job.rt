@@ -6,7 +6,8 @@ ghost use Rattle.std.specs.Int.{w16, to_be_bytes};
 ghost use Rattle.lsm_edit.specs.File.{file, size};
 ghost use Rattle.lsm_key.specs.declared.limits.TheConstants.{MAX_DEEPER};
 ghost use Rattle.lsm_msg.specs.Messages.{job, points, range, ranges};
-ghost use Rattle.lsm_msg.specs.Rules.{AreInputs, AreKeys, ArePoints};
+ghost use Rattle.lsm_edit.specs.File.{AreKeys};
+ghost use Rattle.lsm_msg.specs.Rules.{AreInputs, ArePoints};
 
 use super::result::write_job_id;
 use crate::job::Job;

@@ -20,7 +20,9 @@ pub(super) type File = (u8, u8, u8);
 pub(super) fn opened(alloc: Global) -> Result<Served, Fail> {
     let mut served = Served::new(alloc);
     let opening = Edit::epoch(alloc, served.version());
-    served.advance(&opening, Vec::new(alloc))?;
+    served
+        .advance(&opening, Vec::new(alloc))
+        .map_err(|(why, _)| why)?;
     Ok(served)
 }
 
@@ -141,6 +143,6 @@ fn step(alloc: Global, served: &mut Served, edit: &Edit, table: Table) -> Result
 {
     let mut tables = Vec::new(alloc);
     tables.push(table)?;
-    served.advance(edit, tables)?;
+    served.advance(edit, tables).map_err(|(why, _)| why)?;
     Ok(())
 }

@@ -15,6 +15,6 @@ returns-clause-ok g c =
     let folds = subst (λ (o : Option VersionValue). IfSome o (Folds c.as_slice.result.now)) c.in-Some.is c.in_ok-version.ensures.some in
     let kept = subst (λ o. IfSome o (λ ts. ArePlacesKept (g.V.Vault.tables c.edits.new.self) (placed_of c.files.result.now ts.items))) c.in-Some-2.is c.in_ok-tables.ensures.kept in
     record {
-      folds = rw (c.in_ok-rebase.ensures.version) (subst (λ (ts : List (List ℕ)). Folds ts c.in-Some.version) texts folds);
-      tables = λ p m. subst (λ (k : Kept). ArePlacesKept k (placed_of c.in-Some.version.files c.in-Some-2.tables.items)) c.in_ok-edits.ensures.tables_stay (subst (λ (fs : List FileMeta). ArePlacesKept (g.V.Vault.tables c.edits.new.self) (placed_of fs c.in-Some-2.tables.items)) c.files.ensures.all kept) p ((c.in_ok-rebase.ensures.places p).0 m);
+      folds = rw (c.in_ok-served.ensures.version) (subst (λ (ts : List (List ℕ)). Folds ts c.in-Some.version) texts folds);
+      tables = λ p m. subst (λ (k : Kept). ArePlacesKept k (placed_of c.in-Some.version.files c.in-Some-2.tables.items)) c.in_ok-edits.ensures.tables_stay (subst (λ (fs : List FileMeta). ArePlacesKept (g.V.Vault.tables c.edits.new.self) (placed_of fs c.in-Some-2.tables.items)) c.files.ensures.all kept) p ((c.in_ok-served.ensures.places p).0 m);
     }

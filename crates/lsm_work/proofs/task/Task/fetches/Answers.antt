@@ -6,9 +6,10 @@ use Rattle.std.proofs.lemmas.List.Elements.{All-append}
 use Rattle.lsm_edit.specs.declared.file.FileMeta.{FileMeta}
 use Rattle.lsm_msg.specs.declared.message.Body.TheVariants as body
 use Rattle.lsm_msg.specs.declared.message.Message.{Message}
-use Rattle.lsm_msg.specs.Messages.{IsFileNumber, IsMessage}
+use Rattle.lsm_msg.specs.Messages.{IsFileNumber, IsMessage, fetches, to_coordinator}
 use Rattle.lsm_msg.specs.Rules.{IsInput}
-use Rattle.lsm_work.specs.Workers.{TaskValue, fetches, is_among, missing, to_coordinator}
+use Rattle.lsm_msg.specs.declared.node.Node.TheVariants.{Worker}
+use Rattle.lsm_work.specs.Workers.{TaskValue, is_among, missing}
 use Rattle.lsm_work.proofs.HeldInputs.{missing_is, numbers_ascend, among_found}
 use Rattle.lsm_work.proofs.Steps.{All-one, asked_one, asked_none, lacks}
 use Rattle.lsm_work.proofs.task.Task.fetches.Goals as goal
@@ -30,9 +31,9 @@ loop-file-preserved c =
           let own = subst (λ (f : FileMeta). IsInput i.job.level f) (sym c.file-item.is) (each c.loop-file.file-index file c.loop-file-test.true) in
           let number = subst IsFileNumber (sym w.new.ensures) (own.file.first, own.file.last) in
           let pushed = ap (λ v. v.items) w.sent-is ∙ w.in_ok-push.ensures.items in
-          let asked = w.to_coordinator.ensures.all ∙ ap (λ (n : ℕ). to_coordinator c.args.index (body.Fetch n)) w.new.ensures in (
+          let asked = w.from_worker.ensures.all ∙ ap (λ (n : ℕ). to_coordinator (Worker c.args.index) (body.Fetch n)) w.new.ensures in (
             pushed ∙ ap (λ (m : Message). sent ++ m ∷ []) asked ∙ asked_one c.args.index i.numbers.items files c.loop-file.file-index file sent c.loop-file-test.true c.file-item.is c.loop-file.invariant.0 (among ∙ ap not w.if-is_err.true),
-            subst (λ (ms : List Message). All IsMessage ms) (sym pushed) (All-append IsMessage sent (w.to_coordinator.result ∷ []) c.loop-file.invariant.1 (All-one IsMessage w.to_coordinator.result (w.to_coordinator.ensures.sound number))),
+            subst (λ (ms : List Message). All IsMessage ms) (sym pushed) (All-append IsMessage sent (w.from_worker.result ∷ []) c.loop-file.invariant.1 (All-one IsMessage w.from_worker.result (w.from_worker.ensures.sound number))),
           )
       | else-is_err w ↦
           let same = ap (λ v. v.items) w.sent-is in (
@@ -48,5 +49,5 @@ returns-clause-all c =
     let all = take_all c.loop-file.file-index files (omega (arith, c.loop-file-test.false)) in
     let missed = missing_is i.job i.numbers.items i.tables.items c.self.invariant.0 in
     c.loop-file.invariant.0
-    ∙ ap (λ (fs : List FileMeta). fetches c.args.index (filter (lacks i.numbers.items) fs)) (all ∙ c.inputs-file-items.ensures.all)
-    ∙ ap (fetches c.args.index) (sym missed ∙ ap (λ (t : TaskValue). missing t) c.self.view_is)
+    ∙ ap (λ (fs : List FileMeta). fetches (Worker c.args.index) (filter (lacks i.numbers.items) fs)) (all ∙ c.inputs-file-items.ensures.all)
+    ∙ ap (fetches (Worker c.args.index)) (sym missed ∙ ap (λ (t : TaskValue). missing t) c.self.view_is)

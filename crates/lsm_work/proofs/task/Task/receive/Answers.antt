@@ -5,11 +5,12 @@ use Rattle.lsm_edit.specs.declared.served.Placed.{Placed}
 use Rattle.lsm_edit.specs.Served.{IsAsRecorded}
 use Rattle.lsm_msg.specs.declared.message.Body.TheVariants as body
 use Rattle.lsm_msg.specs.declared.message.Message.{Message}
-use Rattle.lsm_msg.specs.Messages.{IsMessage}
+use Rattle.lsm_msg.specs.Messages.{IsMessage, to_coordinator}
 use Rattle.lsm_merge.specs.Inputs.{IsRefused}
 use Rattle.lsm_work.specs.declared.change.WorkChange.{WorkChange}
 use Rattle.lsm_work.specs.declared.change.WorkChange.TheVariants.{Collecting, Merged, Dropped, Ignored}
-use Rattle.lsm_work.specs.Workers.{Outcome, TaskValue, WorkerValue, missing, received_tables, to_coordinator, with_input}
+use Rattle.lsm_msg.specs.declared.node.Node.TheVariants.{Worker}
+use Rattle.lsm_work.specs.Workers.{Outcome, TaskValue, WorkerValue, missing, received_tables, with_input}
 use Rattle.lsm_work.proofs.LastInput.{found, some_left, none_left, all_come, all_recorded}
 use Rattle.lsm_work.proofs.ResultTables.{tables_may_be_sent}
 use Rattle.lsm_work.proofs.Steps.{All-one, proceeds_more, proceeds_last}
@@ -23,13 +24,13 @@ abbrev busy : ℕ → TaskValue → WorkerValue
 busy index t = record { index = index; task = Some t }
 
 pub returns-in_default-clause-ok : goal.returns-in_default-clause-ok
-returns-in_default-clause-ok c = inr (λ p wanted. c.in_default.ensures.none p.meta wanted.input wanted.number, ap (told Ignored c.args.index (Some c.args.self.now)) c.new.ensures.items)
+returns-in_default-clause-ok c = inr (λ p wanted. c.in_default.ensures.none p.meta wanted.file wanted.number, ap (told Ignored c.args.index (Some c.args.self.now)) c.new.ensures.items)
 
 pub returns-in_default-2-clause-ok : goal.returns-in_default-2-clause-ok
 returns-in_default-2-clause-ok c =
     inr (
       λ p wanted.
-          let file = c.in-Some.ensures.only p.meta wanted.input wanted.number in
+          let file = c.in-Some.ensures.only p.meta wanted.file wanted.number in
           let none = subst (λ (o : Option Opened). IfNone o ((t : Opened) → t.bytes ≡ c.args.bytes.now → IsAsRecorded c.in-Some.file.now t → ⊥)) c.in_default-2.is c.in_ok-table.ensures.none in
           none p.table wanted.bytes (subst (λ (f : FileMeta). IsAsRecorded f p.table) file wanted.recorded),
       ap (told Ignored c.args.index (Some c.args.self.now)) c.new-in_default-2.ensures.items,
@@ -73,7 +74,7 @@ returns-in-Ok-clause-ok c =
     let made = c.in-Ok.ensures.ok c.in-Some.file.now of.stands in
     let message = c.result_message.result in
     let one : c.push.new.self.items ≡ message ∷ [] = c.push.ensures.items ∙ ap (λ r. cond (is_ok r) (c.in_ok-sent.sent.items ++ message ∷ []) c.in_ok-sent.sent.items) c.unwrap.ensures ∙ ap (λ (ms : List Message). ms ++ message ∷ []) c.in_ok-sent.ensures.items in
-    let said = c.result_message.ensures.all ∙ ap (λ (t : TaskValue). to_coordinator c.args.index (body.Result (record { job = t.job.id; tables = c.in-Ok.outputs.items }))) c.in-Ok.ensures.unchanged in
+    let said = c.result_message.ensures.all ∙ ap (λ (t : TaskValue). to_coordinator (Worker c.args.index) (body.Result (record { job = t.job.id; tables = c.in-Ok.outputs.items }))) c.in-Ok.ensures.unchanged in
     inl (
       p,
       of.awaited,
