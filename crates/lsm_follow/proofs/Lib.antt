@@ -1,0 +1,3 @@
+pub mod FilteredFiles
+pub mod ReceivedTables
+pub mod TableSteps

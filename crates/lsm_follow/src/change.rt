@@ -1,0 +1,16 @@
+//! What a message changes.
+
+/// What a message changed at a follower.
+#[derive(Clone, Copy, Debug, PartialEq, Eq)]
+pub enum FollowChange {
+    /// It is to move to another version, and lacks so many tables.
+    Waiting(u32),
+    /// It serves this version now.
+    Version(u64),
+    /// It gave up the version that it was to move to.
+    Dropped,
+    /// Nothing: it serves the current version.
+    Current,
+    /// Nothing.
+    Ignored,
+}
