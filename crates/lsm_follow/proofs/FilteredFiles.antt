@@ -1,5 +1,5 @@
 -- Files that are left out of lists.
-use Rattle.std.proofs.Common.{◌≡◌, ℕ, zero, suc, ◌+◌, ◌<◌, ◌≤◌, Bool, true, false, not, cond, ◌||◌, List, [], ◌∷◌, ◌++◌, filter, get_or, length, map, take, refl, sym, ap, subst, ◌∙◌, arith, inl, inr, ◌⊎◌}
+use Rattle.std.proofs.Common.{◌≡◌, ℕ, zero, suc, ◌+◌, ◌<◌, ◌≤◌, Bool, true, false, not, cond, ◌||◌, List, [], ◌∷◌, ◌++◌, filter, get_or, length, take, refl, sym, ap, ◌∙◌, arith, inl, inr}
 use Rattle.std.specs.List.{list_any, remove}
 use Rattle.std.proofs.lemmas.Bool.{cases_Bool, eq-eqb, false_from_ne_true, true≢false}
 use Rattle.std.proofs.lemmas.List.Edits.{length-remove}
@@ -12,7 +12,7 @@ use Rattle.lsm_edit.specs.File.{same_file}
 use Rattle.lsm_edit.specs.Version.{FileNumbersRise, has_number, is_listed}
 use Rattle.lsm_edit.proofs.AdvancedPlaces.{or-left, or-right}
 use Rattle.lsm_edit.proofs.SameFiles.{file_Decides}
-use Rattle.lsm_follow.specs.Followers.{files_of}
+use Rattle.lsm_follow.specs.Followers.{files_in}
 
 pub or_none : (b : Bool) → (b || false) ≡ b
 or_none true = refl
@@ -65,19 +65,19 @@ removed_is (g ∷ fs) (suc at) f up lt is =
 -- ---- places of listed files
 
 -- of a listed file, a place stays
-pub kept_listed : (files : List FileMeta) (ps : List Placed) (f : FileMeta) → is_listed files f ≡ true → is_listed (files_of (filter (λ p. is_listed files p.meta) ps)) f ≡ is_listed (files_of ps) f
+pub kept_listed : (files : List FileMeta) (ps : List Placed) (f : FileMeta) → is_listed files f ≡ true → is_listed (files_in (filter (λ p. is_listed files p.meta) ps)) f ≡ is_listed (files_in ps) f
 kept_listed files [] f there = refl
 kept_listed files (p ∷ ps) f there =
     let rest = kept_listed files ps f there in
     elim (cases_Bool (is_listed files p.meta)) [
       | inl held ↦
-          ap (λ (b : Bool). is_listed (files_of (cond b (p ∷ filter (λ q. is_listed files q.meta) ps) (filter (λ q. is_listed files q.meta) ps))) f) held
+          ap (λ (b : Bool). is_listed (files_in (cond b (p ∷ filter (λ q. is_listed files q.meta) ps) (filter (λ q. is_listed files q.meta) ps))) f) held
           ∙ ap (λ (b : Bool). same_file f p.meta || b) rest
       | inr free ↦
           let other : same_file f p.meta ≡ false = false_from_ne_true (same_file f p.meta) (λ h. true≢false (sym there ∙ ap (is_listed files) ((file_Decides f p.meta).0 h) ∙ free)) in
-          ap (λ (b : Bool). is_listed (files_of (cond b (p ∷ filter (λ q. is_listed files q.meta) ps) (filter (λ q. is_listed files q.meta) ps))) f) free
+          ap (λ (b : Bool). is_listed (files_in (cond b (p ∷ filter (λ q. is_listed files q.meta) ps) (filter (λ q. is_listed files q.meta) ps))) f) free
           ∙ rest
-          ∙ ap (λ (b : Bool). b || is_listed (files_of ps) f) (sym other)
+          ∙ ap (λ (b : Bool). b || is_listed (files_in ps) f) (sym other)
     ]
 
 pub has_there : (fs : List FileMeta) (f : FileMeta) (n : ℕ) → IsIn f fs → f.number ≡ n → list_any (has_number n) fs ≡ true

@@ -6,7 +6,7 @@ ghost use Rattle.lsm_edit.specs.Version.{is_listed};
 ghost use Rattle.lsm_edit.specs.Served.{IsAsRecorded};
 ghost use Rattle.lsm_msg.specs.declared.node.Node.TheVariants as node;
 ghost use Rattle.lsm_msg.specs.Messages.{IsMessage, fetches};
-ghost use Rattle.lsm_follow.specs.Followers.{Follows, TakesEdit, TakesTable, after_base, after_gone, goes_on, kept_for, missing_of, moves, pending_for, received_of, turns_to, waits, with_table};
+ghost use Rattle.lsm_follow.specs.Followers.{Follows, TakesEdit, TakesMissing, after_base, after_gone_file, goes_on, kept_for, missing_of, moves, pending_for, received_of, turns_to, waits, with_table};
 ghost use Rattle.lsm_follow.specs.Pending.{StandsAt, has_come};
 
 use super::Follower;
@@ -86,7 +86,7 @@ impl Follower {
         file: FileNumber,
         bytes: &Bytes,
     ) -> Result<(FollowChange, Vec<Message>), AllocError>
-        ensures ok { IfOk result (λ r. TakesTable self.old file bytes.now self.old.pending (record { change = r.0; sent = r.1.items; follower = self.new })) }
+        ensures ok { IfOk result (λ r. TakesMissing self.old file bytes.now self.old.pending (record { change = r.0; sent = r.1.items; follower = self.new })) }
         ensures err { OnErr result (self.new ≡ self.old) }
         ensures sound { IfOk result (λ r. All IsMessage r.1.items) }
     {
@@ -106,7 +106,7 @@ impl Follower {
     }
 
     fn on_gone(&mut self, file: FileNumber) -> (FollowChange, Vec<Message>)
-        ensures ok { record { change = result.0; sent = result.1.items; follower = self.new } ≡ after_gone self.old file self.old.pending }
+        ensures ok { record { change = result.0; sent = result.1.items; follower = self.new } ≡ after_gone_file self.old file self.old.pending }
         ensures sound { All IsMessage result.1.items }
     {
         let Some(pending) = &self.pending else {

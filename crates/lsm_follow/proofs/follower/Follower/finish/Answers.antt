@@ -1,8 +1,8 @@
-use Rattle.std.proofs.Common.{◌≡◌, ◌∙◌, ◌≤◌, ◌+◌, ◌++◌, ◌∷◌, [], List, Option, Some, IfSome, length, length-append, ap, sym, subst, arith}
+use Rattle.std.proofs.Common.{◌≡◌, ◌∙◌, ◌≤◌, ◌∷◌, [], Option, Some, IfSome, length, length-append, ap, sym, subst, arith}
 use Rattle.lsm_edit.specs.declared.file.FileMeta.{FileMeta}
 use Rattle.lsm_edit.specs.declared.served.Placed.{Placed}
 use Rattle.lsm_edit.specs.Served.{AreLacking, IsAsRecorded, ServedValue}
-use Rattle.lsm_follow.specs.Followers.{FollowerValue, PendingValue, with_table}
+use Rattle.lsm_follow.specs.Followers.{FollowerValue, PendingValue}
 use Rattle.lsm_follow.specs.Pending.{IsFollower, StandsAt}
 use Rattle.lsm_follow.proofs.TableSteps.{last_comes}
 use Rattle.lsm_follow.proofs.follower.Follower.finish.Goals as goal

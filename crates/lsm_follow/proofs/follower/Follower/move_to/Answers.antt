@@ -1,8 +1,8 @@
-use Rattle.std.proofs.Common.{◌≡◌, ◌∙◌, ◌≤◌, ◌+◌, List, length, ap, sym, subst, arith}
+use Rattle.std.proofs.Common.{◌≡◌, ◌∙◌, List, length, ap, sym, subst, arith}
 use Rattle.lsm_edit.specs.declared.served.Placed.{Placed}
 use Rattle.lsm_edit.specs.Served.{AreLacking, ServedValue}
 use Rattle.lsm_edit.specs.Version.{is_listed}
-use Rattle.lsm_follow.specs.Followers.{FollowerValue, kept_for, pending_for, received_of}
+use Rattle.lsm_follow.specs.Followers.{FollowerValue, pending_for, received_of}
 use Rattle.lsm_follow.specs.Pending.{IsFollower}
 use Rattle.lsm_follow.proofs.FilteredFiles.{filter_few}
 use Rattle.lsm_follow.proofs.ReceivedTables.{all_come, pending_has}

@@ -1,11 +1,11 @@
-use Rattle.std.proofs.Common.{◌≡◌, ◌∙◌, ◌≤◌, ◌<◌, ◌++◌, List, Option, Some, None, IfSome, IfNone, length, ap, sym, subst, arith, inr}
+use Rattle.std.proofs.Common.{◌≡◌, ◌∙◌, ◌≤◌, ◌<◌, Option, Some, IfSome, IfNone, length, ap, sym, subst, arith, inr}
 use Rattle.std.proofs.lemmas.Result.{IfOk-weaker}
 use Rattle.lsm_table.specs.Tables.{Opened}
 use Rattle.lsm_edit.specs.declared.file.FileMeta.{FileMeta}
 use Rattle.lsm_edit.specs.declared.served.Placed.{Placed}
 use Rattle.lsm_edit.specs.Served.{IsAsRecorded}
-use Rattle.lsm_follow.specs.Followers.{FollowerValue, Outcome, PendingValue, TakesTable}
-use Rattle.lsm_follow.specs.Pending.{IsFollower, IsPending, StandsAt}
+use Rattle.lsm_follow.specs.Followers.{FollowerValue, Outcome, PendingValue, TakesMissing}
+use Rattle.lsm_follow.specs.Pending.{IsFollower, IsPending}
 use Rattle.lsm_follow.proofs.ReceivedTables.{is_of, missing_rises}
 use Rattle.lsm_follow.proofs.TableSteps.{same_there, takes_last, takes_more}
 use Rattle.lsm_follow.proofs.follower.Follower.on_table.Goals as goal
@@ -25,7 +25,7 @@ returns-in_default-find-clause-ok c =
     let seen : s.pending ≡ Some to = ap (λ (x : FollowerValue). x.pending) (sym c.self.view_is) ∙ c.in-Some.is in
     let is = subst IsFollower c.self.view_is c.self.invariant in
     let out : Outcome = record { change = c.stay-in_default-find.result.0; sent = c.stay-in_default-find.result.1.items; follower = s } in
-    subst (λ (o : Option PendingValue). TakesTable s c.args.file c.args.bytes.now o out) (sym seen)
+    subst (λ (o : Option PendingValue). TakesMissing s c.args.file c.args.bytes.now o out) (sym seen)
     (inr (λ p wanted. c.in_default-find.ensures.none p.meta wanted.file (wanted.number ∙ sym c.number.ensures), λ i. record { change = c.stay-in_default-find.ensures.change i; sent = c.stay-in_default-find.ensures.sent i; follower = s }))
 
 pub returns-in_default-2-clause-ok : goal.returns-in_default-2-clause-ok
@@ -41,7 +41,7 @@ returns-in_default-2-clause-ok c =
     let rises = missing_rises s.served.version to pending.has pending.version in
     let none = subst (λ (o : Option Opened). IfNone o ((t : Opened) → t.bytes ≡ c.args.bytes.now → IsAsRecorded file t → ⊥)) c.in_default-2.is c.in_ok-table.ensures.none in
     let out : Outcome = record { change = c.stay-in_default-2.result.0; sent = c.stay-in_default-2.result.1.items; follower = s } in
-    subst (λ (o : Option PendingValue). TakesTable s c.args.file c.args.bytes.now o out) (sym seen)
+    subst (λ (o : Option PendingValue). TakesMissing s c.args.file c.args.bytes.now o out) (sym seen)
     (inr (
       λ p wanted.
           let same = same_there to.missing c.in-Some-find.at file p.meta rises stands wanted.file (wanted.number ∙ sym number) in

@@ -1,9 +1,9 @@
-use Rattle.std.proofs.Common.{◌≡◌, ◌∙◌, ◌∷◌, ◌++◌, [], List, not, cond, filter, get_or, is_ok, ap, sym}
+use Rattle.std.proofs.Common.{◌≡◌, ◌∙◌, ◌∷◌, ◌++◌, [], List, not, cond, filter, get_or, is_ok, ap}
 use Rattle.std.specs.List.{remove}
 use Rattle.lsm_edit.specs.declared.file.FileMeta.{FileMeta}
 use Rattle.lsm_edit.specs.declared.served.Placed.{Placed}
 use Rattle.lsm_edit.specs.File.{same_file}
-use Rattle.lsm_follow.specs.Followers.{PendingValue, with_table}
+use Rattle.lsm_follow.specs.Followers.{PendingValue}
 use Rattle.lsm_follow.proofs.FilteredFiles.{get_same, removed_is}
 use Rattle.lsm_follow.proofs.pending.Pending.receive.Goals as goal
 
