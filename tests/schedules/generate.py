@@ -1,7 +1,7 @@
 #!/usr/bin/env python3
 """Makes random schedules: scripts of writes, reads, picks and deliveries, each with the lines that the model prints for it.
 
-Usage: tests/schedules/generate.py [--seed S] [--count N] [--length EVENTS] [--commands all|writes] [--stats | --cases FOLDER]
+Usage: tests/schedules/generate.py [--seed S] [--count N] [--length EVENTS] [--commands all|schedules|writes] [--stats | --cases FOLDER]
 
 Prints the scripts, each after a comment with its name and options; or with --stats how often each kind of reply occurs; or with
 --cases writes NAME, NAME.args and NAME.stdout into a folder, as 'rt try --cases FOLDER -- run' takes them. The same seed, length and
@@ -17,18 +17,21 @@ from kinds import kind_of, what_it_meets
 from store import events
 from store.limits import Limits
 from store.lines import dotted, line
-from store.messages import Job
+from store.messages import Ask, Base, Job
 from store.picker import pick
 from store.script import events_of_line
+from store.versions import Edit
 from store.world import World
 
 # With few files and bytes to a level, merges go deep within a short schedule.
 LIMITS = [(1, 1), (1, 1), (1, 48), (1, 100), (1, 10_485_760), (2, 1), (2, 60), (2, 10_485_760), (3, 200), (4, 10_485_760)]
 KEYS = ["a", "b", "c", "d", "m", "n", "z", "aa", "a%00", "%00", "%FF", "x%25", "~"]
-# How often each command is tried, of those that a script has in common with a store without jobs, and of all.
+# How often each command is tried, of those that a script has in common with a store without jobs, of those that it has in common with a
+# store without followers, and of all.
 WRITES = {"put": 12, "del": 6, "batch": 3, "freeze": 2, "flush": 11, "snap": 2, "release": 2, "get": 6, "scan": 3, "show": 2}
-ALL = {**WRITES, "pick": 10, "giveup": 3, "deliver": 44, "restart_worker": 1, "restart_coordinator": 0.7}
-COMMANDS = {"all": ALL, "writes": WRITES}
+SCHEDULES = {**WRITES, "pick": 10, "giveup": 3, "deliver": 44, "restart_worker": 1, "restart_coordinator": 0.7}
+ALL = {**SCHEDULES, "ask": 9, "read": 8, "show_follower": 3, "restart_follower": 1, "trim": 2, "deliver": 60}
+COMMANDS = {"all": ALL, "schedules": SCHEDULES, "writes": WRITES}
 # How a delivery chooses its message, and how likely it loses one of the undelivered ones, in a bad and in a good network.
 BAD = {"oldest": 10, "several": 6, "newest": 2, "any": 3, "again": 4, "unsent": 0.4}, 0.03
 GOOD = {"oldest": 10, "several": 20, "newest": 0.5, "any": 0.5, "again": 0.5, "unsent": 0.1}, 0
@@ -57,6 +60,8 @@ class Schedule:
         self.world, self.script, self.lines, self.kinds = World(self.limits), [], [], Counter()
         self.undelivered, self.snapshots = [], []
         self.deliveries, self.loss = self.random.choice((BAD, GOOD))
+        # Most of what followers do is done by these: the fewer they are, the further they come.
+        self.followers = self.random.choice(([1], [1, 2], [1, 2, 3, 4]))
         self.eager = self.random.choice((0.5, 3))
         is_long = not self.is_large and self.random.randrange(ONE_IN_LONG) == 0
         while len(self.lines) < (4 * length if is_long else length):
@@ -101,8 +106,11 @@ class Schedule:
     # Choices.
 
     def weights_now(self):
-        """The weights of commands, less for one that would do nothing now, and more for a pick that would give a job."""
+        """The weights of commands, less for one that would do nothing now, and more for a pick that would give a job, and for a trim while a
+        follower waits for tables."""
         store, is_held = self.world.coordinator, any(self.world.held.values())
+        followers = self.world.followers.values()
+        has_moved, is_waiting = any(it.version.flushed for it in followers), any(it.target for it in followers)
         factors = {
             "flush": 1 if store.last > store.version.flushed else 0.1,
             "freeze": 1 if store.active() else 0.3,
@@ -111,6 +119,9 @@ class Schedule:
             "giveup": 1 if is_held else 0.2,
             "deliver": 1 if self.undelivered else 0.1,
             "restart_coordinator": 1 if is_held else 0.2,
+            "read": 1 if has_moved else 0.2,
+            "restart_follower": 1 if has_moved else 0.2,
+            "trim": 0.3 if store.version.number == store.floor else 3 if is_waiting else 1,
         }
         return {it: weight * factors.get(it, 1) for it, weight in self.weights.items()}
 
@@ -195,6 +206,26 @@ class Schedule:
     def restart_coordinator(self):
         return "restart c"
 
+    def follower(self):
+        return self.often(self.followers, list(self.world.followers))
+
+    def ask(self):
+        return f"ask {self.follower()}"
+
+    def read(self):
+        return f"read {self.follower()} {self.key()}"
+
+    def show_follower(self):
+        return f"show f{self.follower()}"
+
+    def restart_follower(self):
+        return f"restart f{self.follower()}"
+
+    def trim(self):
+        """At the current version, near it, above it, or anywhere below."""
+        current = self.world.coordinator.version.number
+        return f"trim {self.random.choice((current, max(current - self.random.randint(1, 3), 0), self.random.randint(0, current), current + 1))}"
+
     def deliver(self):
         """In order, out of order, again, before it was sent; and what is lost is mostly never delivered."""
         sent, waiting = len(self.world.messages), self.undelivered
@@ -204,8 +235,8 @@ class Schedule:
         if how == "unsent" or not sent:
             return f"deliver {self.random.choice((0, sent + 1, sent + 2, 2**64 - 1))}"
         if how == "again" or not waiting:
-            jobs = [number for number, it in enumerate(self.world.messages, 1) if isinstance(it.body, Job)]
-            return f"deliver {self.random.choice((self.random.choice(jobs), self.random.randint(1, sent)))}"
+            first = [number for number, it in enumerate(self.world.messages, 1) if isinstance(it.body, (Job, Ask, Edit, Base))]
+            return f"deliver {self.random.choice((self.random.choice(first), self.random.randint(1, sent)))}"
         if how == "several":
             return f"deliver {waiting[0]}-{min(waiting[0] + self.random.randint(0, 6), sent + 1)}"
         return f"deliver {dict(oldest=waiting[0], newest=waiting[-1], any=self.random.choice(waiting))[how]}"
@@ -222,7 +253,7 @@ def add_arguments(arguments, count=1):
     arguments.add_argument("--seed", type=int, default=1)
     arguments.add_argument("--count", type=int, default=count)
     arguments.add_argument("--length", type=int, default=60, help="events of a schedule; some have four times as many")
-    arguments.add_argument("--commands", choices=sorted(COMMANDS), default="all")
+    arguments.add_argument("--commands", choices=sorted(COMMANDS), default="schedules")
 
 
 def write_case(folder, it):

@@ -1,6 +1,8 @@
 """The names under which the replies of random scripts are counted."""
 from store import events
-from store.messages import Fetch, Job
+from store.follower import WAITING
+from store.messages import Ask, Base, Fetch, Job
+from store.versions import Edit
 from store.worker import COLLECTING
 
 
@@ -19,18 +21,25 @@ def named(world, event):
 
 def what_it_meets(world, event):
     """Of an event that is about to be: of a delivery what its message is, and what it finds; of another one the age of what it names."""
+    if isinstance(event, events.Trim):
+        return at_floor(world.coordinator, event.number)
+    if hasattr(event, "follower"):
+        return state_of(world, event.follower)
     if not isinstance(event, events.Deliver):
         name = named(world, event)
         return age(world, name).strip() if name else ""
     if not 1 <= event.message <= len(world.messages):
         return ""
     message = world.messages[event.message - 1]
-    return at_worker(world, message) if message.dst.role == "w" else at_coordinator(world, message.body)
+    return AT[message.dst.role](world, message)
 
 
-def at_coordinator(world, body):
+def at_coordinator(world, message):
+    body = message.body
     if isinstance(body, Fetch):
         return f"Fetch of a file that is {'served' if world.coordinator.is_served(body.number) else 'gone'}"
+    if isinstance(body, Ask):
+        return "Ask that is answered with " + type(world.coordinator.after(body.number)).__name__
     return "Result" + age(world, body.job)
 
 
@@ -44,6 +53,44 @@ def at_worker(world, message):
     return f"{body} that is {'the same' if job.name == message.body.name else 'newer' if job.name < message.body.name else 'older'}"
 
 
+def at_follower(world, message):
+    body = message.body
+    name = f"{type(body).__name__} to a follower that {'waits' if world.followers[message.dst.index].target else 'does not wait'}"
+    if not isinstance(body, (Edit, Base)):
+        return name
+    number = body.number if isinstance(body, Edit) else body.version.number
+    return f"{name}, {distance(world.followers[message.dst.index], number)}"
+
+
+def distance(follower, number):
+    """Of a version that comes to a follower: what it is to the follower's own, and to the one that it waits for."""
+    own, target = follower.version.number, follower.target
+    of_own = "not after its own" if number <= own else "the next" if number == own + 1 else "far ahead"
+    if number <= own or target is None:
+        return of_own
+    return f"{of_own}, {'below' if number < target.number else 'above' if number > target.number else 'as'} the one that it waits for"
+
+
+AT = {"c": at_coordinator, "w": at_worker, "f": at_follower}
+
+
+def at_floor(coordinator, number):
+    """Where a number is between the floor and the current version."""
+    if number > coordinator.version.number:
+        return "above the current version"
+    if number <= coordinator.floor:
+        return "not above the floor"
+    return "at the current version" if number == coordinator.version.number else "between the floor and the current version"
+
+
+def state_of(world, index):
+    """Of a follower whether it waits, and how it is to the coordinator's versions."""
+    follower, coordinator = world.followers[index], world.coordinator
+    own = follower.version.number
+    of_own = "new" if own == 0 else "current" if own == coordinator.version.number else "below the floor" if own + 1 < coordinator.floor else "behind"
+    return f"{of_own}{' and waiting' if follower.target else ''}"
+
+
 def kind_of(event, met, reply):
     at, met = " at a snapshot" if getattr(event, "snapshot", None) else "", ", " + met if met else ""
     if isinstance(reply, events.Refusal):
@@ -54,6 +101,12 @@ def kind_of(event, met, reply):
         return f"Pick: job of level {reply.level}{' of a later epoch' if reply.job.epoch > 1 else ''}"
     if isinstance(reply, events.Worked):
         return f"Deliver: {reply.change}{' none' if reply.change == COLLECTING and not reply.missing else ''}{met}"
+    if isinstance(reply, events.Followed):
+        return f"Deliver: {reply.change}{' and asks' if reply.change == WAITING and reply.sent else ''}{met}"
+    if isinstance(reply, events.ReadAt):
+        return f"Read: {'none' if reply.value is None else 'value'}{met}"
+    if isinstance(reply, events.Trimmed):
+        return f"Trim: removed {several(reply.removed, 'tables')}{met}"
     if isinstance(reply, events.Got):
         return f"Get{at}: {'none' if reply.value is None else 'value'}{met}"
     if isinstance(reply, events.Scanned):

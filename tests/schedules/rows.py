@@ -1,11 +1,12 @@
-"""Worked scripts with the lines that they print: those of the folder rows, and some that are too long for
-a file, at the limits of a job and of a merge's outputs."""
+"""Worked scripts with the lines that they print: those of the folder rows, and of its folder followers those that need the commands
+of followers, and some that are too long for a file, at the limits of a job and of a merge's outputs."""
 import glob
 import os
 import re
 from typing import NamedTuple
 
 FOLDER = os.path.join(os.path.dirname(os.path.abspath(__file__)), "rows")
+FOLLOWERS = os.path.join(FOLDER, "followers")
 
 
 class Row(NamedTuple):
@@ -18,18 +19,18 @@ class Row(NamedTuple):
     fault: str = ""
 
 
-def stored():
+def stored(folder=FOLDER):
     """Each file with its lines beside it. A first line that is a comment of options names the options."""
-    for path in sorted(glob.glob(os.path.join(FOLDER, "*.lsm"))):
+    for path in sorted(glob.glob(os.path.join(folder, "*.lsm"))):
         with open(path, "rb") as script, open(path[:-3] + "lines", encoding="ascii") as lines:
             text = script.read()
             options = re.match(rb"# (--.*)", text)
             yield Row(os.path.basename(path), options[1].decode().split() if options else [], text, lines.read())
 
 
-def faults():
+def faults(folder=FOLDER):
     """Each line of a table: the faulty line's number, the fault, and a script, with escapes."""
-    with open(os.path.join(FOLDER, "faults.txt"), encoding="ascii") as file:
+    with open(os.path.join(folder, "faults.txt"), encoding="ascii") as file:
         for number, fault, script in (it.rstrip("\n").split("\t") for it in file):
             text = script.encode().decode("unicode_escape").encode("latin-1")
             yield Row(f"the fault of {script}", [], text, "", f"line {number}: {fault}\n")
@@ -154,7 +155,10 @@ def made():
     yield row("an output that is not closed", "--l0 1", cut_at(1_999_999))
 
 
-def rows():
-    yield from stored()
-    yield from faults()
+def rows(has_followers):
+    for folder in [FOLDER, *([FOLLOWERS] if has_followers else [])]:
+        yield from stored(folder)
+        yield from faults(folder)
     yield from made()
+    if has_followers:
+        yield row("a follower reads a key that is too long", "", [(f"read 1 {'k' * 1_025}", "at 0 none")])

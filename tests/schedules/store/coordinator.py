@@ -5,7 +5,7 @@ must be the same: so each merge of a schedule is tested against what it means.""
 from .claims import ClaimBook, Name
 from .entries import value_of, visible, weight_of
 from .limits import LAST_LEVEL, MEMTABLE_WEIGHT, SEQUENCE, SNAPSHOTS, refuse_if
-from .messages import Fetch, FetchedTable, Gone, Job
+from .messages import Ask, Base, Current, Fetch, FetchedTable, Gone, Job
 from .picker import deeper_ranges, pick
 from .tables import Table
 from .versions import EPOCH, FLUSH, INSTALL, Edit, Version, applied, file_meta
@@ -15,7 +15,7 @@ from .writes import answer, answers, batch_of, entries_of
 class Coordinator:
     def __init__(self, limits):
         self.limits = limits
-        self.writes, self.versions, self.tables = [], [Version()], {}
+        self.writes, self.versions, self.edits, self.tables = [], [Version()], [], {}
         self.open()
 
     def open(self):
@@ -41,7 +41,8 @@ class Coordinator:
         """Goes on to the next version, by an edit that changes this and nothing else."""
         now = self.version
         same = {"flushed": now.flushed, "epoch": now.epoch, "next_file": now.next_file}
-        self.versions.append(applied(now, Edit(now.number + 1, kind, **{**same, **changes})))
+        self.edits.append(Edit(now.number + 1, kind, **{**same, **changes}))
+        self.versions.append(applied(now, self.edits[-1]))
 
     # Writes.
 
@@ -152,7 +153,16 @@ class Coordinator:
         self.book.settle(job)
         return self.version.number, numbers
 
-    # What it answers to messages.
+    # What is kept for followers, and what it answers to messages.
+
+    def trim(self, number):
+        """Lets the tables go that no version from a number on lists, and answers from which one on they are kept, and how many went."""
+        refuse_if(number > self.version.number, "BadFloor")
+        self.floor = max(self.floor, number)
+        obsolete = [it for it in self.tables if not self.is_served(it)]
+        for it in obsolete:
+            del self.tables[it]
+        return self.floor, len(obsolete)
 
     def is_served(self, number):
         """Whether a file is in some version from the floor on."""
@@ -162,4 +172,13 @@ class Coordinator:
         """The answer to a message, or None."""
         if isinstance(body, Fetch):
             return FetchedTable(body.number, self.tables[body.number]) if self.is_served(body.number) else Gone(body.number)
+        if isinstance(body, Ask):
+            return self.after(body.number)
         return None
+
+    def after(self, number):
+        """What a follower at this version is told: that it is current, the next edit if that is from the floor on, or else the full current
+        version."""
+        if number >= self.version.number:
+            return Current(self.version.number)
+        return self.edits[number] if number + 1 >= self.floor else Base(self.version)

@@ -56,8 +56,29 @@ class RestartWorker(NamedTuple):
     worker: int
 
 
+class RestartFollower(NamedTuple):
+    follower: int
+
+
 class Show(NamedTuple):
     pass
+
+
+class ShowFollower(NamedTuple):
+    follower: int
+
+
+class Ask(NamedTuple):
+    follower: int
+
+
+class Read(NamedTuple):
+    follower: int
+    key: bytes
+
+
+class Trim(NamedTuple):
+    number: int
 
 
 class Wrote(NamedTuple):
@@ -126,6 +147,28 @@ class Worked(NamedTuple):
     change: str
     missing: Optional[int]
     sent: range
+
+
+class Followed(NamedTuple):
+    """What came of a message to a follower, how many tables it is missing if it waits or its version if it moved, and the messages sent."""
+
+    change: str
+    number: Optional[int]
+    sent: range
+
+
+class Asked(NamedTuple):
+    sent: range
+
+
+class ReadAt(NamedTuple):
+    version: int
+    value: Optional[bytes]
+
+
+class Trimmed(NamedTuple):
+    floor: int
+    removed: int
 
 
 class Ignored(NamedTuple):

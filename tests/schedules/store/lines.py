@@ -32,8 +32,12 @@ def shown(it):
     return f"show {it.number} flushed {it.flushed}" + "".join(of_level)
 
 
-def worked(it):
-    return it.change + (f" {it.missing}" if it.missing is not None else "") + messages(it.sent)
+def got(value):
+    return "none" if value is None else f"value {text(value)}"
+
+
+def changed(change, number, sent):
+    return change + (f" {number}" if number is not None else "") + messages(sent)
 
 
 LINES = {
@@ -42,7 +46,7 @@ LINES = {
     events.Flushed: lambda it: f"version {it.version} flushed {it.flushed} file {it.file}",
     events.Snapped: lambda it: f"snapshot {dotted(it.name)} at {it.at}",
     events.Released: lambda it: f"released {dotted(it.name)}",
-    events.Got: lambda it: "none" if it.value is None else f"value {text(it.value)}",
+    events.Got: lambda it: got(it.value),
     events.Scanned: lambda it: f"range {len(it.pairs)}" + "".join(f" {text(key)}={text(value)}" for key, value in it.pairs),
     events.Picked: lambda it: f"job {dotted(it.job)} level {it.level} inputs {commas(it.inputs)}{messages(it.sent)}",
     events.Idle: lambda _: "idle",
@@ -50,7 +54,11 @@ LINES = {
     events.Stale: lambda it: f"stale {dotted(it.job)}",
     events.Served: lambda it: "served" + messages(it.sent),
     events.Installed: lambda it: f"installed version {it.version} files {commas(it.files) or 'none'}",
-    events.Worked: worked,
+    events.Worked: lambda it: changed(*it),
+    events.Followed: lambda it: changed(*it),
+    events.Asked: lambda it: messages(it.sent).lstrip(),
+    events.ReadAt: lambda it: f"at {it.version} {got(it.value)}",
+    events.Trimmed: lambda it: f"floor {it.floor} removed {it.removed}",
     events.Ignored: lambda _: "ignored",
     events.Opened: lambda it: f"epoch {it.epoch} version {it.version} last {it.last}",
     events.Restarted: lambda it: f"restarted {it.node}",

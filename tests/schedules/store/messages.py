@@ -3,6 +3,7 @@ from typing import NamedTuple
 
 from .claims import Name
 from .tables import Table
+from .versions import Version
 
 
 class Node(NamedTuple):
@@ -39,6 +40,20 @@ class Gone(NamedTuple):
 class Result(NamedTuple):
     job: Name
     tables: tuple
+
+
+class Ask(NamedTuple):
+    """A follower's question what comes after its version: the next edit, a full version, or nothing."""
+
+    number: int
+
+
+class Base(NamedTuple):
+    version: Version
+
+
+class Current(NamedTuple):
+    number: int
 
 
 class Message(NamedTuple):

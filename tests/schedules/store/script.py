@@ -82,6 +82,9 @@ def snapshot(words):
     return name(words[0][1:])
 
 
+ROLES = {"c", "w", "f"}
+
+
 def node(word):
     """A node's letter, with the number of one that is not the coordinator."""
     if word == b"c":
@@ -140,15 +143,17 @@ def deliver(words):
 
 def restart(words):
     role, which = node(words[0])
-    fault_if(role == "f", "unknown command")
-    return [events.RestartCoordinator() if role == "c" else events.RestartWorker(which)]
+    fault_if(role not in ROLES, "unknown command")
+    if role == "c":
+        return [events.RestartCoordinator()]
+    return [events.RestartWorker(which) if role == "w" else events.RestartFollower(which)]
 
 
 def show(words):
-    role, _ = node(words[0])
+    role, which = node(words[0])
     fault_if(role == "w", "bad name")
-    fault_if(role == "f", "unknown command")
-    return [events.Show()]
+    fault_if(role not in ROLES, "unknown command")
+    return [events.Show() if role == "c" else events.ShowFollower(which)]
 
 
 # Of each command how many words may follow it (any number if None), and what reads them.
@@ -167,4 +172,14 @@ COMMANDS = {
     b"deliver": ({1}, deliver),
     b"restart": ({1}, restart),
     b"show": ({1}, show),
+    b"ask": ({1}, lambda words: [events.Ask(index(words[0]))]),
+    b"read": ({2}, lambda words: [events.Read(index(words[0]), token(words[1]))]),
+    b"trim": ({1}, lambda words: [events.Trim(number(words[0]))]),
 }
+
+
+def leave_out_followers():
+    """From now on trims and all commands of followers are unknown: a program without followers is compared so."""
+    ROLES.remove("f")
+    for it in (b"ask", b"read", b"trim"):
+        del COMMANDS[it]

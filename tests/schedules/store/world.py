@@ -1,11 +1,18 @@
-"""A world: one coordinator, four dispatchers and four workers, and every message that was ever sent.
+"""A world: one coordinator, four dispatchers, workers and followers, and every message that was ever sent.
 
 A step is one event. A message may be delivered at any time after it was sent, any number of times, or never."""
 from . import events
 from .coordinator import Coordinator
+from .follower import Follower
 from .limits import NODES, Refused, refuse_if
-from .messages import COORDINATOR, Fetch, Message, Node, Result
+from .messages import COORDINATOR, Ask, Fetch, Message, Node, Result
 from .worker import Worker
+from .writes import answer
+
+
+def shown(version):
+    """The listing of a version."""
+    return events.Shown(version.number, version.flushed, [(it.level, it.number) for it in version.files])
 
 
 class World:
@@ -13,6 +20,7 @@ class World:
         self.coordinator = Coordinator(limits)
         self.held = {it: None for it in range(1, NODES + 1)}
         self.workers = {it: Worker() for it in range(1, NODES + 1)}
+        self.followers = {it: Follower() for it in range(1, NODES + 1)}
         self.messages = []
         self.loses = False
 
@@ -57,8 +65,10 @@ class World:
         return events.Scanned(self.coordinator.scan(*event))
 
     def show(self, _):
-        version = self.coordinator.version
-        return events.Shown(version.number, version.flushed, [(it.level, it.number) for it in version.files])
+        return shown(self.coordinator.version)
+
+    def trim(self, event):
+        return events.Trimmed(*self.coordinator.trim(event.number))
 
     # Dispatchers.
 
@@ -79,6 +89,22 @@ class World:
         self.held[event.dispatcher] = None
         return events.Returned(job) if self.coordinator.give_back(job) else events.Stale(job)
 
+    # Followers.
+
+    def ask(self, event):
+        """A follower asks what comes after its version."""
+        return events.Asked(self.send(Node("f", event.follower), COORDINATOR, [self.followers[event.follower].ask()]))
+
+    def read(self, event):
+        """The value at a follower's version: a look-up in its tables, which must be what the writes give that were flushed then."""
+        follower = self.followers[event.follower]
+        found = follower.looked_up(event.key)
+        assert found == answer(self.coordinator.writes, follower.version.flushed, event.key), "a follower gives another value than the writes"
+        return events.ReadAt(follower.version.number, found)
+
+    def show_follower(self, event):
+        return shown(self.followers[event.follower].version)
+
     # Deliveries.
 
     def deliver(self, event):
@@ -87,11 +113,10 @@ class World:
         message = self.messages[event.message - 1]
         if message.dst == COORDINATOR:
             return self.to_coordinator(message)
-        assert message.dst.role == "w"
-        return self.to_worker(message)
+        return self.to_worker(message) if message.dst.role == "w" else self.to_follower(message)
 
     def to_coordinator(self, message):
-        if isinstance(message.body, Fetch):
+        if isinstance(message.body, (Fetch, Ask)):
             return events.Served(self.send(COORDINATOR, message.src, [self.coordinator.serve(message.body)]))
         if isinstance(message.body, Result) and message.src.role == "w":
             return self.take_result(message.src.index, message.body)
@@ -108,6 +133,12 @@ class World:
         change, missing, bodies = self.workers[message.dst.index].on_message(message.body)
         return events.Worked(change, missing, self.send(message.dst, COORDINATOR, bodies))
 
+    def to_follower(self, message):
+        follower = self.followers[message.dst.index]
+        change, number, bodies = follower.on_message(message.body)
+        assert follower.version == self.coordinator.versions[follower.version.number], "a follower is at a version that never was"
+        return events.Followed(change, number, self.send(message.dst, COORDINATOR, bodies))
+
     # Restarts.
 
     def restart_coordinator(self, _):
@@ -118,6 +149,10 @@ class World:
         self.workers[event.worker] = Worker()
         return events.Restarted(f"w{event.worker}")
 
+    def restart_follower(self, event):
+        self.followers[event.follower] = Follower()
+        return events.Restarted(f"f{event.follower}")
+
     STEPS = {
         events.Write: write,
         events.Freeze: freeze,
@@ -127,9 +162,14 @@ class World:
         events.Get: get,
         events.Scan: scan,
         events.Show: show,
+        events.Trim: trim,
         events.Pick: pick,
         events.GiveUp: give_up,
+        events.Ask: ask,
+        events.Read: read,
+        events.ShowFollower: show_follower,
         events.Deliver: deliver,
         events.RestartCoordinator: restart_coordinator,
         events.RestartWorker: restart_worker,
+        events.RestartFollower: restart_follower,
     }
