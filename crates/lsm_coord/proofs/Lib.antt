@@ -12,6 +12,7 @@ pub mod SnapshotEffects
 pub mod SnapshotReads
 pub mod ShownVersions
 pub mod ServedFiles
+pub mod ToldVersions
 pub mod ReadAnswers
 pub mod ShownStates
 pub mod WriteSteps

@@ -18,7 +18,7 @@ use Rattle.lsm_coord.specs.Contract.Value.{CoordValue}
 
 -- ---- what versions list
 
-was_mapped : {X Y : Type 0} (f : X → Y) (o : Option X) (y : Y) → option_map f o ≡ Some y → (x : X) × (o ≡ Some x) × (f x ≡ y)
+pub was_mapped : {X Y : Type 0} (f : X → Y) (o : Option X) (y : Y) → option_map f o ≡ Some y → (x : X) × (o ≡ Some x) × (f x ≡ y)
 was_mapped f None y h = absurd cc
 was_mapped f (Some x) y h = (x, refl, same_Some (f x) y h)
 

@@ -1,5 +1,6 @@
 //! What no clause says: that calls succeed, and the texts of refusals.
 
+mod asks;
 mod devices;
 mod fetches;
 mod installs;

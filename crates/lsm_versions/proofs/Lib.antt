@@ -1,4 +1,6 @@
 pub mod ManifestReplay
+pub mod EditsInTurn
+pub mod RecentEdits
 pub mod RetiredByNumber
 pub mod GrownLists
 pub mod RetiredFiles

@@ -1,5 +1,5 @@
 -- The list of edits, and the versions that it replays to (LevelDB, implementation notes: manifest).
-use Rattle.std.specs.Prelude.{◌≡◌, ℕ, List, [], ◌∷◌, ◌++◌, Result, Ok, Err, max}
+use Rattle.std.specs.Prelude.{◌≡◌, ℕ, List, [], ◌∷◌, ◌++◌, ◌-◌, Result, Ok, Err, drop, max}
 use Rattle.std.specs.List.{flat_map}
 use Rattle.lsm_key.specs.Sets.{IsIn}
 use Rattle.lsm_table.specs.Tables.{Opened}
@@ -20,6 +20,10 @@ ok_items (Err fault) = []
 -- the edits that the bytes of a manifest spell, in order
 abbrev pub read_edits : List (List ℕ) → List Edit
 read_edits texts = flat_map (λ text. ok_items (read_edit text)) texts
+
+-- the edit that makes the version at the floor, and those after it
+abbrev pub edits_from : ℕ → List (List ℕ) → List (List ℕ)
+edits_from floor texts = drop (floor - 1) texts
 
 -- version 0, and the one after each edit of a manifest
 abbrev pub versions_of : List (List ℕ) → List VersionValue

@@ -9,6 +9,7 @@
 mod error;
 mod opening;
 mod putting;
+mod recent;
 mod retired;
 #[cfg(test)]
 mod tests;

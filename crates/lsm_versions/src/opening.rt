@@ -7,35 +7,41 @@ ghost use Rattle.lsm_edit.specs.declared.edit.Edit.{Edit};
 ghost use Rattle.lsm_edit.specs.Edit.{IsSpelledEdit};
 ghost use Rattle.lsm_edit.specs.Served.{AreAsRecorded, IsAsRecorded, placed_of};
 ghost use Rattle.lsm_vault.specs.Failures.{CountsFailures};
-ghost use Rattle.lsm_versions.specs.Manifest.{Folds};
+ghost use Rattle.lsm_versions.specs.Manifest.{Folds, edits_from};
 ghost use Rattle.lsm_versions.specs.Opening.{ArePlacesKept, CountsRefusal, IsLacking, LacksTable, OpenRefuses, Recovers, manifest_version};
 
 use crate::OpenError;
+use crate::recent::edits_below;
 use bytes::Bytes;
 use lsm_edit::{ApplyError, Edit, FileMeta, Served, Version, decode_edit, open_as_recorded};
-use lsm_key::{FileNumber, Refused};
+use lsm_key::{FileNumber, Refused, VersionNumber};
 use lsm_table::Table;
 use lsm_vault::{Vault, VaultError};
 use std::alloc::{AllocError, Global};
 
-/// The version that the edits of a vault replay to, with its tables. Changes nothing.
-pub(crate) fn recover<V: Vault>(alloc: Global, vault: &mut V) -> Result<Served, OpenError>
-    ensures ok { IfOk result (Recovers (V.edits vault.old) (V.tables vault.old)) }
+/// The version that the edits of a vault replay to, with its tables, and the edits from it on. Changes nothing.
+pub(crate) fn recover<V: Vault>(
+    alloc: Global,
+    vault: &mut V,
+) -> Result<(Served, Vec<Bytes>), OpenError>
+    ensures ok { IfOk result (λ r. Recovers (V.edits vault.old) (V.tables vault.old) r.0) }
+    ensures recent { IfOk result (λ r. r.1.items ≡ edits_from r.0.version.number (V.edits vault.old)) }
     ensures refused { IfErr result (OpenRefuses (V.edits vault.old) (V.tables vault.old)) }
     ensures edits { V.edits vault.new ≡ V.edits vault.old }
     ensures tables { V.tables vault.new ≡ V.tables vault.old }
     ensures failures { V.failures vault.old ≤ V.failures vault.new }
     ensures counted { IfErr result (λ e. CountsRefusal e (V.failures vault.old) (V.failures vault.new)) }
 {
-    let edits = vault.edits()?;
+    let mut edits = vault.edits()?;
     let Some(version) = replay(alloc, edits.as_slice())? else {
         return Err(OpenError::BadManifest);
     };
     let Some(tables) = tables_of(alloc, vault, version.files())? else {
         return Err(OpenError::MissingTable);
     };
+    let recent = edits.split_off(edits_below(VersionNumber::new(version.number())))?;
     let served = Served::from_tables(version, tables)?;
-    Ok(served)
+    Ok((served, recent))
 }
 
 // The version that these edits replay to, if they do.
@@ -57,8 +63,8 @@ fn replay(alloc: Global, edits: &[Bytes]) -> Result<Option<Version>, AllocError>
     Ok(Some(version))
 }
 
-// The edit that the bytes encode, if they encode one.
-fn edit_of(alloc: Global, text: &Bytes) -> Result<Option<Edit>, AllocError>
+/// The edit that the bytes encode, if they encode one.
+pub(crate) fn edit_of(alloc: Global, text: &Bytes) -> Result<Option<Edit>, AllocError>
     ensures some { IfOk result (λ o. IfSome o (IsSpelledEdit text.now)) }
     ensures none { IfOk result (λ o. IfNone o ((e : Edit) → IsSpelledEdit text.now e → ⊥)) }
 {

@@ -196,6 +196,29 @@ fn a_refused_trim_has_raised_the_floor(rt: HostRuntime) -> Result<(), Fail> {
     Ok(())
 }
 
+// The number of the edit after a version, which is there.
+fn edit_after(versions: &VersionSet<FusedVault<MemoryVault>>, number: u64) -> Result<u64, Fail> {
+    if number >= versions.version().number() || versions.floor().number() > number + 1 {
+        return Err("no such edit")?;
+    }
+    Ok(versions.edit_after(VersionNumber::new(number))?.number)
+}
+
+#[test]
+fn the_edits_from_the_floor_on_are_told(rt: HostRuntime) -> Result<(), Fail> {
+    let vault = vault_of(rt.alloc(), &[EPOCH, FLUSH], OF_A, u64::MAX)?;
+    let Ok(mut versions) = opened(rt.alloc(), vault)? else {
+        return Err("refused")?;
+    };
+    merge_away(rt.alloc(), &mut versions)?;
+    assert!(rt; edit_after(&versions, 2)? == 3);
+    assert!(rt; edit_after(&versions, 3)? == 4);
+    let trimmed = trimmed(&mut versions, 4)?;
+    assert!(rt; trimmed.is_ok());
+    assert!(rt; edit_after(&versions, 3)? == 4);
+    Ok(())
+}
+
 #[test]
 fn reasons_have_texts(rt: HostRuntime) -> Result<(), Fail> {
     for (why, want) in [

@@ -1,33 +1,34 @@
 //! The version set: the current version with its tables, the vault with the edits that made it, and the files that versions from
 //! the floor on have and the current one lacks.
 
-ghost use Rattle.std.specs.Prelude.{◌≡◌, ◌≤◌, [], None, IfErr, IfOk, OnOk, OnErr};
+ghost use Rattle.std.specs.Prelude.{◌≡◌, ◌+◌, ◌<◌, ◌≤◌, [], None, Some, IfErr, IfOk, OnOk, OnErr, slice_get};
 ghost use Rattle.std.specs.Option.{option_copied};
 ghost use Rattle.lsm_edit.specs.Edit.{IsEdit};
 ghost use Rattle.lsm_edit.specs.Served.{AreAsRecorded, IsServed};
 ghost use Rattle.lsm_edit.specs.Version.{IsVersion, apply_fault};
 ghost use Rattle.lsm_vault.specs.Failures.{CountsFailures};
-ghost use Rattle.lsm_versions.specs.Manifest.{IsVersionSet, MayHavePut, after_logging, after_trimming};
+ghost use Rattle.lsm_versions.specs.Manifest.{IsVersionSet, MayHavePut, after_logging, after_trimming, read_edits};
 ghost use Rattle.lsm_versions.specs.Kept.{StaysApart};
 ghost use Rattle.lsm_versions.specs.Opening.{CountsRefusal, EpochRefused, IsNextEpoch, MayHaveDropped, MayHaveLost, OpenRefuses, Opens, is_live, is_live_file, obsolete_tables, without_obsolete};
 ghost use Rattle.lsm_versions.specs.declared.error.OpenError.TheVariants.{NumbersExhausted};
 ghost use Rattle.lsm_versions.specs.Retention.{bytes_at};
 
 use crate::OpenError;
-use crate::opening::recover;
+use crate::opening::{edit_of, recover};
 use crate::putting::{remove_obsolete, store};
+use crate::recent::{edits_below, let_go, push_recent};
 use crate::retired::{Retired, put_retired, retired_by, retired_bytes};
 use bytes::Bytes;
 use lsm_edit::{Edit, Served, Version, encode_edit};
 use lsm_key::{FileNumber, MAX_NUMBER, VersionNumber};
 use lsm_table::Table;
 use lsm_vault::{Vault, VaultError};
-use std::alloc::Global;
+use std::alloc::{AllocError, Global};
 use std::marker::Model;
 
 /// The current version with its tables; the vault, whose edits are the manifest; and the retired files, by number. The manifest
 /// always replays to the current version, the retired files are those that some version from the floor on lists and the current
-/// one lacks, and the vault has the tables of all of them.
+/// one lacks, and the vault has the tables of all of them. The recent edits are those of the manifest from the floor on.
 #[derive(Drop)]
 pub struct VersionSet<V: Vault> {
     alloc: Global,
@@ -35,12 +36,15 @@ pub struct VersionSet<V: Vault> {
     vault: V,
     floor: VersionNumber,
     retired: Vec<Retired>,
+    // They share the bytes that were appended to the vault.
+    recent: Vec<Bytes>,
 }
 
 impl<V: Vault> Model for VersionSet<V> {
     ghost use Rattle.std.specs.Coded.{codes};
+    ghost use Rattle.std.specs.Prelude.{◌≡◌};
     ghost use Rattle.lsm_versions.specs.Kept.{kept_code};
-    ghost use Rattle.lsm_versions.specs.Manifest.{IsVersionSet, VersionSetValue};
+    ghost use Rattle.lsm_versions.specs.Manifest.{IsVersionSet, VersionSetValue, edits_from};
 
     ghost Value = { VersionSetValue };
 
@@ -48,7 +52,7 @@ impl<V: Vault> Model for VersionSet<V> {
 
     ghost view = { λ v. record { served = v.current; edits = V.edits v.vault; retired = v.retired.items; floor = v.floor; kept = V.tables v.vault; failures = V.failures v.vault } };
 
-    ghost invariant = { λ v. IsVersionSet (record { served = v.current; edits = V.edits v.vault; retired = v.retired.items; floor = v.floor; kept = V.tables v.vault; failures = V.failures v.vault }) };
+    ghost invariant = { λ v. IsVersionSet (record { served = v.current; edits = V.edits v.vault; retired = v.retired.items; floor = v.floor; kept = V.tables v.vault; failures = V.failures v.vault }) × (v.recent.items ≡ edits_from v.floor (V.edits v.vault)) };
 }
 
 impl<V: Vault> VersionSet<V> {
@@ -64,8 +68,8 @@ impl<V: Vault> VersionSet<V> {
         ensures counted { IfErr result (λ e. CountsRefusal e.0 (V.failures vault) (V.failures e.1)) }
     {
         let mut vault = vault;
-        let current = match recover(alloc, &mut vault) {
-            Ok(current) => current,
+        let (current, recent) = match recover(alloc, &mut vault) {
+            Ok(recovered) => recovered,
             Err(why) => return Err((why, vault)),
         };
         let floor = current.listing().number;
@@ -75,6 +79,7 @@ impl<V: Vault> VersionSet<V> {
             vault,
             floor,
             retired: Vec::new(alloc),
+            recent,
         };
         match versions.begin_epoch() {
             Ok(()) => Ok(versions),
@@ -101,7 +106,9 @@ impl<V: Vault> VersionSet<V> {
         let edit = Edit::epoch(self.alloc, version);
         self.remove_obsolete()?;
         self.log_and_apply(&edit, Vec::new(self.alloc))?;
-        self.floor = VersionNumber::new(self.current.version().number());
+        let floor = VersionNumber::new(self.current.version().number());
+        let_go(&mut self.recent, self.floor, floor);
+        self.floor = floor;
         Ok(())
     }
 
@@ -153,6 +160,19 @@ impl<V: Vault> VersionSet<V> {
         }
     }
 
+    /// The edit that makes the version after this one, from the floor on.
+    pub fn edit_after(&self, number: VersionNumber) -> Result<Edit, AllocError>
+        requires from { self.now.floor ≤ number + 1 }
+        requires below { number < self.now.served.version.number }
+        ensures { IfOk result (λ e. slice_get (read_edits self.now.edits) number ≡ Some e) }
+    {
+        let at = number.number() as usize - edits_below(self.floor);
+        let Some(edit) = edit_of(self.alloc, &self.recent[at])? else {
+            unreachable!()
+        };
+        Ok(edit)
+    }
+
     /// Raises the floor to a version, unless it is higher, lets the retired files go that no version from it on lists, and removes
     /// the tables of all files that are not live. Returns their numbers, ascending. A refusal leaves the floor raised; some of
     /// these tables may be gone, and the next trim or opening removes the rest.
@@ -166,6 +186,7 @@ impl<V: Vault> VersionSet<V> {
     {
         let floor = self.floor.max(to);
         self.retired.retain(|file| file.until >= floor);
+        let_go(&mut self.recent, self.floor, floor);
         self.floor = floor;
         self.remove_obsolete()
     }
@@ -183,7 +204,9 @@ impl<V: Vault> VersionSet<V> {
     {
         let bytes = encode_edit(self.alloc, edit)?;
         let retiring = retired_by(self.alloc, self.served(), edit)?;
+        let recent = bytes.clone()?;
         self.retired.reserve(retiring.len())?;
+        self.recent.reserve(1)?;
         let Ok(prepared) = self.current.prepare(edit, tables) else {
             return Err(VaultError::OutOfMemory);
         };
@@ -195,6 +218,7 @@ impl<V: Vault> VersionSet<V> {
         )?;
         self.current.take_up(prepared);
         put_retired(&mut self.retired, retiring);
+        push_recent(&mut self.recent, recent);
         Ok(())
     }
 
@@ -210,6 +234,7 @@ impl<V: Vault> VersionSet<V> {
             vault,
             floor: _,
             retired: _,
+            recent: _,
         } = self;
         vault
     }

@@ -41,7 +41,7 @@ pub(super) fn is_fetched(
     }
 }
 
-/// Whether a message that is no fetch is not answered.
+/// Whether a message that asks for nothing is not answered.
 pub(super) fn is_silent(coord: &Store, worker: NodeIndex) -> Result<bool, AllocError> {
-    Ok(served(coord, worker, Body::Ask(VersionNumber::new(1)))?.is_none())
+    Ok(served(coord, worker, Body::Current(VersionNumber::new(1)))?.is_none())
 }

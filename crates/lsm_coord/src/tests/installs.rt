@@ -37,7 +37,7 @@ const BOTH_GO: [(Step, Made); 20] = [
     (Step::Flush, Made::Flushed(3, 2, 2)),
     (Step::Fetch(1, Some(OF_A)), Made::Is(true)),
     (Step::Fetch(3, None), Made::Is(true)),
-    (Step::Ask, Made::Is(true)),
+    (Step::Silent, Made::Is(true)),
     (Step::Pick(1), Made::Picked(1, BOTH, NONE)),
     (Step::Install(1, 1, &[OF_B]), BAD),
     (Step::Install(1, 1, &[CUT]), BAD),

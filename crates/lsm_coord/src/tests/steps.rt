@@ -1,5 +1,6 @@
 //! Calls of a coordinator and what each gives as plain values, so that a test is a table of them.
 
+use super::asks::{Told, answered};
 use super::batch_of;
 use super::fetches::{is_fetched, is_silent};
 use super::jobs::{first_of, gave_back, held, installed, picked, result_of};
@@ -50,8 +51,10 @@ pub(super) enum Step {
     Restart,
     /// Whether a fetched file is answered with this table, or reported as gone.
     Fetch(u64, Option<&'static [u8]>),
-    /// Whether a message that is no fetch is not answered.
-    Ask,
+    /// Whether a message that asks for nothing is not answered.
+    Silent,
+    /// What a follower at a version is told.
+    Ask(u64),
     /// Raises the floor to a version.
     Trim(u64),
 }
@@ -92,6 +95,7 @@ pub(super) enum Made {
     Is(bool),
     /// The floor, how many files were let go, and the first one, or 0 for none.
     Trimmed(u64, usize, u64),
+    Told(Told),
     /// Nothing that a test asks for.
     Other,
 }
@@ -242,7 +246,8 @@ fn called(alloc: Global, coord: &mut Store, desk: &mut Desk, step: Step) -> Resu
             installed(coord, desk, index_of(at)?, &made)
         }
         Step::Fetch(file, table) => Made::Is(is_fetched(coord, index_of(1)?, file, table)?),
-        Step::Ask => Made::Is(is_silent(coord, index_of(1)?)?),
+        Step::Silent => Made::Is(is_silent(coord, index_of(1)?)?),
+        Step::Ask(number) => Made::Told(answered(coord, index_of(1)?, number)?),
         Step::Trim(to) => trimmed(coord, to),
         Step::GiveBack(_) | Step::Close | Step::Restart => Made::Other,
     })

@@ -1,4 +1,4 @@
-use Rattle.std.proofs.Common.{◌≡◌, ◌∙◌, ℕ, List, Option, subst}
+use Rattle.std.proofs.Common.{◌≡◌, ◌∙◌, ◌-◌, ℕ, List, Option, ap, drop, subst, sym, arith}
 use Rattle.std.specs.Option.{IfSome}
 use Rattle.lsm_edit.specs.declared.file.FileMeta.{FileMeta}
 use Rattle.lsm_edit.specs.Served.{placed_of}
@@ -6,6 +6,7 @@ use Rattle.lsm_edit.specs.Version.{VersionValue}
 use Rattle.lsm_versions.specs.Kept.{Kept}
 use Rattle.lsm_versions.specs.Manifest.{Folds}
 use Rattle.lsm_versions.specs.Opening.{ArePlacesKept}
+use Rattle.lsm_versions.proofs.EditsInTurn.{length-texts}
 use Rattle.lsm_versions.proofs.opening.recover.Goals as goal
 
 pub returns-clause-ok : goal.returns-clause-ok
@@ -18,3 +19,17 @@ returns-clause-ok g c =
       folds = rw (c.in_ok-served.ensures.version) (subst (λ (ts : List (List ℕ)). Folds ts c.in-Some.version) texts folds);
       tables = λ p m. subst (λ (k : Kept). ArePlacesKept k (placed_of c.in-Some.version.files c.in-Some-2.tables.items)) c.in_ok-edits.ensures.tables_stay (subst (λ (fs : List FileMeta). ArePlacesKept (g.V.Vault.tables c.edits.new.self) (placed_of fs c.in-Some-2.tables.items)) c.files.ensures.all kept) p ((c.in_ok-served.ensures.places p).0 m);
     }
+
+pub split_off-requires : goal.split_off-requires
+split_off-requires g c =
+    let folds = subst (λ (o : Option VersionValue). IfSome o (Folds c.as_slice.result.now)) c.in-Some.is c.in_ok-version.ensures.some in
+    let count = length-texts c.as_slice.result.now c.in-Some.version folds in
+    let long = c.as_slice.ensures.len in
+    let at : c.new.result ≡ c.in-Some.version.number = c.new.ensures ∙ c.number.ensures.value in
+    let below = c.edits_below.ensures in
+    omega (arith, count, long, at, below)
+
+pub returns-clause-recent : goal.returns-clause-recent
+returns-clause-recent g c =
+    let at : c.new.result ≡ c.in_ok-served.served.version.number = c.new.ensures ∙ c.number.ensures.value ∙ ap (λ (v : VersionValue). v.number) (sym c.in_ok-served.ensures.version) in
+    c.in_ok-recent.ensures.tail ∙ (λ i. drop ((c.edits_below.ensures ∙ ap (λ (n : ℕ). n - 1) at) i) (c.in_ok-edits.ensures.ok i))

@@ -1,14 +1,15 @@
-use Rattle.std.proofs.Common.{◌≡◌, ◌∙◌, ℕ, List, Result, Ok, Err, OnErr, ◌∷◌, [], ◌++◌, None, sym, ap, subst}
+use Rattle.std.proofs.Common.{◌≡◌, ◌∙◌, ℕ, List, Result, Ok, Err, OnErr, ◌∷◌, [], ◌++◌, None, sym, ap, subst, rules}
 use Rattle.lsm_edit.specs.declared.file.FileMeta.{FileMeta}
 use Rattle.lsm_edit.specs.Edit.{edit as spelling}
 use Rattle.lsm_edit.specs.Prepared.{PreparedValue, after_taking_up}
 use Rattle.lsm_edit.specs.Served.{IsServed, ServedValue, after_advance, placed_of}
 use Rattle.lsm_edit.specs.Version.{IsVersion, apply_fault}
 use Rattle.lsm_versions.specs.Kept.{StaysApart, StaysBelow, put_tables}
-use Rattle.lsm_versions.specs.Manifest.{IsVersionSet, MayHavePut, VersionSetValue, after_logging}
+use Rattle.lsm_versions.specs.Manifest.{IsVersionSet, MayHavePut, VersionSetValue, after_logging, edits_from}
 use Rattle.lsm_versions.specs.Retention.{put_each, retired_after, retired_by}
 use Rattle.lsm_versions.proofs.KeptTables.{apart_below}
 use Rattle.lsm_versions.proofs.LoggedEdits.{logged_set, rising_set, still_set}
+use Rattle.lsm_versions.proofs.RecentEdits.{pushed}
 use Rattle.lsm_versions.proofs.version_set.VersionSet.log_and_apply.Given.{Over}
 use Rattle.lsm_versions.proofs.version_set.VersionSet.log_and_apply.Goals as goal
 
@@ -26,8 +27,8 @@ invariant_of-self-in_err-store g c =
     let applies : apply_fault v.served.version e ≡ None = subst (λ (w : VersionSetValue). apply_fault w.served.version e ≡ None) (sym c.self.view_is) c.requires.applies in
     let sound = subst (λ (w : VersionSetValue). IsServed w.served × IsVersion w.served.version) (sym c.self.view_is) c.served.ensures.sound in
     let others = subst (λ (fs : List FileMeta). StaysApart fs v.kept kept) c.as_slice.ensures c.in_err-store.ensures.others in
-    let still = still_set v e c.self.invariant sound c.requires.sound applies kept failures (apart_below v.served.version e v.kept kept applies others) in
-    rw (c.in_err-store.ensures.err, c.in_ok-reserve.ensures.items) still
+    let still = still_set v e c.self.invariant.0 sound c.requires.sound applies kept failures (apart_below v.served.version e v.kept kept applies others) in
+    rw (c.in_err-store.ensures.err, c.in_ok-reserve.ensures.items, c.in_ok-reserve-2.ensures.items) (still, c.self.invariant.1)
 
 pub returns-in_err-store-clause-err : goal.returns-in_err-store-clause-err
 returns-in_err-store-clause-err g c =
@@ -59,7 +60,7 @@ returns-in_err-store-clause-apart g c =
     on_err c.from_residual-in_err-store.result (StaysApart c.args.edit.now.added c.args.self.now.kept kept) (subst (λ (w : VersionSetValue). StaysApart c.args.edit.now.added w.kept kept) c.self.view_is others)
 
 -- what the set has then
-logged : (g : Over) (c : goal.After-put_retired g) →
+logged : (g : Over) (c : goal.After-push_recent g) →
     record {
       served = c.take_up.new.self;
       edits = g.V.Vault.edits c.store.new.vault;
@@ -89,7 +90,10 @@ invariant_of-self-2 g c =
     let e = c.args.edit.now in
     let applies : apply_fault v.served.version e ≡ None = subst (λ (w : VersionSetValue). apply_fault w.served.version e ≡ None) (sym c.self.view_is) c.requires.applies in
     let sound = subst (λ (w : VersionSetValue). IsServed w.served × IsVersion w.served.version) (sym c.self.view_is) c.served.ensures.sound in
-    subst IsVersionSet (sym (logged g c)) (logged_set v e c.self.invariant sound c.requires.sound applies c.args.tables.items (g.V.Vault.failures c.store.new.vault))
+    let shared : c.in_ok-recent.recent ≡ c.in_ok-bytes.bytes = search rules in (
+      subst IsVersionSet (sym (logged g c)) (logged_set v e c.self.invariant.0 sound c.requires.sound applies c.args.tables.items (g.V.Vault.failures c.store.new.vault)),
+      c.push_recent.ensures ∙ (λ i. c.in_ok-reserve-2.ensures.items i ++ shared i ∷ []) ∙ pushed v.edits v.served.version v.floor m.recent.items c.self.invariant.0.folds c.self.invariant.1 c.in_ok-bytes.bytes c.self.invariant.0.retired.low ∙ ap (edits_from m.floor) (sym c.in_ok-store.ensures.edits),
+    )
 
 pub returns-clause-ok : goal.returns-clause-ok
 returns-clause-ok g c =
@@ -103,4 +107,4 @@ put_retired-requires-clause-rising g c =
     let retiring = c.in_ok-retiring.ensures ∙ ap (λ (s : ServedValue). retired_by s e.removed) (c.served.ensures.served ∙ ap (λ (w : VersionSetValue). w.served) (sym c.self.view_is)) in
     let applies : apply_fault v.served.version e ≡ None = subst (λ (w : VersionSetValue). apply_fault w.served.version e ≡ None) (sym c.self.view_is) c.requires.applies in
     let sound = subst (λ (w : VersionSetValue). IsServed w.served × IsVersion w.served.version) (sym c.self.view_is) c.served.ensures.sound in
-    rw (retiring, c.in_ok-reserve.ensures.items) (rising_set v e c.self.invariant sound c.requires.sound applies)
+    rw (retiring, c.in_ok-reserve.ensures.items) (rising_set v e c.self.invariant.0 sound c.requires.sound applies)

@@ -5,7 +5,7 @@ pub invariant_of-versions : goal.invariant_of-versions
 invariant_of-versions g c =
     let texts = g.V.Vault.edits c.args.vault in
     let kept = g.V.Vault.tables c.args.vault in
-    rw (c.in-Ok.ensures.edits, c.in-Ok.ensures.tables, c.new.ensures.items, c.listing-floor.ensures.number) (recovered_set texts kept c.in-Ok.current (g.V.Vault.failures c.recover.new.vault) c.in-Ok.ensures.ok)
+    rw (c.in-Ok.ensures.edits, c.in-Ok.ensures.tables, c.new.ensures.items, c.listing-floor.ensures.number) (recovered_set texts kept c.in-Ok.recovered.0 (g.V.Vault.failures c.recover.new.vault) c.in-Ok.ensures.ok, c.in-Ok.ensures.recent)
 
 pub returns-in-Err-begin_epoch-clause-refused : goal.returns-in-Err-begin_epoch-clause-refused
-returns-in-Err-begin_epoch-clause-refused g c = epoch_refused (g.V.Vault.edits c.args.vault) (g.V.Vault.tables c.args.vault) c.in-Ok.current c.in-Ok.ensures.ok c.listing-floor.ensures.sound.0 c.in-Err-begin_epoch.why c.in-Err-begin_epoch.ensures.refused
+returns-in-Err-begin_epoch-clause-refused g c = epoch_refused (g.V.Vault.edits c.args.vault) (g.V.Vault.tables c.args.vault) c.in-Ok.recovered.0 c.in-Ok.ensures.ok c.listing-floor.ensures.sound.0 c.in-Err-begin_epoch.why c.in-Err-begin_epoch.ensures.refused

@@ -16,8 +16,12 @@ invariant_of-self g c =
     subst (λ (rs : List Retired). MayHaveLost (is_live_file m.current.version.files rs) old new) c.deref.ensures.value
     (subst (λ (v : VersionValue). MayHaveLost (is_live_file v.files c.deref.result.now) old new) c.version.ensures c.remove_obsolete.ensures.lost) in
     let served = c.places-places.ensures.sound.0 in
-    rw (c.remove_obsolete.ensures.edits) (record {
-      folds = c.self.invariant.folds;
-      retired = c.self.invariant.retired;
-      kept = kept_needed m.current.places m.current.version.files m.retired.items old new (λ p n. (served.listed p.meta).0 (IsIn-map (λ (x : Placed). x.meta) p m.current.places n)) lost c.self.invariant.kept;
-    })
+    let is = c.self.invariant.0 in
+    rw (c.remove_obsolete.ensures.edits) (
+      record {
+        folds = is.folds;
+        retired = is.retired;
+        kept = kept_needed m.current.places m.current.version.files m.retired.items old new (λ p n. (served.listed p.meta).0 (IsIn-map (λ (x : Placed). x.meta) p m.current.places n)) lost is.kept;
+      },
+      c.self.invariant.1,
+    )

@@ -1,10 +1,11 @@
-use Rattle.std.proofs.Common.{◌≡◌, ◌≤◌, ◌∙◌, ℕ, List, IfOk, OnOk, ap, sym, subst, max, leb, rules}
+use Rattle.std.proofs.Common.{◌≡◌, ◌≤◌, ◌∙◌, ℕ, List, IfOk, OnOk, ap, sym, subst, max, leb, arith, rules}
 use Rattle.std.proofs.lemmas.Fn.{filter_same}
 use Rattle.lsm_versions.specs.declared.retired.Retired.{Retired}
 use Rattle.lsm_versions.specs.Manifest.{IsVersionSet, VersionSetValue, after_trimming}
 use Rattle.lsm_versions.specs.Opening.{MayHaveLost, is_live, obsolete_tables, without_obsolete}
 use Rattle.lsm_versions.specs.Retention.{kept_from}
 use Rattle.lsm_versions.proofs.KeptTables.{kept_trimmed}
+use Rattle.lsm_versions.proofs.RecentEdits as recent
 use Rattle.lsm_versions.proofs.RetiredFiles.{retired-trimmed}
 use Rattle.lsm_versions.proofs.version_set.VersionSet.trim.Given.{Over}
 use Rattle.lsm_versions.proofs.version_set.VersionSet.trim.Goals as goal
@@ -26,11 +27,22 @@ invariant_of-self g c =
     let low : c.args.to ≤ m.current.version.number = subst (λ (v : VersionSetValue). c.args.to ≤ v.served.version.number) (sym c.self.view_is) c.requires in
     let v : VersionSetValue = record { served = c.self.inside.current; edits = g.V.Vault.edits c.self.inside.vault; retired = c.self.inside.retired.items; floor = c.self.inside.floor; kept = g.V.Vault.tables c.self.inside.vault; failures = g.V.Vault.failures c.self.inside.vault } in
     let is = raised v c.args.to c.max-floor.result c.retain.new.self.items (search rules) (filter_same _ (λ (r : Retired). leb c.max-floor.result r.until) _ (λ x b f k. search rules) _ _ c.retain.ensures.filtered) in
-    subst IsVersionSet (sym is) (record {
-      folds = c.self.invariant.folds;
-      retired = retired-trimmed _ m.current.version m.retired.items m.floor c.args.to c.self.invariant.retired low;
-      kept = kept_trimmed m.current m.retired.items (max m.floor c.args.to) (g.V.Vault.tables m.vault) c.self.invariant.kept;
-    })
+    let top : c.max-floor.result ≡ max m.floor c.args.to = search rules in (
+      subst IsVersionSet (sym is) (record {
+        folds = c.self.invariant.0.folds;
+        retired = retired-trimmed _ m.current.version m.retired.items m.floor c.args.to c.self.invariant.0.retired low;
+        kept = kept_trimmed m.current m.retired.items (max m.floor c.args.to) (g.V.Vault.tables m.vault) c.self.invariant.0.kept;
+      }),
+      c.let_go.ensures ∙ recent.raised (g.V.Vault.edits m.vault) m.current.version m.floor m.recent.items c.self.invariant.0.folds c.self.invariant.1 c.max-floor.result (omega (arith, top)),
+    )
+
+pub let_go-requires-clause-within : goal.let_go-requires-clause-within
+let_go-requires-clause-within g c =
+    let m = c.self.inside in
+    let low : c.args.to ≤ m.current.version.number = subst (λ (v : VersionSetValue). c.args.to ≤ v.served.version.number) (sym c.self.view_is) c.requires in
+    let floor = c.self.invariant.0.retired.low in
+    let top : c.max-floor.result ≡ max m.floor c.args.to = search rules in
+    recent.has_below (g.V.Vault.edits m.vault) m.current.version m.floor m.recent.items c.self.invariant.0.folds c.self.invariant.1 c.max-floor.result (omega (arith, top, low, floor))
 
 pub returns-clause-removed : goal.returns-clause-removed
 returns-clause-removed g c = subst (λ (v : VersionSetValue). IfOk c.remove_obsolete.result (λ removed. removed.items ≡ obsolete_tables v)) (raised_to g c) c.remove_obsolete.ensures.removed
