@@ -16,21 +16,26 @@ pub(super) enum Told {
     Other,
 }
 
-/// What a follower at a version is told.
-pub(super) fn answered(coord: &Store, index: NodeIndex, number: u64) -> Result<Told, AllocError> {
-    let asked = Message::from_follower(index, Body::Ask(VersionNumber::new(number)));
-    let Some(answer) = coord.serve(&asked)? else {
-        return Ok(Told::Other);
-    };
-    if answer.src != Node::Coordinator || answer.dst != asked.src {
-        return Ok(Told::Other);
+/// What a follower hears from an answer.
+fn heard(answer: &Message, follower: Node) -> Told {
+    if answer.src != Node::Coordinator || answer.dst != follower {
+        return Told::Other;
     }
-    Ok(match answer.body {
+    match &answer.body {
         Body::Edit(edit) => Told::Edit(edit.number),
         Body::Base(version) => Told::Base(version.number()),
         Body::Current(number) => Told::Current(number.number()),
         _ => Told::Other,
-    })
+    }
+}
+
+/// What a follower at a version is told.
+pub(super) fn answered(coord: &Store, index: NodeIndex, number: u64) -> Result<Told, AllocError> {
+    let asked = Message::from_follower(index, Body::Ask(VersionNumber::new(number)));
+    match coord.serve(&asked)? {
+        Some(answer) => Ok(heard(&answer, asked.src)),
+        None => Ok(Told::Other),
+    }
 }
 
 // Version 1 is of the opening, 2 and 3 are of flushes, 4 is of the restart.
