@@ -19,7 +19,7 @@ use Rattle.lsm_versions.specs.Opening.{ArePlacesKept}
 -- ---- two lists in search order that have the same members are one
 
 -- the range of the file is in order
-abbrev IsWhole : Placed → Type 0
+abbrev pub IsWhole : Placed → Type 0
 IsWhole p = key_le p.meta.smallest p.meta.largest ≡ true
 
 -- of two files only one comes before the other
@@ -44,7 +44,7 @@ without_head p q r ps qs whole same up m n = elim n [
 ]
 
 -- with the same members they are one list
-same_list : (ps qs : List Placed) → ((r : Placed) → IsIn r ps → IsWhole r) → AreInSearchOrder ps → AreInSearchOrder qs → ((r : Placed) → IsIn r ps → IsIn r qs) → ((r : Placed) → IsIn r qs → IsIn r ps) → ps ≡ qs
+pub same_list : (ps qs : List Placed) → ((r : Placed) → IsIn r ps → IsWhole r) → AreInSearchOrder ps → AreInSearchOrder qs → ((r : Placed) → IsIn r ps → IsIn r qs) → ((r : Placed) → IsIn r qs → IsIn r ps) → ps ≡ qs
 same_list [] [] whole up down there back = refl
 same_list [] (q ∷ qs) whole up down there back = absurd (back q (inl refl))
 same_list (p ∷ ps) [] whole up down there back = absurd (there p (inl refl))

@@ -20,12 +20,14 @@ use Rattle.lsm_coord.specs.declared.coord.install.InstallError.TheVariants as ke
 use Rattle.lsm_coord.specs.declared.error.CoordError.{CoordError}
 use Rattle.lsm_coord.specs.declared.error.CoordError.TheVariants as error
 use Rattle.lsm_coord.specs.declared.snapshot.SnapId.{SnapId}
-use Rattle.lsm_coord.specs.Contract.Calls.{FlushRefuses, HasValue, freeze_fault, point_of, release_fault, snapshot_fault, write_fault}
+use Rattle.lsm_coord.specs.Contract.Calls.{FlushRefuses, HasValue, TrimRefuses, freeze_fault, point_of, release_fault, snapshot_fault, write_fault}
 use Rattle.lsm_coord.specs.Contract.Installing.{Became, LeavesRejected}
 use Rattle.lsm_coord.specs.Contract.Picking.{PickRefuses}
 use Rattle.lsm_coord.specs.Contract.Replies.{error_of}
 use Rattle.lsm_coord.specs.Contract.Value.{CoordValue}
 use Rattle.lsm_coord.specs.Model.State.{snapshot_at}
+use Rattle.lsm_follow.specs.declared.change.FollowChange.{FollowChange}
+use Rattle.lsm_follow.specs.declared.change.FollowChange.TheVariants as follow
 use Rattle.lsm_work.specs.declared.change.WorkChange.{WorkChange}
 use Rattle.lsm_work.specs.declared.change.WorkChange.TheVariants as change
 use Rattle.lsm_world.specs.declared.event.Event.{Event}
@@ -34,8 +36,8 @@ use Rattle.lsm_world.specs.declared.refusal.Refusal.TheVariants as why
 use Rattle.lsm_world.specs.declared.reply.Reply.{Reply}
 use Rattle.lsm_world.specs.declared.reply.Reply.TheVariants as reply
 use Rattle.lsm_world.specs.declared.reply.Sent.{Sent}
-use Rattle.lsm_world.specs.Asks.{Asks, AsksNode, Calls, Delivers, DeliversAt, Dispatches, GivesUp, Receives, TakesResult, install_answer, worker_reply}
-use Rattle.lsm_world.specs.Nodes.{NodesValue}
+use Rattle.lsm_world.specs.Asks.{Asks, AsksNetwork, AsksNode, AsksOther, Calls, Delivers, DeliversAt, DeliversOn, Dispatches, GivesUp, Receives, TakesResult, follower_reply, install_answer, looked_up, worker_reply}
+use Rattle.lsm_world.specs.Nodes.{NetworkValue, NodesValue}
 use Rattle.lsm_world.specs.Schedules.{device_failures}
 use Rattle.lsm_world.proofs.PlainReplies.{one_reason, three_reasons, two_reasons}
 
@@ -95,6 +97,11 @@ flush_counted old new error.OutOfMemory is = let counted = is.1.counted in omega
 flush_counted old new error.Device is = let failed = is.1.1 in omega (arith, failed)
 flush_counted old new e is = still old.failures new.failures (ap (λ (c : CoordValue). c.failures) is.1)
 
+trim_counted : (old new : CoordValue) (n : ℕ) (e : CoordError) → TrimRefuses old n e new → Counts old.failures (reply.Refused (why.Coord e)) new.failures
+trim_counted old new n error.OutOfMemory is = let counted = is.1.counted in omega (arith, counted)
+trim_counted old new n error.Device is = let failed = is.2 in omega (arith, failed)
+trim_counted old new n e is = still old.failures new.failures (ap (λ (c : CoordValue). c.failures) is.1)
+
 module _ (old new : CoordValue) where
   -- nothing has changed
   unchanged : new ≡ old → new.failures ≡ old.failures
@@ -116,7 +123,9 @@ module _ (old new : CoordValue) where
   calls_counted (event.Get key at) (reply.Refused (why.Coord e)) is = counts_none old.failures new.failures e (get_none old key (point_of old at) e is.0) (unchanged is.1)
   calls_counted (event.Scan range) (reply.Scanned pairs) is = still old.failures new.failures (unchanged is)
   calls_counted (event.Scan range) (reply.Refused (why.Coord e)) is = counts_none old.failures new.failures e (scan_none (point_of old range.at) e is.0) (unchanged is.1)
-  calls_counted event.Show (reply.Shown v) is = still old.failures new.failures (unchanged is.3)
+  calls_counted event.Show (reply.Shown v) is = still old.failures new.failures (unchanged is.1)
+  calls_counted (event.Trim number) (reply.Trimmed floor removed) is = let rose = is.4 in omega (arith, rose)
+  calls_counted (event.Trim number) (reply.Refused (why.Coord e)) is = trim_counted old new number e is
   calls_counted e r is = absurd is
 
 -- ---- results
@@ -135,11 +144,35 @@ installed_counted old new claim made (became.Kept back e) is = rejected_counted 
 
 -- ---- the nodes
 
-pub worker_counted : (n : ℕ) (what : WorkChange) (told : Sent) → Counts n (worker_reply what told) n
+worker_counted : (n : ℕ) (what : WorkChange) (told : Sent) → Counts n (worker_reply what told) n
 worker_counted n (change.Collecting missing) told = omega arith
 worker_counted n change.Merged told = omega arith
 worker_counted n change.Dropped told = omega arith
 worker_counted n change.Ignored told = omega arith
+
+follower_counted : (n : ℕ) (what : FollowChange) (told : Sent) → Counts n (follower_reply what told) n
+follower_counted n (follow.Waiting missing) told = omega arith
+follower_counted n (follow.Version number) told = omega arith
+follower_counted n follow.Dropped told = omega arith
+follower_counted n follow.Current told = omega arith
+follower_counted n follow.Ignored told = omega arith
+
+-- a reply that is another one
+same_counted : (n : ℕ) (r q : Reply) → r ≡ q → Counts n q n → Counts n r n
+same_counted n r q same is = subst (λ (x : Reply). Counts n x n) (sym same) is
+
+pub network_counted : (n : ℕ) (old new : NetworkValue) (e : Event) (r : Reply) → AsksNetwork old e r new → Counts n r n
+network_counted n old new (event.RestartWorker index) r is = same_counted n r (reply.RestartedWorker index) is.0 (omega arith)
+network_counted n old new (event.RestartFollower index) r is = same_counted n r (reply.RestartedFollower index) is.0 (omega arith)
+network_counted n old new (event.Ask index) r is = same_counted n r (reply.Asked is.2) is.3 (omega arith)
+network_counted n old new (event.Read index key) r is = same_counted n r (reply.ReadAt is.0.served.version.number (looked_up is.0 key)) is.2 (omega arith)
+network_counted n old new (event.ShowFollower index) r is = same_counted n r (reply.Shown is.2) is.4 (omega arith)
+network_counted n old new e r is = absurd is
+
+pub passed_counted : (n : ℕ) (old new : NetworkValue) (m : Message) (dst : Node) (r : Reply) → DeliversOn old m dst r new → Counts n r n
+passed_counted n old new m Coordinator r is = absurd is
+passed_counted n old new m (Worker index) r is = same_counted n r (worker_reply is.outcome.change is.told) is.reply_is (worker_counted n is.outcome.change is.told)
+passed_counted n old new m (Follower index) r is = same_counted n r (follower_reply is.outcome.change is.told) is.reply_is (follower_counted n is.outcome.change is.told)
 
 module _ (old new : NodesValue) where
   abbrev before : ℕ
@@ -174,15 +207,21 @@ module _ (old new : NodesValue) where
 
   received : (m : Message) (src : Node) (said : Body) (r : Reply) → Receives old m src said r new → Counts before r after
   received m src (body.Fetch file) r is = told r (reply.Served is.2) is.3 (still before after (ap (λ (x : NodesValue). x.core.failures) is.5))
+  received m src (body.Ask number) r is = told r (reply.Served is.2) is.3 (still before after (ap (λ (x : NodesValue). x.core.failures) is.5))
   received m (Worker d) (body.Result made) r is = took d made r is
   received m src said r is = told r reply.Ignored is.0 (still before after (kept_core old is.1 refl))
 
+  -- another node was asked, and the coordinator is as it was
+  kept_failures : (r : Reply) → new ≡ record old { network = new.network } → Counts before r before → Counts before r after
+  kept_failures r is counts = subst (λ (n : ℕ). Counts before r n) (sym (ap (λ (x : NodesValue). x.core.failures) is)) counts
+
+  other : (e : Event) (r : Reply) → AsksOther old e r new → Counts before r after
+  other e r is = kept_failures r is.1 (network_counted before old.network new.network e r is.0)
+
   delivered : (m : Message) (dst : Node) (r : Reply) → Delivers old m dst r new → Counts before r after
   delivered m Coordinator r is = received m m.src m.body r is
-  delivered m (Worker index) r is =
-      let same : after ≡ before = ap (λ (x : NodesValue). x.core.failures) is.1 in
-      told r (worker_reply is.0.outcome.change is.0.told) is.0.reply_is (subst (λ (n : ℕ). Counts before (worker_reply is.0.outcome.change is.0.told) n) (sym same) (worker_counted before is.0.outcome.change is.0.told))
-  delivered m (Follower index) r is = told r reply.Ignored is.0 (still before after (kept_core old is.1 refl))
+  delivered m (Worker index) r is = kept_failures r is.1 (passed_counted before old.network new.network m (Worker index) r is.0)
+  delivered m (Follower index) r is = kept_failures r is.1 (passed_counted before old.network new.network m (Follower index) r is.0)
 
   delivered_at : (number : ℕ) (r : Reply) → DeliversAt old number r new → Counts before r after
   delivered_at number (reply.Refused why.NoMessage) is = still before after (kept_core old is.1 refl)
@@ -192,7 +231,11 @@ module _ (old new : NodesValue) where
   node_counted (event.Pick d) r is = dispatched d r is
   node_counted (event.GiveUp d) r is = gave_up d r is
   node_counted (event.Deliver number) r is = delivered_at number r is
-  node_counted (event.RestartWorker index) r is = told r (reply.RestartedWorker index) is.0.0 (still before after (ap (λ (x : NodesValue). x.core.failures) is.1))
+  node_counted (event.RestartWorker index) r is = other (event.RestartWorker index) r is
+  node_counted (event.RestartFollower index) r is = other (event.RestartFollower index) r is
+  node_counted (event.Ask index) r is = other (event.Ask index) r is
+  node_counted (event.Read index key) r is = other (event.Read index key) r is
+  node_counted (event.ShowFollower index) r is = other (event.ShowFollower index) r is
   node_counted e r is = calls_counted old.core new.core e r is.0
 
   -- WHAT THE NODES ANSWER OF A FAILURE, THE VAULT HAS COUNTED.

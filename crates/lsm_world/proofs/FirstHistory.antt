@@ -1,16 +1,20 @@
 -- The history of a new store: no files and no jobs.
-use Rattle.std.proofs.Common.{◌≡◌, ℕ, zero, suc, List, [], Option, Some, length, map, sym, ap, subst, inl, inr}
+use Rattle.std.proofs.Common.{◌≡◌, ℕ, zero, suc, List, [], ◌∷◌, Option, Some, length, map, refl, sym, ap, subst, ◌∙◌, inl, inr}
 use Rattle.std.specs.Prelude.{slice_get}
-use Rattle.std.proofs.lemmas.Option.{get_or_from_slice_get, slice_get_within}
 use Rattle.lsm_key.specs.declared.limits.Limits.{Limits}
 use Rattle.lsm_key.specs.Sets.{IsIn}
-use Rattle.lsm_key.proofs.Membership.{IsIn-at, IsIn-map, IsIn-mapped}
+use Rattle.lsm_key.proofs.Membership.{IsIn-map, IsIn-mapped}
 use Rattle.lsm_claim.specs.declared.job.LiveJob.{LiveJob}
 use Rattle.lsm_claim.specs.Book.{BookValue}
 use Rattle.lsm_edit.specs.declared.file.FileMeta.{FileMeta}
+use Rattle.lsm_edit.specs.declared.served.Placed.{Placed}
+use Rattle.lsm_edit.specs.Served.{IsServed, ServedValue, tables_of}
 use Rattle.lsm_edit.specs.Version.{VersionValue}
+use Rattle.lsm_key.specs.Places.{AreOrdered, all_entries}
+use Rattle.lsm_key.specs.Visible.{value_at}
+use Rattle.lsm_key.specs.Writes.{answer}
 use Rattle.lsm_edit.proofs.ServedPlaces.{file_of}
-use Rattle.lsm_versions.specs.Manifest.{versions_of}
+use Rattle.lsm_versions.specs.Manifest.{read_edits, versions_of}
 use Rattle.lsm_versions.proofs.ManifestReplay.{current_at}
 use Rattle.lsm_coord.specs.declared.dispatcher.Dispatcher.{Dispatcher}
 use Rattle.lsm_coord.specs.Contract.Desks.{new_desk}
@@ -18,13 +22,20 @@ use Rattle.lsm_coord.specs.Contract.Shows.{listing_of, place_of, Shows}
 use Rattle.lsm_coord.specs.Contract.Memory.{IsFit}
 use Rattle.lsm_coord.specs.Contract.Value.{CoordValue}
 use Rattle.lsm_coord.specs.Model.State.{Version, empty_version, first_state}
+use Rattle.lsm_coord.proofs.VersionsStay.{first_sound}
+use Rattle.lsm_follow.specs.Followers.{FollowerValue, new_follower}
 use Rattle.lsm_work.specs.Workers.{TaskValue, WorkerValue}
-use Rattle.lsm_world.specs.History.{History, Holds, IsHistory, IsNetwork, IsTaskOf, AreFiles, first_indices}
-use Rattle.lsm_world.specs.Nodes.{NodesValue}
-use Rattle.lsm_world.specs.Schedules.{AreNew, idle_worker}
+use Rattle.lsm_world.specs.History.{History, Holds, IsFollowerOf, IsHistory, IsNetwork, IsTaskOf, AreFiles, AreFilesOf, first_indices}
+use Rattle.lsm_world.specs.Nodes.{NetworkValue, NodesValue, number_of, up_store}
+use Rattle.lsm_world.specs.Schedules.{AreNew, first_followers, idle_worker}
+use Rattle.lsm_world.specs.Shown.{ShowsStore}
+use Rattle.lsm_world.proofs.AnsweredVersions.{rising_of}
+use Rattle.lsm_world.proofs.FollowerEvents.{new_follower_is}
+use Rattle.lsm_world.proofs.FourPlaces.{in_place}
 
-abbrev no_history : History
-no_history = record { files = []; jobs = [] }
+-- the edit of the opening alone
+abbrev first_of : CoordValue → History
+first_of c = record { files = []; jobs = []; edits = read_edits c.edits }
 
 -- ---- files
 
@@ -41,13 +52,13 @@ module _ (c : CoordValue) (shown : Shows c first_state) (fit : IsFit c) where
   no_file v f m here = subst (λ (x : Version). IsIn (place_of f) x.files) (lists_none v m) (IsIn-map place_of f v.files here)
 
   version_in : (k : ℕ) (v : VersionValue) → slice_get (versions_of c.edits) k ≡ Some v → IsIn v (versions_of c.edits)
-  version_in k v at = subst (λ (x : VersionValue). IsIn x (versions_of c.edits)) (get_or_from_slice_get (versions_of c.edits) k v v at) (IsIn-at (versions_of c.edits) k v (slice_get_within (versions_of c.edits) k v at))
+  version_in = in_place (versions_of c.edits)
 
-  files_first : AreFiles no_history c
+  files_first : AreFiles (first_of c) c
   files_first = record {
-    all = record { one = λ p q m. absurd m; recorded = λ p m. absurd m };
+    all = record { one = λ p q m. absurd m; recorded = λ p m. absurd m; apply = fit.manifest.apply; listed = λ v f mv mf. absurd (no_file v f mv mf) };
+    edits = refl;
     given = λ p m. absurd m;
-    listed = λ v f mv mf. absurd (no_file v f mv mf);
     served = λ p m.
         let version = c.served.version in
         absurd (no_file version p.meta (version_in version.number version (current_at c.edits version fit.manifest)) (file_of c.served fit.version fit.served p m));
@@ -66,18 +77,22 @@ none_held (suc (suc zero)) claim held = absurd cc
 none_held (suc (suc (suc zero))) claim held = absurd cc
 none_held (suc (suc (suc (suc place)))) claim held = absurd cc
 
--- idle workers have no task, and there is no message
-pub first_network : (workers : List WorkerValue) (messages : List (List ℕ)) → workers ≡ map idle_worker first_indices → messages ≡ [] → IsNetwork no_history workers messages
-first_network workers messages idle none = record {
-  indices = ap (λ (ws : List WorkerValue). map (λ w. w.index) ws) idle;
+-- idle workers have no task, followers are at version 0, and there is no message
+pub first_network : (h : History) (n : NetworkValue) → AreFilesOf h → n.workers ≡ map idle_worker first_indices → n.followers ≡ first_followers → n.messages ≡ [] → IsNetwork h n
+first_network h n files idle anew none = record {
+  workers = ap (λ (ws : List WorkerValue). map (λ w. w.index) ws) idle;
   tasks = λ w m.
       let made = IsIn-mapped idle_worker w first_indices (subst (λ (ws : List WorkerValue). IsIn w ws) idle m) in
-      subst (λ (t : Option TaskValue). IsTaskOf no_history t) (sym (ap (λ (x : WorkerValue). x.task) made.2)) tt;
+      subst (λ (t : Option TaskValue). IsTaskOf h t) (sym (ap (λ (x : WorkerValue). x.task) made.2)) tt;
+  followers = ap (λ (fs : List FollowerValue). map (λ f. f.index) fs) anew;
+  versions = λ f m.
+      let made = IsIn-mapped new_follower f first_indices (subst (λ (fs : List FollowerValue). IsIn f fs) anew m) in
+      subst (IsFollowerOf h) (sym made.2) (new_follower_is h made.0);
   sent = λ bytes m. absurd (subst (λ (texts : List (List ℕ)). IsIn bytes texts) none m);
 }
 
 -- THE NODES OF A NEW STORE HAVE THE HISTORY WITHOUT FILES AND JOBS.
-pub first_history : (due : Limits) (n : NodesValue) → AreNew due n → IsFit n.core → IsHistory no_history n
+pub first_history : (due : Limits) (n : NodesValue) → AreNew due n → IsFit n.core → IsHistory (first_of n.core) n
 first_history due n is fit = record {
   files = files_first n.core is.shown fit;
   jobs = record {
@@ -91,8 +106,36 @@ first_history due n is fit = record {
     picked = λ place claim held. absurd (none_held place claim (at_first place claim held));
     one = λ a b claim other x. absurd (none_held a claim (at_first a claim x));
   };
-  network = first_network n.workers n.messages is.workers is.messages;
+  network = first_network (first_of n.core) n.network (files_first n.core is.shown fit).all is.workers is.followers is.messages;
 }
   where
     at_first : (place : ℕ) (claim : LiveJob) → Holds n.desk place claim → Holds new_desk place claim
     at_first place claim held = subst (λ (desk : List Dispatcher). Holds desk place claim) is.desk held
+
+-- ---- what it shows
+
+-- a version without files has no place
+no_places : (x : ServedValue) → IsServed x → ((f : FileMeta) → IsIn f x.version.files → ⊥) → x.places ≡ []
+no_places x is none = by x.places (λ p m. none p.meta ((is.listed p.meta).0 (IsIn-map (λ (q : Placed). q.meta) p x.places m)))
+  where
+    by : (ps : List Placed) → ((p : Placed) → IsIn p ps → ⊥) → ps ≡ []
+    by [] empty = refl
+    by (p ∷ ps) empty = absurd (empty p (inl refl))
+
+-- A NEW STORE SHOWS THE FIRST STATE.
+pub first_shown : (due : Limits) (n : NodesValue) → AreNew due n → IsFit n.core → ShowsStore (up_store n) first_state
+first_shown due n is fit = record {
+  seat = is.shown;
+  followers = sym (ap (map number_of) is.followers);
+  rising = rising_of first_state first_sound;
+  history = first_of n.core;
+  known = first_history due n is fit;
+  answered = λ x sound at tables.
+      let listed : IsIn x.version (versions_of n.core.edits) = in_place (versions_of n.core.edits) x.version.number x.version at in
+      let none = no_places x sound (λ f m. no_file n.core is.shown fit x.version f listed m) in
+      let flushed : x.version.flushed ≡ 0 = ap (λ (v : Version). v.flushed) (lists_none n.core is.shown fit x.version listed) in
+      record {
+        ordered = subst (λ (ps : List Placed). AreOrdered (tables_of ps)) (sym none) tt;
+        answers = λ key. (λ i. value_at (all_entries (tables_of (none i))) key (flushed i)) ∙ sym (ap (λ (k : ℕ). answer [] k key) flushed);
+      };
+}

@@ -1,37 +1,38 @@
 -- A flush: its file is one more of the history.
 use Rattle.std.proofs.Common.{◌≡◌, ◌+◌, ◌<◌, ◌≤◌, List, [], ◌∷◌, ◌++◌, refl, sym, ap, subst, ◌∙◌, arith, inl, inr}
 use Rattle.lsm_key.specs.Sets.{IsIn}
-use Rattle.lsm_key.proofs.Membership.{IsIn-append_cases, IsIn-one}
 use Rattle.lsm_claim.specs.Book.{BookValue}
 use Rattle.lsm_table.specs.Tables.{Opened}
 use Rattle.lsm_edit.specs.declared.edit.Edit.{Edit}
 use Rattle.lsm_edit.specs.declared.file.FileMeta.{FileMeta}
 use Rattle.lsm_edit.specs.declared.served.Placed.{Placed}
-use Rattle.lsm_edit.specs.Version.{VersionValue, after_apply}
+use Rattle.lsm_edit.specs.Edits.{Apply}
+use Rattle.lsm_edit.specs.Version.{after_apply, first_version}
 use Rattle.lsm_edit.proofs.ServedPlaces.{file_of, place_of}
 use Rattle.lsm_edit.proofs.VersionLaws.{fresh_added}
-use Rattle.lsm_versions.specs.Manifest.{versions_of}
-use Rattle.lsm_versions.proofs.ManifestReplay.{versions_of-push}
+use Rattle.lsm_versions.specs.Manifest.{read_edits}
+use Rattle.lsm_versions.proofs.ManifestReplay.{read_edits-push}
 use Rattle.lsm_coord.specs.declared.dispatcher.Dispatcher.{Dispatcher}
 use Rattle.lsm_coord.specs.Contract.Calls.{Adds, AddsTable}
 use Rattle.lsm_coord.specs.Contract.Memory.{IsFit}
 use Rattle.lsm_coord.specs.Contract.Sound.{KeepsSound}
 use Rattle.lsm_coord.specs.Contract.Value.{CoordValue}
-use Rattle.lsm_world.specs.History.{History, IsHistory, IsFileOf, AreFiles, AreJobs, AreClaims}
+use Rattle.lsm_world.specs.History.{History, IsHistory, IsFileOf, AreFiles, AreJobs, AreClaims, versions_in}
 use Rattle.lsm_world.specs.Nodes.{NodesValue}
-use Rattle.lsm_world.proofs.GrowingHistory.{Grows, file_stays, goes_on, table_stays}
+use Rattle.lsm_world.proofs.GrowingHistory.{Grows, Keeps, file_stays, goes_on, table_stays}
+use Rattle.lsm_world.proofs.LoggedHistories.{grown_versions, listed_on, logs_one}
 use Rattle.lsm_world.proofs.QuietCalls.{jobs_stay}
 
--- the history with one file more
-abbrev with_file : History → Placed → History
-with_file h p = record h { files = p ∷ h.files }
+-- the history with one file more, and one edit
+abbrev with_file : History → Edit → Placed → History
+with_file h e p = record h { files = p ∷ h.files; edits = h.edits ++ e ∷ [] }
 
 module _ (h : History) (old new : CoordValue) (file : FileMeta) (table : Opened) (fit : IsFit old) (fit_new : IsFit new) (adds : AddsTable old file table new) (is : AreFiles h old) where
   abbrev place : Placed
   place = record { meta = file; table = table }
 
   abbrev more : History
-  more = with_file h place
+  more = with_file h adds.edit place
 
   places_are : new.served.places ≡ place ∷ old.served.places
   places_are = ap (λ (c : CoordValue). c.served.places) adds.new_is
@@ -42,11 +43,11 @@ module _ (h : History) (old new : CoordValue) (file : FileMeta) (table : Opened)
   version_is : new.served.version ≡ after_apply old.served.version adds.edit
   version_is = ap (λ (c : CoordValue). c.served.version) adds.new_is ∙ ap (λ (e : Edit). after_apply old.served.version e) (sym adds.edit_is)
 
-  edits_are : versions_of new.edits ≡ versions_of old.edits ++ new.served.version ∷ []
-  edits_are =
-      ap (λ (c : CoordValue). versions_of c.edits) adds.new_is
-      ∙ versions_of-push old.edits old.served.version adds.text adds.edit fit.manifest adds.spelled
-      ∙ ap (λ (v : VersionValue). versions_of old.edits ++ v ∷ []) (sym version_is)
+  pushed : new.edits ≡ old.edits ++ adds.text ∷ []
+  pushed = ap (λ (c : CoordValue). c.edits) adds.new_is
+
+  edits_are : more.edits ≡ read_edits new.edits
+  edits_are = ap (λ (es : List Edit). es ++ adds.edit ∷ []) is.edits ∙ sym (read_edits-push old.edits adds.text adds.edit adds.spelled) ∙ ap read_edits (sym pushed)
 
   -- the new file's number was not given before
   fresh : old.served.version.next_file ≤ file.number
@@ -68,7 +69,15 @@ module _ (h : History) (old new : CoordValue) (file : FileMeta) (table : Opened)
   ]
 
   grows : Grows h more
-  grows = record { files = λ p m. inr m; jobs = λ j m. m; one = one_file }
+  grows = record {
+    files = λ p m. inr m;
+    jobs = λ j m. m;
+    one = one_file;
+    edits = logs_one h more old.edits new.edits adds.text adds.edit old.served.version new.served.version fit.manifest adds.spelled pushed version_is is.edits edits_are;
+  }
+
+  grown : versions_in more ≡ versions_in h ++ new.served.version ∷ []
+  grown = grown_versions h more old.edits new.edits adds.text adds.edit old.served.version new.served.version fit.manifest adds.spelled pushed version_is is.edits edits_are
 
   served_file : (p : Placed) → IsIn p new.served.places → IsIn p more.files
   served_file p m = elim (subst (IsIn p) places_are m) [ inl first ↦ inl first | inr rest ↦ inr (is.served p rest) ]
@@ -82,44 +91,46 @@ module _ (h : History) (old new : CoordValue) (file : FileMeta) (table : Opened)
     all = record {
       one = one_file;
       recorded = λ p m. elim m [ inl first ↦ fit_new.served.recorded p (subst (λ (x : Placed). IsIn x new.served.places) (sym first) here) | inr rest ↦ is.all.recorded p rest ];
+      apply = subst (Apply first_version) (sym edits_are) fit_new.manifest.apply;
+      listed = listed_on h more old.edits new.edits adds.text adds.edit old.served.version new.served.version fit.manifest adds.spelled pushed version_is is.edits edits_are grows is.all current_file;
     };
+    edits = edits_are;
     given = λ p m. elim m [
       | inl first ↦
           let low = fit_new.version.below place.meta (file_of new.served fit_new.version fit_new.served place here) in
           subst (λ (x : Placed). x.meta.number < new.served.version.next_file) (sym first) low
       | inr rest ↦ let low = is.given p rest in let next = next_is in omega (arith, low, next)
     ];
-    listed = λ v f mv mf. elim (IsIn-append_cases v (versions_of old.edits) (new.served.version ∷ []) (subst (λ (vs : List VersionValue). IsIn v vs) edits_are mv)) [
-      | inl before ↦ file_stays h more grows f (is.listed v f before mf)
-      | inr last ↦ current_file f (subst (λ (x : VersionValue). IsIn f x.files) (IsIn-one v new.served.version last) mf)
-    ];
     served = served_file;
     retired = λ r m. table_stays h more grows r.number r.bytes (is.retired r (subst (λ (c : CoordValue). IsIn r c.retired) adds.new_is m));
   }
 
 -- the jobs are those of the history with one file more
-with_file_jobs : (h : History) (p : Placed) (c : CoordValue) → Grows h (with_file h p) → AreJobs h c → AreJobs (with_file h p) c
-with_file_jobs h p c grows is = record {
-  all = record { job = is.all.job; one = is.all.one; inputs = λ j f mj mf. file_stays h (with_file h p) grows f (is.all.inputs j f mj mf) };
+with_file_jobs : (h : History) (e : Edit) (p : Placed) (c : CoordValue) → Grows h (with_file h e p) → AreJobs h c → AreJobs (with_file h e p) c
+with_file_jobs h e p c grows is = record {
+  all = record { job = is.all.job; one = is.all.one; inputs = λ j f mj mf. file_stays h (with_file h e p) grows f (is.all.inputs j f mj mf) };
   given = is.given;
   sound = is.sound;
 }
 
-with_file_claims : (h : History) (p : Placed) (book : BookValue) (desk : List Dispatcher) → AreClaims h book desk → AreClaims (with_file h p) book desk
-with_file_claims h p book desk is = record { four = is.four; live = is.live; picked = is.picked; one = is.one }
+with_file_claims : (h : History) (e : Edit) (p : Placed) (book : BookValue) (desk : List Dispatcher) → AreClaims h book desk → AreClaims (with_file h e p) book desk
+with_file_claims h e p book desk is = record { four = is.four; live = is.live; picked = is.picked; one = is.one }
 
 -- A FLUSH KEEPS THE HISTORY, WITH ITS FILE.
-pub after_flush : (h : History) (old : NodesValue) (new : CoordValue) → IsFit old.core → IsFit new → Adds old.core new → KeepsSound old.core new → IsHistory h old → (more : History) × IsHistory more (record old { core = new })
+pub after_flush : (h : History) (old : NodesValue) (new : CoordValue) → IsFit old.core → IsFit new → Adds old.core new → KeepsSound old.core new → IsHistory h old → Keeps h (record old { core = new })
 after_flush h old new fit fit_new adds keeps is =
     let file : FileMeta = adds.0 in
     let table : Opened = adds.1 in
     let p : Placed = record { meta = file; table = table } in
     let by : AddsTable old.core file table new = adds.3 in
     let book : new.book ≡ old.core.book = ap (λ (c : CoordValue). c.book) by.new_is in
-    let more = grows h old.core new file table fit fit_new by is.files in (
-      with_file h p,
-      goes_on h (with_file h p) old new old.desk is more
+    let on = grows h old.core new file table fit fit_new by is.files in
+    record {
+      more = with_file h by.edit p;
+      grows = on;
+      known = goes_on h (with_file h by.edit p) old new old.desk is on
           (flushed_files h old.core new file table fit fit_new by is.files)
-          (with_file_jobs h p new more (jobs_stay h old.core new book keeps is.jobs))
-          (with_file_claims h p new.book old.desk (subst (λ (b : BookValue). AreClaims h b old.desk) (sym book) is.claims)),
-    )
+          (with_file_jobs h by.edit p new on (jobs_stay h old.core new book keeps is.jobs))
+          (with_file_claims h by.edit p new.book old.desk (subst (λ (b : BookValue). AreClaims h b old.desk) (sym book) is.claims));
+      current = inr (record { fit = fit_new; grown = grown h old.core new file table fit fit_new by is.files });
+    }

@@ -4,7 +4,7 @@ use Rattle.std.specs.Prelude.{filter, slice_get, slice_set}
 use Rattle.std.specs.List.{list_any}
 use Rattle.lsm_key.specs.Sets.{IsIn}
 use Rattle.lsm_key.proofs.AscendingEntries.{IsIn-filter}
-use Rattle.lsm_key.proofs.Membership.{IsIn-append_cases, IsIn-append_left, IsIn-append_right, IsIn-mapped, IsIn-one}
+use Rattle.lsm_key.proofs.Membership.{IsIn-append_cases, IsIn-append_left, IsIn-append_right, IsIn-mapped}
 use Rattle.lsm_claim.specs.declared.ending.Ending.TheVariants as ending
 use Rattle.lsm_claim.specs.declared.job.JobId.{JobId}
 use Rattle.lsm_claim.specs.declared.job.LiveJob.{LiveJob}
@@ -13,15 +13,17 @@ use Rattle.lsm_table.specs.Tables.{Opened}
 use Rattle.lsm_edit.specs.declared.file.FileMeta.{FileMeta}
 use Rattle.lsm_edit.specs.declared.served.Placed.{Placed}
 use Rattle.lsm_edit.specs.Served.{AllRecorded, placed_of, places_without}
-use Rattle.lsm_edit.specs.Version.{VersionValue, after_apply, has_number}
+use Rattle.lsm_edit.specs.declared.edit.Edit.{Edit}
+use Rattle.lsm_edit.specs.Edits.{Apply}
+use Rattle.lsm_edit.specs.Version.{after_apply, first_version, has_number}
 use Rattle.lsm_edit.proofs.PlacesInOrder.{placed_meta, placed_recorded}
 use Rattle.lsm_edit.proofs.ServedAfterEdit.{put_all-members}
 use Rattle.lsm_edit.proofs.ServedPlaces.{place_of}
 use Rattle.lsm_msg.specs.declared.job.JobResult.{JobResult}
 use Rattle.lsm_versions.specs.declared.retired.Retired.{Retired}
-use Rattle.lsm_versions.specs.Manifest.{versions_of}
+use Rattle.lsm_versions.specs.Manifest.{read_edits}
 use Rattle.lsm_versions.specs.Retention.{retire, retired_by}
-use Rattle.lsm_versions.proofs.ManifestReplay.{versions_of-push}
+use Rattle.lsm_versions.proofs.ManifestReplay.{read_edits-push}
 use Rattle.lsm_versions.proofs.RetiredByNumber.{put_cases}
 use Rattle.lsm_coord.specs.declared.coord.install.Install.TheVariants as became
 use Rattle.lsm_coord.specs.declared.dispatcher.Dispatcher.TheVariants.{Idle, Busy}
@@ -34,11 +36,12 @@ use Rattle.lsm_coord.proofs.InstallEdits.{recorded_of, records_end, records_reco
 use Rattle.lsm_coord.proofs.InstallOutcomes.{done_is, done_spelled, live_is}
 use Rattle.lsm_coord.proofs.OpenedOutputs.{tables_each}
 use Rattle.lsm_store.proofs.Compactions.{fewer_held}
-use Rattle.lsm_world.specs.History.{AreClaims, AreFiles, AreJobs, History, IsFileOf, IsHistory, IsTableAt, WasGiven}
+use Rattle.lsm_world.specs.History.{AreClaims, AreFiles, AreJobs, History, IsFileOf, IsHistory, IsTableAt, WasGiven, versions_in}
 use Rattle.lsm_world.specs.Nodes.{NodesValue}
 use Rattle.lsm_world.proofs.DeskPlaces.{claims_let_go}
 use Rattle.lsm_world.proofs.EndedClaims.{ended, given_after}
-use Rattle.lsm_world.proofs.GrowingHistory.{Grows, file_stays, goes_on, table_stays}
+use Rattle.lsm_world.proofs.GrowingHistory.{Grows, Keeps, file_stays, goes_on, table_stays}
+use Rattle.lsm_world.proofs.LoggedHistories.{grown_versions, listed_on, logs_one}
 
 -- ---- records with their tables
 
@@ -74,9 +77,12 @@ module _ (h : History) (c new : CoordValue) (live : LiveJob) (made : JobResult) 
   abbrev outputs : List Placed
   outputs = outputs_at (live.want.level + 1) c.served.version.next_file ts
 
-  -- the history with the outputs
+  abbrev edit : Edit
+  edit = install_edit_of c.served.version live.want ts
+
+  -- the history with the outputs, and the edit
   abbrev with_outputs : History
-  with_outputs = record h { files = outputs ++ h.files }
+  with_outputs = record h { files = outputs ++ h.files; edits = h.edits ++ edit ∷ [] }
 
   abbrev is_input : Placed → Bool
   is_input p = list_any (λ n. has_number n p.meta) live.want.files
@@ -87,11 +93,11 @@ module _ (h : History) (c new : CoordValue) (live : LiveJob) (made : JobResult) 
   version_is : new.served.version ≡ after_apply c.served.version (install_edit_of c.served.version live.want ts)
   version_is = ap (λ (x : CoordValue). x.served.version) (done_is c live ts new done)
 
-  edits_are : versions_of new.edits ≡ versions_of c.edits ++ new.served.version ∷ []
-  edits_are =
-      ap (λ (x : CoordValue). versions_of x.edits) (done_is c live ts new done)
-      ∙ versions_of-push c.edits c.served.version done.text (install_edit_of c.served.version live.want ts) fit.manifest (done_spelled c live ts new done)
-      ∙ ap (λ (v : VersionValue). versions_of c.edits ++ v ∷ []) (sym version_is)
+  pushed : new.edits ≡ c.edits ++ done.text ∷ []
+  pushed = ap (λ (x : CoordValue). x.edits) (done_is c live ts new done)
+
+  edits_are : with_outputs.edits ≡ read_edits new.edits
+  edits_are = ap (λ (es : List Edit). es ++ edit ∷ []) is.edits ∙ sym (read_edits-push c.edits done.text edit (done_spelled c live ts new done)) ∙ ap read_edits (sym pushed)
 
   -- outputs have numbers that were not given before
   apart : (p q : Placed) → IsIn p outputs → IsIn q h.files → p.meta.number ≡ q.meta.number → ⊥
@@ -110,7 +116,15 @@ module _ (h : History) (c new : CoordValue) (live : LiveJob) (made : JobResult) 
   ]
 
   grows : Grows h with_outputs
-  grows = record { files = λ p m. IsIn-append_right p outputs h.files m; jobs = λ j m. m; one = one_file }
+  grows = record {
+    files = λ p m. IsIn-append_right p outputs h.files m;
+    jobs = λ j m. m;
+    one = one_file;
+    edits = logs_one h with_outputs c.edits new.edits done.text edit c.served.version new.served.version fit.manifest (done_spelled c live ts new done) pushed version_is is.edits edits_are;
+  }
+
+  grown : versions_in with_outputs ≡ versions_in h ++ new.served.version ∷ []
+  grown = grown_versions h with_outputs c.edits new.edits done.text edit c.served.version new.served.version fit.manifest (done_spelled c live ts new done) pushed version_is is.edits edits_are
 
   served_file : (p : Placed) → IsIn p new.served.places → IsIn p with_outputs.files
   served_file p m = elim ((put_all-members outputs (places_without live.want.files c.served.places) p).0 (subst (λ (x : CoordValue). IsIn p x.served.places) (done_is c live ts new done) m)) [
@@ -143,14 +157,13 @@ module _ (h : History) (c new : CoordValue) (live : LiveJob) (made : JobResult) 
     all = record {
       one = one_file;
       recorded = λ p m. elim (IsIn-append_cases p outputs h.files m) [ inl output ↦ outputs_recorded p output | inr before ↦ is.all.recorded p before ];
+      apply = subst (Apply first_version) (sym edits_are) fit_new.manifest.apply;
+      listed = listed_on h with_outputs c.edits new.edits done.text edit c.served.version new.served.version fit.manifest (done_spelled c live ts new done) pushed version_is is.edits edits_are grows is.all current_file;
     };
+    edits = edits_are;
     given = λ p m. elim (IsIn-append_cases p outputs h.files m) [
       | inl output ↦ let below = numbered_below (live.want.level + 1) c.served.version.next_file ts p output in let next = next_is in omega (arith, below, next)
       | inr before ↦ let low = is.given p before in let next = next_is in omega (arith, low, next)
-    ];
-    listed = λ v f mv mf. elim (IsIn-append_cases v (versions_of c.edits) (new.served.version ∷ []) (subst (λ (vs : List VersionValue). IsIn v vs) edits_are mv)) [
-      | inl before ↦ file_stays h with_outputs grows f (is.listed v f before mf)
-      | inr last ↦ current_file f (subst (λ (x : VersionValue). IsIn f x.files) (IsIn-one v new.served.version last) mf)
     ];
     served = served_file;
     retired = retired_file;
@@ -161,7 +174,7 @@ module _ (h : History) (c new : CoordValue) (live : LiveJob) (made : JobResult) 
 -- AN INSTALL KEEPS THE HISTORY, WITH ITS OUTPUTS.
 pub after_install : (h : History) (old : NodesValue) (new : CoordValue) (claim : LiveJob) (made : JobResult) (number : ℕ) (files : List ℕ) (place : ℕ)
     → IsFit old.core → IsFit new → Became old.core claim made (became.Done number files) new → KeepsSound old.core new → slice_get old.desk place ≡ Some (Busy claim) → IsHistory h old
-    → (more : History) × IsHistory more (record old { core = new; desk = slice_set old.desk place Idle })
+    → Keeps h (record old { core = new; desk = slice_set old.desk place Idle })
 after_install h old new claim made number files place fit fit_new done keeps at is =
     let c = old.core in
     let live = done.0 in
@@ -178,4 +191,9 @@ after_install h old new claim made number files place fit fit_new done keeps at 
     } in
     let left = claims_let_go h c.book new.book old.desk place claim at before (λ j m. ended c.book claim.id ending.Installed j (subst (λ (b : BookValue). IsIn j b.live) book m)) is.claims in
     let claims : AreClaims more new.book (slice_set old.desk place Idle) = record { four = left.four; live = left.live; picked = left.picked; one = left.one } in
-    (more, goes_on h more old new (slice_set old.desk place Idle) is larger (files_after h c new live made done.2 done.3 install fit fit_new is.files) jobs claims)
+    record {
+      more = more;
+      grows = larger;
+      known = goes_on h more old new (slice_set old.desk place Idle) is larger (files_after h c new live made done.2 done.3 install fit fit_new is.files) jobs claims;
+      current = inr (record { fit = fit_new; grown = grown h c new live made done.2 done.3 install fit fit_new is.files });
+    }

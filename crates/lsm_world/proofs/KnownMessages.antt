@@ -1,30 +1,24 @@
--- Messages that are sent, and the coordinator's answers to fetches.
+-- The coordinator's answers are known.
 use Rattle.std.proofs.Common.{◌≡◌, ℕ, Bool, true, false, cond, List, [], ◌∷◌, ◌++◌, Option, None, Some, refl, ap, subst, ◌∙◌, inl, inr, eqb}
 use Rattle.std.specs.Option.{option_map, option_or}
 use Rattle.std.proofs.lemmas.Bool.{eqb-true}
 use Rattle.std.proofs.lemmas.Option.{same_Some}
 use Rattle.lsm_key.specs.Sets.{IsIn}
-use Rattle.lsm_key.proofs.Membership.{IsIn-append_cases}
 use Rattle.lsm_table.specs.Tables.{Opened}
 use Rattle.lsm_edit.specs.Served.{table_at}
 use Rattle.lsm_msg.specs.declared.message.Body.{Body}
 use Rattle.lsm_msg.specs.declared.message.Body.TheVariants as body
 use Rattle.lsm_msg.specs.declared.message.Message.{Message}
+use Rattle.lsm_msg.specs.declared.node.Node.TheVariants.{Coordinator}
 use Rattle.lsm_versions.specs.declared.retired.Retired.{Retired}
 use Rattle.lsm_versions.specs.Retention.{retired_at, bytes_at}
-use Rattle.lsm_coord.specs.Contract.Serving.{answer_message, table_body}
+use Rattle.lsm_coord.specs.Contract.Memory.{IsFit}
+use Rattle.lsm_coord.specs.Contract.Serving.{after_version, answer_message, table_body}
 use Rattle.lsm_coord.specs.Contract.Value.{CoordValue}
+use Rattle.lsm_coord.proofs.ServedFiles.{was_mapped}
 use Rattle.lsm_store.proofs.ServedTables.{found_in}
-use Rattle.lsm_work.specs.Workers.{WorkerValue}
-use Rattle.lsm_world.specs.History.{History, IsKnown, IsNetwork, IsNumbered, IsSent, IsTableAt, AreFiles}
-
--- MORE MESSAGES THAT ARE KNOWN KEEP THE HISTORY.
-pub more_sent : (h : History) (workers : List WorkerValue) (messages more : List (List ℕ)) → ((bytes : List ℕ) → IsIn bytes more → IsSent h bytes) → IsNetwork h workers messages → IsNetwork h workers (messages ++ more)
-more_sent h workers messages more known is = record {
-  indices = is.indices;
-  tasks = is.tasks;
-  sent = λ bytes m. elim (IsIn-append_cases bytes messages more m) [ inl before ↦ is.sent bytes before | inr new ↦ known bytes new ];
-}
+use Rattle.lsm_world.specs.History.{History, IsKnown, IsNumbered, IsTableAt, AreFiles}
+use Rattle.lsm_world.proofs.AskedVersions.{asked_known}
 
 -- ---- answers
 
@@ -51,17 +45,23 @@ module _ (h : History) (c : CoordValue) (is : AreFiles h c) (n : ℕ) where
   body_known None none numbered = numbered
   body_known (Some bytes) found numbered = served_table (table_at c.served.places n) bytes refl found
 
+-- what an ask is answered is known
+asked : (h : History) (core : CoordValue) (m n : Message) (number : ℕ) → AreFiles h core → IsFit core → answer_message core n (body.Ask number) ≡ Some m → IsKnown h m.body
+asked h core m n number files fit answered =
+    let said = was_mapped (λ (b : Body). record { src = Coordinator; dst = n.src; body = b }) (after_version core number) m answered in
+    subst (λ (x : Message). IsKnown h x.body) said.2 (asked_known h core files fit number said.0 said.1).0
+
 -- WHAT THE COORDINATOR ANSWERS IS KNOWN.
-pub answer_known : (h : History) (core : CoordValue) (asked m : Message) → AreFiles h core → IsKnown h asked.body → answer_message core asked asked.body ≡ Some m → IsKnown h m.body
-answer_known h core asked m files known answered = by asked.body known answered
+pub answer_known : (h : History) (core : CoordValue) (asked_by m : Message) → AreFiles h core → IsFit core → IsKnown h asked_by.body → answer_message core asked_by asked_by.body ≡ Some m → IsKnown h m.body
+answer_known h core n m files fit known answered = by n.body known answered
   where
-    by : (b : Body) → IsKnown h b → answer_message core asked b ≡ Some m → IsKnown h m.body
-    by (body.Fetch n) k e = subst (λ (x : Message). IsKnown h x.body) (same_Some _ m e) (body_known h core files n (bytes_at core.served.places core.retired n) refl k)
+    by : (b : Body) → IsKnown h b → answer_message core n b ≡ Some m → IsKnown h m.body
+    by (body.Fetch file) k e = subst (λ (x : Message). IsKnown h x.body) (same_Some _ m e) (body_known h core files file (bytes_at core.served.places core.retired file) refl k)
+    by (body.Ask number) k e = asked h core m n number files fit e
     by (body.Job j) k e = absurd cc
-    by (body.Table n bytes) k e = absurd cc
-    by (body.Gone n) k e = absurd cc
+    by (body.Table file bytes) k e = absurd cc
+    by (body.Gone file) k e = absurd cc
     by (body.Result r) k e = absurd cc
-    by (body.Ask n) k e = absurd k
-    by (body.Edit d) k e = absurd k
-    by (body.Base v) k e = absurd k
-    by (body.Current n) k e = absurd k
+    by (body.Edit d) k e = absurd cc
+    by (body.Base v) k e = absurd cc
+    by (body.Current number) k e = absurd cc

@@ -5,14 +5,15 @@ use Rattle.lsm_msg.specs.declared.fault.MsgFault.{MsgFault}
 use Rattle.lsm_msg.specs.declared.message.Message.{Message}
 use Rattle.lsm_msg.specs.Messages.{IsSpelled}
 use Rattle.lsm_msg.proofs.MessageLaws.{message_again}
-use Rattle.lsm_work.specs.Workers.{WorkerValue}
 use Rattle.lsm_world.specs.History.{History, IsKnown, IsNetwork}
 use Rattle.lsm_world.specs.Inner.Handing.{IsStored}
+use Rattle.lsm_world.specs.Nodes.{NetworkValue}
 
 pub one_spelling : (bytes : List ℕ) (m n : Message) → IsSpelled bytes m → IsSpelled bytes n → m ≡ n
 one_spelling bytes m n first second = ok_is {F = MsgFault} m n (sym (message_again bytes m first) ∙ message_again bytes n second)
 
-pub stored_known : (h : History) (workers : List WorkerValue) (messages : List (List ℕ)) (m : Message) → IsNetwork h workers messages → IsStored messages m → IsKnown h m.body
-stored_known h workers messages m is stored =
+-- A MESSAGE THAT WAS SENT IS KNOWN.
+pub stored_known : (h : History) (n : NetworkValue) (m : Message) → IsNetwork h n → IsStored n.messages m → IsKnown h m.body
+stored_known h n m is stored =
     let known = is.sent stored.0 stored.1 in
     subst (λ (x : Message). IsKnown h x.body) (one_spelling stored.0 known.0 m known.1 stored.2) known.2

@@ -24,7 +24,7 @@ use Rattle.lsm_coord.proofs.GiveBackSteps.{same_name}
 use Rattle.lsm_world.specs.History.{History, IsHistory, IsFileOf, IsKnown, Holds, AreFiles, AreJobs, AreClaims, WasGiven}
 use Rattle.lsm_world.specs.Nodes.{NodesValue}
 use Rattle.lsm_world.proofs.DeskPlaces.{as_many_after, get_set_cases, get_set_here, get_set_there, idle_holds_none, one_at, same_claim}
-use Rattle.lsm_world.proofs.GrowingHistory.{goes_on}
+use Rattle.lsm_world.proofs.GrowingHistory.{Grows, Keeps, goes_on, same_edits}
 use Rattle.lsm_world.proofs.QuietCalls.{files_stay}
 
 -- the history with one job more
@@ -32,7 +32,7 @@ abbrev with_job : History → JobParts → History
 with_job h j = record h { jobs = j ∷ h.jobs }
 
 with_job_files : (h : History) (j : JobParts) (c : CoordValue) → AreFiles h c → AreFiles (with_job h j) c
-with_job_files h j c is = record { all = record { one = is.all.one; recorded = is.all.recorded }; given = is.given; listed = is.listed; served = is.served; retired = is.retired }
+with_job_files h j c is = record { all = record { one = is.all.one; recorded = is.all.recorded; apply = is.all.apply; listed = is.all.listed }; edits = is.edits; given = is.given; served = is.served; retired = is.retired }
 
 module _ (h : History) (old new : CoordValue) (claim : LiveJob) (job : JobParts) (fit : IsFit old) (picked : IsPicked old claim job new) (sound : IsSound new job) (keeps : KeepsSound old new) (rules : IsJob job) where
   abbrev more : History
@@ -156,16 +156,20 @@ module _ (h : History) (old new : CoordValue) (claim : LiveJob) (job : JobParts)
 -- A PICK KEEPS THE HISTORY, WITH ITS JOB.
 pub after_pick : (h : History) (old : NodesValue) (new : CoordValue) (claim : LiveJob) (job : JobParts) → IsFit old.core → IsPicked old.core claim job new → IsSound new job → KeepsSound old.core new → IsJob job
     → (place : ℕ) → slice_get old.desk place ≡ Some Idle → IsHistory h old
-    → (more : History) × IsHistory more (record old { core = new; desk = slice_set old.desk place (Busy claim) }) × IsKnown more (body.Job job)
+    → (kept : Keeps h (record old { core = new; desk = slice_set old.desk place (Busy claim) })) × IsKnown kept.more (body.Job job)
 after_pick h old new claim job fit picked sound keeps rules place idle is =
     let same = picked.new_is in
     let files : AreFiles h new =
-    files_stay h old.core new (ap (λ (c : CoordValue). c.served) same) (ap (λ (c : CoordValue). c.edits) same) (λ r m. subst (λ (c : CoordValue). IsIn r c.retired) same m) is.files in (
-      with_job h job,
-      goes_on h (with_job h job) old new (slice_set old.desk place (Busy claim)) is
-          (record { files = λ p m. m; jobs = λ j m. inr m; one = is.files.all.one })
-          (with_job_files h job new files)
-          (jobs_after h old.core new claim job fit picked sound keeps rules is.files is.jobs)
-          (claims_after h old.core new claim job fit picked sound keeps rules is.files is.jobs old.desk place idle is.claims),
+    files_stay h old.core new (ap (λ (c : CoordValue). c.served) same) (ap (λ (c : CoordValue). c.edits) same) (λ r m. subst (λ (c : CoordValue). IsIn r c.retired) same m) is.files in
+    let on : Grows h (with_job h job) = record { files = λ p m. m; jobs = λ j m. inr m; one = is.files.all.one; edits = same_edits h (with_job h job) refl } in (
+      record {
+        more = with_job h job;
+        grows = on;
+        known = goes_on h (with_job h job) old new (slice_set old.desk place (Busy claim)) is on
+            (with_job_files h job new files)
+            (jobs_after h old.core new claim job fit picked sound keeps rules is.files is.jobs)
+            (claims_after h old.core new claim job fit picked sound keeps rules is.files is.jobs old.desk place idle is.claims);
+        current = inl refl;
+      },
       inl refl,
     )

@@ -1,6 +1,6 @@
 -- The refusals of a flush, a pick and an install that a schedule can meet.
-use Rattle.std.proofs.Common.{◌≡◌, ◌⊎◌, Bool, true, false, cond, None, Some, subst, sym, ◌∙◌, inl, inr}
-use Rattle.std.specs.Prelude.{length, is_none, nat_eq, nat_le, ◌&&◌, ◌||◌}
+use Rattle.std.proofs.Common.{◌≡◌, ◌⊎◌, ℕ, Bool, true, false, cond, None, Some, subst, sym, ◌∙◌, inl, inr}
+use Rattle.std.specs.Prelude.{length, is_none, nat_eq, nat_le, nat_lt, ◌&&◌, ◌||◌}
 use Rattle.lsm_key.specs.declared.limits.TheConstants.{MAX_NUMBER}
 use Rattle.lsm_claim.specs.declared.job.LiveJob.{LiveJob}
 use Rattle.lsm_msg.specs.declared.job.JobResult.{JobResult}
@@ -8,7 +8,7 @@ use Rattle.lsm_coord.specs.declared.coord.install.InstallError.{InstallError}
 use Rattle.lsm_coord.specs.declared.coord.install.InstallError.TheVariants as kept
 use Rattle.lsm_coord.specs.declared.error.CoordError.{CoordError}
 use Rattle.lsm_coord.specs.declared.error.CoordError.TheVariants as error
-use Rattle.lsm_coord.specs.Contract.Calls.{FlushRefuses, flush_fault}
+use Rattle.lsm_coord.specs.Contract.Calls.{FlushRefuses, TrimRefuses, flush_fault, trim_fault}
 use Rattle.lsm_coord.specs.Contract.Installing.{HasOutputs, IsLive, Rejects}
 use Rattle.lsm_coord.specs.Contract.Picking.{PickRefuses}
 use Rattle.lsm_coord.specs.Contract.Replies.{error_of}
@@ -49,6 +49,16 @@ pub flush_plain : (c new : CoordValue) (e : CoordError) → FlushRefuses c e new
 flush_plain c new error.OutOfMemory is = tt
 flush_plain c new error.Device is = tt
 flush_plain c new e is = reasons_plain e (flush_reasons c e is.0)
+
+-- ---- a trim
+
+trim_reason : (c : CoordValue) (n : ℕ) (e : CoordError) → trim_fault c n ≡ Some e → error.BadFloor ≡ e
+trim_reason c n e is = one_reason (nat_lt c.served.version.number n) error.BadFloor e is
+
+pub trim_plain : (c new : CoordValue) (n : ℕ) (e : CoordError) → TrimRefuses c n e new → IsPlain (reply.Refused (why.Coord e))
+trim_plain c new n error.OutOfMemory is = tt
+trim_plain c new n error.Device is = tt
+trim_plain c new n e is = subst (λ (x : CoordError). IsPlain (reply.Refused (why.Coord x))) (trim_reason c n e is.0) tt
 
 -- ---- a pick and an install
 

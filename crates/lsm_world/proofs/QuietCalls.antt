@@ -1,10 +1,10 @@
 -- Calls that leave the files and the claims.
-use Rattle.std.proofs.Common.{◌≡◌, ℕ, ◌<◌, List, true, sym, subst}
+use Rattle.std.proofs.Common.{◌≡◌, ℕ, ◌<◌, List, true, sym, ap, subst, ◌∙◌}
 use Rattle.lsm_key.specs.Sets.{IsIn}
 use Rattle.lsm_claim.specs.Book.{BookValue, holds}
 use Rattle.lsm_edit.specs.Served.{ServedValue}
 use Rattle.lsm_versions.specs.declared.retired.Retired.{Retired}
-use Rattle.lsm_versions.specs.Manifest.{versions_of}
+use Rattle.lsm_versions.specs.Manifest.{read_edits}
 use Rattle.lsm_coord.specs.Contract.Sound.{KeepsSound}
 use Rattle.lsm_coord.specs.Contract.Value.{CoordValue}
 use Rattle.lsm_world.specs.History.{History, IsHistory, AreFiles, AreJobs, AreClaims, WasGiven}
@@ -16,8 +16,8 @@ use Rattle.lsm_world.specs.Nodes.{NodesValue}
 pub files_stay : (h : History) (old new : CoordValue) → new.served ≡ old.served → new.edits ≡ old.edits → ((r : Retired) → IsIn r new.retired → IsIn r old.retired) → AreFiles h old → AreFiles h new
 files_stay h old new served edits retired is = record {
   all = is.all;
+  edits = is.edits ∙ ap read_edits (sym edits);
   given = λ p m. subst (λ (s : ServedValue). p.meta.number < s.version.next_file) (sym served) (is.given p m);
-  listed = λ v f mv mf. is.listed v f (subst (λ (texts : List (List ℕ)). IsIn v (versions_of texts)) edits mv) mf;
   served = λ p m. is.served p (subst (λ (s : ServedValue). IsIn p s.places) served m);
   retired = λ r m. is.retired r (retired r m);
 }

@@ -5,16 +5,17 @@ use Rattle.std.proofs.lemmas.Option.{same_Some}
 use Rattle.std.proofs.lemmas.List.{append-nil}
 use Rattle.lsm_key.specs.declared.limits.Limits.{Limits}
 use Rattle.lsm_key.specs.Sets.{IsIn}
-use Rattle.lsm_key.proofs.Membership.{IsIn-append_cases, IsIn-one}
 use Rattle.lsm_table.specs.Tables.{IsTable}
 use Rattle.lsm_table.proofs.TableContents.{table_one}
 use Rattle.lsm_edit.specs.declared.file.FileMeta.{FileMeta}
 use Rattle.lsm_edit.specs.declared.served.Placed.{Placed}
+use Rattle.lsm_edit.specs.declared.edit.Edit.{Edit}
 use Rattle.lsm_edit.specs.Edit.{IsSpelledEdit, edit}
+use Rattle.lsm_edit.specs.Edits.{Apply}
 use Rattle.lsm_edit.specs.Next.{epoch_edit}
 use Rattle.lsm_edit.specs.Served.{IsAsRecorded, ServedValue}
 use Rattle.lsm_edit.specs.File.{IsFile}
-use Rattle.lsm_edit.specs.Version.{FileNumbersRise, IsVersion, VersionValue, files_without, has_overlap}
+use Rattle.lsm_edit.specs.Version.{FileNumbersRise, IsVersion, VersionValue, after_apply, files_without, first_version, has_overlap}
 use Rattle.lsm_edit.proofs.NextLaws.{epoch_sound}
 use Rattle.lsm_edit.proofs.ServedPlaces.{file_of, place_of}
 use Rattle.lsm_edit.proofs.VersionLaws.{without-none}
@@ -22,13 +23,15 @@ use Rattle.lsm_versions.specs.declared.error.OpenError.{OpenError}
 use Rattle.lsm_versions.specs.declared.error.OpenError.TheVariants as opening
 use Rattle.lsm_versions.specs.declared.retired.Retired.{Retired}
 use Rattle.lsm_versions.specs.Kept.{Kept}
-use Rattle.lsm_versions.specs.Manifest.{VersionSetValue, versions_of}
+use Rattle.lsm_versions.specs.Manifest.{VersionSetValue, read_edits}
 use Rattle.lsm_versions.specs.Opening.{MayHaveDropped, MayHaveLost, is_live_file, manifest_version}
-use Rattle.lsm_versions.proofs.ManifestReplay.{versions_of-push}
+use Rattle.lsm_versions.proofs.ManifestReplay.{read_edits-push}
 use Rattle.lsm_coord.specs.Contract.Memory.{IsFit}
 use Rattle.lsm_coord.specs.Contract.Seats.{OpensCoord}
 use Rattle.lsm_coord.specs.Contract.Value.{CoordValue}
-use Rattle.lsm_world.specs.History.{AreFiles, AreFilesKept, History, IsFileOf}
+use Rattle.lsm_world.specs.History.{AreFiles, AreFilesKept, History, IsFileOf, versions_in}
+use Rattle.lsm_world.proofs.GrowingHistory.{Grows}
+use Rattle.lsm_world.proofs.LoggedHistories.{grown_versions, listed_on, logs_one}
 
 -- the record and the bytes of a table determine its place
 one_table : (p q : Placed) → p.meta ≡ q.meta → p.table.bytes ≡ q.table.bytes → IsAsRecorded p.meta p.table → IsAsRecorded q.meta q.table → p ≡ q
@@ -55,8 +58,8 @@ module _ (h : History) (c : CoordValue) (fit : IsFit c) (is : AreFiles h c) wher
   pub stopped_files : AreFilesKept h c.edits c.kept
   stopped_files = record {
     all = is.all;
+    edits = is.edits;
     given = λ p m. subst (λ (v : VersionValue). p.meta.number < v.next_file) current_is (is.given p m);
-    listed = is.listed;
     served = served_place;
   }
 
@@ -78,8 +81,8 @@ dropped_none opening.NumbersExhausted edits old new same n bytes found = ap (λ 
 pub refused_files : (h : History) (why : OpenError) (edits : List (List ℕ)) (old new : Kept) → MayHaveDropped why edits old new → AreFilesKept h edits old → AreFilesKept h edits new
 refused_files h why edits old new dropped is = record {
   all = is.all;
+  edits = is.edits;
   given = is.given;
-  listed = is.listed;
   served = λ p listed recorded kept. is.served p listed recorded (dropped_none why edits old new dropped p.meta.number p.table.bytes kept);
 }
 
@@ -132,12 +135,29 @@ module _ (h : History) (edits : List (List ℕ)) (kept : Kept) (limits : Limits)
       let now = opens.version in
       record { sound = epoch_sound before sound_before (omega (arith, now.number, number)) (omega (arith, now.epoch, epoch)); spelled = refl }
 
-  versions_are : versions_of c.edits ≡ versions_of edits ++ set.served.version ∷ []
-  versions_are =
-      ap (λ (x : CoordValue). versions_of x.edits) opens.is
-      ∙ ap versions_of opens.opens.edits
-      ∙ versions_of-push edits before (edit (epoch_edit before)) (epoch_edit before) opens.opens.folds spelled
-      ∙ ap (λ (v : VersionValue). versions_of edits ++ v ∷ []) (sym opens.opens.version)
+  -- the history with the edit of the opening
+  abbrev pub with_epoch : History
+  with_epoch = record h { edits = h.edits ++ epoch_edit before ∷ [] }
+
+  pushed : c.edits ≡ edits ++ edit (epoch_edit before) ∷ []
+  pushed = ap (λ (x : CoordValue). x.edits) opens.is ∙ opens.opens.edits
+
+  version_is : c.served.version ≡ after_apply before (epoch_edit before)
+  version_is = ap (λ (x : CoordValue). x.served.version) opens.is ∙ opens.opens.version
+
+  edits_are : with_epoch.edits ≡ read_edits c.edits
+  edits_are = ap (λ (es : List Edit). es ++ epoch_edit before ∷ []) is.edits ∙ sym (read_edits-push edits (edit (epoch_edit before)) (epoch_edit before) spelled) ∙ ap read_edits (sym pushed)
+
+  pub opened_grows : Grows h with_epoch
+  opened_grows = record {
+    files = λ p m. m;
+    jobs = λ j m. m;
+    one = is.all.one;
+    edits = logs_one h with_epoch edits c.edits (edit (epoch_edit before)) (epoch_edit before) before c.served.version opens.opens.folds spelled pushed version_is is.edits edits_are;
+  }
+
+  pub opened_version : versions_in with_epoch ≡ versions_in h ++ c.served.version ∷ []
+  opened_version = grown_versions h with_epoch edits c.edits (edit (epoch_edit before)) (epoch_edit before) before c.served.version opens.opens.folds spelled pushed version_is is.edits edits_are
 
   kept_before : (p : Placed) → IsIn p set.served.places → get kept p.meta.number ≡ Some p.table.bytes
   kept_before p m =
@@ -153,15 +173,20 @@ module _ (h : History) (edits : List (List ℕ)) (kept : Kept) (limits : Limits)
   opened_file : (f : FileMeta) → IsIn f set.served.version.files → IsFileOf h f
   opened_file f m = let p = place_of set.served opens.version opens.served f m in (p.0, opened_place p.0 p.1, sym p.2)
 
+  current_file : (f : FileMeta) → IsIn f c.served.version.files → IsFileOf with_epoch f
+  current_file f m = opened_file f (subst (λ (x : ServedValue). IsIn f x.version.files) served_is m)
+
   -- WHAT A VAULT HAS OF A HISTORY, THE COORDINATOR HAS THAT IS OPENED OVER IT.
-  pub opened_files : AreFiles h c
+  pub opened_files : AreFiles with_epoch c
   opened_files = record {
-    all = is.all;
+    all = record {
+      one = is.all.one;
+      recorded = is.all.recorded;
+      apply = subst (Apply first_version) (sym (edits_are ∙ ap (λ (x : CoordValue). read_edits x.edits) opens.is)) opens.set.folds.apply;
+      listed = listed_on h with_epoch edits c.edits (edit (epoch_edit before)) (epoch_edit before) before c.served.version opens.opens.folds spelled pushed version_is is.edits edits_are opened_grows is.all current_file;
+    };
+    edits = edits_are;
     given = λ p m. let low = is.given p m in let next = next_is in subst (λ (s : ServedValue). p.meta.number < s.version.next_file) (sym served_is) (omega (arith, low, next));
-    listed = λ v f mv mf. elim (IsIn-append_cases v (versions_of edits) (set.served.version ∷ []) (subst (λ (vs : List VersionValue). IsIn v vs) versions_are mv)) [
-      | inl earlier ↦ is.listed v f earlier mf
-      | inr last ↦ opened_file f (subst (λ (x : VersionValue). IsIn f x.files) (IsIn-one v set.served.version last) mf)
-    ];
     served = λ p m. opened_place p (subst (λ (s : ServedValue). IsIn p s.places) served_is m);
     retired = λ r m. absurd (subst (λ (rs : List Retired). IsIn r rs) (ap (λ (x : CoordValue). x.retired) opens.is ∙ opens.opens.retired) m);
   }

@@ -4,6 +4,7 @@ use Rattle.std.specs.Prelude.{sum_by}
 use Rattle.std.proofs.lemmas.List.Sums.{sum_by-append}
 use Rattle.std.proofs.lemmas.List.{map-append}
 use Rattle.lsm_key.specs.declared.limits.Limits.{Limits}
+use Rattle.lsm_coord.specs.Contract.Memory.{IsFit}
 use Rattle.lsm_coord.specs.Model.Event as say
 use Rattle.lsm_coord.specs.Model.Run.{Run}
 use Rattle.lsm_coord.specs.Model.State.{State, first_state}
@@ -17,7 +18,9 @@ use Rattle.lsm_world.specs.Asks.{AsksStore}
 use Rattle.lsm_world.specs.Events.{event_of}
 use Rattle.lsm_world.specs.Nodes.{NodesValue, StoreValue, up_store}
 use Rattle.lsm_world.specs.Replies.{reply_of}
-use Rattle.lsm_world.specs.Schedules.{AreNew, AskedAll, FollowsStore, IsReached, IsTaken, IsTraced, RunsTo, WorldValue, device_failures}
+use Rattle.lsm_world.specs.Schedules.{AreNew, AskedAll, IsReached, IsTaken, IsTraced, RunsTo, WorldValue, device_failures}
+use Rattle.lsm_world.specs.Shown.{FollowsStore}
+use Rattle.lsm_world.proofs.FirstHistory.{first_shown}
 
 -- ---- what was asked
 
@@ -75,8 +78,8 @@ counted_more rs r old mid new first then = rw (sum_by-append device_failures rs 
 
 -- ---- the states that are reached
 
-pub reached_first : (due : Limits) (n : NodesValue) → AreNew due n → IsReached (record { nodes = up_store n; trace = [] })
-reached_first due n is = record { replies = []; state = first_state; run = refl; shown = is.shown }
+pub reached_first : (due : Limits) (n : NodesValue) → AreNew due n → IsFit n.core → IsReached (record { nodes = up_store n; trace = [] })
+reached_first due n is fit = record { replies = []; state = first_state; run = refl; shown = first_shown due n is fit }
 
 pub reached_more : (old new : StoreValue) (es : List Event) (e : Event) (r : Reply) → IsReached (record { nodes = old; trace = es }) → FollowsStore old (event_of e) (reply_of r) new → IsReached (record { nodes = new; trace = es ++ e ∷ [] })
 reached_more old new es e r is follows =

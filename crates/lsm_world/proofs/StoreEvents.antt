@@ -1,5 +1,7 @@
 -- A store of either kind: what its nodes are asked, and what is told and kept of a restart.
-use Rattle.std.proofs.Common.{◌≡◌, ◌⊎◌, ℕ, List, Option, None, Some, Result, Ok, Err, refl, sym, ap, subst, ◌∙◌, inl, inr}
+use Rattle.std.proofs.Common.{◌≡◌, ◌⊎◌, ℕ, List, Option, None, Some, Result, Ok, Err, map, refl, sym, ap, subst, ◌∙◌, inl, inr}
+use Rattle.lsm_edit.specs.Served.{IsServed, ServedValue}
+use Rattle.lsm_edit.specs.Version.{IsVersion}
 use Rattle.lsm_edit.specs.Edits.{RemovedOnce}
 use Rattle.lsm_versions.specs.declared.error.OpenError.{OpenError}
 use Rattle.lsm_versions.specs.Kept.{Kept}
@@ -10,24 +12,31 @@ use Rattle.lsm_versions.proofs.ReplayedEdits.{folds_once}
 use Rattle.lsm_coord.specs.declared.dispatcher.Dispatcher.{Dispatcher}
 use Rattle.lsm_coord.specs.Contract.Restarts.{RestartFollows, Restarts, core_reply, restart_reply}
 use Rattle.lsm_coord.specs.Contract.Seats.{SeatValue, ShowsDown, ShowsSeat}
+use Rattle.lsm_coord.specs.Contract.Shows.{Shows}
 use Rattle.lsm_coord.specs.Contract.Value.{CoordValue}
 use Rattle.lsm_coord.specs.Model.Event as say
 use Rattle.lsm_coord.specs.Model.State.{State}
 use Rattle.lsm_coord.specs.Model.Step.{Step}
-use Rattle.lsm_work.specs.Workers.{WorkerValue}
 use Rattle.lsm_world.specs.declared.event.Event.{Event}
 use Rattle.lsm_world.specs.declared.event.Event.TheVariants as event
 use Rattle.lsm_world.specs.declared.reply.Reply.{Reply}
 use Rattle.lsm_world.specs.Asks.{Asks, AsksBy, AsksDown, AsksNode, AsksStore, LacksMemory, RestartsCoordinator, restart_answer}
-use Rattle.lsm_world.specs.History.{History, IsDownHistory, IsStoreHistory}
+use Rattle.lsm_world.specs.declared.store.Store.{Store}
+use Rattle.lsm_world.specs.declared.store.Store.TheVariants.{Up, Down}
+use Rattle.lsm_world.specs.History.{History, IsDownHistory, IsStoreHistory, versions_in}
 use Rattle.lsm_world.specs.Inner.Handing.{IsNoRestart}
 use Rattle.lsm_world.specs.Inner.Stopping.{StoppedValue, down_store}
-use Rattle.lsm_world.specs.Inner.Storing.{IsCaughtUp}
-use Rattle.lsm_world.specs.Nodes.{NodesValue, StoreValue, store_with, up_store}
+use Rattle.lsm_world.specs.Inner.Storing.{IsCaughtUp, IsFitWhileUp, store_of}
+use Rattle.lsm_world.specs.Nodes.{NetworkValue, NodesValue, StoreValue, number_of, store_with, up_store}
 use Rattle.lsm_world.specs.Replies.{reply_of}
-use Rattle.lsm_world.specs.Schedules.{FollowsStore, IsPlain}
+use Rattle.lsm_world.specs.Schedules.{IsPlain}
+use Rattle.lsm_world.specs.Shown.{FollowsStore, ShowsStore}
+use Rattle.lsm_world.proofs.AnsweredVersions.{HasNewest}
+use Rattle.lsm_world.proofs.GrowingHistory.{Grows, grows_by_none}
 use Rattle.lsm_world.proofs.RestartReplies.{restart_plain}
-use Rattle.lsm_world.proofs.RestartedNodes.{goes_up, stays_down}
+use Rattle.lsm_world.proofs.RestartedHistory.{opened_files, opened_grows, opened_version, with_epoch}
+use Rattle.lsm_world.proofs.RestartedNodes.{goes_up, stays_down, stops}
+use Rattle.lsm_world.proofs.StoreSteps.{current_answers, shows_after}
 
 -- ---- a node is asked
 
@@ -62,20 +71,10 @@ told_restart (Ok done) new = by new.core
     by (Some c) = refl
 told_restart (Err e) new = refl
 
--- THE RESTART IS A STEP.
-pub restart_follows : (store new : StoreValue) (old : SeatValue) (opened : Result (Unit {0}) OpenError) (seat : SeatValue) (r : Reply) → old ≡ store.seat → new.seat ≡ seat → r ≡ restart_answer opened seat.core → RestartFollows old opened seat
-    → FollowsStore store (say.Restart say.Coordinator) (reply_of r) new
-restart_follows store new old opened seat r same made told follows s shown =
-    let then = follows s (subst (λ (x : SeatValue). ShowsSeat x s) (sym same) shown) in (
-      then.0,
-      subst (λ (q : say.Reply). Step s (say.Restart say.Coordinator) q then.0) (sym (ap reply_of told ∙ told_restart opened seat)) then.1,
-      subst (λ (x : SeatValue). ShowsSeat x then.0) (sym made) then.2,
-    )
-
 -- no manifest is bad and no table is missing
-pub restart_is_plain : (store : StoreValue) (old : SeatValue) (opened : Result (Unit {0}) OpenError) (seat : SeatValue) (r : Reply) → old ≡ store.seat → r ≡ restart_answer opened seat.core → RestartFollows old opened seat → (s : State) × ShowsSeat store.seat s → IsPlain r
+pub restart_is_plain : (store : StoreValue) (old : SeatValue) (opened : Result (Unit {0}) OpenError) (seat : SeatValue) (r : Reply) → old ≡ store.seat → r ≡ restart_answer opened seat.core → RestartFollows old opened seat → (s : State) × ShowsStore store s → IsPlain r
 restart_is_plain store old opened seat r same told follows shown =
-    subst IsPlain (sym told) (by opened (follows shown.0 (subst (λ (x : SeatValue). ShowsSeat x shown.0) (sym same) shown.1)))
+    subst IsPlain (sym told) (by opened (follows shown.0 (subst (λ (x : SeatValue). ShowsSeat x shown.0) (sym same) shown.1.seat)))
   where
     plain : (core : Option CoordValue) → IsPlain (restart_answer (Ok tt) core)
     plain None = tt
@@ -90,27 +89,73 @@ pub caught_up : (old : SeatValue) (opened : Result (Unit {0}) OpenError) (seat :
 caught_up old (Ok done) seat is = subst (λ (x : SeatValue). IsCaughtUp x.core) (sym is.2) (subst (λ (x : CoordValue). x.last ≡ x.served.version.flushed) (sym is.1.is) refl)
 caught_up old (Err e) seat is = subst (λ (x : SeatValue). IsCaughtUp x.core) (sym is.3) tt
 
--- A RESTART KEEPS THE HISTORY.
-pub restart_keeps : (h : History) (old : SeatValue) (opened : Result (Unit {0}) OpenError) (seat : SeatValue) (desk : List Dispatcher) (workers : List WorkerValue) (messages : List (List ℕ)) → Restarts old opened seat → IsDownHistory h old.edits old.kept desk workers messages
-    → IsStoreHistory h (store_with seat desk workers messages)
-restart_keeps h old (Ok done) seat desk workers messages is known =
-    subst (λ (x : SeatValue). IsStoreHistory h (store_with x desk workers messages)) (sym is.2) (goes_up h old.edits old.kept old.limits is.0 is.1 desk workers messages known)
-restart_keeps h old (Err e) seat desk workers messages is known =
-    subst (λ (x : SeatValue). IsStoreHistory h (store_with x desk workers messages)) (sym is.3) (stays_down h e old.edits old.kept seat.kept desk workers messages is.1 known)
+-- A RESTART KEEPS THE HISTORY, WITH THE EDIT OF THE OPENING.
+restarted : (h : History) (old : SeatValue) (opened : Result (Unit {0}) OpenError) (seat : SeatValue) (desk : List Dispatcher) (network : NetworkValue) → Restarts old opened seat → IsDownHistory h old.edits old.kept desk network
+    → (more : History) × Grows h more × IsStoreHistory more (store_with seat desk network)
+restarted h old (Ok done) seat desk network is known = (
+  with_epoch h old.edits old.kept old.limits is.0 is.1 known.files,
+  opened_grows h old.edits old.kept old.limits is.0 is.1 known.files,
+  subst (λ (x : SeatValue). IsStoreHistory (with_epoch h old.edits old.kept old.limits is.0 is.1 known.files) (store_with x desk network)) (sym is.2) (goes_up h old.edits old.kept old.limits is.0 is.1 desk network known),
+)
+restarted h old (Err e) seat desk network is known = (
+  h,
+  grows_by_none h known.files.all.one,
+  subst (λ (x : SeatValue). IsStoreHistory h (store_with x desk network)) (sym is.3) (stays_down h e old.edits old.kept seat.kept desk network is.1 known),
+)
+
+-- the version of the opening answers as the writes do
+newest : (h : History) (old : SeatValue) (opened : Result (Unit {0}) OpenError) (seat : SeatValue) (desk : List Dispatcher) (network : NetworkValue) (is : Restarts old opened seat) (known : IsDownHistory h old.edits old.kept desk network) (t : State) → ShowsSeat seat t
+    → (versions_in (restarted h old opened seat desk network is known).0 ≡ versions_in h) ⊎ HasNewest h (restarted h old opened seat desk network is known).0 t
+unfolding restarted
+newest h old (Ok done) seat desk network is known t shows =
+    let c = is.0 in
+    let opens = is.1 in
+    let same : c.served ≡ opens.versions.served = ap (λ (x : CoordValue). x.served) opens.is in
+    let shown : Shows c t = subst (λ (x : SeatValue). ShowsSeat x t) is.2 shows in
+    inr (record {
+      now = c.served;
+      served = subst IsServed (sym same) opens.served;
+      version = subst (λ (x : ServedValue). IsVersion x.version) (sym same) opens.version;
+      tables = (opened_files h old.edits old.kept old.limits c opens known.files).served;
+      grown = opened_version h old.edits old.kept old.limits c opens known.files;
+      answers = current_answers c.edits c.served t shown.tables;
+    })
+newest h old (Err e) seat desk network is known t shows = inl refl
+
+-- what a store has of a history, its vault has
+pub known_down : {V : Type 0} (h : History) (store : Store V) → IsFitWhileUp (store_of store).seat.core → IsStoreHistory h (store_of store) → IsDownHistory h (store_of store).seat.edits (store_of store).seat.kept (store_of store).desk (store_of store).network
+known_down h (Up nodes) fit known = stops h nodes fit known
+known_down h (Down stopped) fit known = known
 
 -- the parts of a store, whose seat is another one
-module _ (store : StoreValue) (old : SeatValue) (opened : Result (Unit {0}) OpenError) (seat : SeatValue) (desk : List Dispatcher) (workers : List WorkerValue) (messages : List (List ℕ)) (seat_is : old ≡ store.seat) (desk_is : desk ≡ store.desk) (workers_are : workers ≡ store.workers) (messages_are : messages ≡ store.messages)
-    (restarts : Restarts old opened seat) where
-  pub restart_known : (h : History) × IsDownHistory h store.seat.edits store.seat.kept store.desk store.workers store.messages → (h : History) × IsStoreHistory h (store_with seat desk workers messages)
-  restart_known known =
-      let e : store_with old desk workers messages ≡ store = λ i. store_with (seat_is i) (desk_is i) (workers_are i) (messages_are i) in
-      let before = subst (λ (x : StoreValue). IsDownHistory known.0 x.seat.edits x.seat.kept x.desk x.workers x.messages) (sym e) known.1 in
-      (known.0, restart_keeps known.0 old opened seat desk workers messages restarts before)
+module _ (store : StoreValue) (old : SeatValue) (opened : Result (Unit {0}) OpenError) (seat : SeatValue) (desk : List Dispatcher) (network : NetworkValue) (seat_is : old ≡ store.seat) (desk_is : desk ≡ store.desk) (network_is : network ≡ store.network) (restarts : Restarts old opened seat) where
+  store_is : store_with old desk network ≡ store
+  store_is = λ i. store_with (seat_is i) (desk_is i) (network_is i)
 
-  pub restart_asks : (r : Reply) (new : StoreValue) → r ≡ restart_answer opened seat.core → new ≡ store_with seat desk workers messages → RestartsCoordinator store r new
+  known_before : (h : History) → IsDownHistory h store.seat.edits store.seat.kept store.desk store.network → IsDownHistory h old.edits old.kept desk network
+  known_before h known = subst (λ (x : StoreValue). IsDownHistory h x.seat.edits x.seat.kept x.desk x.network) (sym store_is) known
+
+  pub restart_known : (h : History) × IsDownHistory h store.seat.edits store.seat.kept store.desk store.network → (h : History) × IsStoreHistory h (store_with seat desk network)
+  restart_known known = let then = restarted known.0 old opened seat desk network restarts (known_before known.0 known.1) in (then.0, then.2)
+
+  pub restart_asks : (r : Reply) (new : StoreValue) → r ≡ restart_answer opened seat.core → new ≡ store_with seat desk network → RestartsCoordinator store r new
   restart_asks r new told made =
-      let e : record store { seat = seat } ≡ new = (λ i. store_with seat (sym desk_is i) (sym workers_are i) (sym messages_are i)) ∙ sym made in
+      let e : record store { seat = seat } ≡ new = (λ i. store_with seat (sym desk_is i) (sym network_is i)) ∙ sym made in
       subst (RestartsCoordinator store r) e (opened, subst (λ (x : SeatValue). Restarts x opened seat) seat_is restarts, told, refl)
+
+  -- THE RESTART IS A STEP.
+  pub restart_follows : (r : Reply) (new : StoreValue) → r ≡ restart_answer opened seat.core → new ≡ store_with seat desk network → RestartFollows old opened seat → ((h : History) → IsStoreHistory h store → IsDownHistory h store.seat.edits store.seat.kept store.desk store.network)
+      → FollowsStore store (say.Restart say.Coordinator) (reply_of r) new
+  restart_follows r new told made follows down s x =
+      let then = follows s (subst (λ (y : SeatValue). ShowsSeat y s) (sym seat_is) x.seat) in
+      let t = then.0 in
+      let step : Step s (say.Restart say.Coordinator) (reply_of r) t = subst (λ (q : say.Reply). Step s (say.Restart say.Coordinator) q t) (sym (ap reply_of told ∙ told_restart opened seat)) then.1 in
+      let known = known_before x.history (down x.history x.known) in
+      let on = restarted x.history old opened seat desk network restarts known in
+      let shown : ShowsStore (store_with seat desk network) t =
+          shows_after store (store_with seat desk network) s (say.Restart say.Coordinator) (reply_of r) t x on.0 step then.2 tt (ap (λ (n : NetworkValue). map number_of n.followers) network_is) on.1 on.2
+          (newest x.history old opened seat desk network restarts known t then.2) in
+      (t, step, subst (λ (y : StoreValue). ShowsStore y t) (sym made) shown)
 
 -- ---- what every store is
 

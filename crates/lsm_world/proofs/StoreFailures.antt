@@ -15,9 +15,9 @@ use Rattle.lsm_world.specs.declared.event.Event.TheVariants as event
 use Rattle.lsm_world.specs.declared.refusal.Refusal.TheVariants as why
 use Rattle.lsm_world.specs.declared.reply.Reply.{Reply}
 use Rattle.lsm_world.specs.declared.reply.Reply.TheVariants as reply
-use Rattle.lsm_world.specs.Asks.{AsksDown, DeliversAtDown, DeliversDown, LacksMemory, RestartsCoordinator, down_write, restart_answer, worker_reply}
+use Rattle.lsm_world.specs.Asks.{AsksDown, AsksOtherDown, DeliversAtDown, DeliversDown, LacksMemory, RestartsCoordinator, down_write, restart_answer}
 use Rattle.lsm_world.specs.Nodes.{StoreValue}
-use Rattle.lsm_world.proofs.CountedFailures.{Counts, still, worker_counted}
+use Rattle.lsm_world.proofs.CountedFailures.{Counts, network_counted, passed_counted, still}
 
 -- ---- an opening
 
@@ -50,11 +50,17 @@ module _ (old new : StoreValue) where
   stays : (s : StoreValue) → new ≡ s → s.seat.failures ≡ before → after ≡ before
   stays s is same = ap (λ (x : StoreValue). x.seat.failures) is ∙ same
 
+  -- a worker or a follower was asked
+  kept_failures : (r : Reply) → new ≡ record old { network = new.network } → Counts before r before → Counts before r after
+  kept_failures r is counts = subst (λ (n : ℕ). Counts before r n) (sym (ap (λ (x : StoreValue). x.seat.failures) is)) counts
+
+  other : (e : Event) (r : Reply) → AsksOtherDown old e r new → Counts before r after
+  other e r is = kept_failures r is.1 (network_counted before old.network new.network e r is.0)
+
   delivered : (m : Message) (dst : Node) (r : Reply) → DeliversDown old m dst r new → Counts before r after
   delivered m Coordinator r is = told r (reply.Refused why.Down) is.0 (stays old is.1 refl) (omega arith)
-  delivered m (Worker index) r is =
-      told r (worker_reply is.0.outcome.change is.0.told) is.0.reply_is (ap (λ (x : StoreValue). x.seat.failures) is.1) (worker_counted before is.0.outcome.change is.0.told)
-  delivered m (Follower index) r is = told r reply.Ignored is.0 (stays old is.1 refl) (omega arith)
+  delivered m (Worker index) r is = kept_failures r is.1 (passed_counted before old.network new.network m (Worker index) r is.0)
+  delivered m (Follower index) r is = kept_failures r is.1 (passed_counted before old.network new.network m (Follower index) r is.0)
 
   delivered_at : (number : ℕ) (r : Reply) → DeliversAtDown old number r new → Counts before r after
   delivered_at number (reply.Refused why.NoMessage) is = still before after (stays old is.1 refl)
@@ -63,7 +69,11 @@ module _ (old new : StoreValue) where
   answered : (e : Event) (r : Reply) → AsksDown old e r new → Counts before r after
   answered (event.Write ops) r is = told r (reply.Refused (down_write (batch_fault ops))) is.0 (stays old is.1 refl) (write_counted before (batch_fault ops))
   answered (event.Deliver number) r is = delivered_at number r is
-  answered (event.RestartWorker index) r is = told r (reply.RestartedWorker index) is.0.0 (ap (λ (x : StoreValue). x.seat.failures) is.1) (omega arith)
+  answered (event.RestartWorker index) r is = other (event.RestartWorker index) r is
+  answered (event.RestartFollower index) r is = other (event.RestartFollower index) r is
+  answered (event.Ask index) r is = other (event.Ask index) r is
+  answered (event.Read index key) r is = other (event.Read index key) r is
+  answered (event.ShowFollower index) r is = other (event.ShowFollower index) r is
   answered e r is = told r (reply.Refused why.Down) is.0 (stays old is.1 refl) (omega arith)
 
   -- WHAT IS TOLD OF A FAILURE WHILE THE COORDINATOR IS DOWN, THE VAULT HAS COUNTED.

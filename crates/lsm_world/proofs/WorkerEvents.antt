@@ -1,27 +1,26 @@
 -- What a worker does with a message that is known: its task is of the history again, and what it sends is known.
-use Rattle.std.proofs.Common.{◌≡◌, ℕ, zero, suc, Bool, true, false, cond, List, [], ◌∷◌, Option, None, Some, map, ◌⊎◌, refl, sym, ap, subst, ◌∙◌, inl, inr}
-use Rattle.std.proofs.lemmas.Option.{same_Some}
+use Rattle.std.proofs.Common.{◌≡◌, ℕ, Bool, true, false, cond, List, [], ◌∷◌, Option, None, Some, map, refl, sym, ap, subst, ◌∙◌, inl, inr}
 use Rattle.std.specs.Prelude.{not, nat_lt, filter, slice_get, slice_set}
 use Rattle.lsm_key.specs.Sets.{IsIn}
 use Rattle.lsm_key.proofs.AscendingEntries.{IsIn-filter}
-use Rattle.lsm_key.proofs.Membership.{IsIn-append_cases, IsIn-mapped}
+use Rattle.lsm_key.proofs.Membership.{IsIn-append_cases}
 use Rattle.lsm_claim.specs.Jobs.{same_job_id}
-use Rattle.lsm_table.specs.Tables.{IsTable, Opened}
-use Rattle.lsm_table.proofs.TableContents.{table_one}
+use Rattle.lsm_table.specs.Tables.{Opened}
 use Rattle.lsm_edit.specs.declared.file.FileMeta.{FileMeta}
 use Rattle.lsm_edit.specs.declared.served.Placed.{Placed}
 use Rattle.lsm_msg.specs.declared.job.JobParts.{JobParts}
 use Rattle.lsm_msg.specs.declared.message.Body.{Body}
 use Rattle.lsm_msg.specs.declared.message.Body.TheVariants as body
 use Rattle.lsm_msg.specs.declared.message.Message.{Message}
+use Rattle.lsm_msg.specs.declared.node.Node.TheVariants.{Worker}
 use Rattle.lsm_merge.specs.Outputs.{IsMerge}
 use Rattle.lsm_store.specs.Compacting.{tables_at}
 use Rattle.lsm_store.proofs.ServedTables.{tables_found}
-use Rattle.lsm_edit.specs.Served.{IsAwaited}
-use Rattle.lsm_msg.specs.Messages.{fetches, to_coordinator}
-use Rattle.lsm_msg.specs.declared.node.Node.TheVariants.{Worker}
 use Rattle.lsm_work.specs.Workers.{IsComplete, MergesInputs, Outcome, Proceeds, TakesTable, TaskValue, WorkerValue, Works, after_gone, after_job, drops, fetching, ignores, is_among, is_later, missing, new_task, numbers_of, received_tables, with_input}
-use Rattle.lsm_world.specs.History.{AreFilesOf, AreJobsOf, History, IsKnown, IsNetwork, IsNumbered, IsTableAt, IsTaskOf}
+use Rattle.lsm_world.specs.History.{AreFilesOf, AreJobsOf, History, IsFileOf, IsKnown, IsNetwork, IsTableAt, IsTaskOf}
+use Rattle.lsm_world.specs.Nodes.{NetworkValue}
+use Rattle.lsm_world.proofs.AwaitedTables.{awaited_is, fetched, file_numbered}
+use Rattle.lsm_world.proofs.FourPlaces.{same_indices, set_cases}
 
 -- the task that is left is of the history, and each message that is sent is known
 abbrev pub Keeps : History → Outcome → Type 0
@@ -35,20 +34,15 @@ by_test P false x y px py = py
 module _ (h : History) (files : AreFilesOf h) (jobs : AreJobsOf h) where
   -- ---- jobs, and files that are gone
 
-  input_numbered : (t : TaskValue) → IsTaskOf h (Some t) → (f : FileMeta) → IsIn f t.job.inputs → IsNumbered h f.number
-  input_numbered t own f m = let p = jobs.inputs t.job f own.0 m in (p.0, p.1, ap (λ (g : FileMeta). g.number) p.2)
-
-  fetched : (index : ℕ) (fs : List FileMeta) → ((f : FileMeta) → IsIn f fs → IsNumbered h f.number) → (m : Message) → IsIn m (fetches (Worker index) fs) → IsKnown h m.body
-  fetched index fs all m sent =
-      let f = IsIn-mapped (λ (g : FileMeta). to_coordinator (Worker index) (body.Fetch g.number)) m fs sent in
-      subst (λ (x : Message). IsKnown h x.body) (sym f.2) (all f.0 f.1)
-
   -- a missing input is one of the job's
   is_input : (t : TaskValue) (f : FileMeta) → IsIn f (missing t) → IsIn f t.job.inputs
   is_input t f m = (IsIn-filter (λ (g : FileMeta). not (is_among (numbers_of t.received) g.number)) f t.job.inputs m).0
 
+  input_is : (t : TaskValue) → IsTaskOf h (Some t) → (f : FileMeta) → IsIn f (missing t) → IsFileOf h f
+  input_is t own f m = jobs.inputs t.job f own.0 (is_input t f m)
+
   fetching_keeps : (w : WorkerValue) (t : TaskValue) → IsTaskOf h (Some t) → Keeps h (fetching w t)
-  fetching_keeps w t own = (own, fetched w.index (missing t) (λ f m. input_numbered t own f (is_input t f m)))
+  fetching_keeps w t own = (own, fetched h (Worker w.index) (missing t) (λ f m. file_numbered h f (input_is t own f m)))
 
   ignores_keeps : (w : WorkerValue) → IsTaskOf h w.task → Keeps h (ignores w)
   ignores_keeps w own = (own, λ m sent. absurd sent)
@@ -72,16 +66,6 @@ module _ (h : History) (files : AreFilesOf h) (jobs : AreJobsOf h) where
   -- ---- tables
 
   module _ (t : TaskValue) (own : IsTaskOf h (Some t)) where
-    -- what is awaited is a file with its table: numbers name one file, and bytes have one list of entries
-    awaited_is : (number : ℕ) (bytes : List ℕ) (p : Placed) → IsTableAt h number bytes → IsAwaited (missing t) number bytes p → IsIn p h.files
-    awaited_is number bytes p known awaited =
-        let q = jobs.inputs t.job p.meta own.0 (is_input t p.meta awaited.file) in
-        let one : q.0 ≡ known.0 = files.one q.0 known.0 q.1 known.1 (ap (λ (f : FileMeta). f.number) q.2 ∙ awaited.number ∙ sym known.2) in
-        let text : q.0.table.bytes ≡ p.table.bytes = ap (λ (x : Placed). x.table.bytes) one ∙ known.3 ∙ sym awaited.bytes in
-        let is_table = subst (λ (bs : List ℕ). IsTable bs q.0.table.entries) text (files.recorded q.0 q.1).table in
-        let entries = table_one p.table.bytes q.0.table.entries p.table.entries is_table awaited.recorded.table in
-        subst (λ (x : Placed). IsIn x h.files) (λ i. record { meta = q.2 i; table = record { bytes = text i; entries = entries i } }) q.1
-
     more_of : (p : Placed) → IsIn p h.files → IsIn p.meta t.job.inputs → IsTaskOf h (Some (with_input p t))
     more_of p there input = (
       own.0,
@@ -114,7 +98,7 @@ module _ (h : History) (files : AreFilesOf h) (jobs : AreJobsOf h) where
   table_keeps w number bytes None o own has known goes = subst (Keeps h) (sym goes) (ignores_keeps w own)
   table_keeps w number bytes (Some t) o own has known (inl taken) =
       let p = taken.0 in
-      let there = awaited_is t has number bytes p known taken.1 in
+      let there = awaited_is h files (missing t) (input_is t has) number bytes p known taken.1 in
       proceeds_keeps (with_input p t) (more_of t has p there (is_input t p.meta taken.1.file)) w (missing (with_input p t)) o taken.2
   table_keeps w number bytes (Some t) o own has known (inr other) = subst (Keeps h) (sym other.1) (ignores_keeps w own)
 
@@ -127,10 +111,10 @@ module _ (h : History) (files : AreFilesOf h) (jobs : AreJobsOf h) where
   works_known w (body.Gone number) o own known works = subst (Keeps h) (sym works) (gone_keeps w number w.task own)
   works_known w (body.Fetch number) o own known works = subst (Keeps h) (sym works) (ignores_keeps w own)
   works_known w (body.Result made) o own known works = subst (Keeps h) (sym works) (ignores_keeps w own)
-  works_known w (body.Ask number) o own known works = absurd known
-  works_known w (body.Edit edit) o own known works = absurd known
-  works_known w (body.Base version) o own known works = absurd known
-  works_known w (body.Current number) o own known works = absurd known
+  works_known w (body.Ask number) o own known works = subst (Keeps h) (sym works) (ignores_keeps w own)
+  works_known w (body.Edit edit) o own known works = subst (Keeps h) (sym works) (ignores_keeps w own)
+  works_known w (body.Base version) o own known works = subst (Keeps h) (sym works) (ignores_keeps w own)
+  works_known w (body.Current number) o own known works = subst (Keeps h) (sym works) (ignores_keeps w own)
 
 -- ---- the worker that is left
 
@@ -170,24 +154,12 @@ works_index w (body.Current number) o works = ap (λ (x : Outcome). x.worker.ind
 
 -- ---- one worker in the place of another
 
-same_indices : (ws : List WorkerValue) (place : ℕ) (w new : WorkerValue) → slice_get ws place ≡ Some w → new.index ≡ w.index → map (λ x. x.index) (slice_set ws place new) ≡ map (λ x. x.index) ws
-same_indices [] place w new at same = refl
-same_indices (x ∷ ws) zero w new at same =
-    let first : new.index ≡ x.index = same ∙ ap (λ (y : WorkerValue). y.index) (sym (same_Some x w at)) in
-    λ i. first i ∷ map (λ (y : WorkerValue). y.index) ws
-same_indices (x ∷ ws) (suc place) w new at same = ap (λ (ns : List ℕ). x.index ∷ ns) (same_indices ws place w new at same)
-
-set_cases : (ws : List WorkerValue) (place : ℕ) (new x : WorkerValue) → IsIn x (slice_set ws place new) → (x ≡ new) ⊎ IsIn x ws
-set_cases [] place new x m = absurd m
-set_cases (y ∷ ws) zero new x m = elim m [ inl here ↦ inl here | inr later ↦ inr (inr later) ]
-set_cases (y ∷ ws) (suc place) new x m = elim m [
-  | inl first ↦ inr (inl first)
-  | inr later ↦ elim (set_cases ws place new x later) [ inl here ↦ inl here | inr there ↦ inr (inr there) ]
-]
-
-pub with_worker : (h : History) (workers : List WorkerValue) (messages : List (List ℕ)) (place : ℕ) (w new : WorkerValue) → slice_get workers place ≡ Some w → new.index ≡ w.index → IsTaskOf h new.task → IsNetwork h workers messages → IsNetwork h (slice_set workers place new) messages
-with_worker h workers messages place w new at same task is = record {
-  indices = same_indices workers place w new at same ∙ is.indices;
-  tasks = λ x m. elim (set_cases workers place new x m) [ inl here ↦ subst (λ (y : WorkerValue). IsTaskOf h y.task) (sym here) task | inr before ↦ is.tasks x before ];
+-- A WORKER WITH A TASK OF THE HISTORY TAKES THE PLACE OF ANOTHER.
+pub with_worker : (h : History) (old : NetworkValue) (place : ℕ) (w new : WorkerValue) → slice_get old.workers place ≡ Some w → new.index ≡ w.index → IsTaskOf h new.task → IsNetwork h old → IsNetwork h (record old { workers = slice_set old.workers place new })
+with_worker h old place w new at same task is = record {
+  workers = same_indices (λ (x : WorkerValue). x.index) old.workers place w new at same ∙ is.workers;
+  tasks = λ x m. elim (set_cases old.workers place new x m) [ inl here ↦ subst (λ (y : WorkerValue). IsTaskOf h y.task) (sym here) task | inr before ↦ is.tasks x before ];
+  followers = is.followers;
+  versions = is.versions;
   sent = is.sent;
 }

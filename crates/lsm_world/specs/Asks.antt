@@ -1,12 +1,20 @@
 -- What an event makes of the nodes: it asks one node, whose own answer is the reply, and what that node sends is stored (RocksDB wiki, Remote Compaction: the primary schedules a job, a worker runs it, the primary installs its result).
-use Rattle.std.specs.Prelude.{◌≡◌, ◌⊎◌, ℕ, ◌+◌, List, [], ◌∷◌, ◌++◌, Option, None, Some, Result, Ok, Err, length, map, nat_eq, if◌then◌else◌}
+use Rattle.std.specs.Prelude.{◌≡◌, ◌⊎◌, ℕ, ◌+◌, ◌≤◌, List, [], ◌∷◌, ◌++◌, Option, None, Some, Result, Ok, Err, length, map, max, nat_eq, if◌then◌else◌}
+use Rattle.std.specs.Option.{option_and_then}
 use Rattle.lsm_key.specs.declared.batch.KeyError.{KeyError}
 use Rattle.lsm_key.specs.Faults.{Refuses}
 use Rattle.lsm_key.specs.Limits.{batch_fault}
+use Rattle.lsm_key.specs.Places.{first_visible}
+use Rattle.lsm_key.specs.Visible.{entry_value}
 use Rattle.lsm_claim.specs.declared.ending.Settled.TheVariants.{Live, Stale}
 use Rattle.lsm_claim.specs.declared.job.LiveJob.{LiveJob}
 use Rattle.lsm_claim.specs.declared.job.JobId.{JobId}
 use Rattle.lsm_claim.specs.Book.{settle_answer}
+use Rattle.lsm_edit.specs.Served.{tables_of}
+use Rattle.lsm_edit.specs.Version.{VersionValue}
+use Rattle.lsm_follow.specs.declared.change.FollowChange.{FollowChange}
+use Rattle.lsm_follow.specs.declared.change.FollowChange.TheVariants as follow
+use Rattle.lsm_follow.specs.Followers.{FollowerValue, Follows, Outcome, new_follower}
 use Rattle.lsm_msg.specs.declared.job.JobParts.{JobParts}
 use Rattle.lsm_msg.specs.declared.job.JobResult.{JobResult}
 use Rattle.lsm_msg.specs.declared.message.Body.{Body}
@@ -14,24 +22,27 @@ use Rattle.lsm_msg.specs.declared.message.Body.TheVariants as body
 use Rattle.lsm_msg.specs.declared.message.Message.{Message}
 use Rattle.lsm_msg.specs.declared.node.Node.{Node}
 use Rattle.lsm_msg.specs.declared.node.Node.TheVariants.{Coordinator, Worker, Follower}
-use Rattle.lsm_msg.specs.Messages.{IsSpelled}
+use Rattle.lsm_msg.specs.Messages.{IsSpelled, to_coordinator}
 use Rattle.lsm_versions.specs.declared.error.OpenError.{OpenError}
+use Rattle.lsm_versions.specs.Opening.{obsolete_tables}
 use Rattle.lsm_coord.specs.declared.coord.install.Install.{Install}
 use Rattle.lsm_coord.specs.declared.coord.install.Install.TheVariants as became
 use Rattle.lsm_coord.specs.declared.dispatcher.Dispatcher.{Dispatcher}
 use Rattle.lsm_coord.specs.declared.dispatcher.Dispatcher.TheVariants.{Idle, Busy}
 use Rattle.lsm_coord.specs.declared.error.CoordError.TheVariants as error
-use Rattle.lsm_coord.specs.Contract.Calls.{write_fault, IsWritten, freeze_fault, after_freezing, flush_fault, Adds, FlushRefuses, snapshot_fault, after_snapshot, release_fault, after_release, after_give_back, GetRefuses, ScanRefuses}
+use Rattle.lsm_coord.specs.Contract.Calls.{write_fault, IsWritten, freeze_fault, after_freezing, flush_fault, Adds, FlushRefuses, snapshot_fault, after_snapshot, release_fault, after_release, after_give_back, GetRefuses, ScanRefuses, TrimRefuses, trim_fault, with_floor, with_live_tables}
 use Rattle.lsm_coord.specs.Contract.Desks.{dispatcher_of, with_dispatcher}
 use Rattle.lsm_coord.specs.Contract.Installing.{Became}
 use Rattle.lsm_coord.specs.Contract.Picking.{IsPicked, Picks, PickRefuses}
 use Rattle.lsm_coord.specs.Contract.Replies.{error_of}
 use Rattle.lsm_coord.specs.Contract.Restarts.{Restarts}
 use Rattle.lsm_coord.specs.Contract.Serving.{answer_message}
-use Rattle.lsm_coord.specs.Contract.Value.{CoordValue}
+use Rattle.lsm_coord.specs.Contract.Value.{CoordValue, version_set}
+use Rattle.lsm_coord.specs.declared.answer.ShownVersion.{ShownVersion}
 use Rattle.lsm_work.specs.declared.change.WorkChange.{WorkChange}
 use Rattle.lsm_work.specs.declared.change.WorkChange.TheVariants as change
-use Rattle.lsm_work.specs.Workers.{Outcome, WorkerValue, Works}
+use Rattle.lsm_work.specs.Workers.{WorkerValue, Works}
+use Rattle.lsm_work.specs.Workers as work
 use Rattle.lsm_world.specs.declared.event.Event.{Event}
 use Rattle.lsm_world.specs.declared.event.Event.TheVariants as event
 use Rattle.lsm_world.specs.declared.refusal.Refusal.{Refusal}
@@ -41,7 +52,7 @@ use Rattle.lsm_world.specs.declared.reply.Reply.{Reply}
 use Rattle.lsm_world.specs.declared.reply.Reply.TheVariants as reply
 use Rattle.lsm_world.specs.declared.reply.Sent.{Sent}
 use Rattle.lsm_world.specs.declared.reply.Sent.TheVariants as sent
-use Rattle.lsm_world.specs.Nodes.{NodesValue, StoreValue, at_index, nodes_with, up_store, with_index}
+use Rattle.lsm_world.specs.Nodes.{NetworkValue, NodesValue, StoreValue, at_index, nodes_with, up_store, with_index}
 
 -- ---- messages
 
@@ -66,8 +77,12 @@ Sends old (m ∷ ms) (sent.Messages first last) new =
 
 -- ---- what the coordinator is asked
 
+-- the version is listed
+abbrev pub ListsVersion : VersionValue → ShownVersion → Type 0
+ListsVersion v told = (told.number ≡ v.number) × (told.flushed ≡ v.flushed) × (told.files ≡ v.files)
+
 -- The coordinator's call for each of its events: what it makes of the coordinator, and when it refuses. A refusal changes nothing,
--- but for what a flush may have stored in the vault.
+-- but for what a flush may have stored in the vault and what a trim may have let go.
 -- Which value a read returns, and which sequences a write gets, is what a step says.
 abbrev pub Calls : CoordValue → Event → Reply → CoordValue → Type 0
 Calls old (event.Write ops) (reply.Wrote first last) new = (batch_fault ops ≡ None) × (write_fault old ops ≡ None) × IsWritten old ops new
@@ -85,8 +100,11 @@ Calls old (event.Get key at) (reply.Got value) new = new ≡ old
 Calls old (event.Get key at) (reply.Refused (why.Coord e)) new = GetRefuses old key at e × (new ≡ old)
 Calls old (event.Scan range) (reply.Scanned pairs) new = new ≡ old
 Calls old (event.Scan range) (reply.Refused (why.Coord e)) new = ScanRefuses old range.at e × (new ≡ old)
-Calls old event.Show (reply.Shown v) new =
-    (v.number ≡ old.served.version.number) × (v.flushed ≡ old.served.version.flushed) × (v.files ≡ old.served.version.files) × (new ≡ old)
+Calls old event.Show (reply.Shown v) new = ListsVersion old.served.version v × (new ≡ old)
+Calls old (event.Trim number) (reply.Trimmed floor removed) new =
+    (trim_fault old number ≡ None) × (floor ≡ max old.floor number) × (removed ≡ obsolete_tables (version_set (with_floor old number)))
+    × (new ≡ record (with_live_tables old number) { failures = new.failures }) × (old.failures ≤ new.failures)
+Calls old (event.Trim number) (reply.Refused (why.Coord e)) new = TrimRefuses old number e new
 Calls old e r new = ⊥
 
 -- ---- what a dispatcher is asked
@@ -106,8 +124,8 @@ Dispatches old d (reply.Refused (why.Coord e)) new = (dispatcher_of old.desk d �
 Dispatches old d reply.Idle new = (dispatcher_of old.desk d ≡ Idle) × Picks old.core old.core None × (new ≡ old)
 Dispatches old d (reply.Picked told sent) new =
     (dispatcher_of old.desk d ≡ Idle) × (claim : LiveJob) × (job : JobParts) × IsPicked old.core claim job new.core × TellsJob told job
-    × Sends old.messages (job_message d job ∷ []) sent new.messages
-    × (new ≡ record old { core = new.core; desk = with_dispatcher old.desk d (Busy claim); messages = new.messages })
+    × Sends old.network.messages (job_message d job ∷ []) sent new.network.messages
+    × (new ≡ record old { core = new.core; desk = with_dispatcher old.desk d (Busy claim); network = record old.network { messages = new.network.messages } })
 Dispatches old d r new = ⊥
 
 -- a dispatcher gives back the claim that it holds
@@ -146,11 +164,17 @@ TakesResult old d made r new =
 abbrev pub Ignores : NodesValue → Reply → NodesValue → Type 0
 Ignores old r new = (r ≡ reply.Ignored) × (new ≡ old)
 
--- The coordinator serves a fetch. It takes a result from a worker, and nothing else.
-abbrev pub Receives : NodesValue → Message → Node → Body → Reply → NodesValue → Type 0
-Receives old m src (body.Fetch file) r new =
+-- the coordinator answers
+abbrev pub IsServed : NodesValue → Message → Reply → NodesValue → Type 0
+IsServed old m r new =
     (answer : Message) × (answer_message old.core m m.body ≡ Some answer)
-    × (told : Sent) × (r ≡ reply.Served told) × Sends old.messages (answer ∷ []) told new.messages × (new ≡ record old { messages = new.messages })
+    × (told : Sent) × (r ≡ reply.Served told) × Sends old.network.messages (answer ∷ []) told new.network.messages
+    × (new ≡ record old { network = record old.network { messages = new.network.messages } })
+
+-- The coordinator serves a fetch and an ask. It takes a result from a worker, and nothing else.
+abbrev pub Receives : NodesValue → Message → Node → Body → Reply → NodesValue → Type 0
+Receives old m src (body.Fetch file) r new = IsServed old m r new
+Receives old m src (body.Ask number) r new = IsServed old m r new
 Receives old m (Worker d) (body.Result made) r new = TakesResult old d made r new
 Receives old m src said r new = Ignores old r new
 
@@ -160,28 +184,81 @@ worker_reply change.Merged told = reply.Merged told
 worker_reply change.Dropped told = reply.Dropped
 worker_reply change.Ignored told = reply.Ignored
 
+abbrev pub follower_reply : FollowChange → Sent → Reply
+follower_reply (follow.Waiting missing) told = reply.Waiting missing told
+follower_reply (follow.Version number) told = reply.Advanced number
+follower_reply follow.Dropped told = reply.Dropped
+follower_reply follow.Current told = reply.Current
+follower_reply follow.Ignored told = reply.Ignored
+
 -- what the worker of this index does with a message, and what it sends
-pub record IsWork (workers : List WorkerValue) (messages : List (List ℕ)) (index : ℕ) (said : Body) (r : Reply) (now : List WorkerValue) (stored : List (List ℕ)) : Type 0 where
+pub record IsWork (old : NetworkValue) (index : ℕ) (said : Body) (r : Reply) (new : NetworkValue) : Type 0 where
   pub worker : WorkerValue
-  pub is_there : at_index workers index ≡ Some worker
-  pub outcome : Outcome
+  pub is_there : at_index old.workers index ≡ Some worker
+  pub outcome : work.Outcome
   pub works : Works worker said outcome
   pub told : Sent
   pub reply_is : r ≡ worker_reply outcome.change told
-  pub sends : Sends messages outcome.sent told stored
-  pub now_is : now ≡ with_index workers index outcome.worker
+  pub sends : Sends old.messages outcome.sent told new.messages
+  pub new_is : new ≡ record old { workers = with_index old.workers index outcome.worker; messages = new.messages }
 
--- by its receiver; nothing is sent to a follower yet
+-- what the follower of this index does with a message, and what it sends
+pub record IsFollowed (old : NetworkValue) (index : ℕ) (said : Body) (r : Reply) (new : NetworkValue) : Type 0 where
+  pub follower : FollowerValue
+  pub is_there : at_index old.followers index ≡ Some follower
+  pub outcome : Outcome
+  pub follows : Follows follower said outcome
+  pub told : Sent
+  pub reply_is : r ≡ follower_reply outcome.change told
+  pub sends : Sends old.messages outcome.sent told new.messages
+  pub new_is : new ≡ record old { followers = with_index old.followers index outcome.follower; messages = new.messages }
+
+-- a worker or a follower gets a message
+abbrev pub DeliversOn : NetworkValue → Message → Node → Reply → NetworkValue → Type 0
+DeliversOn old m Coordinator r new = ⊥
+DeliversOn old m (Worker index) r new = IsWork old index m.body r new
+DeliversOn old m (Follower index) r new = IsFollowed old index m.body r new
+
+-- by its receiver
 abbrev pub Delivers : NodesValue → Message → Node → Reply → NodesValue → Type 0
 Delivers old m Coordinator r new = Receives old m m.src m.body r new
-Delivers old m (Worker index) r new = IsWork old.workers old.messages index m.body r new.workers new.messages × (new ≡ record old { workers = new.workers; messages = new.messages })
-Delivers old m (Follower index) r new = Ignores old r new
+Delivers old m dst r new = DeliversOn old.network m dst r new.network × (new ≡ record old { network = new.network })
 
 -- a number that no message has, or a message that is delivered, for the first time or once more
 abbrev pub DeliversAt : NodesValue → ℕ → Reply → NodesValue → Type 0
-DeliversAt old number (reply.Refused why.NoMessage) new = (stored_message old.messages number ≡ None) × (new ≡ old)
+DeliversAt old number (reply.Refused why.NoMessage) new = (stored_message old.network.messages number ≡ None) × (new ≡ old)
 DeliversAt old number r new =
-    (text : List ℕ) × (stored_message old.messages number ≡ Some text) × (m : Message) × IsSpelled text m × Delivers old m m.dst r new
+    (text : List ℕ) × (stored_message old.network.messages number ≡ Some text) × (m : Message) × IsSpelled text m × Delivers old m m.dst r new
+
+-- ---- what a worker or a follower is asked
+
+-- a worker is idle again
+abbrev pub StartsAnew : NetworkValue → ℕ → NetworkValue → Type 0
+StartsAnew old index new = (w : WorkerValue) × (at_index old.workers index ≡ Some w) × (new ≡ record old { workers = with_index old.workers index (record w { task = None }) })
+
+-- a follower is at version 0 again
+abbrev pub ForgetsAll : NetworkValue → ℕ → NetworkValue → Type 0
+ForgetsAll old index new = (f : FollowerValue) × (at_index old.followers index ≡ Some f) × (new ≡ record old { followers = with_index old.followers index (new_follower f.index) })
+
+-- the question of a follower: what comes after its version
+abbrev pub ask_message : FollowerValue → Message
+ask_message f = to_coordinator (Follower f.index) (body.Ask f.served.version.number)
+
+-- what a look-up in a follower's tables gives, at its version's flushed sequence
+abbrev pub looked_up : FollowerValue → List ℕ → Option (List ℕ)
+looked_up f key = option_and_then entry_value (first_visible (tables_of f.served.places) key f.served.version.flushed)
+
+-- which of them an event asks
+abbrev pub AsksNetwork : NetworkValue → Event → Reply → NetworkValue → Type 0
+AsksNetwork old (event.RestartWorker index) r new = (r ≡ reply.RestartedWorker index) × StartsAnew old index new
+AsksNetwork old (event.RestartFollower index) r new = (r ≡ reply.RestartedFollower index) × ForgetsAll old index new
+AsksNetwork old (event.Ask index) r new =
+    (f : FollowerValue) × (at_index old.followers index ≡ Some f)
+    × (told : Sent) × (r ≡ reply.Asked told) × Sends old.messages (ask_message f ∷ []) told new.messages × (new ≡ record old { messages = new.messages })
+AsksNetwork old (event.Read index key) r new = (f : FollowerValue) × (at_index old.followers index ≡ Some f) × (r ≡ reply.ReadAt f.served.version.number (looked_up f key)) × (new ≡ old)
+AsksNetwork old (event.ShowFollower index) r new =
+    (f : FollowerValue) × (at_index old.followers index ≡ Some f) × (v : ShownVersion) × ListsVersion f.served.version v × (r ≡ reply.Shown v) × (new ≡ old)
+AsksNetwork old e r new = ⊥
 
 -- ---- each event, while the coordinator is up
 
@@ -189,17 +266,20 @@ DeliversAt old number r new =
 abbrev pub LacksMemory : {X : Type 0} → X → Reply → X → Type 0
 LacksMemory old r new = (r ≡ reply.Refused why.OutOfMemory) × (new ≡ old)
 
--- a worker is idle again
-abbrev pub StartsAnew : List WorkerValue → ℕ → Reply → List WorkerValue → Type 0
-StartsAnew workers index r now =
-    (r ≡ reply.RestartedWorker index) × (w : WorkerValue) × (at_index workers index ≡ Some w) × (now ≡ with_index workers index (record w { task = None }))
+-- a worker or a follower is asked
+abbrev pub AsksOther : NodesValue → Event → Reply → NodesValue → Type 0
+AsksOther old e r new = AsksNetwork old.network e r new.network × (new ≡ record old { network = new.network })
 
 -- which node an event asks
 abbrev pub AsksNode : NodesValue → Event → Reply → NodesValue → Type 0
 AsksNode old (event.Pick d) r new = Dispatches old d r new
 AsksNode old (event.GiveUp d) r new = GivesUp old d r new
 AsksNode old (event.Deliver number) r new = DeliversAt old number r new
-AsksNode old (event.RestartWorker index) r new = StartsAnew old.workers index r new.workers × (new ≡ record old { workers = new.workers })
+AsksNode old (event.RestartWorker index) r new = AsksOther old (event.RestartWorker index) r new
+AsksNode old (event.RestartFollower index) r new = AsksOther old (event.RestartFollower index) r new
+AsksNode old (event.Ask index) r new = AsksOther old (event.Ask index) r new
+AsksNode old (event.Read index key) r new = AsksOther old (event.Read index key) r new
+AsksNode old (event.ShowFollower index) r new = AsksOther old (event.ShowFollower index) r new
 AsksNode old e r new = Calls old.core e r new.core × (new ≡ record old { core = new.core })
 
 -- an event asks its node, unless memory runs out
@@ -217,22 +297,28 @@ abbrev pub down_write : Option KeyError → Refusal
 down_write None = why.Down
 down_write (Some e) = why.Key e
 
--- by its receiver; nothing is sent to a follower yet
+-- by its receiver
 abbrev pub DeliversDown : StoreValue → Message → Node → Reply → StoreValue → Type 0
 DeliversDown old m Coordinator r new = IsDown old r new
-DeliversDown old m (Worker index) r new = IsWork old.workers old.messages index m.body r new.workers new.messages × (new ≡ record old { workers = new.workers; messages = new.messages })
-DeliversDown old m (Follower index) r new = (r ≡ reply.Ignored) × (new ≡ old)
+DeliversDown old m dst r new = DeliversOn old.network m dst r new.network × (new ≡ record old { network = new.network })
 
 abbrev pub DeliversAtDown : StoreValue → ℕ → Reply → StoreValue → Type 0
-DeliversAtDown old number (reply.Refused why.NoMessage) new = (stored_message old.messages number ≡ None) × (new ≡ old)
+DeliversAtDown old number (reply.Refused why.NoMessage) new = (stored_message old.network.messages number ≡ None) × (new ≡ old)
 DeliversAtDown old number r new =
-    (text : List ℕ) × (stored_message old.messages number ≡ Some text) × (m : Message) × IsSpelled text m × DeliversDown old m m.dst r new
+    (text : List ℕ) × (stored_message old.network.messages number ≡ Some text) × (m : Message) × IsSpelled text m × DeliversDown old m m.dst r new
 
--- workers go on
+abbrev pub AsksOtherDown : StoreValue → Event → Reply → StoreValue → Type 0
+AsksOtherDown old e r new = AsksNetwork old.network e r new.network × (new ≡ record old { network = new.network })
+
+-- workers and followers go on
 abbrev pub AsksDown : StoreValue → Event → Reply → StoreValue → Type 0
 AsksDown old (event.Write ops) r new = (r ≡ reply.Refused (down_write (batch_fault ops))) × (new ≡ old)
 AsksDown old (event.Deliver number) r new = DeliversAtDown old number r new
-AsksDown old (event.RestartWorker index) r new = StartsAnew old.workers index r new.workers × (new ≡ record old { workers = new.workers })
+AsksDown old (event.RestartWorker index) r new = AsksOtherDown old (event.RestartWorker index) r new
+AsksDown old (event.RestartFollower index) r new = AsksOtherDown old (event.RestartFollower index) r new
+AsksDown old (event.Ask index) r new = AsksOtherDown old (event.Ask index) r new
+AsksDown old (event.Read index key) r new = AsksOtherDown old (event.Read index key) r new
+AsksDown old (event.ShowFollower index) r new = AsksOtherDown old (event.ShowFollower index) r new
 AsksDown old e r new = IsDown old r new
 
 -- ---- each event
@@ -247,7 +333,7 @@ abbrev pub restart_answer : Result (Unit {0}) OpenError → Option CoordValue �
 restart_answer (Ok done) core = restarted_as core
 restart_answer (Err refused) core = reply.Refused (why.Open refused)
 
--- The coordinator is opened over what its vault has. Dispatchers, workers and messages stay, and claims that are held are stale.
+-- The coordinator is opened over what its vault has. The other nodes and the messages stay, and claims that are held are stale.
 abbrev pub RestartsCoordinator : StoreValue → Reply → StoreValue → Type 0
 RestartsCoordinator old r new =
     (opened : Result (Unit {0}) OpenError) × Restarts old.seat opened new.seat × (r ≡ restart_answer opened new.seat.core) × (new ≡ record old { seat = new.seat })

@@ -1,14 +1,17 @@
 -- What the nodes of a store have made so far, and what each of them, and each message, may have of it (RocksDB wiki, Remote Compaction: a job names its inputs, and its result stands for them; LevelDB, implementation notes: file numbers are not reused).
-use Rattle.std.specs.Prelude.{◌≡◌, ◌⊎◌, ℕ, ◌∷◌, ◌<◌, ◌≤◌, List, [], Option, None, Some, length, true, map, slice_get}
+use Rattle.std.specs.Prelude.{◌≡◌, ◌⊎◌, ℕ, ◌∷◌, ◌<◌, ◌≤◌, List, [], Option, None, Some, IfSome, length, true, map, slice_get}
 use Rattle.std.specs.FinMap.{get}
 use Rattle.lsm_key.specs.Sets.{IsIn}
 use Rattle.lsm_claim.specs.declared.job.JobId.{JobId}
 use Rattle.lsm_claim.specs.declared.job.LiveJob.{LiveJob}
 use Rattle.lsm_claim.specs.Book.{BookValue, IsGiven, holds, new_book}
+use Rattle.lsm_edit.specs.declared.edit.Edit.{Edit}
 use Rattle.lsm_edit.specs.declared.file.FileMeta.{FileMeta}
 use Rattle.lsm_edit.specs.declared.served.Placed.{Placed}
 use Rattle.lsm_edit.specs.Served.{AllRecorded, IsAsRecorded}
-use Rattle.lsm_edit.specs.Version.{VersionValue}
+use Rattle.lsm_edit.specs.Edits.{Apply, versions_from}
+use Rattle.lsm_edit.specs.Version.{VersionValue, first_version}
+use Rattle.lsm_follow.specs.Followers.{FollowerValue, PendingValue}
 use Rattle.lsm_msg.specs.declared.job.JobParts.{JobParts}
 use Rattle.lsm_msg.specs.declared.job.JobResult.{JobResult}
 use Rattle.lsm_msg.specs.declared.message.Body.{Body}
@@ -19,7 +22,7 @@ use Rattle.lsm_msg.specs.Messages.{IsSpelled}
 use Rattle.lsm_merge.specs.Outputs.{IsMerge}
 use Rattle.lsm_versions.specs.declared.retired.Retired.{Retired}
 use Rattle.lsm_versions.specs.Kept.{Kept}
-use Rattle.lsm_versions.specs.Manifest.{versions_of}
+use Rattle.lsm_versions.specs.Manifest.{read_edits}
 use Rattle.lsm_versions.specs.Opening.{manifest_version}
 use Rattle.lsm_coord.specs.declared.dispatcher.Dispatcher.{Dispatcher}
 use Rattle.lsm_coord.specs.declared.dispatcher.Dispatcher.TheVariants.{Busy}
@@ -27,11 +30,30 @@ use Rattle.lsm_coord.specs.Contract.Sound.{IsSound}
 use Rattle.lsm_coord.specs.Contract.Value.{CoordValue}
 use Rattle.lsm_store.specs.Compacting.{tables_at}
 use Rattle.lsm_work.specs.Workers.{TaskValue, WorkerValue}
-use Rattle.lsm_world.specs.Nodes.{NodesValue, StoreValue, nodes_with}
+use Rattle.lsm_world.specs.Nodes.{NetworkValue, NodesValue, StoreValue, nodes_with}
 
 pub record History : Type 0 where
   pub files : List Placed  -- each file that a version ever listed, with its table
   pub jobs : List JobParts  -- each job that was picked
+  pub edits : List Edit  -- each edit, from edit 1
+
+-- ---- versions
+
+-- version 0, and the one after each edit
+abbrev pub versions_in : History → List VersionValue
+versions_in h = versions_from first_version h.edits
+
+-- it is the version of its number
+abbrev pub IsVersionOf : History → VersionValue → Type 0
+IsVersionOf h v = slice_get (versions_in h) v.number ≡ Some v
+
+-- a version has this number
+abbrev pub IsVersionNumber : History → ℕ → Type 0
+IsVersionNumber h number = number ≤ length h.edits
+
+-- the edit is that of its number
+abbrev pub IsEditOf : History → Edit → Type 0
+IsEditOf h e = (place : ℕ) × (slice_get h.edits place ≡ Some e)
 
 -- ---- files
 
@@ -47,17 +69,20 @@ IsNumbered h number = (p : Placed) × IsIn p h.files × (p.meta.number ≡ numbe
 abbrev pub IsTableAt : History → ℕ → List ℕ → Type 0
 IsTableAt h number bytes = (p : Placed) × IsIn p h.files × (p.meta.number ≡ number) × (p.table.bytes ≡ bytes)
 
--- each number names one file with one table, which is as the file's record says
+-- Each number names one file with one table, which is as the file's record says. The edits apply in turn, and each file that a
+-- version lists is one of these.
 pub record AreFilesOf (h : History) : Type 0 where
   pub one : (p q : Placed) → IsIn p h.files → IsIn q h.files → p.meta.number ≡ q.meta.number → p ≡ q
   pub recorded : AllRecorded h.files
+  pub apply : Apply first_version h.edits
+  pub listed : (v : VersionValue) (f : FileMeta) → IsIn v (versions_in h) → IsIn f v.files → IsFileOf h f
 
--- The numbers of these files were given. Each file that a version ever listed, that the coordinator serves or has retired is one
--- of them.
+-- The edits are the manifest's, and the numbers of these files were given. Each file that the coordinator serves or has retired is
+-- one of them.
 pub record AreFiles (h : History) (c : CoordValue) : Type 0 where
   pub all : AreFilesOf h
+  pub edits : h.edits ≡ read_edits c.edits
   pub given : (p : Placed) → IsIn p h.files → p.meta.number < c.served.version.next_file
-  pub listed : (v : VersionValue) (f : FileMeta) → IsIn v (versions_of c.edits) → IsIn f v.files → IsFileOf h f
   pub served : (p : Placed) → IsIn p c.served.places → IsIn p h.files
   pub retired : (r : Retired) → IsIn r c.retired → IsTableAt h r.number r.bytes
 
@@ -90,7 +115,7 @@ pub record AreClaims (h : History) (book : BookValue) (desk : List Dispatcher) :
   pub picked : (place : ℕ) (claim : LiveJob) → Holds desk place claim → (j : JobParts) × IsIn j h.jobs × (j.id ≡ claim.id)
   pub one : (a b : ℕ) (claim other : LiveJob) → Holds desk a claim → Holds desk b other → claim.id ≡ other.id → a ≡ b
 
--- ---- workers and messages
+-- ---- workers
 
 -- the tables of a worker's task are those of inputs of its job
 abbrev pub IsTaskOf : History → Option TaskValue → Type 0
@@ -101,31 +126,50 @@ IsTaskOf h (Some t) = IsIn t.job h.jobs × ((p : Placed) → IsIn p t.received �
 abbrev pub IsResultOf : History → JobResult → Type 0
 IsResultOf h r = (j : JobParts) × IsIn j h.jobs × (r.job ≡ j.id) × IsMerge (tables_at h.files j.inputs) j r.tables
 
--- What a message says was so when it was sent. Nobody asks for versions, or sends them.
+-- ---- followers
+
+-- A later version is one of the history, and so is each table that has come for it. What is missing is listed there.
+pub record IsTargetOf (h : History) (served : VersionValue) (to : PendingValue) : Type 0 where
+  pub version : IsVersionOf h to.target
+  pub later : served.number < to.target.number
+  pub received : (p : Placed) → IsIn p to.received → IsIn p h.files
+  pub missing : (f : FileMeta) → IsIn f to.missing → IsIn f to.target.files
+
+-- the version that a follower serves is one of the history, with its tables, and so is the one that it is to move to
+pub record IsFollowerOf (h : History) (f : FollowerValue) : Type 0 where
+  pub version : IsVersionOf h f.served.version
+  pub tables : (p : Placed) → IsIn p f.served.places → IsIn p h.files
+  pub pending : IfSome f.pending (IsTargetOf h f.served.version)
+
+-- ---- messages
+
+-- what a message says was so when it was sent
 abbrev pub IsKnown : History → Body → Type 0
 IsKnown h (body.Job j) = IsIn j h.jobs
 IsKnown h (body.Fetch number) = IsNumbered h number
 IsKnown h (body.Table number bytes) = IsTableAt h number bytes
 IsKnown h (body.Gone number) = IsNumbered h number
 IsKnown h (body.Result r) = IsResultOf h r
-IsKnown h (body.Ask number) = ⊥
-IsKnown h (body.Edit e) = ⊥
-IsKnown h (body.Base v) = ⊥
-IsKnown h (body.Current number) = ⊥
+IsKnown h (body.Ask number) = IsVersionNumber h number
+IsKnown h (body.Edit e) = IsEditOf h e
+IsKnown h (body.Base v) = IsVersionOf h v
+IsKnown h (body.Current number) = IsVersionNumber h number
 
 -- the bytes are those of a message that is known
 abbrev pub IsSent : History → List ℕ → Type 0
 IsSent h bytes = (m : Message) × IsSpelled bytes m × IsKnown h m.body
 
--- the indices of the workers
+-- the indices of the workers, and of the followers
 abbrev pub first_indices : List ℕ
 first_indices = 1 ∷ 2 ∷ 3 ∷ 4 ∷ []
 
--- the tasks of the workers are of the history, and each message that was sent says what was so
-pub record IsNetwork (h : History) (workers : List WorkerValue) (messages : List (List ℕ)) : Type 0 where
-  pub indices : map (λ w. w.index) workers ≡ first_indices
-  pub tasks : (w : WorkerValue) → IsIn w workers → IsTaskOf h w.task
-  pub sent : (bytes : List ℕ) → IsIn bytes messages → IsSent h bytes
+-- the tasks of the workers and the versions of the followers are of the history, and each message that was sent says what was so
+pub record IsNetwork (h : History) (n : NetworkValue) : Type 0 where
+  pub workers : map (λ w. w.index) n.workers ≡ first_indices
+  pub tasks : (w : WorkerValue) → IsIn w n.workers → IsTaskOf h w.task
+  pub followers : map (λ f. f.index) n.followers ≡ first_indices
+  pub versions : (f : FollowerValue) → IsIn f n.followers → IsFollowerOf h f
+  pub sent : (bytes : List ℕ) → IsIn bytes n.messages → IsSent h bytes
 
 -- ---- the nodes
 
@@ -134,31 +178,31 @@ pub record IsHistory (h : History) (n : NodesValue) : Type 0 where
   pub files : AreFiles h n.core
   pub jobs : AreJobs h n.core
   pub claims : AreClaims h n.core.book n.desk
-  pub network : IsNetwork h n.workers n.messages
+  pub network : IsNetwork h n.network
 
 -- ---- the nodes, while the coordinator is down
 
--- The numbers of these files were given. Each file that a version ever listed is one of them, and so is each file of the last
--- version, with the vault's table.
-pub record AreFilesKept (h : History) (edits : List (List ℕ)) (kept : Kept) : Type 0 where
+-- The edits are the manifest's, and the numbers of these files were given. Each file of the last version, with the vault's table,
+-- is one of them.
+pub record AreFilesKept (h : History) (texts : List (List ℕ)) (kept : Kept) : Type 0 where
   pub all : AreFilesOf h
-  pub given : (p : Placed) → IsIn p h.files → p.meta.number < (manifest_version edits).next_file
-  pub listed : (v : VersionValue) (f : FileMeta) → IsIn v (versions_of edits) → IsIn f v.files → IsFileOf h f
-  pub served : (p : Placed) → IsIn p.meta (manifest_version edits).files → IsAsRecorded p.meta p.table → get kept p.meta.number ≡ Some p.table.bytes → IsIn p h.files
+  pub edits : h.edits ≡ read_edits texts
+  pub given : (p : Placed) → IsIn p h.files → p.meta.number < (manifest_version texts).next_file
+  pub served : (p : Placed) → IsIn p.meta (manifest_version texts).files → IsAsRecorded p.meta p.table → get kept p.meta.number ≡ Some p.table.bytes → IsIn p h.files
 
 -- No job's epoch is to come yet, and no claim is live.
-pub record IsDownHistory (h : History) (edits : List (List ℕ)) (kept : Kept) (desk : List Dispatcher) (workers : List WorkerValue) (messages : List (List ℕ)) : Type 0 where
+pub record IsDownHistory (h : History) (edits : List (List ℕ)) (kept : Kept) (desk : List Dispatcher) (others : NetworkValue) : Type 0 where
   pub files : AreFilesKept h edits kept
   pub jobs : AreJobsOf h
   pub given : (j : JobParts) → IsIn j h.jobs → j.id.epoch ≤ (manifest_version edits).epoch
   pub claims : AreClaims h (new_book (manifest_version edits).epoch) desk
-  pub network : IsNetwork h workers messages
+  pub network : IsNetwork h others
 
 -- ---- either way
 
 abbrev pub IsHistoryBy : History → Option CoordValue → StoreValue → Type 0
 IsHistoryBy h (Some c) s = IsHistory h (nodes_with c s)
-IsHistoryBy h None s = IsDownHistory h s.seat.edits s.seat.kept s.desk s.workers s.messages
+IsHistoryBy h None s = IsDownHistory h s.seat.edits s.seat.kept s.desk s.network
 
 -- what every schedule keeps of a store
 abbrev pub IsStoreHistory : History → StoreValue → Type 0

@@ -1,7 +1,9 @@
 pub mod Nodes
 pub mod History
+pub mod Shown
 pub mod Events
 pub mod Replies
 pub mod Asks
 pub mod Schedules
+pub mod Headline
 pub mod Inner

@@ -4,23 +4,28 @@ use Rattle.lsm_coord.specs.declared.dispatcher.Dispatcher.{Dispatcher}
 use Rattle.lsm_coord.specs.Contract.Restarts.{up_seat}
 use Rattle.lsm_coord.specs.Contract.Seats.{SeatValue}
 use Rattle.lsm_coord.specs.Contract.Value.{CoordValue}
+use Rattle.lsm_follow.specs.Followers.{FollowerValue}
 use Rattle.lsm_work.specs.Workers.{WorkerValue}
 
 -- ---- the nodes
+
+-- those that need no coordinator, and what all nodes sent
+pub record NetworkValue : Type 0 where
+  pub workers : List WorkerValue  -- by index from 1
+  pub followers : List FollowerValue  -- by index from 1
+  pub messages : List (List ℕ)  -- the encoding of each message sent, from message 1
 
 -- while the coordinator is up
 pub record NodesValue : Type 0 where
   pub core : CoordValue  -- the coordinator
   pub desk : List Dispatcher  -- by index from 1
-  pub workers : List WorkerValue  -- by index from 1
-  pub messages : List (List ℕ)  -- the encoding of each message sent, from message 1
+  pub network : NetworkValue
 
 -- whether the coordinator is up or down
 pub record StoreValue : Type 0 where
   pub seat : SeatValue  -- the coordinator, or what outlives it
   pub desk : List Dispatcher
-  pub workers : List WorkerValue
-  pub messages : List (List ℕ)
+  pub network : NetworkValue
 
 -- ---- one of four
 
@@ -34,16 +39,20 @@ with_index xs index x = slice_set xs (index - 1) x
 
 -- ---- parts
 
-abbrev pub nodes_of : CoordValue → List Dispatcher → List WorkerValue → List (List ℕ) → NodesValue
-nodes_of core desk workers messages = record { core = core; desk = desk; workers = workers; messages = messages }
+abbrev pub nodes_of : CoordValue → List Dispatcher → NetworkValue → NodesValue
+nodes_of core desk network = record { core = core; desk = desk; network = network }
 
 -- a store whose coordinator is up
 abbrev pub up_store : NodesValue → StoreValue
-up_store n = record { seat = up_seat n.core; desk = n.desk; workers = n.workers; messages = n.messages }
+up_store n = record { seat = up_seat n.core; desk = n.desk; network = n.network }
 
 -- the nodes of a store with this coordinator
 abbrev pub nodes_with : CoordValue → StoreValue → NodesValue
-nodes_with core s = nodes_of core s.desk s.workers s.messages
+nodes_with core s = nodes_of core s.desk s.network
 
-abbrev pub store_with : SeatValue → List Dispatcher → List WorkerValue → List (List ℕ) → StoreValue
-store_with seat desk workers messages = record { seat = seat; desk = desk; workers = workers; messages = messages }
+abbrev pub store_with : SeatValue → List Dispatcher → NetworkValue → StoreValue
+store_with seat desk network = record { seat = seat; desk = desk; network = network }
+
+-- the number of a follower's version
+abbrev pub number_of : FollowerValue → ℕ
+number_of f = f.served.version.number

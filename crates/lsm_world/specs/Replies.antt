@@ -21,7 +21,7 @@ why_of why.OldEpoch = say.OldEpoch
 why_of why.NoMessage = say.NoMessage
 why_of why.OutOfMemory = say.OutOfMemory
 
--- what a dispatcher, a worker or a delivery changes of no answer is told as nothing
+-- what a dispatcher, a worker or a message changes of no answer is told as nothing
 abbrev pub reply_of : Reply → say.Reply
 reply_of (reply.Wrote first last) = say.Wrote first last
 reply_of (reply.Froze seq) = say.Froze seq
@@ -43,4 +43,11 @@ reply_of (reply.Merged sent) = say.Other
 reply_of reply.Dropped = say.Other
 reply_of (reply.Restarted epoch number last) = say.Restarted epoch number last
 reply_of (reply.RestartedWorker worker) = say.Reset
+reply_of (reply.Trimmed floor removed) = say.Trimmed floor
+reply_of (reply.Asked sent) = say.Other
+reply_of (reply.ReadAt number value) = say.ReadAt number value
+reply_of (reply.Waiting missing sent) = say.Other
+reply_of (reply.Advanced number) = say.Advanced number
+reply_of reply.Current = say.Other
+reply_of (reply.RestartedFollower follower) = say.Reset
 reply_of (reply.Refused why) = say.Refused (why_of why)

@@ -9,13 +9,13 @@ use Rattle.lsm_versions.specs.Opening.{manifest_version}
 use Rattle.lsm_coord.specs.declared.error.CoordError.TheVariants as error
 use Rattle.lsm_coord.specs.Contract.Desks.{new_desk}
 use Rattle.lsm_coord.specs.Contract.Memory.{IsFit}
-use Rattle.lsm_coord.specs.Contract.Seats.{SeatValue, ShowsSeat}
+use Rattle.lsm_coord.specs.Contract.Seats.{SeatValue}
 use Rattle.lsm_coord.specs.Contract.Shows.{Shows}
 use Rattle.lsm_coord.specs.Contract.Value.{CoordValue}
 use Rattle.lsm_coord.specs.Model.Event as say
 use Rattle.lsm_coord.specs.Model.Run.{Run}
 use Rattle.lsm_coord.specs.Model.State.{State, first_state}
-use Rattle.lsm_coord.specs.Model.Step.{Step}
+use Rattle.lsm_follow.specs.Followers.{FollowerValue, new_follower}
 use Rattle.lsm_work.specs.Workers.{WorkerValue}
 use Rattle.lsm_world.specs.declared.event.Event.{Event}
 use Rattle.lsm_world.specs.declared.refusal.Refusal.TheVariants as why
@@ -23,13 +23,18 @@ use Rattle.lsm_world.specs.declared.reply.Reply.{Reply}
 use Rattle.lsm_world.specs.declared.reply.Reply.TheVariants as reply
 use Rattle.lsm_world.specs.Asks.{AsksStore}
 use Rattle.lsm_world.specs.Events.{event_of}
-use Rattle.lsm_world.specs.History.{History, IsStoreHistory, first_indices}
+use Rattle.lsm_world.specs.History.{first_indices}
+use Rattle.lsm_world.specs.Shown.{ShowsStore}
 use Rattle.lsm_world.specs.Nodes.{NodesValue, StoreValue, up_store}
 use Rattle.lsm_world.specs.Replies.{reply_of}
 
 pub record WorldValue : Type 0 where
   pub nodes : StoreValue
   pub trace : List Event  -- the events that were taken
+
+-- four followers at version 0
+abbrev pub first_followers : List FollowerValue
+first_followers = map new_follower first_indices
 
 -- an idle worker
 abbrev pub idle_worker : ℕ → WorkerValue
@@ -41,8 +46,9 @@ pub record AreNew (due : Limits) (n : NodesValue) : Type 0 where
   pub limits : n.core.limits ≡ due
   pub book : n.core.book ≡ new_book 1
   pub desk : n.desk ≡ new_desk
-  pub workers : n.workers ≡ map idle_worker first_indices
-  pub messages : n.messages ≡ []
+  pub workers : n.network.workers ≡ map idle_worker first_indices
+  pub followers : n.network.followers ≡ first_followers
+  pub messages : n.network.messages ≡ []
 
 -- and no event was taken
 abbrev pub IsNew : Limits → WorldValue → Type 0
@@ -55,13 +61,9 @@ AskedAll old (e ∷ es) (r ∷ rs) new = (next : StoreValue) × AsksStore old e 
 AskedAll old [] (r ∷ rs) new = ⊥
 AskedAll old (e ∷ es) [] new = ⊥
 
--- from each state that is shown before, the event and its reply are a step to one that is shown after
-abbrev pub FollowsStore : StoreValue → say.Event → say.Reply → StoreValue → Type 0
-FollowsStore old e r new = (s : State) → ShowsSeat old.seat s → (t : State) × Step s e r t × ShowsSeat new.seat t
-
--- the same of events, which with their replies are a run
+-- from each state that is shown before, the events with their replies are a run to one that is shown after
 abbrev pub RunsTo : StoreValue → List Event → List Reply → StoreValue → Type 0
-RunsTo old es rs new = (s : State) → ShowsSeat old.seat s → (t : State) × Run s (map event_of es) (map reply_of rs) t × ShowsSeat new.seat t
+RunsTo old es rs new = (s : State) → ShowsStore old s → (t : State) × Run s (map event_of es) (map reply_of rs) t × ShowsStore new t
 
 -- the event is taken, or there is no memory for it, and nothing happens
 abbrev pub IsTaken : WorldValue → Event → Reply → WorldValue → Type 0
@@ -90,22 +92,20 @@ device_failures (reply.Refused (why.Coord error.Device)) = 1
 device_failures (reply.Refused (why.Open opening.Device)) = 1
 device_failures r = 0
 
--- the events that were taken, with replies, led from a new store to a state that the coordinator shows, or its vault
+-- the events that were taken, with replies, led from a new store to a state that the store shows
 pub record IsReached (w : WorldValue) : Type 0 where
   pub replies : List Reply
   pub state : State
   pub run : Run first_state (map event_of w.trace) (map reply_of replies) state
-  pub shown : ShowsSeat w.nodes.seat state
+  pub shown : ShowsStore w.nodes state
 
 -- the store's manifest replays to its last version, and no file is removed by two edits
 abbrev pub IsFitBy : Option CoordValue → SeatValue → Type 0
 IsFitBy (Some c) seat = IsFit c
 IsFitBy None seat = Folds seat.edits (manifest_version seat.edits) × RemovedOnce (read_edits seat.edits)
 
--- What every world is: its trace led to what its coordinator shows, or its vault while that is down; what each job, result and table says of the history is so; and no
--- file is removed by two edits.
+-- What every world is: its trace led to what its nodes show, whose history has said so of each job, result, table, edit and
+-- version; and no file is removed by two edits.
 pub record IsWorld (w : WorldValue) : Type 0 where
   pub reached : IsReached w
-  pub history : History
-  pub known : IsStoreHistory history w.nodes
   pub fit : IsFitBy w.nodes.seat.core w.nodes.seat

@@ -4,7 +4,7 @@ ghost use Rattle.std.specs.Prelude.{◌≡◌, ◌⊎◌, Some};
 ghost use Rattle.lsm_coord.specs.Contract.Memory.{IsFit};
 ghost use Rattle.lsm_coord.specs.Contract.Shows.{Follows, Shows};
 ghost use Rattle.lsm_coord.specs.Model.State.{State};
-ghost use Rattle.lsm_world.specs.declared.event.Event.TheVariants.{Flush, Freeze, Get, Release, Scan, Show, Snap, Write};
+ghost use Rattle.lsm_world.specs.declared.event.Event.TheVariants.{Flush, Freeze, Get, Release, Scan, Show, Snap, Trim, Write};
 ghost use Rattle.lsm_world.specs.Asks.{Calls, LacksMemory, restarted_as};
 ghost use Rattle.lsm_world.specs.Events.{event_of};
 ghost use Rattle.lsm_world.specs.Inner.Handing.{IsOfCoordinator};
@@ -17,7 +17,7 @@ use crate::refusal::Refusal;
 use crate::reply::Reply;
 use bytes::Bytes;
 use lsm_coord::{Coord, ScanRange, ShownVersion, SnapId};
-use lsm_key::{Batch, Items, Op};
+use lsm_key::{Batch, Items, Op, VersionNumber};
 use lsm_vault::Vault;
 use std::alloc::Global;
 
@@ -39,6 +39,7 @@ pub(crate) fn answer<V: Vault>(alloc: Global, coord: &mut Coord<V>, event: &Even
         Event::Get(key, at) => get(coord, key, *at),
         Event::Scan(range) => scan(coord, range),
         Event::Show => show(alloc, coord),
+        Event::Trim(number) => trim(coord, *number),
         _ => unreachable!(),
     }
 }
@@ -165,6 +166,19 @@ fn show<V: Vault>(alloc: Global, coord: &mut Coord<V>) -> Reply
     match ShownVersion::of(alloc, coord.show()) {
         Err(_) => Reply::Refused(Refusal::OutOfMemory),
         Ok(version) => Reply::Shown(version),
+    }
+}
+
+// Raises the floor.
+fn trim<V: Vault>(coord: &mut Coord<V>, number: VersionNumber) -> Reply
+    ensures calls { Calls coord.old (Trim number) result coord.new }
+    ensures follows { Follows coord.old (event_of (Trim number)) (reply_of result) coord.new }
+    ensures files { KeepsFiles coord.old coord.new }
+    ensures plain { IsPlain result }
+{
+    match coord.trim(number) {
+        Err(error) => Reply::Refused(Refusal::Coord(error)),
+        Ok((floor, removed)) => Reply::Trimmed(floor, removed),
     }
 }
 

@@ -4,7 +4,7 @@ ghost use Rattle.std.specs.Prelude.{◌≡◌, IfOk};
 
 use bytes::Bytes;
 use lsm_coord::{ScanRange, SnapId};
-use lsm_key::{Items, Op};
+use lsm_key::{Items, Op, VersionNumber};
 use lsm_msg::NodeIndex;
 use std::alloc::{AllocError, Global};
 
@@ -27,6 +27,8 @@ pub enum Event {
     Scan(ScanRange),
     /// List the coordinator's version.
     Show,
+    /// Raise the floor to a version, and let go the tables that only versions below it list.
+    Trim(VersionNumber),
     /// Let a dispatcher pick a job and send it to its worker.
     Pick(NodeIndex),
     /// Let a dispatcher give its job back.
@@ -37,6 +39,14 @@ pub enum Event {
     RestartCoordinator,
     /// Start a worker anew.
     RestartWorker(NodeIndex),
+    /// Let a follower ask the coordinator what comes after its version.
+    Ask(NodeIndex),
+    /// Read a key at a follower's version.
+    Read(NodeIndex, Bytes),
+    /// List a follower's version.
+    ShowFollower(NodeIndex),
+    /// Start a follower anew: it is at version 0 again.
+    RestartFollower(NodeIndex),
 }
 
 impl Event {
@@ -56,11 +66,16 @@ impl Event {
             Event::Get(key, at) => Ok(Event::Get(key.clone()?, *at)),
             Event::Scan(range) => Ok(Event::Scan(range.copy()?)),
             Event::Show => Ok(Event::Show),
+            Event::Trim(number) => Ok(Event::Trim(*number)),
             Event::Pick(dispatcher) => Ok(Event::Pick(*dispatcher)),
             Event::GiveUp(dispatcher) => Ok(Event::GiveUp(*dispatcher)),
             Event::Deliver(message) => Ok(Event::Deliver(*message)),
             Event::RestartCoordinator => Ok(Event::RestartCoordinator),
             Event::RestartWorker(worker) => Ok(Event::RestartWorker(*worker)),
+            Event::Ask(follower) => Ok(Event::Ask(*follower)),
+            Event::Read(follower, key) => Ok(Event::Read(*follower, key.clone()?)),
+            Event::ShowFollower(follower) => Ok(Event::ShowFollower(*follower)),
+            Event::RestartFollower(follower) => Ok(Event::RestartFollower(*follower)),
         }
     }
 }

@@ -4,7 +4,7 @@ use lsm_msg::NodeIndex;
 use std::marker::Model;
 use std::mem;
 
-/// Four values, numbered from 1 as the workers are.
+/// Four values, numbered from 1 as workers and followers are.
 #[derive(Debug, Drop)]
 pub(crate) struct Four<T> {
     first: T,
@@ -34,6 +34,18 @@ impl<T> Four<T> {
             second,
             third,
             fourth,
+        }
+    }
+
+    /// The one of an index.
+    pub(crate) fn get(&self, index: NodeIndex) -> &T
+        ensures { at_index self.now index ≡ Some result.now }
+    {
+        match index.number() {
+            1 => &self.first,
+            2 => &self.second,
+            3 => &self.third,
+            _ => &self.fourth,
         }
     }
 

@@ -13,7 +13,7 @@ use lsm_vault::Vault;
 use std::alloc::Global;
 use std::marker::Model;
 
-/// A coordinator, four dispatchers, four workers, and the messages that they sent. It is not `Drop`: a dispatcher may hold a
+/// A coordinator, four dispatchers, four workers, four followers, and the messages that they sent. It is not `Drop`: a dispatcher may hold a
 /// claim, which only a close settles.
 pub(crate) struct Nodes<V: Vault> {
     alloc: Global,
@@ -32,24 +32,25 @@ impl<V: Vault> Model for Nodes<V> {
 
     ghost coded = { Prim.hlevel (codes, kept_code) };
 
-    ghost view = { λ n. nodes_of n.coord n.desk n.network.workers n.network.messages };
+    ghost view = { λ n. nodes_of n.coord n.desk n.network };
 
-    ghost invariant = { λ n. (h : History) × IsHistory h (nodes_of n.coord n.desk n.network.workers n.network.messages) };
+    ghost invariant = { λ n. (h : History) × IsHistory h (nodes_of n.coord n.desk n.network) };
 }
 
 impl<V: Vault> Nodes<V> {
     ghost use Rattle.std.specs.Prelude.{◌≡◌};
     ghost use Rattle.lsm_coord.specs.Contract.Memory.{IsFit};
-    ghost use Rattle.lsm_coord.specs.Contract.Shows.{Follows, Shows};
+    ghost use Rattle.lsm_coord.specs.Contract.Shows.{Shows};
     ghost use Rattle.lsm_claim.specs.Book.{new_book};
     ghost use Rattle.lsm_coord.specs.Model.State.{State, first_state};
     ghost use Rattle.lsm_world.specs.Asks.{Asks};
     ghost use Rattle.lsm_world.specs.Events.{event_of};
     ghost use Rattle.lsm_world.specs.History.{History, IsHistory};
-    ghost use Rattle.lsm_world.specs.Inner.Handing.{IsNoRestart, IsOfCoordinator};
+    ghost use Rattle.lsm_world.specs.Inner.Handing.{IsNoRestart, IsOfCoordinator, IsOfNetwork};
     ghost use Rattle.lsm_world.specs.Replies.{reply_of};
-    ghost use Rattle.lsm_world.specs.Nodes.{nodes_of};
+    ghost use Rattle.lsm_world.specs.Nodes.{nodes_of, up_store};
     ghost use Rattle.lsm_world.specs.Schedules.{AreNew, IsPlain};
+    ghost use Rattle.lsm_world.specs.Shown.{FollowsStore};
 
     /// The nodes of a new store, whose coordinator was just opened. None has been asked.
     pub(crate) fn new(alloc: Global, coord: Coord<V>) -> Nodes<V>
@@ -57,6 +58,7 @@ impl<V: Vault> Nodes<V> {
         requires book { coord.book ≡ new_book 1 }
         ensures new { AreNew coord.limits result }
         ensures core { result.core ≡ coord }
+        ensures fit { IsFit result.core }
     {
         // Proof hint: the history of a new store has no file.
         know_fit(&coord);
@@ -73,14 +75,18 @@ impl<V: Vault> Nodes<V> {
         requires shown { (s : State) × Shows self.old.core s }
         requires other { IsNoRestart event.now }
         ensures asks { Asks self.old event.now result self.new }
-        ensures follows { Follows self.old.core (event_of event.now) (reply_of result) self.new.core }
+        ensures follows { FollowsStore (up_store self.old) (event_of event.now) (reply_of result) (up_store self.new) }
         ensures plain { IsPlain result }
     {
         match event {
             Event::Pick(dispatcher) => self.pick(*dispatcher),
             Event::GiveUp(dispatcher) => self.give_up(*dispatcher),
             Event::Deliver(message) => self.deliver(*message),
-            Event::RestartWorker(index) => self.restart_worker(*index),
+            Event::RestartWorker(_)
+            | Event::RestartFollower(_)
+            | Event::Ask(_)
+            | Event::Read(_, _)
+            | Event::ShowFollower(_) => self.ask_other(event),
             _ => self.ask(event),
         }
     }
@@ -90,10 +96,20 @@ impl<V: Vault> Nodes<V> {
         requires shown { (s : State) × Shows self.old.core s }
         requires own { IsOfCoordinator event.now }
         ensures asks { Asks self.old event.now result self.new }
-        ensures follows { Follows self.old.core (event_of event.now) (reply_of result) self.new.core }
+        ensures follows { FollowsStore (up_store self.old) (event_of event.now) (reply_of result) (up_store self.new) }
         ensures plain { IsPlain result }
     {
         coordinator::answer(self.alloc, &mut self.coord, event)
+    }
+
+    // Lets a worker or a follower answer an event.
+    fn ask_other(&mut self, event: &Event) -> Reply
+        requires { IsOfNetwork event.now }
+        ensures asks { Asks self.old event.now result self.new }
+        ensures follows { FollowsStore (up_store self.old) (event_of event.now) (reply_of result) (up_store self.new) }
+        ensures plain { IsPlain result }
+    {
+        self.network.answer(event)
     }
 
     /// What is so of all nodes. Does nothing.
@@ -104,12 +120,11 @@ impl<V: Vault> Nodes<V> {
         know_fit(&self.coord);
     }
 
-    /// The coordinator, the dispatchers, and the workers with the messages.
+    /// The coordinator, the dispatchers, and the other nodes with the messages.
     pub(crate) fn parts(self) -> (Coord<V>, Desk, Network)
         ensures core { result.0 ≡ self.core }
         ensures desk { result.1 ≡ self.desk }
-        ensures workers { result.2.workers ≡ self.workers }
-        ensures messages { result.2.messages ≡ self.messages }
+        ensures network { result.2 ≡ self.network }
         ensures history { (h : History) × IsHistory h self }
         ensures fit { IsFit self.core }
     {
@@ -125,8 +140,8 @@ impl<V: Vault> Nodes<V> {
 
     /// The nodes with these parts.
     pub(crate) fn of(alloc: Global, coord: Coord<V>, desk: Desk, network: Network) -> Nodes<V>
-        requires { (h : History) × IsHistory h (nodes_of coord desk network.workers network.messages) }
-        ensures { result ≡ nodes_of coord desk network.workers network.messages }
+        requires { (h : History) × IsHistory h (nodes_of coord desk network) }
+        ensures { result ≡ nodes_of coord desk network }
     {
         Nodes {
             alloc,

@@ -51,7 +51,9 @@ pub enum Reply {
     Returned(JobId),
     /// The job of a claim that was given back, but was no longer live.
     StaleClaim(JobId),
-    /// The coordinator answered a fetch.
+    /// The floor, and the numbers of the tables that were let go, ascending.
+    Trimmed(VersionNumber, Items<FileNumber>),
+    /// The coordinator answered a fetch or an ask.
     Served(Sent),
     /// The version that an install made, and its new files.
     Installed(VersionNumber, Items<FileNumber>),
@@ -61,10 +63,21 @@ pub enum Reply {
     Collecting(u32, Sent),
     /// A worker merged its inputs, and sends the result.
     Merged(Sent),
-    /// A worker gave its job up.
+    /// A worker gave its job up, or a follower the version that it was to move to.
     Dropped,
     /// The epoch and the version that an opening began, and the last sequence that the vault had.
     Restarted(u64, VersionNumber, Seq),
     RestartedWorker(NodeIndex),
+    /// A follower asked what comes after its version.
+    Asked(Sent),
+    /// A follower's version, and the value that a key has there.
+    ReadAt(VersionNumber, Option<Bytes>),
+    /// A follower lacks so many tables of the version that it is to move to.
+    Waiting(u32, Sent),
+    /// A follower serves this version now.
+    Advanced(VersionNumber),
+    /// A follower serves the current version.
+    Current,
+    RestartedFollower(NodeIndex),
     Refused(Refusal),
 }

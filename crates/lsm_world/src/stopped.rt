@@ -3,7 +3,7 @@
 ghost use Rattle.std.specs.Prelude.{◌≡◌, ◌⊎◌};
 ghost use Rattle.lsm_key.specs.Limits.{batch_fault};
 ghost use Rattle.lsm_world.specs.Asks.{AsksDown, DeliversDown, LacksMemory, down_write};
-ghost use Rattle.lsm_world.specs.declared.event.Event.TheVariants.{Deliver, RestartWorker};
+ghost use Rattle.lsm_world.specs.declared.event.Event.TheVariants.{Deliver};
 ghost use Rattle.lsm_world.specs.Inner.Handing.{IsForCoordinator};
 ghost use Rattle.lsm_world.specs.declared.refusal.Refusal.TheVariants.{Down, OutOfMemory};
 ghost use Rattle.lsm_world.specs.declared.reply.Reply.TheVariants.{Refused};
@@ -15,12 +15,12 @@ use crate::reply::Reply;
 use lsm_claim::ClaimBook;
 use lsm_coord::{Desk, Seat};
 use lsm_key::{Batch, Items, Limits, Op};
-use lsm_msg::{Message, Node, NodeIndex};
+use lsm_msg::{Message, Node};
 use lsm_vault::Vault;
 use std::alloc::Global;
 use std::marker::Model;
 
-/// A vault, four dispatchers, four workers, and the messages that they sent, with what the next opening takes. It is not
+/// A vault, four dispatchers, four workers, four followers, and the messages that they sent, with what the next opening takes. It is not
 /// `Drop`: a dispatcher may hold a claim, which only `close` settles.
 pub(crate) struct Stopped<V: Vault> {
     alloc: Global,
@@ -41,39 +41,53 @@ impl<V: Vault> Model for Stopped<V> {
 
     ghost coded = { Prim.hlevel (codes, kept_code) };
 
-    ghost view = { λ s. record { edits = V.edits s.vault; kept = V.tables s.vault; failures = V.failures s.vault; book = s.book; limits = s.limits; desk = s.desk; workers = s.network.workers; messages = s.network.messages } };
+    ghost view = { λ s. record { edits = V.edits s.vault; kept = V.tables s.vault; failures = V.failures s.vault; book = s.book; limits = s.limits; desk = s.desk; network = s.network } };
 
-    ghost invariant = { λ s. (h : History) × IsDownHistory h (V.edits s.vault) (V.tables s.vault) s.desk s.network.workers s.network.messages };
+    ghost invariant = { λ s. (h : History) × IsDownHistory h (V.edits s.vault) (V.tables s.vault) s.desk s.network };
 }
 
 impl<V: Vault> Stopped<V> {
-    ghost use Rattle.std.specs.Prelude.{◌≡◌, ◌⊎◌, false};
-    ghost use Rattle.lsm_coord.specs.Model.State.{State};
-    ghost use Rattle.lsm_coord.specs.Model.Step.{Step};
+    ghost use Rattle.std.specs.Prelude.{◌≡◌, ◌⊎◌, ℕ};
+    ghost use Rattle.lsm_coord.specs.Model.Event as say;
     ghost use Rattle.lsm_world.specs.Events.{event_of};
     ghost use Rattle.lsm_world.specs.Replies.{reply_of};
     ghost use Rattle.lsm_coord.specs.Contract.Restarts.{seat_of};
     ghost use Rattle.lsm_world.specs.History.{History, IsDownHistory};
-    ghost use Rattle.lsm_world.specs.Inner.Handing.{IsNoRestart, IsStored};
+    ghost use Rattle.lsm_world.specs.Inner.Handing.{IsNoRestart, IsOfNetwork, IsOther, IsStored};
     ghost use Rattle.lsm_world.specs.Inner.Stopping.{down_store};
+    ghost use Rattle.lsm_world.specs.Shown.{FollowsStore};
 
-    /// Lets a worker answer an event, or refuses what the coordinator or a dispatcher is asked.
+    /// Lets a worker or a follower answer an event, or refuses what the coordinator or a dispatcher is asked.
     pub(crate) fn answer(&mut self, event: &Event) -> Reply
         requires { IsNoRestart event.now }
         ensures asks { LacksMemory (down_store self.old) result (down_store self.new) ⊎ AsksDown (down_store self.old) event.now result (down_store self.new) }
-        ensures step { (s : State) → s.up ≡ false → Step s (event_of event.now) (reply_of result) s }
+        ensures follows { FollowsStore (down_store self.old) (event_of event.now) (reply_of result) (down_store self.new) }
     {
         match event {
             Event::Write(ops) => refused_write(self.alloc, ops),
             Event::Deliver(message) => self.deliver(*message),
-            Event::RestartWorker(index) => self.restart_worker(*index),
+            Event::RestartWorker(_)
+            | Event::RestartFollower(_)
+            | Event::Ask(_)
+            | Event::Read(_, _)
+            | Event::ShowFollower(_) => self.ask_other(event),
             _ => refuse(event),
         }
     }
 
-    // Delivers the message of a number, if it is for a worker.
+    // Lets a worker or a follower answer an event.
+    fn ask_other(&mut self, event: &Event) -> Reply
+        requires { IsOfNetwork event.now }
+        ensures asks { LacksMemory (down_store self.old) result (down_store self.new) ⊎ AsksDown (down_store self.old) event.now result (down_store self.new) }
+        ensures follows { FollowsStore (down_store self.old) (event_of event.now) (reply_of result) (down_store self.new) }
+    {
+        self.network.answer(event)
+    }
+
+    // Delivers the message of a number, if it is for a worker or a follower.
     fn deliver(&mut self, number: u64) -> Reply
         ensures asks { LacksMemory (down_store self.old) result (down_store self.new) ⊎ AsksDown (down_store self.old) (Deliver number) result (down_store self.new) }
+        ensures follows { FollowsStore (down_store self.old) (event_of (Deliver number)) (reply_of result) (down_store self.new) }
     {
         match self.network.message(number) {
             Err(why) => Reply::Refused(why),
@@ -83,22 +97,24 @@ impl<V: Vault> Stopped<V> {
 
     // Lets its receiver have a message that was sent.
     fn hand_over(&mut self, message: &Message) -> Reply
-        requires stored { IsStored self.old.messages message.now }
+        requires stored { IsStored self.old.network.messages message.now }
         ensures asks { LacksMemory (down_store self.old) result (down_store self.new) ⊎ DeliversDown (down_store self.old) message.now message.now.dst result (down_store self.new) }
+        ensures follows { (number : ℕ) → FollowsStore (down_store self.old) (say.Deliver number) (reply_of result) (down_store self.new) }
     {
         match message.dst {
             Node::Coordinator => Reply::Refused(Refusal::Down),
-            Node::Worker(index) => self.network.work(index, message),
-            Node::Follower(_) => Reply::Ignored,
+            Node::Worker(_) | Node::Follower(_) => self.pass_on(message),
         }
     }
 
-    // Starts a worker anew.
-    fn restart_worker(&mut self, index: NodeIndex) -> Reply
-        ensures asks { AsksDown (down_store self.old) (RestartWorker index) result (down_store self.new) }
-        ensures step { (s : State) → Step s (event_of (RestartWorker index)) (reply_of result) s }
+    // Lets a worker or a follower have it.
+    fn pass_on(&mut self, message: &Message) -> Reply
+        requires other { IsOther message.now.dst }
+        requires stored { IsStored self.old.network.messages message.now }
+        ensures asks { LacksMemory (down_store self.old) result (down_store self.new) ⊎ DeliversDown (down_store self.old) message.now message.now.dst result (down_store self.new) }
+        ensures follows { (number : ℕ) → FollowsStore (down_store self.old) (say.Deliver number) (reply_of result) (down_store self.new) }
     {
-        self.network.restart_worker(index)
+        self.network.hand_over(message)
     }
 
     /// The nodes with these parts.
@@ -110,8 +126,8 @@ impl<V: Vault> Stopped<V> {
         desk: Desk,
         network: Network,
     ) -> Stopped<V>
-        requires { (h : History) × IsDownHistory h (V.edits vault) (V.tables vault) desk network.workers network.messages }
-        ensures { result ≡ record { edits = V.edits vault; kept = V.tables vault; failures = V.failures vault; book = book; limits = limits; desk = desk; workers = network.workers; messages = network.messages } }
+        requires { (h : History) × IsDownHistory h (V.edits vault) (V.tables vault) desk network }
+        ensures { result ≡ record { edits = V.edits vault; kept = V.tables vault; failures = V.failures vault; book = book; limits = limits; desk = desk; network = network } }
     {
         Stopped {
             alloc,
@@ -127,9 +143,8 @@ impl<V: Vault> Stopped<V> {
     pub(crate) fn parts(self) -> (Seat<V>, Desk, Network)
         ensures seat { seat_of V.edits V.tables V.failures result.0 ≡ (down_store self).seat }
         ensures desk { result.1 ≡ self.desk }
-        ensures workers { result.2.workers ≡ self.workers }
-        ensures messages { result.2.messages ≡ self.messages }
-        ensures history { (h : History) × IsDownHistory h self.edits self.kept self.desk self.workers self.messages }
+        ensures network { result.2 ≡ self.network }
+        ensures history { (h : History) × IsDownHistory h self.edits self.kept self.desk self.network }
     {
         self.known();
         let Stopped {
@@ -145,7 +160,7 @@ impl<V: Vault> Stopped<V> {
 
     /// What is so of all nodes. Does nothing.
     pub(crate) fn known(&self)
-        ensures { (h : History) × IsDownHistory h self.now.edits self.now.kept self.now.desk self.now.workers self.now.messages }
+        ensures { (h : History) × IsDownHistory h self.now.edits self.now.kept self.now.desk self.now.network }
     {
         let _vault = &self.vault;
     }

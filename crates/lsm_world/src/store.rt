@@ -2,7 +2,6 @@
 
 ghost use Rattle.std.specs.Prelude.{◌≡◌, ◌+◌, ◌≤◌, IsSome, None, Some};
 ghost use Rattle.lsm_coord.specs.Contract.Restarts.{seat_of};
-ghost use Rattle.lsm_coord.specs.Contract.Seats.{ShowsSeat};
 ghost use Rattle.lsm_coord.specs.Model.State.{State};
 ghost use Rattle.lsm_world.specs.declared.event.Event.TheVariants.{RestartCoordinator};
 ghost use Rattle.lsm_world.specs.Asks.{AsksStore, restart_answer, restarted_as};
@@ -11,7 +10,8 @@ ghost use Rattle.lsm_world.specs.History.{History, IsStoreHistory};
 ghost use Rattle.lsm_world.specs.Inner.Storing.{IsCaughtUp, store_in, store_of};
 ghost use Rattle.lsm_world.specs.Nodes.{store_with};
 ghost use Rattle.lsm_world.specs.Replies.{reply_of};
-ghost use Rattle.lsm_world.specs.Schedules.{FollowsStore, IsPlain, device_failures};
+ghost use Rattle.lsm_world.specs.Schedules.{IsPlain, device_failures};
+ghost use Rattle.lsm_world.specs.Shown.{FollowsStore, ShowsStore};
 
 use crate::coordinator;
 use crate::event::Event;
@@ -37,20 +37,20 @@ pub(crate) enum Store<V: Vault> {
 impl<V: Vault> Store<V> {
     ghost use Rattle.std.specs.Prelude.{◌≡◌, ◌+◌, ◌≤◌};
     ghost use Rattle.lsm_coord.specs.Contract.Restarts.{seat_of};
-    ghost use Rattle.lsm_coord.specs.Contract.Seats.{ShowsSeat};
-    ghost use Rattle.lsm_coord.specs.Model.State.{State};
+        ghost use Rattle.lsm_coord.specs.Model.State.{State};
     ghost use Rattle.lsm_world.specs.declared.event.Event.TheVariants.{RestartCoordinator};
     ghost use Rattle.lsm_world.specs.Asks.{AsksStore};
     ghost use Rattle.lsm_world.specs.Events.{event_of};
-    ghost use Rattle.lsm_world.specs.History.{History, IsDownHistory, IsStoreHistory};
+    ghost use Rattle.lsm_world.specs.History.{History, IsDownHistory};
     ghost use Rattle.lsm_world.specs.Inner.Handing.{IsNoRestart};
-    ghost use Rattle.lsm_world.specs.Inner.Storing.{store_of};
+    ghost use Rattle.lsm_world.specs.Inner.Storing.{IsFitWhileUp, store_of};
     ghost use Rattle.lsm_world.specs.Replies.{reply_of};
-    ghost use Rattle.lsm_world.specs.Schedules.{FollowsStore, IsFitBy, IsPlain, device_failures};
+    ghost use Rattle.lsm_world.specs.Schedules.{IsFitBy, IsPlain, device_failures};
+    ghost use Rattle.lsm_world.specs.Shown.{FollowsStore, ShowsStore};
 
     // Lets one node answer an event.
     fn answer(self, alloc: Global, event: &Event) -> (Store<V>, Reply)
-        requires { (s : State) × ShowsSeat (store_of self).seat s }
+        requires { (s : State) × ShowsStore (store_of self) s }
         ensures asks { AsksStore (store_of self) event.now result.1 (store_of result.0) }
         ensures follows { FollowsStore (store_of self) (event_of event.now) (reply_of result.1) (store_of result.0) }
         ensures plain { IsPlain result.1 }
@@ -64,7 +64,7 @@ impl<V: Vault> Store<V> {
 
     // Lets a node answer another event than a restart of the coordinator.
     fn ask(self, event: &Event) -> (Store<V>, Reply)
-        requires shown { (s : State) × ShowsSeat (store_of self).seat s }
+        requires shown { (s : State) × ShowsStore (store_of self) s }
         requires other { IsNoRestart event.now }
         ensures asks { AsksStore (store_of self) event.now result.1 (store_of result.0) }
         ensures follows { FollowsStore (store_of self) (event_of event.now) (reply_of result.1) (store_of result.0) }
@@ -87,7 +87,7 @@ impl<V: Vault> Store<V> {
 
     // Opens the coordinator over what its vault has.
     fn restart(self, alloc: Global) -> (Store<V>, Reply)
-        requires { (s : State) × ShowsSeat (store_of self).seat s }
+        requires { (s : State) × ShowsStore (store_of self) s }
         ensures asks { AsksStore (store_of self) RestartCoordinator result.1 (store_of result.0) }
         ensures follows { FollowsStore (store_of self) (event_of RestartCoordinator) (reply_of result.1) (store_of result.0) }
         ensures plain { IsPlain result.1 }
@@ -104,9 +104,9 @@ impl<V: Vault> Store<V> {
     fn parts(self) -> (Seat<V>, Desk, Network)
         ensures seat { seat_of V.edits V.tables V.failures result.0 ≡ (store_of self).seat }
         ensures desk { result.1 ≡ (store_of self).desk }
-        ensures workers { result.2.workers ≡ (store_of self).workers }
-        ensures messages { result.2.messages ≡ (store_of self).messages }
-        ensures history { (h : History) × IsDownHistory h (store_of self).seat.edits (store_of self).seat.kept (store_of self).desk (store_of self).workers (store_of self).messages }
+        ensures network { result.2 ≡ (store_of self).network }
+        ensures history { (h : History) × IsDownHistory h (store_of self).seat.edits (store_of self).seat.kept (store_of self).desk (store_of self).network }
+        ensures fit { IsFitWhileUp (store_of self).seat.core }
     {
         match self {
             Store::Up(nodes) => {
@@ -119,8 +119,7 @@ impl<V: Vault> Store<V> {
 
     /// What is so of all nodes. Does nothing.
     pub(crate) fn known(&self)
-        requires { (s : State) × ShowsSeat (store_of self.now).seat s }
-        ensures history { (h : History) × IsStoreHistory h (store_of self.now) }
+        requires { (s : State) × ShowsStore (store_of self.now) s }
         ensures fit { IsFitBy (store_of self.now).seat.core (store_of self.now).seat }
     {
         match self {
@@ -145,7 +144,7 @@ impl<V: Vault> Store<V> {
 /// Lets one node of the store in its place answer an event.
 pub(crate) fn answer<V: Vault>(place: &mut Option<Store<V>>, alloc: Global, event: &Event) -> Reply
     requires some { IsSome place.old }
-    requires shown { (s : State) × ShowsSeat (store_in place.old).seat s }
+    requires shown { (s : State) × ShowsStore (store_in place.old) s }
     ensures some { IsSome place.new }
     ensures asks { AsksStore (store_in place.old) event.now result (store_in place.new) }
     ensures follows { FollowsStore (store_in place.old) (event_of event.now) (reply_of result) (store_in place.new) }
@@ -173,8 +172,8 @@ fn put<V: Vault>(place: &mut Option<Store<V>>, store: Store<V>)
 
 // A store with this seat.
 fn seated<V: Vault>(alloc: Global, seat: Seat<V>, desk: Desk, network: Network) -> Store<V>
-    requires { (h : History) × IsStoreHistory h (store_with (seat_of V.edits V.tables V.failures seat) desk network.workers network.messages) }
-    ensures { store_of result ≡ store_with (seat_of V.edits V.tables V.failures seat) desk network.workers network.messages }
+    requires { (h : History) × IsStoreHistory h (store_with (seat_of V.edits V.tables V.failures seat) desk network) }
+    ensures { store_of result ≡ store_with (seat_of V.edits V.tables V.failures seat) desk network }
 {
     match seat {
         Seat::Up(coord) => Store::Up(Nodes::of(alloc, coord, desk, network)),

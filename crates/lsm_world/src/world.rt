@@ -1,15 +1,17 @@
 //! The world: the nodes of a store, under one schedule.
 
-ghost use Rattle.std.specs.Prelude.{◌≡◌, ◌⊎◌, ◌+◌, ◌≤◌, ◌++◌, ◌∷◌, [], All, IfErr, IfOk, OnErr, sum_by};
-ghost use Rattle.std.specs.FinMap as map;
+ghost use Rattle.std.specs.Prelude.{◌≡◌, ◌⊎◌, ◌+◌, ◌≤◌, ◌++◌, ◌∷◌, [], All, IfErr, IfOk, OnErr, map, sum_by};
+ghost use Rattle.std.specs.FinMap.{empty};
 ghost use Rattle.lsm_versions.specs.declared.error.OpenError.TheVariants.{Device, OutOfMemory};
 ghost use Rattle.lsm_versions.specs.Opening.{CountsRefusal};
 ghost use Rattle.lsm_world.specs.declared.refusal.Refusal.TheVariants as why;
 ghost use Rattle.lsm_world.specs.declared.reply.Reply.TheVariants as reply;
 ghost use Rattle.lsm_world.specs.Asks.{AsksStore};
 ghost use Rattle.lsm_world.specs.Events.{event_of};
+ghost use Rattle.lsm_world.specs.Headline.{FollowerReadsAreNewest, GiveOneAnswer, ReadsAreNewest, ShowOneListing};
 ghost use Rattle.lsm_world.specs.Replies.{reply_of};
-ghost use Rattle.lsm_world.specs.Schedules.{AskedAll, FollowsStore, IsNew, IsPlain, IsTaken, IsTraced, IsWorld, RunsTo, device_failures};
+ghost use Rattle.lsm_world.specs.Schedules.{AskedAll, IsNew, IsPlain, IsTaken, IsTraced, IsWorld, RunsTo, device_failures};
+ghost use Rattle.lsm_world.specs.Shown.{FollowsStore};
 
 use crate::event::Event;
 use crate::nodes::Nodes;
@@ -23,8 +25,8 @@ use lsm_versions::OpenError;
 use std::alloc::{AllocError, Global};
 use std::marker::Model;
 
-/// A store with its coordinator, four dispatchers and four workers, and a network that may lose, repeat, reorder and delay
-/// what they send. Messages are numbered from 1 and stay, so that each may be delivered whenever, and as often as, the
+/// A store with its coordinator, four dispatchers, four workers and four followers, and a network that may lose, repeat, reorder
+/// and delay what they send. Messages are numbered from 1 and stay, so that each may be delivered whenever, and as often as, the
 /// schedule says. It is a model of the network, not a node: it keeps the bytes of every message. It is not `Drop`: `close`
 /// ends it.
 pub struct World<V: Vault> {
@@ -55,11 +57,11 @@ impl<V: Vault> World<V> {
     /// then the vault, which still has nothing, is handed back.
     pub fn new(alloc: Global, vault: V, limits: Limits) -> Result<World<V>, (OpenError, V)>
         requires edits { V.edits vault ≡ [] }
-        requires tables { V.tables vault ≡ map.empty }
+        requires tables { V.tables vault ≡ empty }
         ensures new { IfOk result (IsNew limits) }
         ensures refused { IfErr result (λ e. (e.0 ≡ OutOfMemory) ⊎ (e.0 ≡ Device)) }
         ensures edits { IfErr result (λ e. V.edits e.1 ≡ []) }
-        ensures tables { IfErr result (λ e. V.tables e.1 ≡ map.empty) }
+        ensures tables { IfErr result (λ e. V.tables e.1 ≡ empty) }
         ensures counted { IfErr result (λ e. CountsRefusal e.0 (V.failures vault) (V.failures e.1)) }
     {
         match Coord::open(alloc, vault, limits) {
@@ -110,6 +112,16 @@ impl<V: Vault> World<V> {
 
     /// Lets events happen, in order, and returns the reply to each. Memory for the replies is taken before the first event; if
     /// there is none, nothing happens.
+    ///
+    /// Whatever the events are, on a new world:
+    /// Each read at the coordinator gives the newest accepted write of its key, no later than its point (`reads`).
+    /// Each read at a follower gives the newest accepted write of its key, no later than the flushed sequence of the follower's
+    /// version (`follower_reads`).
+    /// Nodes that show one version number show one listing, and followers at one version give one answer (`one_listing`,
+    /// `one_answer`).
+    /// No file is merged twice: none is removed by two of the vault's edits (`world`).
+    /// No manifest is found bad, no table is missing, no result is of another job or not its merge (`plain`), and a device is
+    /// said to have failed only where the vault counted a failure (`counted`).
     pub fn run(&mut self, events: &[Event]) -> Result<Vec<Reply>, AllocError>
         ensures asks { IfOk result (λ replies. AskedAll self.old.nodes events.now replies.items self.new.nodes) }
         ensures run { IfOk result (λ replies. RunsTo self.old.nodes events.now replies.items self.new.nodes) }
@@ -119,6 +131,11 @@ impl<V: Vault> World<V> {
         ensures err { OnErr result (self.new ≡ self.old) }
         // Whatever happened, what every world is.
         ensures world { IsWorld self.new }
+        // The headline, of a new world: what the replies say, whatever the events were.
+        ensures reads { IfOk result (λ replies. (due : Limits) → IsNew due self.old → ReadsAreNewest (map event_of events.now) (map reply_of replies.items)) }
+        ensures follower_reads { IfOk result (λ replies. (due : Limits) → IsNew due self.old → FollowerReadsAreNewest (map event_of events.now) (map reply_of replies.items)) }
+        ensures one_listing { IfOk result (λ replies. (due : Limits) → IsNew due self.old → ShowOneListing (map reply_of replies.items)) }
+        ensures one_answer { IfOk result (λ replies. (due : Limits) → IsNew due self.old → GiveOneAnswer (map event_of events.now) (map reply_of replies.items)) }
     {
         self.known();
         let mut replies = Vec::with_capacity(self.alloc, events.len())?;

@@ -5,7 +5,11 @@ use Rattle.lsm_claim.specs.declared.ending.Settled.{Settled}
 use Rattle.lsm_claim.specs.declared.ending.Settled.TheVariants.{Live, Stale}
 use Rattle.lsm_claim.specs.declared.job.JobId.{JobId}
 use Rattle.lsm_msg.specs.declared.job.JobParts.{JobParts}
+use Rattle.lsm_msg.specs.declared.message.Body.{Body}
+use Rattle.lsm_msg.specs.declared.message.Body.TheVariants as body
 use Rattle.lsm_msg.specs.declared.message.Message.{Message}
+use Rattle.lsm_msg.specs.declared.node.Node.{Node}
+use Rattle.lsm_msg.specs.declared.node.Node.TheVariants.{Coordinator, Worker, Follower}
 use Rattle.lsm_msg.specs.Messages.{IsSpelled}
 use Rattle.lsm_coord.specs.declared.coord.install.Install.{Install}
 use Rattle.lsm_coord.specs.declared.coord.install.Install.TheVariants as became
@@ -27,6 +31,10 @@ IsOfCoordinator (event.GiveUp d) = ⊥
 IsOfCoordinator (event.Deliver number) = ⊥
 IsOfCoordinator event.RestartCoordinator = ⊥
 IsOfCoordinator (event.RestartWorker index) = ⊥
+IsOfCoordinator (event.RestartFollower index) = ⊥
+IsOfCoordinator (event.Ask index) = ⊥
+IsOfCoordinator (event.Read index key) = ⊥
+IsOfCoordinator (event.ShowFollower index) = ⊥
 IsOfCoordinator e = Unit {0}
 
 -- the event is no restart of the coordinator
@@ -40,7 +48,32 @@ IsForCoordinator (event.Write ops) = ⊥
 IsForCoordinator (event.Deliver number) = ⊥
 IsForCoordinator event.RestartCoordinator = ⊥
 IsForCoordinator (event.RestartWorker index) = ⊥
+IsForCoordinator (event.RestartFollower index) = ⊥
+IsForCoordinator (event.Ask index) = ⊥
+IsForCoordinator (event.Read index key) = ⊥
+IsForCoordinator (event.ShowFollower index) = ⊥
 IsForCoordinator e = Unit {0}
+
+-- a worker or a follower is asked
+abbrev pub IsOfNetwork : Event → Type 0
+IsOfNetwork (event.RestartWorker index) = Unit {0}
+IsOfNetwork (event.RestartFollower index) = Unit {0}
+IsOfNetwork (event.Ask index) = Unit {0}
+IsOfNetwork (event.Read index key) = Unit {0}
+IsOfNetwork (event.ShowFollower index) = Unit {0}
+IsOfNetwork e = ⊥
+
+-- the receiver is a worker or a follower
+abbrev pub IsOther : Node → Type 0
+IsOther Coordinator = ⊥
+IsOther (Worker index) = Unit {0}
+IsOther (Follower index) = Unit {0}
+
+-- the coordinator answers it
+abbrev pub IsQuestion : Body → Type 0
+IsQuestion (body.Fetch file) = Unit {0}
+IsQuestion (body.Ask number) = Unit {0}
+IsQuestion said = ⊥
 
 -- the message was sent
 abbrev pub IsStored : List (List ℕ) → Message → Type 0

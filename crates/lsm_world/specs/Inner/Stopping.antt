@@ -4,8 +4,7 @@ use Rattle.lsm_key.specs.declared.limits.Limits.{Limits}
 use Rattle.lsm_claim.specs.Book.{BookValue}
 use Rattle.lsm_versions.specs.Kept.{Kept}
 use Rattle.lsm_coord.specs.declared.dispatcher.Dispatcher.{Dispatcher}
-use Rattle.lsm_work.specs.Workers.{WorkerValue}
-use Rattle.lsm_world.specs.Nodes.{StoreValue}
+use Rattle.lsm_world.specs.Nodes.{NetworkValue, StoreValue}
 
 pub record StoppedValue : Type 0 where
   pub edits : List (List ℕ)
@@ -14,9 +13,8 @@ pub record StoppedValue : Type 0 where
   pub book : BookValue
   pub limits : Limits
   pub desk : List Dispatcher
-  pub workers : List WorkerValue
-  pub messages : List (List ℕ)
+  pub network : NetworkValue
 
 -- as a store
 abbrev pub down_store : StoppedValue → StoreValue
-down_store s = record { seat = record { core = None; edits = s.edits; kept = s.kept; failures = s.failures; book = s.book; limits = s.limits }; desk = s.desk; workers = s.workers; messages = s.messages }
+down_store s = record { seat = record { core = None; edits = s.edits; kept = s.kept; failures = s.failures; book = s.book; limits = s.limits }; desk = s.desk; network = s.network }

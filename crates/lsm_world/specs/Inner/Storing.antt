@@ -3,6 +3,7 @@ use Rattle.std.specs.Prelude.{◌≡◌, [], Option, None, Some}
 use Rattle.std.specs.FinMap.{empty}
 use Rattle.std.proofs.Common.{lit≤}
 use Rattle.lsm_claim.specs.Book.{new_book}
+use Rattle.lsm_coord.specs.Contract.Memory.{IsFit}
 use Rattle.lsm_coord.specs.Contract.Value.{CoordValue}
 use Rattle.lsm_world.specs.declared.store.Store.{Store}
 use Rattle.lsm_world.specs.declared.store.Store.TheVariants.{Up, Down}
@@ -15,7 +16,7 @@ store_of (Down stopped) = down_store stopped
 
 -- no store: never between calls
 abbrev pub no_store : StoreValue
-no_store = down_store (record { edits = []; kept = empty; failures = 0; book = new_book 0; limits = record { l0 = 1; base = 1; l0_some = lit≤ tt; l0_most = lit≤ tt; base_some = lit≤ tt; base_most = lit≤ tt }; desk = []; workers = []; messages = [] })
+no_store = down_store (record { edits = []; kept = empty; failures = 0; book = new_book 0; limits = record { l0 = 1; base = 1; l0_some = lit≤ tt; l0_most = lit≤ tt; base_some = lit≤ tt; base_most = lit≤ tt }; desk = []; network = record { workers = []; followers = []; messages = [] } })
 
 abbrev pub store_in : {V : Type 0} → Option (Store V) → StoreValue
 store_in None = no_store
@@ -25,3 +26,8 @@ store_in (Some store) = store_of store
 abbrev pub IsCaughtUp : Option CoordValue → Type 0
 IsCaughtUp (Some c) = c.last ≡ c.served.version.flushed
 IsCaughtUp None = Unit {0}
+
+-- the coordinator is fit, if it is up
+abbrev pub IsFitWhileUp : Option CoordValue → Type 0
+IsFitWhileUp (Some c) = IsFit c
+IsFitWhileUp None = Unit {0}

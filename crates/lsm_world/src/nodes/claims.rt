@@ -4,18 +4,19 @@ ghost use Rattle.std.specs.Prelude.{◌≡◌, ◌≤◌, [], All, vec_capacity,
 ghost use Rattle.lsm_key.specs.declared.limits.TheConstants.{MAX_INPUTS};
 ghost use Rattle.lsm_coord.specs.declared.dispatcher.Dispatcher.TheVariants.{Idle, Busy};
 ghost use Rattle.lsm_coord.specs.Contract.Desks.{dispatcher_of, with_dispatcher};
-ghost use Rattle.lsm_coord.specs.Contract.Shows.{Follows};
 ghost use Rattle.lsm_msg.specs.Messages.{AreSequences, IsMessage};
 ghost use Rattle.lsm_world.specs.declared.event.Event.TheVariants.{GiveUp, Pick};
 ghost use Rattle.lsm_world.specs.Asks.{Asks, TellsJob, job_message};
 ghost use Rattle.lsm_world.specs.Events.{event_of};
 ghost use Rattle.lsm_world.specs.Inner.Handing.{TellsPicked, settled_reply};
 ghost use Rattle.lsm_world.specs.Replies.{reply_of};
+ghost use Rattle.lsm_world.specs.Nodes.{up_store};
 ghost use Rattle.lsm_world.specs.Schedules.{IsPlain};
+ghost use Rattle.lsm_world.specs.Shown.{FollowsStore};
 
 use super::Nodes;
 use crate::coordinator::know_fit;
-use crate::messages::Messages;
+use crate::network::Network;
 use crate::refusal::Refusal;
 use crate::reply::{PickedJob, Reply};
 use lsm_claim::{Claim, JobId, Settled};
@@ -29,7 +30,7 @@ impl<V: Vault> Nodes<V> {
     /// refusal leaves no claim.
     pub(super) fn pick(&mut self, dispatcher: NodeIndex) -> Reply
         ensures asks { Asks self.old (Pick dispatcher) result self.new }
-        ensures follows { Follows self.old.core (event_of (Pick dispatcher)) (reply_of result) self.new.core }
+        ensures follows { FollowsStore (up_store self.old) (event_of (Pick dispatcher)) (reply_of result) (up_store self.new) }
         ensures plain { IsPlain result }
     {
         if self.desk.dispatcher(dispatcher).id().is_some() {
@@ -44,7 +45,7 @@ impl<V: Vault> Nodes<V> {
             Ok(None) => Reply::Idle,
             Ok(Some((claim, job))) => hand_out(
                 &mut self.desk,
-                &mut self.network.messages,
+                &mut self.network,
                 dispatcher,
                 claim,
                 job,
@@ -56,7 +57,7 @@ impl<V: Vault> Nodes<V> {
     /// Lets a dispatcher give its claim back.
     pub(super) fn give_up(&mut self, dispatcher: NodeIndex) -> Reply
         ensures asks { Asks self.old (GiveUp dispatcher) result self.new }
-        ensures follows { Follows self.old.core (event_of (GiveUp dispatcher)) (reply_of result) self.new.core }
+        ensures follows { FollowsStore (up_store self.old) (event_of (GiveUp dispatcher)) (reply_of result) (up_store self.new) }
         ensures plain { IsPlain result }
     {
         if self.desk.dispatcher(dispatcher).id().is_none() {
@@ -83,7 +84,7 @@ fn returned(id: JobId, settled: Settled) -> Reply
 // Lets an idle dispatcher hold a claim, and sends its job.
 fn hand_out(
     desk: &mut Desk,
-    messages: &mut Messages,
+    network: &mut Network,
     dispatcher: NodeIndex,
     claim: Claim,
     job: Job,
@@ -93,7 +94,8 @@ fn hand_out(
     requires empty { inputs.items ≡ [] }
     requires room { MAX_INPUTS ≤ vec_capacity inputs }
     ensures desk { desk.new ≡ with_dispatcher desk.old dispatcher (Busy claim) }
-    ensures reply { TellsPicked messages.old dispatcher job result messages.new }
+    ensures reply { TellsPicked network.old.messages dispatcher job result network.new.messages }
+    ensures network { network.new ≡ record network.old { messages = network.new.messages } }
     ensures job { IsMessage (job_message dispatcher job) }
 {
     let told = picked_job(&job, inputs);
@@ -101,7 +103,7 @@ fn hand_out(
         None => {}
         Some(_before) => unreachable!(),
     }
-    let sent = messages.send_one(&job_message(dispatcher, job));
+    let sent = network.send(&job_message(dispatcher, job));
     Reply::Picked(told, sent)
 }
 

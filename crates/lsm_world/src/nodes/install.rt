@@ -3,13 +3,14 @@
 ghost use Rattle.std.specs.Prelude.{◌≡◌, ◌⊎◌, ℕ};
 ghost use Rattle.lsm_coord.specs.declared.dispatcher.Dispatcher.TheVariants.{Idle};
 ghost use Rattle.lsm_coord.specs.Contract.Desks.{dispatcher_of};
-ghost use Rattle.lsm_coord.specs.Contract.Shows.{Follows};
 ghost use Rattle.lsm_coord.specs.Model.Event as say;
 ghost use Rattle.lsm_world.specs.Asks.{LacksMemory, TakesResult, install_answer};
 ghost use Rattle.lsm_world.specs.History.{History, IsHistory, IsResultOf};
 ghost use Rattle.lsm_world.specs.Inner.Handing.{desk_settled};
 ghost use Rattle.lsm_world.specs.Replies.{reply_of};
+ghost use Rattle.lsm_world.specs.Nodes.{up_store};
 ghost use Rattle.lsm_world.specs.Schedules.{IsPlain};
+ghost use Rattle.lsm_world.specs.Shown.{FollowsStore};
 
 use super::Nodes;
 use crate::coordinator::know_fit;
@@ -22,9 +23,9 @@ use lsm_vault::Vault;
 impl<V: Vault> Nodes<V> {
     // Installs a result under the claim that a dispatcher holds, if it is of that claim's job.
     pub(super) fn install(&mut self, dispatcher: NodeIndex, made: &JobResult) -> Reply
-        requires known { (h : History) × IsHistory h self.old × IsResultOf h made.now }
+        requires known { (h : History) → IsHistory h self.old → IsResultOf h made.now }
         ensures asks { LacksMemory self.old result self.new ⊎ TakesResult self.old dispatcher made.now result self.new }
-        ensures follows { (number : ℕ) → Follows self.old.core (say.Deliver number) (reply_of result) self.new.core }
+        ensures follows { (number : ℕ) → FollowsStore (up_store self.old) (say.Deliver number) (reply_of result) (up_store self.new) }
         ensures plain { IsPlain result }
     {
         if self.desk.dispatcher(dispatcher).id() != Some(made.job) {

@@ -2,7 +2,7 @@
 use Rattle.std.proofs.lemmas.Result.{IfOk-weaker, on_err_weaker}
 use Rattle.lsm_work.specs.Workers.{Works}
 use Rattle.lsm_world.specs.Inner.Working.{HasWorked}
-use Rattle.lsm_world.proofs.WorkersInPlace.{put_back, put_back_same}
+use Rattle.lsm_world.proofs.FourPlaces.{put_back, put_back_same}
 use Rattle.lsm_world.proofs.network.tell.Goals as goal
 
 pub returns-clause-ok : goal.returns-clause-ok

@@ -1,11 +1,12 @@
 -- A message under the number was sent.
-use Rattle.std.proofs.Common.{subst}
-use Rattle.lsm_world.specs.Inner.Stopping.{StoppedValue}
+use Rattle.std.proofs.Common.{inl, inr, subst}
+use Rattle.lsm_world.specs.Inner.Stopping.{StoppedValue, down_store}
 use Rattle.lsm_world.specs.Inner.Working.{IsMessageAt}
 use Rattle.lsm_world.proofs.DeliveredMessages.{stored_at}
+use Rattle.lsm_world.proofs.DownEvents.{delivers_down}
 use Rattle.lsm_world.proofs.stopped.Stopped.deliver.Goals as goal
 
 pub hand_over-requires : goal.hand_over-requires
 hand_over-requires g c =
-    let at = subst (λ (n : StoppedValue). IsMessageAt n.messages c.args.number c.in-Ok.message) c.self.view_is c.in-Ok.ensures.ok in
-    record { stored = stored_at c.args.self.now.messages c.args.number c.in-Ok.message at }
+    let at = subst (λ (n : StoppedValue). IsMessageAt n.network.messages c.args.number c.in-Ok.message) c.self.view_is c.in-Ok.ensures.ok in
+    record { stored = stored_at c.args.self.now.network.messages c.args.number c.in-Ok.message at }

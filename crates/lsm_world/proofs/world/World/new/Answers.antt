@@ -10,7 +10,7 @@ use Rattle.lsm_world.proofs.RunningSchedules.{reached_first}
 use Rattle.lsm_world.proofs.world.World.new.Goals as goal
 
 pub invariant_of-result : goal.invariant_of-result
-invariant_of-result g c = (refl, rw c.new-in-Ok.ensures.items (reached_first c.in-Ok.coord.limits c.new.result c.new.ensures.new))
+invariant_of-result g c = (refl, rw c.new-in-Ok.ensures.items (reached_first c.in-Ok.coord.limits c.new.result c.new.ensures.new c.new.ensures.fit))
 
 pub returns-in-Ok-clause-new : goal.returns-in-Ok-clause-new
 returns-in-Ok-clause-new g c =

@@ -1,0 +1,44 @@
+-- Workers and followers, while the coordinator is up: it and its desk stay.
+use Rattle.std.proofs.Common.{◌≡◌, ◌⊎◌, refl, ap, inl, inr}
+use Rattle.lsm_msg.specs.declared.message.Message.{Message}
+use Rattle.lsm_msg.specs.declared.node.Node.{Node}
+use Rattle.lsm_msg.specs.declared.node.Node.TheVariants.{Coordinator, Worker, Follower}
+use Rattle.lsm_world.specs.declared.event.Event.{Event}
+use Rattle.lsm_world.specs.declared.event.Event.TheVariants as event
+use Rattle.lsm_world.specs.declared.reply.Reply.{Reply}
+use Rattle.lsm_world.specs.Asks.{Asks, AsksNetwork, AsksNode, AsksOther, Delivers, DeliversOn, LacksMemory}
+use Rattle.lsm_world.specs.History.{History, IsHistory}
+use Rattle.lsm_world.specs.Inner.Handing.{IsOfNetwork, IsOther}
+use Rattle.lsm_world.specs.Inner.Working.{KeepsNetwork}
+use Rattle.lsm_world.specs.Nodes.{NetworkValue, NodesValue}
+
+-- WHAT KEEPS THE NETWORK KEEPS THE NODES.
+pub network_keeps : (old : NodesValue) (new : NetworkValue) → KeepsNetwork old.network new → (h : History) × IsHistory h old → (h : History) × IsHistory h (record old { network = new })
+network_keeps old new keeps known = let is = known.1 in (known.0, record { files = is.files; jobs = is.jobs; claims = is.claims; network = keeps known.0 is.files.all is.jobs.all is.network })
+
+module _ (old : NodesValue) (new : NetworkValue) (r : Reply) where
+  abbrev after : NodesValue
+  after = record old { network = new }
+
+  by_event : (e : Event) → IsOfNetwork e → AsksOther old e r after → AsksNode old e r after
+  by_event (event.RestartWorker index) of is = is
+  by_event (event.RestartFollower index) of is = is
+  by_event (event.Ask index) of is = is
+  by_event (event.Read index key) of is = is
+  by_event (event.ShowFollower index) of is = is
+  by_event e of is = absurd of
+
+  -- one is asked
+  pub other_asked : (e : Event) → IsOfNetwork e → LacksMemory old.network r new ⊎ AsksNetwork old.network e r new → Asks old e r after
+  other_asked e of (inl lacks) = inl (lacks.0, ap (λ (n : NetworkValue). record old { network = n }) lacks.1)
+  other_asked e of (inr is) = inr (by_event e of (is, refl))
+
+  by_receiver : (m : Message) (dst : Node) → IsOther dst → DeliversOn old.network m dst r new → Delivers old m dst r after
+  by_receiver m Coordinator other is = absurd other
+  by_receiver m (Worker index) other is = (is, refl)
+  by_receiver m (Follower index) other is = (is, refl)
+
+  -- one gets a message
+  pub passed_on : (m : Message) (dst : Node) → IsOther dst → LacksMemory old.network r new ⊎ DeliversOn old.network m dst r new → LacksMemory old r after ⊎ Delivers old m dst r after
+  passed_on m dst other (inl lacks) = inl (lacks.0, ap (λ (n : NetworkValue). record old { network = n }) lacks.1)
+  passed_on m dst other (inr is) = inr (by_receiver m dst other is)

@@ -1,0 +1,24 @@
+-- What outlives the coordinator is as before.
+use Rattle.std.proofs.Common.{◌⊎◌, subst, sym}
+use Rattle.lsm_world.specs.Asks.{DeliversDown, LacksMemory}
+use Rattle.lsm_world.specs.Inner.Handing.{IsStored}
+use Rattle.lsm_world.specs.Inner.Stopping.{StoppedValue, down_store}
+use Rattle.lsm_world.proofs.DownEvents.{down_keeps, passed_down}
+use Rattle.lsm_world.proofs.NetworkSteps.{network_delivery_follows}
+use Rattle.lsm_world.proofs.stopped.Stopped.pass_on.Goals as goal
+
+pub invariant_of-self : goal.invariant_of-self
+invariant_of-self g c = down_keeps _ _ _ c.self.inside.network c.hand_over.new.self c.hand_over.ensures.keeps c.self.invariant
+
+pub returns-clause-asks : goal.returns-clause-asks
+returns-clause-asks g c =
+    let before : StoppedValue = record { edits = g.V.Vault.edits c.self.inside.vault; kept = g.V.Vault.tables c.self.inside.vault; failures = g.V.Vault.failures c.self.inside.vault; book = c.self.inside.book; limits = c.self.inside.limits; desk = c.self.inside.desk; network = c.self.inside.network } in
+    let after : StoppedValue = record before { network = c.hand_over.new.self } in
+    subst (λ (x : StoppedValue). LacksMemory (down_store x) c.hand_over.result (down_store after) ⊎ DeliversDown (down_store x) c.args.message.now c.args.message.now.dst c.hand_over.result (down_store after)) c.self.view_is
+    (passed_down before c.hand_over.new.self c.hand_over.result c.args.message.now c.args.message.now.dst c.requires.other c.hand_over.ensures.delivers)
+
+pub returns-clause-follows : goal.returns-clause-follows
+returns-clause-follows g c =
+    let before : StoppedValue = record { edits = g.V.Vault.edits c.self.inside.vault; kept = g.V.Vault.tables c.self.inside.vault; failures = g.V.Vault.failures c.self.inside.vault; book = c.self.inside.book; limits = c.self.inside.limits; desk = c.self.inside.desk; network = c.self.inside.network } in
+    let stored = subst (λ (x : StoppedValue). IsStored x.network.messages c.args.message.now) (sym c.self.view_is) c.requires.stored in
+    rw (← c.self.view_is) (network_delivery_follows (down_store before) c.hand_over.new.self c.args.message.now c.hand_over.result stored c.hand_over.ensures.keeps c.hand_over.ensures.delivers)

@@ -1,0 +1,38 @@
+-- What every schedule of a new store promises, each on its own (LevelDB, db.h: Get; RocksDB wiki, Read-only and secondary instances).
+use Rattle.std.specs.Prelude.{◌≡◌, ℕ, List, Option, Some, slice_get, take}
+use Rattle.lsm_key.specs.Sets.{IsIn}
+use Rattle.lsm_key.specs.Writes.{answer}
+use Rattle.lsm_coord.specs.declared.snapshot.SnapId.{SnapId}
+use Rattle.lsm_coord.specs.Model.Changes.{read_at}
+use Rattle.lsm_coord.specs.Model.Event.{Event, Reply}
+use Rattle.lsm_coord.specs.Model.Event as say
+use Rattle.lsm_coord.specs.Model.Laws.{IsAnswered}
+use Rattle.lsm_coord.specs.Model.Run.{Run}
+use Rattle.lsm_coord.specs.Model.State.{Place, State, Version, first_state}
+
+-- the event at this place got the reply
+abbrev pub IsAnsweredAt : List Event → List Reply → ℕ → Event → Reply → Type 0
+IsAnsweredAt events replies place event reply = (slice_get events place ≡ Some event) × (slice_get replies place ≡ Some reply)
+
+-- the state in which the event at this place was taken
+abbrev pub IsStateAt : List Event → List Reply → ℕ → State → Type 0
+IsStateAt events replies place s = Run first_state (take place events) (take place replies) s
+
+-- A read at the coordinator gives the newest accepted write of its key, no later than its point.
+abbrev pub ReadsAreNewest : List Event → List Reply → Type 0
+ReadsAreNewest events replies = (place : ℕ) (key : List ℕ) (at : Option SnapId) (value : Option (List ℕ)) → IsAnsweredAt events replies place (say.Get key at) (say.Got value)
+    → (s : State) × IsStateAt events replies place s × (value ≡ answer s.writes (read_at s at) key)
+
+-- A read at a follower gives the newest accepted write of its key, no later than the flushed sequence of the follower's version.
+abbrev pub FollowerReadsAreNewest : List Event → List Reply → Type 0
+FollowerReadsAreNewest events replies = (place follower : ℕ) (key : List ℕ) (number : ℕ) (value : Option (List ℕ)) → IsAnsweredAt events replies place (say.Read follower key) (say.ReadAt number value)
+    → (s : State) × IsStateAt events replies place s × (v : Version) × (slice_get s.versions number ≡ Some v) × (value ≡ answer s.writes v.flushed key)
+
+-- Nodes that show one version number show one listing.
+abbrev pub ShowOneListing : List Reply → Type 0
+ShowOneListing replies = (number flushed other_flushed : ℕ) (files other_files : List Place) → IsIn (say.Shown number flushed files) replies → IsIn (say.Shown number other_flushed other_files) replies → (flushed ≡ other_flushed) × (files ≡ other_files)
+
+-- Followers at one version give one answer.
+abbrev pub GiveOneAnswer : List Event → List Reply → Type 0
+GiveOneAnswer events replies = (follower other number : ℕ) (key : List ℕ) (value other_value : Option (List ℕ))
+    → IsAnswered events replies (say.Read follower key) (say.ReadAt number value) → IsAnswered events replies (say.Read other key) (say.ReadAt number other_value) → value ≡ other_value
