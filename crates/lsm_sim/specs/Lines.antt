@@ -80,12 +80,18 @@ shown_text number seq places =
     codes "show " ++ decimal number ++ codes " flushed " ++ decimal seq ++ levels_text places (0 ∷ 1 ∷ 2 ∷ 3 ∷ 4 ∷ 5 ∷ 6 ∷ [])
 
 -- the messages of an event: none, one, more, or that they were lost
+abbrev pub messages_text : Sent → List ℕ
+messages_text sent.Nothing = []
+messages_text sent.Lost = codes "message lost"
+messages_text (sent.Messages first last) =
+    if first == last then codes "message " ++ decimal first
+    else codes "messages " ++ decimal first ++ codes "-" ++ decimal last
+
+-- the same after other words
 abbrev pub sent_text : Sent → List ℕ
 sent_text sent.Nothing = []
-sent_text sent.Lost = codes " message lost"
-sent_text (sent.Messages first last) =
-    if first == last then codes " message " ++ decimal first
-    else codes " messages " ++ decimal first ++ codes "-" ++ decimal last
+sent_text sent.Lost = codes " " ++ messages_text sent.Lost
+sent_text (sent.Messages first last) = codes " " ++ messages_text (sent.Messages first last)
 
 abbrev pub picked_text : PickedJob → Sent → List ℕ
 picked_text job told =
@@ -116,6 +122,23 @@ merged_text told = codes "merged" ++ sent_text told
 
 abbrev pub restarted_text : ℕ → List ℕ
 restarted_text worker = codes "restarted w" ++ decimal worker
+
+-- the floor, and how many tables were let go
+abbrev pub trimmed_text : ℕ → List ℕ → List ℕ
+trimmed_text floor files = codes "floor " ++ decimal floor ++ codes " removed " ++ decimal (length files)
+
+-- the version that a follower read at, and what it found
+abbrev pub read_text : ℕ → Option (List ℕ) → List ℕ
+read_text number value = codes "at " ++ decimal number ++ codes " " ++ got_text value
+
+abbrev pub waiting_text : ℕ → Sent → List ℕ
+waiting_text missing told = codes "waiting " ++ decimal missing ++ sent_text told
+
+abbrev pub advanced_text : ℕ → List ℕ
+advanced_text number = codes "version " ++ decimal number
+
+abbrev pub restarted_follower_text : ℕ → List ℕ
+restarted_follower_text follower = codes "restarted f" ++ decimal follower
 
 -- the epoch and the version that an opening began, and the last sequence that it found
 abbrev pub opened_text : ℕ → ℕ → ℕ → List ℕ

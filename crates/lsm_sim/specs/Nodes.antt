@@ -1,5 +1,5 @@
 -- How scripts name nodes: by an index, from 1, or by a letter and an index (the store's own).
-use Rattle.std.specs.Prelude.{ℕ, ◌==◌, ◌&&◌, Bool, List, [], ◌∷◌, Option, None, Some, Result, Ok, Err, is_some, nat_le, if◌then◌else◌}
+use Rattle.std.specs.Prelude.{ℕ, ◌==◌, ◌&&◌, List, [], ◌∷◌, Option, None, Some, Result, Ok, Err, nat_le, if◌then◌else◌}
 use Rattle.lsm_key.specs.declared.limits.TheConstants.{MAX_NODES}
 use Rattle.lsm_sim.specs.declared.fault.Reason.{Reason}
 use Rattle.lsm_sim.specs.declared.fault.Reason.TheVariants.{BadNumber}
@@ -18,8 +18,8 @@ node_index letter (byte ∷ digits) = if byte == letter then index_of (number di
 abbrev pub worker_index : List ℕ → Option ℕ
 worker_index word = node_index 119 word
 
-abbrev pub is_follower : List ℕ → Bool
-is_follower word = is_some (node_index 102 word)
+abbrev pub follower_index : List ℕ → Option ℕ
+follower_index word = node_index 102 word
 
 -- a word that must be an index
 abbrev pub index_or_fault : Option ℕ → Result ℕ Reason

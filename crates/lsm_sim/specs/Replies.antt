@@ -5,7 +5,7 @@ use Rattle.lsm_coord.specs.Contract.Shows.{place_of}
 use Rattle.lsm_world.specs.declared.reply.Reply.{Reply}
 use Rattle.lsm_world.specs.declared.reply.Reply.TheVariants as reply
 use Rattle.lsm_world.specs.Replies.{why_of}
-use Rattle.lsm_sim.specs.Lines.{wrote_text, froze_text, flushed_text, snapped_text, released_text, got_text, scanned_text, shown_text, picked_text, returned_text, stale_text, served_text, installed_text, collecting_text, merged_text, opened_text, restarted_text, refused_text, as_line}
+use Rattle.lsm_sim.specs.Lines.{wrote_text, froze_text, flushed_text, snapped_text, released_text, got_text, scanned_text, shown_text, picked_text, returned_text, stale_text, served_text, installed_text, collecting_text, merged_text, opened_text, restarted_text, trimmed_text, messages_text, read_text, waiting_text, advanced_text, restarted_follower_text, refused_text, as_line}
 
 -- the text of a reply
 abbrev pub text_of : Reply → List ℕ
@@ -29,6 +29,13 @@ text_of (reply.Merged sent) = merged_text sent
 text_of reply.Dropped = codes "dropped"
 text_of (reply.Restarted epoch number last) = opened_text epoch number last
 text_of (reply.RestartedWorker worker) = restarted_text worker
+text_of (reply.Trimmed floor files) = trimmed_text floor files
+text_of (reply.Asked sent) = messages_text sent
+text_of (reply.ReadAt number value) = read_text number value
+text_of (reply.Waiting missing sent) = waiting_text missing sent
+text_of (reply.Advanced number) = advanced_text number
+text_of reply.Current = codes "current"
+text_of (reply.RestartedFollower follower) = restarted_follower_text follower
 text_of (reply.Refused why) = refused_text (why_of why)
 
 abbrev pub line : Reply → List ℕ

@@ -13,7 +13,7 @@ use Rattle.lsm_sim.specs.declared.fault.Fault.{Fault}
 use Rattle.lsm_sim.specs.Text.{lines, words}
 use Rattle.lsm_sim.specs.Numbers.{number}
 use Rattle.lsm_sim.specs.Tokens.{token}
-use Rattle.lsm_sim.specs.Nodes.{index_of, index_or_fault, worker_index, is_follower}
+use Rattle.lsm_sim.specs.Nodes.{index_of, index_or_fault, worker_index, follower_index}
 use Rattle.lsm_sim.specs.Deliveries.{deliver}
 use Rattle.lsm_coord.specs.declared.snapshot.SnapId.{SnapId}
 use Rattle.lsm_coord.specs.Model.Event as say
@@ -31,10 +31,13 @@ read_command word =
     else if bytes_eq word (codes "get") then Some command.Get
     else if bytes_eq word (codes "scan") then Some command.Scan
     else if bytes_eq word (codes "show") then Some command.Show
+    else if bytes_eq word (codes "trim") then Some command.Trim
     else if bytes_eq word (codes "pick") then Some command.Pick
     else if bytes_eq word (codes "giveup") then Some command.GiveUp
     else if bytes_eq word (codes "deliver") then Some command.Deliver
     else if bytes_eq word (codes "restart") then Some command.Restart
+    else if bytes_eq word (codes "ask") then Some command.Ask
+    else if bytes_eq word (codes "read") then Some command.Read
     else None
 
 -- a line that begins with a number sign is a comment
@@ -180,13 +183,22 @@ scan (lo ∷ hi ∷ limit ∷ []) = scan_at lo hi limit (Ok None)
 scan (lo ∷ hi ∷ limit ∷ name ∷ []) = scan_at lo hi limit (some_name (name_or_fault (reading_at name)))
 scan args = Err WrongWordCount
 
--- listings of followers are not there yet
+-- a listing of what is no coordinator: a follower's
+abbrev pub show_follower : Option ℕ → Result say.Event Reason
+show_follower None = Err BadName
+show_follower (Some index) = Ok (say.Show (say.Follower index))
+
 abbrev pub show : List (List ℕ) → Result say.Event Reason
 show (node ∷ []) =
     if bytes_eq node (codes "c") then Ok (say.Show say.Coordinator)
-    else if is_follower node then Err UnknownCommand
-    else Err BadName
+    else show_follower (follower_index node)
 show args = Err WrongWordCount
+
+abbrev pub trim : List (List ℕ) → Result say.Event Reason
+trim (version ∷ []) = do
+  n ← number_or_fault (number version)
+  Ok (say.Trim n)
+trim args = Err WrongWordCount
 
 abbrev pub pick : List (List ℕ) → Result say.Event Reason
 pick (dispatcher ∷ []) = do
@@ -200,15 +212,30 @@ give_up (dispatcher ∷ []) = do
   Ok (say.GiveUp index)
 give_up args = Err WrongWordCount
 
--- restarts of followers are not there yet
-abbrev pub other_restart : List ℕ → Result say.Event Reason
-other_restart node = if is_follower node then Err UnknownCommand else Err BadName
+-- a restart of what is no coordinator: a worker's or a follower's
+abbrev pub restart_other : Option ℕ → Option ℕ → Result say.Event Reason
+restart_other (Some worker) follower = Ok (say.Restart (say.Worker worker))
+restart_other None (Some follower) = Ok (say.Restart (say.Follower follower))
+restart_other None None = Err BadName
 
 abbrev pub restart : List (List ℕ) → Result say.Event Reason
 restart (node ∷ []) =
     if bytes_eq node (codes "c") then Ok (say.Restart say.Coordinator)
-    else elim (worker_index node) [ None ↦ other_restart node | Some index ↦ Ok (say.Restart (say.Worker index)) ]
+    else restart_other (worker_index node) (follower_index node)
 restart args = Err WrongWordCount
+
+abbrev pub ask : List (List ℕ) → Result say.Event Reason
+ask (follower ∷ []) = do
+  index ← index_or_fault (index_of (number follower))
+  Ok (say.Ask index)
+ask args = Err WrongWordCount
+
+abbrev pub read : List (List ℕ) → Result say.Event Reason
+read (follower ∷ key ∷ []) = do
+  index ← index_or_fault (index_of (number follower))
+  k ← key_or_value key
+  Ok (say.Read index k)
+read args = Err WrongWordCount
 
 abbrev pub one_event : Result say.Event Reason → Result (List say.Event) Reason
 one_event asks = asks >>= λ event. Ok (event ∷ [])
@@ -225,10 +252,13 @@ events_of_command (Some command.Release) args = one_event (release args)
 events_of_command (Some command.Get) args = one_event (get args)
 events_of_command (Some command.Scan) args = one_event (scan args)
 events_of_command (Some command.Show) args = one_event (show args)
+events_of_command (Some command.Trim) args = one_event (trim args)
 events_of_command (Some command.Pick) args = one_event (pick args)
 events_of_command (Some command.GiveUp) args = one_event (give_up args)
 events_of_command (Some command.Deliver) args = deliver args
 events_of_command (Some command.Restart) args = one_event (restart args)
+events_of_command (Some command.Ask) args = one_event (ask args)
+events_of_command (Some command.Read) args = one_event (read args)
 
 -- the events of a line's words: a line without words, and a comment, have none
 unfoldable pub events_of_words : List (List ℕ) → Result (List say.Event) Reason

@@ -16,8 +16,11 @@ pub enum Command {
     Get,
     Scan,
     Show,
+    Trim,
     Pick,
     GiveUp,
     Deliver,
     Restart,
+    Ask,
+    Read,
 }

@@ -1,7 +1,7 @@
 //! The lines of jobs, of those that run them and of messages.
 
 ghost use Rattle.std.specs.Prelude.{◌≡◌, ◌++◌, OnOk};
-ghost use Rattle.lsm_sim.specs.Lines.{sent_text, picked_text, returned_text, stale_text, served_text, made_text, installed_text, collecting_text, merged_text, opened_text, restarted_text};
+ghost use Rattle.lsm_sim.specs.Lines.{messages_text, sent_text, picked_text, returned_text, stale_text, served_text, made_text, installed_text, collecting_text, merged_text, opened_text, restarted_text};
 
 use crate::text::{write_name, write_number, write_numbers, write_text};
 use lsm_claim::JobId;
@@ -11,25 +11,38 @@ use lsm_world::{PickedJob, Sent};
 use std::alloc::AllocError;
 
 /// ` message M`, ` messages A-B` or ` message lost`, or nothing
-fn write_sent(out: &mut Vec<u8>, sent: Sent) -> Result<(), AllocError>
+pub fn write_sent(out: &mut Vec<u8>, sent: Sent) -> Result<(), AllocError>
     ensures { OnOk result (out.new.items ≡ out.old.items ++ sent_text sent) }
 {
     match sent {
         Sent::Nothing => Ok(()),
-        Sent::Lost => write_text(out, " message lost"),
-        Sent::Messages(first, last) => write_messages(out, first, last),
+        Sent::Lost | Sent::Messages(_, _) => {
+            write_text(out, " ")?;
+            write_messages(out, sent)
+        }
     }
 }
 
-/// ` message A`, or ` messages A-B` if A and B differ
-fn write_messages(out: &mut Vec<u8>, first: u64, last: u64) -> Result<(), AllocError>
-    ensures { OnOk result (out.new.items ≡ out.old.items ++ sent_text (Sent.Messages first last)) }
+/// `message M`, `messages A-B` or `message lost`, or nothing
+pub fn write_messages(out: &mut Vec<u8>, sent: Sent) -> Result<(), AllocError>
+    ensures { OnOk result (out.new.items ≡ out.old.items ++ messages_text sent) }
+{
+    match sent {
+        Sent::Nothing => Ok(()),
+        Sent::Lost => write_text(out, "message lost"),
+        Sent::Messages(first, last) => write_range(out, first, last),
+    }
+}
+
+/// `message A`, or `messages A-B` if A and B differ
+fn write_range(out: &mut Vec<u8>, first: u64, last: u64) -> Result<(), AllocError>
+    ensures { OnOk result (out.new.items ≡ out.old.items ++ messages_text (Sent.Messages first last)) }
 {
     if first == last {
-        write_text(out, " message ")?;
+        write_text(out, "message ")?;
         return write_number(out, first);
     }
-    write_text(out, " messages ")?;
+    write_text(out, "messages ")?;
     write_number(out, first)?;
     write_text(out, "-")?;
     write_number(out, last)

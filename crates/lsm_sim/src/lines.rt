@@ -4,9 +4,12 @@ ghost use Rattle.std.specs.Prelude.{◌≡◌, ◌++◌, OnOk};
 ghost use Rattle.lsm_sim.specs.Lines.{wrote_text, froze_text, flushed_text, snapped_text, released_text, got_text, pair_text, scanned_text};
 ghost use Rattle.lsm_sim.specs.Replies.{text_of, line};
 
+use crate::followers::{
+    write_advanced, write_read, write_restarted_follower, write_trimmed, write_waiting,
+};
 use crate::jobs::{
-    write_collecting, write_installed, write_merged, write_opened, write_picked, write_restarted,
-    write_returned, write_served, write_stale,
+    write_collecting, write_installed, write_merged, write_messages, write_opened, write_picked,
+    write_restarted, write_returned, write_served, write_stale,
 };
 use crate::listing::write_shown;
 use crate::refusals::write_refused;
@@ -74,7 +77,7 @@ fn write_released(out: &mut Vec<u8>, id: SnapId) -> Result<(), AllocError>
 }
 
 /// `value V`, or `none`
-fn write_got(out: &mut Vec<u8>, value: &Option<Bytes>) -> Result<(), AllocError>
+pub fn write_got(out: &mut Vec<u8>, value: &Option<Bytes>) -> Result<(), AllocError>
     ensures { OnOk result (out.new.items ≡ out.old.items ++ got_text value.now) }
 {
     match value {
@@ -133,6 +136,13 @@ fn write_reply(alloc: Global, out: &mut Vec<u8>, reply: &Reply) -> Result<(), Al
         Reply::Dropped => write_text(out, "dropped"),
         Reply::Restarted(epoch, number, last) => write_opened(out, *epoch, *number, *last),
         Reply::RestartedWorker(worker) => write_restarted(out, *worker),
+        Reply::Trimmed(floor, files) => write_trimmed(out, *floor, files.as_slice()),
+        Reply::Asked(sent) => write_messages(out, *sent),
+        Reply::ReadAt(number, value) => write_read(out, *number, value),
+        Reply::Waiting(missing, sent) => write_waiting(out, *missing, *sent),
+        Reply::Advanced(number) => write_advanced(out, *number),
+        Reply::Current => write_text(out, "current"),
+        Reply::RestartedFollower(follower) => write_restarted_follower(out, *follower),
         Reply::Refused(refusal) => write_refused(out, *refusal),
     }
 }

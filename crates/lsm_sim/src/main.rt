@@ -6,6 +6,8 @@ mod command;
 mod deliver;
 mod error;
 mod fault;
+mod follow;
+mod followers;
 mod jobs;
 mod lines;
 mod listing;

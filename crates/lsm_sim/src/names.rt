@@ -2,7 +2,7 @@
 
 ghost use Rattle.std.specs.Prelude.{◌≡◌, position};
 ghost use Rattle.lsm_sim.specs.Numbers.{number};
-ghost use Rattle.lsm_sim.specs.Nodes.{index_of, node_index, worker_index, is_follower};
+ghost use Rattle.lsm_sim.specs.Nodes.{index_of, node_index, worker_index, follower_index};
 ghost use Rattle.lsm_sim.specs.Script.{read_command, is_comment, is_point, snapshot_from, read_snapshot, reading_at};
 
 use crate::command::Command;
@@ -35,6 +35,8 @@ pub fn read_command(word: &[u8]) -> Option<Command>
         Some(Command::Scan)
     } else if word == b"show".as_slice() {
         Some(Command::Show)
+    } else if word == b"trim".as_slice() {
+        Some(Command::Trim)
     } else if word == b"pick".as_slice() {
         Some(Command::Pick)
     } else if word == b"giveup".as_slice() {
@@ -43,6 +45,10 @@ pub fn read_command(word: &[u8]) -> Option<Command>
         Some(Command::Deliver)
     } else if word == b"restart".as_slice() {
         Some(Command::Restart)
+    } else if word == b"ask".as_slice() {
+        Some(Command::Ask)
+    } else if word == b"read".as_slice() {
+        Some(Command::Read)
     } else {
         None
     }
@@ -122,9 +128,9 @@ pub fn worker_index(word: &[u8]) -> Option<NodeIndex>
     node_index(b'w', word)
 }
 
-/// Whether the word is the name of a follower.
-pub fn is_follower(word: &[u8]) -> bool
-    ensures { result ≡ is_follower word.now }
+/// The index of the follower of this name.
+pub fn follower_index(word: &[u8]) -> Option<NodeIndex>
+    ensures { result ≡ follower_index word.now }
 {
-    node_index(b'f', word).is_some()
+    node_index(b'f', word)
 }

@@ -60,7 +60,7 @@ fn scan_then(
 }
 
 /// The number that a word must be.
-fn counted(number: Option<u64>) -> Result<u64, Refused<Reason>>
+pub fn counted(number: Option<u64>) -> Result<u64, Refused<Reason>>
     ensures { Gives (λ n. n) result (number_or_fault number) }
 {
     number.ok_or(Refused::Fault(Reason::BadNumber))

@@ -6,10 +6,10 @@ ghost use Rattle.lsm_world.specs.Events.{event_of};
 ghost use Rattle.lsm_sim.specs.Text.{words};
 ghost use Rattle.lsm_sim.specs.Nodes.{index_of, index_or_fault};
 ghost use Rattle.lsm_sim.specs.Numbers.{number};
-ghost use Rattle.lsm_sim.specs.Script.{pick, give_up, restart, other_restart};
+ghost use Rattle.lsm_sim.specs.Script.{pick, give_up, restart, restart_other};
 
 use crate::fault::Reason;
-use crate::names::{is_follower, read_index, worker_index};
+use crate::names::{follower_index, read_index, worker_index};
 use crate::words::Words;
 use lsm_key::Refused;
 use lsm_msg::NodeIndex;
@@ -37,7 +37,7 @@ pub fn give_up(mut args: Words<'_>) -> Result<Event, Refused<Reason>>
     Ok(Event::GiveUp(dispatcher))
 }
 
-/// `restart c`, `restart wD`
+/// `restart c`, `restart wD`, `restart fI`
 pub fn restart(mut args: Words<'_>) -> Result<Event, Refused<Reason>>
     ensures { Gives event_of result (restart (words args.entry.rest.now)) }
 {
@@ -47,25 +47,25 @@ pub fn restart(mut args: Words<'_>) -> Result<Event, Refused<Reason>>
     if node == b"c".as_slice() {
         return Ok(Event::RestartCoordinator);
     }
-    match worker_index(node) {
-        Some(worker) => Ok(Event::RestartWorker(worker)),
-        None => Err(Refused::Fault(no_restart(node))),
-    }
+    restart_other(worker_index(node), follower_index(node))
 }
 
-// Why this node is not started anew.
-fn no_restart(node: &[u8]) -> Reason
-    ensures { other_restart node.now ≡ Err result }
+// The restart of a worker or a follower.
+fn restart_other(
+    worker: Option<NodeIndex>,
+    follower: Option<NodeIndex>,
+) -> Result<Event, Refused<Reason>>
+    ensures { Gives event_of result (restart_other worker follower) }
 {
-    if is_follower(node) {
-        Reason::UnknownCommand
-    } else {
-        Reason::BadName
+    match (worker, follower) {
+        (Some(worker), _) => Ok(Event::RestartWorker(worker)),
+        (None, Some(follower)) => Ok(Event::RestartFollower(follower)),
+        (None, None) => Err(Refused::Fault(Reason::BadName)),
     }
 }
 
 /// The index that a word must be.
-fn indexed(index: Option<NodeIndex>) -> Result<NodeIndex, Refused<Reason>>
+pub fn indexed(index: Option<NodeIndex>) -> Result<NodeIndex, Refused<Reason>>
     ensures { Gives (λ i. i) result (index_or_fault index) }
 {
     index.ok_or(Refused::Fault(Reason::BadNumber))

@@ -5,19 +5,22 @@ ghost use Rattle.std.specs.Prelude.{◌≡◌, ◌∷◌, [], Ok, map};
 ghost use Rattle.lsm_key.specs.Reading.{Gives};
 ghost use Rattle.lsm_world.specs.Events.{event_of};
 ghost use Rattle.lsm_sim.specs.Text.{words};
-ghost use Rattle.lsm_sim.specs.Script.{events_of_command, name_or_fault, events_of_words, script, put, delete, freeze, flush, snap, release, get, show};
+ghost use Rattle.lsm_sim.specs.Script.{events_of_command, name_or_fault, events_of_words, script, put, delete, freeze, flush, snap, release, get, show, show_follower, trim};
 
 use crate::batch::batch;
 use crate::command::Command;
 use crate::deliver::deliver;
 use crate::fault::{Fault, Reason};
-use crate::names::{is_comment, is_follower, read_command, read_snapshot, reading_at};
-use crate::scan::scan;
+use crate::follow::{ask, read};
+use crate::names::{follower_index, is_comment, read_command, read_snapshot, reading_at};
+use crate::number::read_number;
+use crate::scan::{counted, scan};
 use crate::schedule::{give_up, pick, restart};
 use crate::token::key_or_value;
 use crate::words::{Lines, Words};
 use lsm_coord::SnapId;
-use lsm_key::{Items, Op, Refused};
+use lsm_key::{Items, Op, Refused, VersionNumber};
+use lsm_msg::NodeIndex;
 use lsm_world::Event;
 use std::alloc::Global;
 
@@ -117,7 +120,7 @@ fn get_at(alloc: Global, key: &[u8], name: &[u8]) -> Result<Event, Refused<Reaso
     Ok(Event::Get(key, Some(id)))
 }
 
-/// `show c`
+/// `show c`, `show fI`
 fn show(mut args: Words<'_>) -> Result<Event, Refused<Reason>>
     ensures { Gives event_of result (show (words args.entry.rest.now)) }
 {
@@ -126,11 +129,30 @@ fn show(mut args: Words<'_>) -> Result<Event, Refused<Reason>>
     };
     if node == b"c".as_slice() {
         Ok(Event::Show)
-    } else if is_follower(node) {
-        Err(Refused::Fault(Reason::UnknownCommand))
     } else {
-        Err(Refused::Fault(Reason::BadName))
+        show_follower(follower_index(node))
     }
+}
+
+// The listing of a follower.
+fn show_follower(follower: Option<NodeIndex>) -> Result<Event, Refused<Reason>>
+    ensures { Gives event_of result (show_follower follower) }
+{
+    match follower {
+        None => Err(Refused::Fault(Reason::BadName)),
+        Some(follower) => Ok(Event::ShowFollower(follower)),
+    }
+}
+
+/// `trim N`
+fn trim(mut args: Words<'_>) -> Result<Event, Refused<Reason>>
+    ensures { Gives event_of result (trim (words args.entry.rest.now)) }
+{
+    let (Some(version), None) = (args.next(), args.next()) else {
+        return Err(Refused::Fault(Reason::WrongWordCount));
+    };
+    let version = counted(read_number(version))?;
+    Ok(Event::Trim(VersionNumber::new(version)))
 }
 
 /// One event.
@@ -160,10 +182,13 @@ fn asked(
         Some(Command::Get) => one(alloc, get(alloc, args)?),
         Some(Command::Scan) => one(alloc, scan(alloc, args)?),
         Some(Command::Show) => one(alloc, show(args)?),
+        Some(Command::Trim) => one(alloc, trim(args)?),
         Some(Command::Pick) => one(alloc, pick(args)?),
         Some(Command::GiveUp) => one(alloc, give_up(args)?),
         Some(Command::Deliver) => deliver(alloc, args),
         Some(Command::Restart) => one(alloc, restart(args)?),
+        Some(Command::Ask) => one(alloc, ask(args)?),
+        Some(Command::Read) => one(alloc, read(alloc, args)?),
     }
 }
 

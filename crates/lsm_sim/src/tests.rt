@@ -18,13 +18,13 @@ const LINES: &[u8] = b"seq 1\nvalue 1\n";
 #[test]
 fn every_command_is_read(rt: HostRuntime) -> Result<(), Fail> {
     let script =
-        "\n # of nothing\n\tput a\t%41%7e\r\n#\nput \"\" \"\nflush\ndel %25\nget a=b\nshow c\nfreeze\nsnap\nrelease 1.2\nget a @0.18446744073709551615\nscan a b 3\npick 1\ngiveup 4\ndeliver 7\ndeliver 18446744073709551614-18446744073709551615\nrestart w2\nrestart c";
+        "\n # of nothing\n\tput a\t%41%7e\r\n#\nput \"\" \"\nflush\ndel %25\nget a=b\nshow c\nfreeze\nsnap\nrelease 1.2\nget a @0.18446744073709551615\nscan a b 3\npick 1\ngiveup 4\ndeliver 7\ndeliver 18446744073709551614-18446744073709551615\nrestart w2\nrestart c\nask 1\nread 4 \"\"\nshow f2\nrestart f3\ntrim 0";
     let Ok(events) = parse(rt.alloc(), script.as_bytes()) else {
         return Err(Fail::from("a fault"));
     };
     let text = format!(in rt.alloc(); "{events:?}")?;
     let wanted =
-        "[Write(Items { vec: [Put(b\"a\", b\"A~\")] }), Write(Items { vec: [Put(b\"\", b\"\\\"\")] }), Flush, Write(Items { vec: [Delete(b\"%\")] }), Get(b\"a=b\", None), Show, Freeze, Snap, Release(SnapId { epoch: 1, number: 2 }), Get(b\"a\", Some(SnapId { epoch: 0, number: 18446744073709551615 })), Scan(ScanRange { lo: b\"a\", hi: b\"b\", at: None, limit: 3 }), Pick(NodeIndex { number: 1 }), GiveUp(NodeIndex { number: 4 }), Deliver(7), Deliver(18446744073709551614), Deliver(18446744073709551615), RestartWorker(NodeIndex { number: 2 }), RestartCoordinator]";
+        "[Write(Items { vec: [Put(b\"a\", b\"A~\")] }), Write(Items { vec: [Put(b\"\", b\"\\\"\")] }), Flush, Write(Items { vec: [Delete(b\"%\")] }), Get(b\"a=b\", None), Show, Freeze, Snap, Release(SnapId { epoch: 1, number: 2 }), Get(b\"a\", Some(SnapId { epoch: 0, number: 18446744073709551615 })), Scan(ScanRange { lo: b\"a\", hi: b\"b\", at: None, limit: 3 }), Pick(NodeIndex { number: 1 }), GiveUp(NodeIndex { number: 4 }), Deliver(7), Deliver(18446744073709551614), Deliver(18446744073709551615), RestartWorker(NodeIndex { number: 2 }), RestartCoordinator, Ask(NodeIndex { number: 1 }), Read(NodeIndex { number: 4 }, b\"\"), ShowFollower(NodeIndex { number: 2 }), RestartFollower(NodeIndex { number: 3 }), Trim(VersionNumber { number: 0 })]";
     assert!(rt; text.as_str() == wanted);
     Ok(())
 }
