@@ -253,7 +253,7 @@ def add_arguments(arguments, count=1):
     arguments.add_argument("--seed", type=int, default=1)
     arguments.add_argument("--count", type=int, default=count)
     arguments.add_argument("--length", type=int, default=60, help="events of a schedule; some have four times as many")
-    arguments.add_argument("--commands", choices=sorted(COMMANDS), default="schedules")
+    arguments.add_argument("--commands", choices=sorted(COMMANDS), default="all")
 
 
 def write_case(folder, it):

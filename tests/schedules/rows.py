@@ -1,5 +1,5 @@
-"""Worked scripts with the lines that they print: those of the folder rows, and of its folder followers those that need the commands
-of followers, and some that are too long for a file, at the limits of a job and of a merge's outputs."""
+"""Worked scripts with the lines that they print: those of the folder rows, and of its folder followers those of followers and trims,
+and some that are too long for a file, at the limits of a job and of a merge's outputs."""
 import glob
 import os
 import re
@@ -155,10 +155,9 @@ def made():
     yield row("an output that is not closed", "--l0 1", cut_at(1_999_999))
 
 
-def rows(has_followers):
-    for folder in [FOLDER, *([FOLLOWERS] if has_followers else [])]:
+def rows():
+    for folder in FOLDER, FOLLOWERS:
         yield from stored(folder)
         yield from faults(folder)
     yield from made()
-    if has_followers:
-        yield row("a follower reads a key that is too long", "", [(f"read 1 {'k' * 1_025}", "at 0 none")])
+    yield row("a follower reads a key that is too long", "", [(f"read 1 {'k' * 1_025}", "at 0 none")])

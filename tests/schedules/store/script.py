@@ -82,9 +82,6 @@ def snapshot(words):
     return name(words[0][1:])
 
 
-ROLES = {"c", "w", "f"}
-
-
 def node(word):
     """A node's letter, with the number of one that is not the coordinator."""
     if word == b"c":
@@ -143,7 +140,6 @@ def deliver(words):
 
 def restart(words):
     role, which = node(words[0])
-    fault_if(role not in ROLES, "unknown command")
     if role == "c":
         return [events.RestartCoordinator()]
     return [events.RestartWorker(which) if role == "w" else events.RestartFollower(which)]
@@ -152,7 +148,6 @@ def restart(words):
 def show(words):
     role, which = node(words[0])
     fault_if(role == "w", "bad name")
-    fault_if(role not in ROLES, "unknown command")
     return [events.Show() if role == "c" else events.ShowFollower(which)]
 
 
@@ -176,10 +171,3 @@ COMMANDS = {
     b"read": ({2}, lambda words: [events.Read(index(words[0]), token(words[1]))]),
     b"trim": ({1}, lambda words: [events.Trim(number(words[0]))]),
 }
-
-
-def leave_out_followers():
-    """From now on trims and all commands of followers are unknown: a program without followers is compared so."""
-    ROLES.remove("f")
-    for it in (b"ask", b"read", b"trim"):
-        del COMMANDS[it]
