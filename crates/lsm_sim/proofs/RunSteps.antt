@@ -5,12 +5,12 @@ use Rattle.lsm_coord.specs.Model.State.{first_state}
 use Rattle.lsm_key.specs.declared.limits.Limits.{Limits}
 use Rattle.lsm_world.specs.declared.event.Event.{Event}
 use Rattle.lsm_world.specs.declared.reply.Reply.{Reply}
-use Rattle.lsm_coord.specs.Contract.Seats.{ShowsSeat}
 use Rattle.lsm_world.specs.Asks.{AsksStore}
 use Rattle.lsm_world.specs.Events.{event_of}
 use Rattle.lsm_world.specs.Nodes.{StoreValue}
 use Rattle.lsm_world.specs.Replies.{reply_of}
-use Rattle.lsm_world.specs.Schedules.{WorldValue, FollowsStore, IsNew}
+use Rattle.lsm_world.specs.Schedules.{WorldValue, IsNew}
+use Rattle.lsm_world.specs.Shown.{FollowsStore}
 use Rattle.lsm_world.proofs.RunningSchedules.{asked_none, asked_more, runs_none, runs_more}
 use Rattle.lsm_sim.specs.Replies.{line, lines}
 use Rattle.lsm_sim.specs.Runs.{Happens, Prints, PrintsScript}
@@ -70,7 +70,7 @@ on_ok (Err e) P p = tt
 -- what happens to a new store prints its replies' lines
 pub happens_prints : (limits : Limits) (first : WorldValue) (last : StoreValue) (events : List Event) (replies : List Reply) → IsNew limits first → Happens first.nodes events replies last → Prints limits events (lines replies)
 happens_prints limits first last events replies new happens =
-    let end = happens.runs first_state (subst (λ (x : StoreValue). ShowsSeat x.seat first_state) (sym new.2) new.1.shown) in
+    let end = happens.runs first_state new.4 in
     record { first = first; is_new = new; replies = replies; last = last; asked = happens.asked; runs = (end.0, end.1); prints = refl }
 
 -- what happens to a new store prints what its script says

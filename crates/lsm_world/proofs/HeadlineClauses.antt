@@ -1,8 +1,7 @@
 -- The headline's clauses, of every run of a new store.
-use Rattle.std.proofs.Common.{◌≡◌, ℕ, zero, suc, List, [], ◌∷◌, Option, Some, take, refl, sym, subst}
+use Rattle.std.proofs.Common.{◌≡◌, ℕ, zero, suc, List, [], ◌∷◌, Option, Some, take, refl, subst}
 use Rattle.std.specs.Prelude.{slice_get}
 use Rattle.std.proofs.lemmas.Option.{same_Some}
-use Rattle.lsm_key.specs.declared.limits.Limits.{Limits}
 use Rattle.lsm_coord.specs.Model.Event.{Event, Reply}
 use Rattle.lsm_coord.specs.Model.Event as say
 use Rattle.lsm_coord.specs.Model.Run.{Run}
@@ -10,10 +9,6 @@ use Rattle.lsm_coord.specs.Model.State.{State, first_state}
 use Rattle.lsm_coord.specs.Model.Step.{Step}
 use Rattle.lsm_coord.proofs.RunInvariants.{followers_agree, listings_agree}
 use Rattle.lsm_world.specs.Headline.{FollowerReadsAreNewest, GiveOneAnswer, ReadsAreNewest, ShowOneListing}
-use Rattle.lsm_world.specs.Nodes.{StoreValue}
-use Rattle.lsm_world.specs.Schedules.{IsFitBy, IsNew, IsWorld, WorldValue}
-use Rattle.lsm_world.specs.Shown.{ShowsStore}
-use Rattle.lsm_world.proofs.FirstHistory.{first_shown}
 
 -- ---- one event of a run
 
@@ -45,9 +40,3 @@ module _ (es : List Event) (rs : List Reply) (t : State) (run : Run first_state 
 
   pub one_answer : GiveOneAnswer es rs
   one_answer = followers_agree es rs (t, run)
-
--- ---- the world
-
--- A NEW WORLD SHOWS THE FIRST STATE.
-pub new_shown : (due : Limits) (w : WorldValue) → IsNew due w → IsWorld w → ShowsStore w.nodes first_state
-new_shown due w new is = subst (λ (n : StoreValue). ShowsStore n first_state) (sym new.2) (first_shown due new.0 new.1 (subst (λ (n : StoreValue). IsFitBy n.seat.core n.seat) new.2 is.fit))

@@ -50,9 +50,9 @@ pub record AreNew (due : Limits) (n : NodesValue) : Type 0 where
   pub followers : n.network.followers ≡ first_followers
   pub messages : n.network.messages ≡ []
 
--- and no event was taken
+-- no event was taken, and the nodes show the first state
 abbrev pub IsNew : Limits → WorldValue → Type 0
-IsNew due w = (n : NodesValue) × AreNew due n × (w.nodes ≡ up_store n) × (w.trace ≡ [])
+IsNew due w = (n : NodesValue) × AreNew due n × (w.nodes ≡ up_store n) × (w.trace ≡ []) × ShowsStore w.nodes first_state
 
 -- each event asked its node, and got the reply
 abbrev pub AskedAll : StoreValue → List Event → List Reply → StoreValue → Type 0

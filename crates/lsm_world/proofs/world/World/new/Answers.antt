@@ -5,6 +5,7 @@ use Rattle.lsm_versions.specs.Kept.{Kept}
 use Rattle.lsm_versions.specs.Opening.{MayHaveDropped, OpenRefuses}
 use Rattle.lsm_coord.specs.Contract.Value.{CoordValue}
 use Rattle.lsm_world.specs.Schedules.{AreNew}
+use Rattle.lsm_world.proofs.FirstHistory.{first_shown}
 use Rattle.lsm_world.proofs.NewVaults.{new_refused, none_dropped}
 use Rattle.lsm_world.proofs.RunningSchedules.{reached_first}
 use Rattle.lsm_world.proofs.world.World.new.Goals as goal
@@ -14,7 +15,13 @@ invariant_of-result g c = (refl, rw c.new-in-Ok.ensures.items (reached_first c.i
 
 pub returns-in-Ok-clause-new : goal.returns-in-Ok-clause-new
 returns-in-Ok-clause-new g c =
-    (c.new.result, subst (λ (l : Limits). AreNew l c.new.result) (ap (λ (x : CoordValue). x.limits) c.in-Ok.ensures.ok.is) c.new.ensures.new, refl, c.new-in-Ok.ensures.items)
+    (
+      c.new.result,
+      subst (λ (l : Limits). AreNew l c.new.result) (ap (λ (x : CoordValue). x.limits) c.in-Ok.ensures.ok.is) c.new.ensures.new,
+      refl,
+      c.new-in-Ok.ensures.items,
+      first_shown c.in-Ok.coord.limits c.new.result c.new.ensures.new c.new.ensures.fit,
+    )
 
 pub returns-in-Err-clause-refused : goal.returns-in-Err-clause-refused
 returns-in-Err-clause-refused g c = new_refused (g.V.Vault.tables c.args.vault) c.in-Err.why (subst (λ (texts : List (List ℕ)). OpenRefuses texts (g.V.Vault.tables c.args.vault) c.in-Err.why) c.requires.edits c.in-Err.ensures.refused)

@@ -9,7 +9,7 @@ use Rattle.lsm_coord.specs.Model.State.{State, first_state}
 use Rattle.lsm_world.specs.Events.{event_of}
 use Rattle.lsm_world.specs.Replies.{reply_of}
 use Rattle.lsm_world.specs.Schedules.{IsNew, IsPlain, RunsTo}
-use Rattle.lsm_world.proofs.HeadlineClauses.{follower_reads_newest, new_shown, one_answer, one_listing, reads_newest}
+use Rattle.lsm_world.proofs.HeadlineClauses.{follower_reads_newest, one_answer, one_listing, reads_newest}
 use Rattle.lsm_world.proofs.RunningSchedules.{asked_more, counted_more, runs_more, taken_or_not, traced_more}
 use Rattle.lsm_world.proofs.world.World.run.Given.{Over}
 use Rattle.lsm_world.proofs.world.World.run.Goals as goal
@@ -39,7 +39,7 @@ run_of_new : (g : Over) (c : goal.After-known-2 g) → (due : Limits) → IsNew 
 run_of_new g c due new =
     let all : take c.loop-event.event-index c.args.events.now ≡ c.args.events.now = take_all c.loop-event.event-index c.args.events.now (omega (arith, c.loop-event-test.false)) in
     let runs = subst (λ (es : List Event). RunsTo c.args.self.now.nodes es c.loop-event.replies.items c.loop-event.self.nodes) all c.loop-event.invariant.run in
-    let then = runs first_state (new_shown due c.args.self.now new c.known.ensures) in
+    let then = runs first_state new.4 in
     (then.0, then.1)
 
 pub returns-clause-reads : goal.returns-clause-reads
