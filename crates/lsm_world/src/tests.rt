@@ -1,5 +1,6 @@
 //! Worked schedules: each event with its reply. Want of memory is reported, and never another reply in its place.
 
+mod followers;
 mod fuses;
 mod schedules;
 
@@ -7,7 +8,7 @@ use crate::{Event, Refusal, Reply, Sent, World};
 use bytes::Bytes;
 use lsm_coord::{CoordError, ScanRange, SnapId};
 use lsm_edit::FileMeta;
-use lsm_key::{FileNumber, Items, KeyError, Limits, Op};
+use lsm_key::{FileNumber, Items, KeyError, Limits, Op, VersionNumber};
 use lsm_msg::NodeIndex;
 use lsm_vault::{FusedVault, MemoryVault, Vault};
 use lsm_versions::OpenError;
@@ -61,6 +62,11 @@ fn event_of(alloc: Global, does: Does) -> Result<Event, Fail> {
         Does::Deliver(message) => Ok(Event::Deliver(message)),
         Does::RestartCoordinator => Ok(Event::RestartCoordinator),
         Does::RestartWorker(worker) => Ok(Event::RestartWorker(index_of(worker)?)),
+        Does::Ask(follower) => Ok(Event::Ask(index_of(follower)?)),
+        Does::Read(follower, key) => Ok(Event::Read(index_of(follower)?, Bytes::from_static(key))),
+        Does::ShowFollower(follower) => Ok(Event::ShowFollower(index_of(follower)?)),
+        Does::RestartFollower(follower) => Ok(Event::RestartFollower(index_of(follower)?)),
+        Does::Trim(number) => Ok(Event::Trim(VersionNumber::new(number))),
     }
 }
 
@@ -80,7 +86,9 @@ fn lacks_memory(reply: &Reply) -> bool {
         Reply::Picked(_, sent)
         | Reply::Served(sent)
         | Reply::Collecting(_, sent)
-        | Reply::Merged(sent) => *sent == Sent::Lost,
+        | Reply::Merged(sent)
+        | Reply::Asked(sent)
+        | Reply::Waiting(_, sent) => *sent == Sent::Lost,
         _ => false,
     }
 }
@@ -116,6 +124,15 @@ fn is_only(pairs: &[(Bytes, Bytes)], key: &[u8], value: &[u8]) -> bool {
     }
 }
 
+/// Whether there is this value, or none.
+fn is_value(value: &Option<Bytes>, wanted: Option<&[u8]>) -> bool {
+    match (value, wanted) {
+        (None, None) => true,
+        (Some(value), Some(wanted)) => value.as_slice() == wanted,
+        _ => false,
+    }
+}
+
 /// Whether the reply is the one that is wanted.
 fn is_told(reply: &Reply, wanted: Tells) -> bool {
     match (reply, wanted) {
@@ -128,8 +145,7 @@ fn is_told(reply: &Reply, wanted: Tells) -> bool {
         (Reply::Snapped(id, at), Tells::Snapped(number, seq)) => (id.epoch, id.number, at.number())
             == (1, number, seq),
         (Reply::Released(id), Tells::Released(number)) => (id.epoch, id.number) == (1, number),
-        (Reply::Got(None), Tells::Got(None)) => true,
-        (Reply::Got(Some(value)), Tells::Got(Some(wanted))) => value.as_slice() == wanted,
+        (Reply::Got(value), Tells::Got(wanted)) => is_value(value, wanted),
         (Reply::Scanned(pairs), Tells::Scanned(key, value)) => is_only(
             pairs.as_slice(),
             key,
@@ -149,7 +165,8 @@ fn is_told(reply: &Reply, wanted: Tells) -> bool {
         (Reply::Installed(version, files), Tells::Installed(number, new)) => version.number()
             == number
             && are_numbered(files.as_slice(), new),
-        (Reply::Collecting(missing, sent), Tells::Asked(count, first, last)) => *missing == count
+        (Reply::Collecting(missing, sent), Tells::Collecting(count, first, last)) => *missing
+            == count
             && *sent == Sent::Messages(first, last),
         (Reply::Collecting(missing, sent), Tells::Kept(count)) => *missing == count
             && *sent == Sent::Nothing,
@@ -159,6 +176,20 @@ fn is_told(reply: &Reply, wanted: Tells) -> bool {
         }
         (Reply::RestartedWorker(index), Tells::RestartedWorker(worker)) => index.number() == worker,
         (Reply::Refused(why), Tells::Refused(wanted)) => *why == wanted,
+        (Reply::Trimmed(floor, removed), Tells::Trimmed(number, files)) => floor.number() == number
+            && are_numbered(removed.as_slice(), files),
+        (Reply::Asked(sent), Tells::Asked(message)) => is_one(*sent, message),
+        (Reply::ReadAt(version, value), Tells::ReadAt(number, wanted)) => version.number() == number
+            && is_value(value, wanted),
+        (Reply::Waiting(missing, sent), Tells::Waiting(count, first, last)) => *missing == count
+            && *sent == Sent::Messages(first, last),
+        (Reply::Waiting(missing, sent), Tells::Lacking(count)) => *missing == count
+            && *sent == Sent::Nothing,
+        (Reply::Advanced(version), Tells::Advanced(number)) => version.number() == number,
+        (Reply::RestartedFollower(index), Tells::RestartedFollower(follower)) => index.number()
+            == follower,
+        (Reply::Current, Tells::Current) => true,
+        (Reply::Dropped, Tells::Dropped) => true,
         (Reply::Idle, Tells::Idle) => true,
         (Reply::Ignored, Tells::Ignored) => true,
         _ => false,

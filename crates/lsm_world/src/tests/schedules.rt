@@ -25,6 +25,11 @@ pub(super) enum Does {
     Deliver(u64),
     RestartCoordinator,
     RestartWorker(u8),
+    Ask(u8),
+    Read(u8, &'static [u8]),
+    ShowFollower(u8),
+    RestartFollower(u8),
+    Trim(u64),
 }
 
 /// What is answered.
@@ -53,13 +58,26 @@ pub(super) enum Tells {
     Installed(u64, &'static [u64]),
     Ignored,
     /// How many inputs are missing, and the first and the last message.
-    Asked(u32, u64, u64),
+    Collecting(u32, u64, u64),
     /// How many inputs are missing. Nothing is sent.
     Kept(u32),
     Merged(u64),
     /// The epoch, the version, and the last sequence.
     Restarted(u64, u64, u64),
     RestartedWorker(u8),
+    /// The floor, and the files whose tables were let go.
+    Trimmed(u64, &'static [u64]),
+    Asked(u64),
+    /// A follower's version, and the value there.
+    ReadAt(u64, Option<&'static [u8]>),
+    /// How many tables a follower lacks, and the first and the last message.
+    Waiting(u32, u64, u64),
+    /// How many tables a follower lacks. Nothing is sent.
+    Lacking(u32),
+    Advanced(u64),
+    Current,
+    Dropped,
+    RestartedFollower(u8),
     Refused(Refusal),
 }
 
@@ -77,7 +95,7 @@ pub(super) const PICKED: [Turn; 5] = [
 
 /// The first worker gets both tables, and merges them.
 pub(super) const MERGED: [Turn; 5] = [
-    (Does::Deliver(1), Tells::Asked(2, 2, 3)),
+    (Does::Deliver(1), Tells::Collecting(2, 2, 3)),
     (Does::Deliver(2), Tells::Served(4)),
     (Does::Deliver(3), Tells::Served(5)),
     (Does::Deliver(4), Tells::Kept(1)),
@@ -95,7 +113,7 @@ pub(super) const INSTALLED: [Turn; 3] = [
 pub(super) const LATE: [Turn; 8] = [
     (Does::Deliver(2), Tells::Served(7)),
     (Does::Deliver(7), Tells::Ignored),
-    (Does::Deliver(1), Tells::Asked(2, 8, 9)),
+    (Does::Deliver(1), Tells::Collecting(2, 8, 9)),
     (Does::Deliver(7), Tells::Kept(1)),
     (Does::Deliver(7), Tells::Ignored),
     (Does::Deliver(9), Tells::Served(10)),
@@ -149,8 +167,8 @@ pub(super) const TWO: [Turn; 8] = [
 pub(super) const TWO_JOBS: [Turn; 16] = [
     (Does::Pick(1), Tells::Picked(1, 1, 0, &[1, 2], 1)),
     (Does::Pick(2), Tells::Picked(1, 2, 0, &[3, 4], 2)),
-    (Does::Deliver(1), Tells::Asked(2, 3, 4)),
-    (Does::Deliver(2), Tells::Asked(2, 5, 6)),
+    (Does::Deliver(1), Tells::Collecting(2, 3, 4)),
+    (Does::Deliver(2), Tells::Collecting(2, 5, 6)),
     (Does::Deliver(3), Tells::Served(7)),
     (Does::Deliver(4), Tells::Served(8)),
     (Does::Deliver(5), Tells::Served(9)),
@@ -190,12 +208,12 @@ pub(super) const DOWN: [Turn; 12] = [
     (Does::Put(b"a", b"1"), Tells::Wrote(1)),
     (Does::Flush, Tells::Flushed(2, 1, 1)),
     (Does::Pick(1), Tells::Picked(1, 1, 0, &[1], 1)),
-    (Does::Deliver(1), Tells::Asked(1, 2, 2)),
+    (Does::Deliver(1), Tells::Collecting(1, 2, 2)),
     (Does::Deliver(2), Tells::Served(3)),
     (Does::Deliver(3), Tells::Merged(4)),
     (Does::Deliver(4), Tells::Installed(3, &[2])),
     (Does::Pick(1), Tells::Picked(1, 2, 1, &[2], 5)),
-    (Does::Deliver(5), Tells::Asked(1, 6, 6)),
+    (Does::Deliver(5), Tells::Collecting(1, 6, 6)),
     (Does::Deliver(6), Tells::Served(7)),
     (Does::Deliver(7), Tells::Merged(8)),
     (Does::Deliver(8), Tells::Installed(4, &[3])),
@@ -206,7 +224,7 @@ pub(super) const OVER: [Turn; 9] = [
     (Does::Delete(b"a"), Tells::Wrote(2)),
     (Does::Flush, Tells::Flushed(5, 2, 4)),
     (Does::Pick(1), Tells::Picked(1, 3, 0, &[4], 9)),
-    (Does::Deliver(9), Tells::Asked(1, 10, 10)),
+    (Does::Deliver(9), Tells::Collecting(1, 10, 10)),
     (Does::Deliver(10), Tells::Served(11)),
     (Does::Deliver(11), Tells::Merged(12)),
     (Does::Deliver(12), Tells::Installed(6, &[5])),
@@ -216,8 +234,8 @@ pub(super) const OVER: [Turn; 9] = [
 
 /// A job that is delivered twice asks twice, and one table is enough.
 pub(super) const TWICE: [Turn; 6] = [
-    (Does::Deliver(1), Tells::Asked(2, 2, 3)),
-    (Does::Deliver(1), Tells::Asked(2, 4, 5)),
+    (Does::Deliver(1), Tells::Collecting(2, 2, 3)),
+    (Does::Deliver(1), Tells::Collecting(2, 4, 5)),
     (Does::Deliver(2), Tells::Served(6)),
     (Does::Deliver(4), Tells::Served(7)),
     (Does::Deliver(6), Tells::Kept(1)),
@@ -228,7 +246,7 @@ pub(super) const TWICE: [Turn; 6] = [
 pub(super) const ANEW: [Turn; 3] = [
     (Does::RestartWorker(1), Tells::RestartedWorker(1)),
     (Does::Deliver(7), Tells::Ignored),
-    (Does::Deliver(1), Tells::Asked(2, 8, 9)),
+    (Does::Deliver(1), Tells::Collecting(2, 8, 9)),
 ];
 
 /// The other calls, and what is not there.
@@ -253,7 +271,7 @@ pub(super) const CALLS: [Turn; 10] = [
 
 /// The coordinator restarts while a job is merged: the result is of an earlier epoch, and its claim is spent.
 pub(super) const RESTARTED: [Turn; 9] = [
-    (Does::Deliver(1), Tells::Asked(2, 2, 3)),
+    (Does::Deliver(1), Tells::Collecting(2, 2, 3)),
     (Does::Deliver(2), Tells::Served(4)),
     (Does::Deliver(3), Tells::Served(5)),
     (Does::RestartCoordinator, Tells::Restarted(2, 4, 2)),
