@@ -52,8 +52,8 @@ module _ (h : History) (files : AreFilesOf h) where
   pub one_served : (s t : ServedValue) → IsServed s → IsServed t → IsVersion s.version → s.version ≡ t.version → AreOf s → AreOf t → s ≡ t
   one_served s t one other version same first second =
       let places = same_list s.places t.places
-          (λ p m. (version.files p.meta ((one.listed p.meta).0 (IsIn-map (λ (q : Placed). q.meta) p s.places m))).ordered)
-          one.ordered other.ordered (placed_too s t one other same first second) (placed_too t s other one (sym same) second first) in
+      (λ p m. (version.files p.meta ((one.listed p.meta).0 (IsIn-map (λ (q : Placed). q.meta) p s.places m))).ordered)
+      one.ordered other.ordered (placed_too s t one other same first second) (placed_too t s other one (sym same) second first) in
       λ i. record { version = same i; places = places i }
 
 -- ---- over a step
@@ -81,7 +81,7 @@ module _ (h more : History) (grows : Grows h more) (had : AreFilesOf h) (has : A
   earlier x is at tables =
       let was = answered x is at (was_there x is at tables) in
       let shown : slice_get s.versions x.version.number ≡ Some (listing_of x.version) =
-          ap (λ (vs : List Version). slice_get vs x.version.number) listed ∙ slice_get-map listing_of (versions_in h) x.version.number ∙ ap (option_map listing_of) at in
+      ap (λ (vs : List Version). slice_get vs x.version.number) listed ∙ slice_get-map listing_of (versions_in h) x.version.number ∙ ap (option_map listing_of) at in
       let writes : take x.version.flushed t.writes ≡ take x.version.flushed s.writes = step_writes s e t (effect s e r t step) (sound_of s rising) x.version.number (listing_of x.version) shown in
       record { ordered = was.ordered; answers = λ key. was.answers key ∙ ap (λ (ws : List Op). option_and_then value_of (last_write ws key)) (sym writes) }
 

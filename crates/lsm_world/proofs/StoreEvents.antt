@@ -153,8 +153,8 @@ module _ (store : StoreValue) (old : SeatValue) (opened : Result (Unit {0}) Open
       let known = known_before x.history (down x.history x.known) in
       let on = restarted x.history old opened seat desk network restarts known in
       let shown : ShowsStore (store_with seat desk network) t =
-          shows_after store (store_with seat desk network) s (say.Restart say.Coordinator) (reply_of r) t x on.0 step then.2 tt (ap (λ (n : NetworkValue). map number_of n.followers) network_is) on.1 on.2
-          (newest x.history old opened seat desk network restarts known t then.2) in
+      shows_after store (store_with seat desk network) s (say.Restart say.Coordinator) (reply_of r) t x on.0 step then.2 tt (ap (λ (n : NetworkValue). map number_of n.followers) network_is) on.1 on.2
+      (newest x.history old opened seat desk network restarts known t then.2) in
       (t, step, subst (λ (y : StoreValue). ShowsStore y t) (sym made) shown)
 
 -- ---- what every store is

@@ -37,7 +37,7 @@ pub(crate) enum Store<V: Vault> {
 impl<V: Vault> Store<V> {
     ghost use Rattle.std.specs.Prelude.{◌≡◌, ◌+◌, ◌≤◌};
     ghost use Rattle.lsm_coord.specs.Contract.Restarts.{seat_of};
-        ghost use Rattle.lsm_coord.specs.Model.State.{State};
+    ghost use Rattle.lsm_coord.specs.Model.State.{State};
     ghost use Rattle.lsm_world.specs.declared.event.Event.TheVariants.{RestartCoordinator};
     ghost use Rattle.lsm_world.specs.Asks.{AsksStore};
     ghost use Rattle.lsm_world.specs.Events.{event_of};

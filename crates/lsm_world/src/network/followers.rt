@@ -78,7 +78,9 @@ impl Network {
         ensures keeps { KeepsNetwork self.old self.new }
         ensures sound { IsSoundAsk self.old (RestartFollower index) }
     {
-        let mut follower = self.followers.replace(index, Follower::new(self.alloc, index));
+        let mut follower = self
+            .followers
+            .replace(index, Follower::new(self.alloc, index));
         follower.restart();
         self.followers.replace(index, follower);
         Reply::RestartedFollower(index)

@@ -14,4 +14,4 @@ pub returns-clause-follows : goal.returns-clause-follows
 returns-clause-follows g c =
     let before = nodes_of c.self.inside.coord c.self.inside.desk c.self.inside.network in
     rw (← c.self.view_is) (core_follows before (record before { core = c.answer.new.coord }) (event_of c.args.event.now) (reply_of c.answer.result) c.answer.ensures.follows
-        (λ h is. call_keeps h before c.answer.new.coord c.answer.ensures.files is) refl (own_quiet c.args.event.now (reply_of c.answer.result) c.requires.own))
+    (λ h is. call_keeps h before c.answer.new.coord c.answer.ensures.files is) refl (own_quiet c.args.event.now (reply_of c.answer.result) c.requires.own))

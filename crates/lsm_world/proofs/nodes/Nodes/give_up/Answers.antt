@@ -27,4 +27,4 @@ returns-clause-follows g c =
     let low : 1 ≤ c.args.dispatcher = search rules in
     rw (← c.self.view_is, c.take.ensures.idle, c.returned.ensures, settled_told c.id-id.result c.give_back.result)
     (core_follows before (nodes_of c.give_back.new.self (with_dispatcher c.self.inside.desk c.args.dispatcher Idle) c.self.inside.network) (say.GiveUp c.args.dispatcher) say.Other
-        (c.give_back.ensures.step c.args.dispatcher (low, within)) (λ h is. give_up_keeps before _ _ _ busy c.give_back.ensures.book h within c.give_back.ensures.sound is) refl tt)
+    (c.give_back.ensures.step c.args.dispatcher (low, within)) (λ h is. give_up_keeps before _ _ _ busy c.give_back.ensures.book h within c.give_back.ensures.sound is) refl tt)

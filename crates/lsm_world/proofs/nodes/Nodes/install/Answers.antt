@@ -45,10 +45,10 @@ returns-clause-follows g c =
     let within : c.args.dispatcher ≤ 4 = search rules in
     let done = sound_if_done (before g c) _ _ _ _ c.args.dispatcher (busy g c) (same g c) c.install-became.ensures.became k.0 within c.know_fit.ensures k.1 (known g c k.0 k.1) in
     rw (← c.self.view_is, c.settle.ensures.desk, c.take.ensures.idle) (λ number.
-        core_follows (before g c) (nodes_of c.install-became.new.self (desk_settled (with_dispatcher c.self.inside.desk c.args.dispatcher Idle) c.args.dispatcher c.install-became.result) c.self.inside.network) (say.Deliver number) (reply_of c.settle.result)
-        (rw (c.settle.ensures.reply, install_told c.install-became.result) (c.install-became.ensures.step number done))
-        (λ h is. install_keeps (before g c) _ _ _ _ c.args.dispatcher (busy g c) (same g c) c.install-became.ensures.became h within c.know_fit.ensures is (known g c h is) c.know_fit-2.ensures c.install-became.ensures.sound)
-        refl (rw c.settle.ensures.reply (install_quiet number c.install-became.result)))
+    core_follows (before g c) (nodes_of c.install-became.new.self (desk_settled (with_dispatcher c.self.inside.desk c.args.dispatcher Idle) c.args.dispatcher c.install-became.result) c.self.inside.network) (say.Deliver number) (reply_of c.settle.result)
+    (rw (c.settle.ensures.reply, install_told c.install-became.result) (c.install-became.ensures.step number done))
+    (λ h is. install_keeps (before g c) _ _ _ _ c.args.dispatcher (busy g c) (same g c) c.install-became.ensures.became h within c.know_fit.ensures is (known g c h is) c.know_fit-2.ensures c.install-became.ensures.sound)
+    refl (rw c.settle.ensures.reply (install_quiet number c.install-became.result)))
 
 pub returns-clause-plain : goal.returns-clause-plain
 returns-clause-plain g c =

@@ -53,7 +53,7 @@ returns-in-Ok-Some-clause-follows g c =
     let high : c.args.dispatcher ≤ 4 = search rules in
     rw (← c.self.view_is, c.hand_out.ensures.desk, c.hand_out.ensures.network, c.hand_out.ensures.reply.2)
     (core_follows before after (say.Pick c.args.dispatcher) say.Other (c.in-Ok-Some.ensures.step c.args.dispatcher (low, high))
-        (λ h is. pick_keeps before _ _ _ _ idle picked _ _ c.hand_out.ensures.reply h c.know_fit.ensures sound c.in-Ok-Some.ensures.sound c.hand_out.ensures.job is) refl tt)
+    (λ h is. pick_keeps before _ _ _ _ idle picked _ _ c.hand_out.ensures.reply h c.know_fit.ensures sound c.in-Ok-Some.ensures.sound c.hand_out.ensures.job is) refl tt)
 
 pub returns-in-Err-clause-follows : goal.returns-in-Err-clause-follows
 returns-in-Err-clause-follows g c =

@@ -35,8 +35,8 @@ returns-in-Ok-Some-clause-asks g c =
     let after : NodesValue = record before { network = record before.network { messages = c.send.new.network.messages } } in
     rw c.send.ensures.rest
     (inr (subst (λ (n : NodesValue). Receives n c.args.message.now c.args.message.now.src c.args.message.now.body (reply.Served c.send.result) after) c.self.view_is
-        (question_asks before c.args.message.now c.args.message.now.src c.args.message.now.body (reply.Served c.send.result) after c.requires.question
-            (c.in-Ok-Some.answer, answered, c.send.result, refl, c.send.ensures.sends, refl))))
+    (question_asks before c.args.message.now c.args.message.now.src c.args.message.now.body (reply.Served c.send.result) after c.requires.question
+    (c.in-Ok-Some.answer, answered, c.send.result, refl, c.send.ensures.sends, refl))))
 
 pub returns-in-Ok-Some-clause-follows : goal.returns-in-Ok-Some-clause-follows
 returns-in-Ok-Some-clause-follows g c =
@@ -46,4 +46,4 @@ returns-in-Ok-Some-clause-follows g c =
     let after : NodesValue = record before { network = record before.network { messages = c.send.new.network.messages } } in
     rw (← c.self.view_is, c.send.ensures.rest)
     (λ number. core_follows before after (say.Deliver number) (reply_of (reply.Served c.send.result)) (c.serve.ensures.step number)
-        (λ h is. keeps_same h after (answer_keeps before c.args.message.now c.in-Ok-Some.answer c.know_fit.ensures stored answered c.send.result c.send.new.network.messages c.send.ensures.sends h is)) refl tt)
+    (λ h is. keeps_same h after (answer_keeps before c.args.message.now c.in-Ok-Some.answer c.know_fit.ensures stored answered c.send.result c.send.new.network.messages c.send.ensures.sends h is)) refl tt)

@@ -14,14 +14,13 @@ pub invariant_of-result : goal.invariant_of-result
 invariant_of-result g c = (refl, rw c.new-in-Ok.ensures.items (reached_first c.in-Ok.coord.limits c.new.result c.new.ensures.new c.new.ensures.fit))
 
 pub returns-in-Ok-clause-new : goal.returns-in-Ok-clause-new
-returns-in-Ok-clause-new g c =
-    (
-      c.new.result,
-      subst (λ (l : Limits). AreNew l c.new.result) (ap (λ (x : CoordValue). x.limits) c.in-Ok.ensures.ok.is) c.new.ensures.new,
-      refl,
-      c.new-in-Ok.ensures.items,
-      first_shown c.in-Ok.coord.limits c.new.result c.new.ensures.new c.new.ensures.fit,
-    )
+returns-in-Ok-clause-new g c = (
+  c.new.result,
+  subst (λ (l : Limits). AreNew l c.new.result) (ap (λ (x : CoordValue). x.limits) c.in-Ok.ensures.ok.is) c.new.ensures.new,
+  refl,
+  c.new-in-Ok.ensures.items,
+  first_shown c.in-Ok.coord.limits c.new.result c.new.ensures.new c.new.ensures.fit,
+)
 
 pub returns-in-Err-clause-refused : goal.returns-in-Err-clause-refused
 returns-in-Err-clause-refused g c = new_refused (g.V.Vault.tables c.args.vault) c.in-Err.why (subst (λ (texts : List (List ℕ)). OpenRefuses texts (g.V.Vault.tables c.args.vault) c.in-Err.why) c.requires.edits c.in-Err.ensures.refused)
