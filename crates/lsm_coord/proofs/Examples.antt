@@ -1,16 +1,18 @@
 -- The runs that are written out.
-use Rattle.std.proofs.Common.{◌≡◌, ℕ, List, [], ◌∷◌, Option, None, Some, refl, sym, ap, ◌∙◌, inl, inr, Bool, true, false, is_some, arith, length, get_or}
+use Rattle.std.proofs.Common.{◌≡◌, ◌≤◌, ℕ, List, [], ◌∷◌, Option, None, Some, refl, sym, ap, ◌∙◌, inl, inr, Bool, true, false, is_some, arith, length, get_or}
 use Rattle.std.proofs.lemmas.Slice.Eq.{bytes_eq-Decides}
 use Rattle.std.specs.Bool.{if◌then◌else◌}
 use Rattle.std.specs.Option.{option_and_then, unwrap_or}
 use Rattle.std.specs.Str.{bytes_eq}
 use Rattle.lsm_key.specs.declared.op.Op.{Op}
 use Rattle.lsm_key.specs.declared.op.Op.TheVariants.{Put, Delete}
+use Rattle.lsm_coord.specs.declared.snapshot.SnapId.{SnapId}
 use Rattle.lsm_key.specs.Writes.{answer, value_of}
 use Rattle.lsm_coord.specs.Model.Range.{IsRange}
-use Rattle.lsm_coord.specs.Model.State.{Version, empty_version}
+use Rattle.lsm_key.specs.Sets.{IsIn}
+use Rattle.lsm_coord.specs.Model.State.{Place, Version, empty_version}
 use Rattle.lsm_coord.specs.Model.Changes.{IsIndex}
-use Rattle.lsm_coord.specs.Model.Examples.{a, b, z, one, two, none, FlushedWriteIsFound, RestartLosesWrites, LastOfABatchCounts, FrozenIsFlushedFirst, AbsentIsRefused, DownUntilRestarted, MergeKeepsAnswers, FollowerLiesBehind, FileGivenTwiceIsNoRun, NewerValueIsNoRun, LostWriteIsNoRun, ShortFlushIsNoRun, EmptyListingIsNoRun, KeptWriteIsNoRun, UnforcedRefusalIsNoRun, SecondWriteLostIsNoRun, FileForgottenIsNoRun, FlushLosesWriteIsNoRun}
+use Rattle.lsm_coord.specs.Model.Examples.{a, b, z, one, two, none, FlushedWriteIsFound, RestartLosesWrites, LastOfABatchCounts, FrozenIsFlushedFirst, AbsentIsRefused, DownUntilRestarted, MergeKeepsAnswers, FollowerLiesBehind, EpochsFollow, CausesBesideTheState, FileGivenTwiceIsNoRun, NewerValueIsNoRun, LostWriteIsNoRun, ShortFlushIsNoRun, EmptyListingIsNoRun, KeptWriteIsNoRun, UnforcedRefusalIsNoRun, SecondWriteLostIsNoRun, FileForgottenIsNoRun, FlushLosesWriteIsNoRun, InstallOfNothingIsNoRun, NumberUsedAgainIsNoRun, LeapIsNoRun, FallBackIsNoRun, NameGivenTwiceIsNoRun, FlushedWriteIsLostIsNoRun, FloorFallsIsNoRun, DownWhileUpIsNoRun, AnswerWhileDownIsNoRun}
 
 pub flushed_write : FlushedWriteIsFound
 flushed_write = (_, (_, (refl, (refl, refl, refl)), (_, (refl, (refl, refl, refl, refl)), (_, (refl, (refl, refl)), refl))))
@@ -151,128 +153,20 @@ down_until_restarted = (
   ),
 )
 
-pub merge_keeps : MergeKeepsAnswers
-merge_keeps = (
-  _,
-  (
-    _,
-    (refl, (refl, refl, refl)),
-    (
-      _,
-      (refl, (refl, refl, refl, refl)),
-      (
-        _,
-        (refl, (refl, refl, refl)),
-        (
-          _,
-          (refl, (refl, refl, refl)),
-          (
-            _,
-            (refl, (refl, refl, refl, refl)),
-            (
-              _,
-              (refl, ((omega arith, omega arith), refl)),
-              (
-                _,
-                (
-                  refl,
-                  record {
-                    inputs = record { level = 0; file = 1 } ∷ record { level = 0; file = 2 } ∷ [];
-                    level = 1;
-                    up = refl;
-                    some_input = omega arith;
-                    of_current = λ p m. m;
-                    low = omega arith;
-                    high = omega arith;
-                    number_is = refl;
-                    files_are = refl;
-                    number_fits = omega arith;
-                    files_fit = omega arith;
-                    new_is = refl;
-                  },
-                ),
-                (
-                  _,
-                  (refl, (refl, refl, refl)),
-                  (
-                    _,
-                    (refl, (refl, refl)),
-                    (
-                      _,
-                      (refl, (refl, refl)),
-                      refl,
-                    ),
-                  ),
-                ),
-              ),
-            ),
-          ),
-        ),
-      ),
-    ),
-  ),
-)
-
 first : IsIndex 1
 first = (omega arith, omega arith)
 
+pub merge_keeps : MergeKeepsAnswers
+merge_keeps = (_, (_, (refl, (refl, refl, refl)), (_, (refl, (refl, refl, refl, refl)), (_, (refl, (refl, refl, refl)), (_, (refl, (refl, refl, refl)), (_, (refl, (refl, refl, refl, refl)), (_, (refl, (first, refl)), (_, (refl, refl), (_, (refl, refl), (_, (refl, refl), (_, (refl, refl), (_, (refl, refl), (_, (refl, record { inputs = record { level = 0; file = 1 } ∷ record { level = 0; file = 2 } ∷ []; level = 1; up = refl; some_input = omega arith; of_current = λ p m. m; low = omega arith; high = omega arith; number_is = refl; files_are = refl; number_fits = omega arith; files_fit = omega arith; new_is = refl }), (_, (refl, (refl, refl, refl)), (_, (refl, (refl, refl)), (_, (refl, (refl, refl)), refl))))))))))))))))
+
 pub lies_behind : FollowerLiesBehind
-lies_behind = (
-  _,
-  (
-    _,
-    (refl, (refl, refl, refl)),
-    (
-      _,
-      (refl, (refl, refl, refl, refl)),
-      (
-        _,
-        (refl, (refl, refl, refl)),
-        (
-          _,
-          (refl, (refl, refl, refl, refl)),
-          (
-            _,
-            (refl, (first, refl)),
-            (
-              _,
-              (refl, (1, 0, (first, refl), omega arith, omega arith, refl)),
-              (
-                _,
-                (refl, ((first, refl), (_, refl, refl), refl)),
-                (
-                  _,
-                  (refl, ((first, refl), refl, refl)),
-                  (
-                    _,
-                    (refl, (refl, refl)),
-                    (
-                      _,
-                      (refl, (1, 2, (first, refl), omega arith, omega arith, refl)),
-                      (
-                        _,
-                        (refl, ((first, refl), (_, refl, refl), refl)),
-                        (
-                          _,
-                          (refl, (first, refl)),
-                          (
-                            _,
-                            (refl, ((first, refl), (_, refl, refl), refl)),
-                            refl,
-                          ),
-                        ),
-                      ),
-                    ),
-                  ),
-                ),
-              ),
-            ),
-          ),
-        ),
-      ),
-    ),
-  ),
-)
+lies_behind = (_, (_, (refl, (refl, refl, refl)), (_, (refl, (refl, refl, refl, refl)), (_, (refl, (refl, refl, refl)), (_, (refl, (refl, refl, refl, refl)), (_, (refl, (first, refl)), (_, (refl, refl), (_, (refl, (1, 0, (first, refl), omega arith, omega arith, refl)), (_, (refl, (first, refl)), (_, (refl, refl), (_, (refl, refl), (_, (refl, refl), (_, (refl, (1, 1, (first, refl), omega arith, omega arith, refl)), (_, (refl, ((first, refl), (_, refl, refl), refl)), (_, (refl, ((first, refl), refl, refl)), (_, (refl, (refl, refl)), (_, (refl, ((first, refl), (_, refl, refl), refl)), (_, (refl, (first, refl)), (_, (refl, ((first, refl), (_, refl, refl), refl)), refl)))))))))))))))))))
+
+pub epochs_follow : EpochsFollow
+epochs_follow = (_, (_, (refl, (refl, refl, refl)), (_, (refl, (refl, refl, refl)), (_, (refl, (refl, refl, refl, refl)), (_, (refl, (first, refl)), (_, (refl, (first, refl)), (_, (refl, (first, refl)), (_, (refl, (refl, refl, refl, refl)), (_, (refl, (refl, refl, refl)), (_, (refl, (refl, refl, refl, refl)), refl))))))))))
+
+pub beside_the_state : CausesBesideTheState
+beside_the_state = (_, (_, (inl refl, refl), (_, (refl, (refl, refl, refl)), (_, (inr (refl, tt), refl), (_, (refl, (refl, refl, refl, refl)), (_, (refl, (first, refl)), (_, (inr (refl, tt), refl), (_, (refl, (refl, refl, refl, refl)), (_, (inr (refl, refl), refl), (_, (tt, inr refl), (_, (refl, (refl, refl)), refl)))))))))))
 
 pub lost_write : LostWriteIsNoRun
 lost_write (last, (s, (_, (_, _, e)), (_, (_, (value, _)), _))) = let v = rw e at value in absurd cc
@@ -314,3 +208,38 @@ file_forgotten (last, (s, (_, (_, _, e)), (t, (_, (_, _, _, f)), (u, (_, (_, _, 
 
 pub flush_loses_write : FlushLosesWriteIsNoRun
 flush_loses_write (last, (s, (_, (_, _, e)), (t, (_, (_, _, _, f)), (_, (_, (value, _)), _)))) = let v = rw (f, e) at value in absurd cc
+
+pub install_of_nothing : InstallOfNothingIsNoRun
+install_of_nothing (last, (s, (_, i), _)) = by i.inputs i.some_input i.of_current
+  where
+    by : (inputs : List Place) → 1 ≤ length inputs → ((p : Place) → IsIn p inputs → IsIn p []) → ⊥
+    by [] some of = omega (arith, some)
+    by (p ∷ inputs) some of = absurd (of p (inl refl))
+
+pub number_used_again : NumberUsedAgainIsNoRun
+number_used_again (last, (s, (_, (_, _, e)), (t, (_, (_, _, _, f)), (u, (_, i), _)))) = let v = rw (f, e) at i.files_are in absurd cc
+
+pub leap : LeapIsNoRun
+leap (last, (s, (_, (_, _, _, _, within, _)), _)) = omega (arith, within)
+
+pub fall_back : FallBackIsNoRun
+fall_back (last, (s, (_, (_, _, _, later, _, _)), _)) = omega (arith, later)
+
+pub name_twice : NameGivenTwiceIsNoRun
+name_twice (last, (s, (_, (_, _, e)), (_, (_, (id, _, _)), _))) =
+    let v = rw e at id in
+    let number : 1 ≡ 2 = ap (λ (x : SnapId). x.number) v in
+    omega (arith, number)
+
+pub flushed_write_lost : FlushedWriteIsLostIsNoRun
+flushed_write_lost (last, (s, (_, (_, _, e)), (t, (_, (_, _, _, f)), (u, (_, (_, _, seq, g)), _)))) = let v = rw (g, f, e) at seq in absurd cc
+
+pub floor_falls : FloorFallsIsNoRun
+floor_falls (last, (s, (_, (_, _, _, e)), (_, (_, (floor, _)), _))) = let v = rw e at floor in absurd cc
+
+pub down_while_up : DownWhileUpIsNoRun
+down_while_up (last, (s, (inl forced, _), _)) = absurd cc
+down_while_up (last, (s, (inr other, _), _)) = absurd other.1
+
+pub answer_while_down : AnswerWhileDownIsNoRun
+answer_while_down (last, (s, (_, e), (_, (forced, _), _))) = let v = rw e at forced in absurd cc

@@ -45,6 +45,12 @@ pub live_before : (b : BookValue) (id : JobId) (ending : Ending) (j : LiveJob) �
 live_before b id ending j =
     settled_has (λ epoch live. IsIn j live → IsIn j b.live) b id ending (λ m. (IsIn-filter (λ k. not (same_job_id k.id id)) j b.live m).0) (λ m. m)
 
+-- a name that is live in the end was live before
+pub held_before : (b : BookValue) (id name : JobId) (ending : Ending) → holds (after_settling b id ending) name ≡ true → holds b name ≡ true
+held_before b id name ending h =
+    let found = any_is (λ k. same_job_id k.id name) (after_settling b id ending).live h in
+    any_from (λ k. same_job_id k.id name) b.live found.0 (live_before b id ending found.0 found.1) found.2
+
 pub same_name : (a b : JobId) → same_job_id a b ≡ true → a ≡ b
 same_name a b h =
     let parts = and_parts (nat_eq a.epoch b.epoch) (nat_eq a.number b.number) h in
@@ -106,15 +112,9 @@ abbrev pub after_giving_back_all : CoordValue → List JobId → CoordValue
 after_giving_back_all c [] = c
 after_giving_back_all c (id ∷ ids) = after_giving_back_all (after_give_back c id) ids
 
--- a name that is live in the end was live all along
-held_before : (b : BookValue) (id name : JobId) → holds (after_settling b id Returned) name ≡ true → holds b name ≡ true
-held_before b id name h =
-    let found = any_is (λ k. same_job_id k.id name) (after_settling b id Returned).live h in
-    any_from (λ k. same_job_id k.id name) b.live found.0 (live_before b id Returned found.0 found.1) found.2
-
 held_first : (c : CoordValue) (ids : List JobId) (name : JobId) → holds (after_giving_back_all c ids).book name ≡ true → holds c.book name ≡ true
 held_first c [] name h = h
-held_first c (id ∷ ids) name h = held_before c.book id name (held_first (after_give_back c id) ids name h)
+held_first c (id ∷ ids) name h = held_before c.book id name Returned (held_first (after_give_back c id) ids name h)
 
 pub all_given_back_keep : (c : CoordValue) (ids : List JobId) → KeepsSound c (after_giving_back_all c ids)
 all_given_back_keep c [] job sound held = sound

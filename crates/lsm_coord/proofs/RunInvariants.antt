@@ -1,21 +1,21 @@
 -- What stays along a run.
-use Rattle.std.proofs.Common.{◌≡◌, ℕ, zero, suc, List, [], ◌∷◌, ◌++◌, Option, None, Some, refl, sym, ap, subst, ◌∙◌, inl, inr, arith, length}
+use Rattle.std.proofs.Common.{◌≡◌, ℕ, ◌-◌, ◌≤◌, zero, suc, List, [], ◌∷◌, ◌++◌, Option, None, Some, refl, sym, ap, subst, ◌∙◌, inl, inr, arith, length}
 use Rattle.std.specs.List.{slice_get}
 use Rattle.std.specs.Option.{option_and_then}
 use Rattle.std.proofs.Math.Seq.{take-length}
-use Rattle.std.proofs.lemmas.Option.{same_Some}
+use Rattle.std.proofs.lemmas.Option.{same_Some, slice_get-get_or}
 use Rattle.lsm_key.specs.declared.op.Op.{Op}
 use Rattle.lsm_key.specs.Sets.{IsIn}
 use Rattle.lsm_key.specs.Writes.{last_write, value_of, answer}
 use Rattle.lsm_key.proofs.WritesOverStored.{last_write-append}
-use Rattle.lsm_coord.specs.Model.State.{State, Version, Place, first_state}
+use Rattle.lsm_coord.specs.Model.State.{State, Version, Place, empty_version, first_state}
 use Rattle.lsm_coord.specs.Model.Event.{Event, Reply}
 use Rattle.lsm_coord.specs.Model.Event as say
 use Rattle.lsm_coord.specs.Model.Step.{Step, Lists, FollowerReads}
 use Rattle.lsm_coord.specs.Model.Run.{Run}
-use Rattle.lsm_coord.specs.Model.Laws.{VersionsStay, ListingsAgree, FollowersAgree, GetGivesTheWrite, FlushedRises, SparesKey}
+use Rattle.lsm_coord.specs.Model.Laws.{VersionsStay, ListingsAgree, FollowersAgree, GetGivesTheWrite, FlushedAscends, FlushedRises, SparesKey}
 use Rattle.lsm_coord.proofs.StepEffects.{Effect, stays, wrote, froze, flushed, installed, fell, rose, effect}
-use Rattle.lsm_coord.proofs.VersionsStay.{IsSound, step_sound, step_versions, step_writes, run_versions, first_sound, below_tip}
+use Rattle.lsm_coord.proofs.VersionsStay.{IsSound, step_sound, step_versions, step_writes, run_versions, first_sound, below_tip, tip}
 
 pub versions_stay : VersionsStay
 versions_stay s t events replies h = run_versions s events replies t h
@@ -144,7 +144,15 @@ run_sound s [] (r ∷ rs) t h x = absurd h
 run_sound s (e ∷ es) [] t h x = absurd h
 run_sound s (e ∷ es) (r ∷ rs) t h x = run_sound h.0 es rs t h.2 (step_sound s e h.0 (effect s e r h.0 h.1) x)
 
+pub ascends_of : (s : State) → IsSound s → FlushedAscends s
+ascends_of s x = record { ascending = x.rising; written = λ n v q. let i = below_tip s.versions n v x.rising q in let w = x.within in omega arith; frozen = x.between }
+
+tip_written : (vs : List Version) (last : ℕ) → ((n : ℕ) (v : Version) → slice_get vs n ≡ Some v → v.flushed ≤ last) → tip vs ≤ last
+tip_written [] last written = omega arith
+tip_written (v ∷ vs) last written = written (length (v ∷ vs) - 1) _ (slice_get-get_or (v ∷ vs) (length (v ∷ vs) - 1) empty_version (omega arith))
+
+pub sound_of : (s : State) → FlushedAscends s → IsSound s
+sound_of s x = record { rising = x.ascending; within = tip_written s.versions (length s.writes) x.written; between = x.frozen }
+
 pub flushed_rises : FlushedRises
-flushed_rises events replies s h =
-    let x = run_sound first_state events replies s h first_sound in
-    record { ascending = x.rising; written = λ n v q. let i = below_tip s.versions n v x.rising q in let w = x.within in omega arith }
+flushed_rises events replies s h = ascends_of s (run_sound first_state events replies s h first_sound)

@@ -2,9 +2,11 @@
 //! contract.
 
 ghost use Rattle.lsm_coord.specs.Model.Laws.{VersionsStay, ListingsAgree, FollowersAgree, GetGivesTheWrite, FlushedRises, ScansAreDetermined, SnapshotsAgree};
-ghost use Rattle.lsm_coord.specs.Model.Examples.{FlushedWriteIsFound, RestartLosesWrites, LastOfABatchCounts, FrozenIsFlushedFirst, AbsentIsRefused, DownUntilRestarted, MergeKeepsAnswers, FollowerLiesBehind};
+ghost use Rattle.lsm_coord.specs.Model.Examples.{FlushedWriteIsFound, RestartLosesWrites, LastOfABatchCounts, FrozenIsFlushedFirst, AbsentIsRefused, DownUntilRestarted, MergeKeepsAnswers, FollowerLiesBehind, EpochsFollow, CausesBesideTheState};
 ghost use Rattle.lsm_coord.specs.Model.Examples.{LostWriteIsNoRun, ShortFlushIsNoRun, EmptyListingIsNoRun, KeptWriteIsNoRun, UnforcedRefusalIsNoRun, FileGivenTwiceIsNoRun, NewerValueIsNoRun};
 ghost use Rattle.lsm_coord.specs.Model.Examples.{SecondWriteLostIsNoRun, FileForgottenIsNoRun, FlushLosesWriteIsNoRun};
+ghost use Rattle.lsm_coord.specs.Model.Examples.{InstallOfNothingIsNoRun, NumberUsedAgainIsNoRun, LeapIsNoRun, FallBackIsNoRun, NameGivenTwiceIsNoRun};
+ghost use Rattle.lsm_coord.specs.Model.Examples.{FlushedWriteIsLostIsNoRun, FloorFallsIsNoRun, DownWhileUpIsNoRun, AnswerWhileDownIsNoRun};
 
 /// Along a run a version, once it is there, never changes its flushed sequence or its files.
 pub fn versions_stay()
@@ -27,7 +29,8 @@ pub fn get_gives_the_write()
     ensures { GetGivesTheWrite }
 {}
 
-/// In a run of a new store flushed sequences ascend with the version number, up to the number of writes.
+/// In a run of a new store flushed sequences ascend with the version number, up to the end of the frozen memtable and to the number
+/// of writes.
 pub fn flushed_rises()
     ensures { FlushedRises }
 {}
@@ -52,6 +55,8 @@ pub fn worked_runs()
     ensures down { DownUntilRestarted }
     ensures merged { MergeKeepsAnswers }
     ensures behind { FollowerLiesBehind }
+    ensures epochs { EpochsFollow }
+    ensures causes { CausesBesideTheState }
 {}
 
 /// These are not.
@@ -66,4 +71,13 @@ pub fn wrong_runs()
     ensures second { SecondWriteLostIsNoRun }
     ensures forgotten { FileForgottenIsNoRun }
     ensures emptied { FlushLosesWriteIsNoRun }
+    ensures nothing { InstallOfNothingIsNoRun }
+    ensures again { NumberUsedAgainIsNoRun }
+    ensures leap { LeapIsNoRun }
+    ensures back { FallBackIsNoRun }
+    ensures name { NameGivenTwiceIsNoRun }
+    ensures gone { FlushedWriteIsLostIsNoRun }
+    ensures floor { FloorFallsIsNoRun }
+    ensures up { DownWhileUpIsNoRun }
+    ensures down { AnswerWhileDownIsNoRun }
 {}

@@ -23,8 +23,6 @@ mod job;
 mod laws;
 mod seat;
 mod snapshot;
-#[cfg(test)]
-mod tests;
 
 pub use answer::{Answer, ShownVersion};
 pub use call::{Call, ScanRange};

@@ -5,5 +5,6 @@ pub mod Base
 pub mod Edits
 pub mod Laws
 pub mod Served
+pub mod Reading
 pub mod Prepared
 pub mod Next

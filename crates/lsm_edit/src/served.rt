@@ -9,16 +9,17 @@ ghost use Rattle.std.specs.List.Sorted.{IsPartitionPoint};
 ghost use Rattle.std.specs.Option.{option_map, option_copied, option_to_list};
 ghost use Rattle.lsm_key.specs.Faults.{Refuses};
 ghost use Rattle.lsm_key.specs.Sets.{IsIn, SameMembers};
-ghost use Rattle.lsm_key.specs.Visible.{visible, lent_entry};
+ghost use Rattle.lsm_key.specs.Visible.{visible, value_at, lent_entry};
 ghost use Rattle.lsm_edit.specs.declared.served.Placed.{Placed};
 ghost use Rattle.lsm_key.specs.Places.{AreOrdered, all_entries, first_visible};
 ghost use Rattle.lsm_edit.specs.Edit.{IsEdit};
+ghost use Rattle.lsm_edit.specs.Reading.{value_in};
 ghost use Rattle.lsm_edit.specs.Version.{apply_fault};
 ghost use Rattle.lsm_edit.specs.Served.{AllRecorded, AreAsRecorded, AreInSearchOrder, UpperShowNone, comes_left, IsAsRecorded, is_before, is_covered, placed_of, put_in_order, put_all, in_order, tables_of};
 
 use crate::version::copies_of;
 use crate::{ApplyError, Edit, FileMeta, Version};
-use lsm_key::{EntryRef, MAX_LEVEL, Seq, VersionNumber};
+use lsm_key::{EntryRef, Kind, MAX_LEVEL, Seq, VersionNumber};
 use lsm_table::Table;
 pub use prepared::Prepared;
 pub use rebase::Room;
@@ -179,6 +180,21 @@ impl Served {
         ensures found { AreOrdered (tables_of self.now.places) → option_map lent_entry result ≡ visible (all_entries (tables_of self.now.places)) key.now self.now.version.flushed }
     {
         self.get_at(key, self.current.flushed())
+    }
+
+    /// The value that a key has in the version: the newest put no later than its flushed sequence, unless a delete is
+    /// newer. Allocates nothing.
+    pub fn read(&self, key: &[u8]) -> Option<&[u8]>
+        ensures first { option_copied result ≡ value_in self.now key.now }
+        ensures found { AreOrdered (tables_of self.now.places) → option_copied result ≡ value_at (all_entries (tables_of self.now.places)) key.now self.now.version.flushed }
+    {
+        let Some(entry) = self.get(key) else {
+            return None;
+        };
+        match entry.kind {
+            Kind::Put => Some(entry.value),
+            Kind::Delete => None,
+        }
     }
 
     /// The files of a level from the first whose largest key is at or after `key`, in the order of their keys, and after

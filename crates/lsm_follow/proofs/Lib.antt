@@ -1,3 +1,4 @@
 pub mod FilteredFiles
 pub mod ReceivedTables
 pub mod TableSteps
+pub mod Onward

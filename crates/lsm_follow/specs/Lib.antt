@@ -1,2 +1,3 @@
 pub mod Followers
 pub mod Pending
+pub mod Onward

@@ -6,7 +6,7 @@ mod messages;
 
 use crate::pending::Pending;
 use lsm_edit::{Listing, Served};
-use lsm_key::{Kind, VersionNumber};
+use lsm_key::VersionNumber;
 use lsm_msg::{Body, Message, NodeIndex};
 use std::alloc::Global;
 use std::marker::Model;
@@ -85,14 +85,7 @@ impl Follower {
         ensures first { option_copied result.1 ≡ option_and_then entry_value (first_visible (tables_of self.now.served.places) key.now self.now.served.version.flushed) }
         ensures found { AreOrdered (tables_of self.now.served.places) → option_copied result.1 ≡ value_at (all_entries (tables_of self.now.served.places)) key.now self.now.served.version.flushed }
     {
-        let number = self.served.version().number();
-        let Some(entry) = self.served.get(key) else {
-            return (number, None);
-        };
-        match entry.kind {
-            Kind::Put => (number, Some(entry.value)),
-            Kind::Delete => (number, None),
-        }
+        (self.served.version().number(), self.served.read(key))
     }
 
     /// Asks the coordinator what comes after its version.

@@ -1,11 +1,12 @@
 //! Messages: what nodes send to each other.
 
 ghost use Rattle.std.specs.Prelude.{◌≡◌, ◌↔◌, IfOk, IsTrue};
+ghost use Rattle.lsm_msg.specs.Messages.{AreSequences};
 
 use crate::{Job, JobResult, Node, NodeIndex};
 use bytes::Bytes;
 use lsm_edit::{Edit, Version};
-use lsm_key::{FileNumber, VersionNumber};
+use lsm_key::{FileNumber, Seq, VersionNumber};
 use std::alloc::{AllocError, Global};
 
 /// A message is held whole in memory by its sender, the network and its receiver. In bytes.
@@ -80,6 +81,7 @@ impl Body {
 }
 
 impl Message {
+    ghost use Rattle.lsm_msg.specs.declared.message.Body.TheVariants as body;
     ghost use Rattle.lsm_msg.specs.declared.node.Node.TheVariants as node;
     ghost use Rattle.lsm_msg.specs.Messages.{IsBody, IsMessage, to_coordinator};
 
@@ -92,6 +94,19 @@ impl Message {
             src: Node::Worker(index),
             dst: Node::Coordinator,
             body,
+        }
+    }
+
+    /// The message that takes a job to a worker.
+    pub fn to_worker(index: NodeIndex, job: Job) -> Message
+        ensures all { result ≡ record { src = node.Coordinator; dst = node.Worker index; body = body.Job job } }
+        ensures sound { IsMessage result }
+    {
+        know_sequences(job.points());
+        Message {
+            src: Node::Coordinator,
+            dst: Node::Worker(index),
+            body: Body::Job(job),
         }
     }
 
@@ -124,5 +139,14 @@ impl Message {
         ensures { IsTrue result ↔ self.now ≡ other.now }
     {
         self.src == other.src && self.dst == other.dst && self.body.same(&other.body)
+    }
+}
+
+// Proof hint: sequences are below 2^56. There are at most 64.
+fn know_sequences(points: &[Seq])
+    ensures { AreSequences points.now }
+{
+    for point in points {
+        let _number = point.number();
     }
 }

@@ -30,7 +30,7 @@ some_by : (p : Placed) (ps : List Placed) (n : ℕ) (t : Opened) (b : Bool) → 
 some_by p ps n t true e rest h = inl (sym (eqb-true p.meta.number n e))
 some_by p ps n t false e rest h = inr (rest h)
 
-some_place : (ps : List Placed) (n : ℕ) (t : Opened) → table_at ps n ≡ Some t → IsIn n (map (λ (q : Placed). q.meta.number) ps)
+pub some_place : (ps : List Placed) (n : ℕ) (t : Opened) → table_at ps n ≡ Some t → IsIn n (map (λ (q : Placed). q.meta.number) ps)
 some_place [] n t h = absurd cc
 some_place (p ∷ ps) n t h = some_by p ps n t (eqb p.meta.number n) refl (some_place ps n t) h
 
@@ -46,12 +46,12 @@ found_by : (r : Retired) (rs : List Retired) (n : ℕ) (bytes : List ℕ) (b : B
 found_by r rs n bytes true e rest h = inl (sym (eqb-true r.number n e))
 found_by r rs n bytes false e rest h = inr (rest h)
 
-some_retired : (rs : List Retired) (n : ℕ) (bytes : List ℕ) → retired_at rs n ≡ Some bytes → IsIn n (map (λ (x : Retired). x.number) rs)
+pub some_retired : (rs : List Retired) (n : ℕ) (bytes : List ℕ) → retired_at rs n ≡ Some bytes → IsIn n (map (λ (x : Retired). x.number) rs)
 some_retired [] n bytes h = absurd cc
 some_retired (r ∷ rs) n bytes h = found_by r rs n bytes (eqb r.number n) refl (some_retired rs n bytes) h
 
 -- the table is one of a place or a retired file's
-found_in : (o : Option Opened) (q : Option (List ℕ)) (bytes : List ℕ) → option_or (option_map (λ (t : Opened). t.bytes) o) q ≡ Some bytes → ((t : Opened) × (o ≡ Some t)) ⊎ (q ≡ Some bytes)
+pub found_in : (o : Option Opened) (q : Option (List ℕ)) (bytes : List ℕ) → option_or (option_map (λ (t : Opened). t.bytes) o) q ≡ Some bytes → ((t : Opened) × (o ≡ Some t)) ⊎ (q ≡ Some bytes)
 found_in None q bytes h = inr h
 found_in (Some t) q bytes h = inl (t, refl)
 

@@ -1,8 +1,10 @@
 //! Retired files: those that a version from the floor on lists and the current one lacks.
 
-ghost use Rattle.std.specs.Prelude.{◌≡◌, ◌+◌, ◌≤◌, IfOk, length, vec_capacity};
+ghost use Rattle.std.specs.Prelude.{◌≡◌, ◌+◌, ◌≤◌, IfOk, IfSome, length, vec_capacity};
 ghost use Rattle.std.specs.Option.{option_copied};
+ghost use Rattle.lsm_key.specs.Sets.{IsIn};
 ghost use Rattle.lsm_edit.specs.Edit.{IsEdit};
+ghost use Rattle.lsm_versions.specs.declared.retired.Retired.{Retired};
 ghost use Rattle.lsm_versions.specs.Retention.{NumbersRise, put_each, retire, retired_at, retired_by};
 
 use bytes::Bytes;
@@ -64,10 +66,11 @@ pub(crate) fn put_retired(retired: &mut Vec<Retired>, more: Vec<Retired>)
     retired.sort_unstable_by_key(|file| file.number.number());
 }
 
-/// The table of a retired file.
+/// The table of a retired file: it is that of one of them.
 pub(crate) fn retired_bytes(retired: &[Retired], number: u64) -> Option<&Bytes>
     requires { NumbersRise retired.now }
-    ensures { option_copied result ≡ retired_at retired.now number }
+    ensures bytes { option_copied result ≡ retired_at retired.now number }
+    ensures listed { IfSome result (λ bytes. (r : Retired) × IsIn r retired.now × (r.bytes ≡ bytes.now)) }
 {
     match retired.binary_search_by_key(&number, |file| file.number.number()) {
         Ok(at) => Some(&retired[at].bytes),

@@ -1,8 +1,10 @@
 //! The version set: the current version with its tables, the vault with the edits that made it, and the files that versions from
 //! the floor on have and the current one lacks.
 
-ghost use Rattle.std.specs.Prelude.{◌≡◌, ◌+◌, ◌<◌, ◌≤◌, [], None, Some, IfErr, IfOk, OnOk, OnErr, slice_get};
+ghost use Rattle.std.specs.Prelude.{◌≡◌, ◌+◌, ◌<◌, ◌≤◌, List, [], None, Some, IfErr, IfOk, IfSome, OnOk, OnErr, slice_get};
 ghost use Rattle.std.specs.Option.{option_copied};
+ghost use Rattle.lsm_key.specs.declared.entry.Entry.{Entry};
+ghost use Rattle.lsm_table.specs.Tables.{IsTable};
 ghost use Rattle.lsm_edit.specs.Edit.{IsEdit};
 ghost use Rattle.lsm_edit.specs.Served.{AreAsRecorded, IsServed};
 ghost use Rattle.lsm_edit.specs.Version.{IsVersion, apply_fault};
@@ -150,9 +152,10 @@ impl<V: Vault> VersionSet<V> {
         self.floor
     }
 
-    /// The bytes of a file that the current version lists or that is retired.
+    /// The bytes of a file that the current version lists or that is retired. They are a table's.
     pub fn bytes_of(&self, number: u64) -> Option<&Bytes>
-        ensures { option_copied result ≡ bytes_at self.now.served.places self.now.retired number }
+        ensures bytes { option_copied result ≡ bytes_at self.now.served.places self.now.retired number }
+        ensures sound { IfSome result (λ bytes. (entries : List Entry) × IsTable bytes.now entries) }
     {
         match self.current.table(number) {
             Some(table) => Some(table.bytes()),
@@ -160,11 +163,12 @@ impl<V: Vault> VersionSet<V> {
         }
     }
 
-    /// The edit that makes the version after this one, from the floor on.
+    /// The edit that makes the version after this one, from the floor on. It is within the grammar.
     pub fn edit_after(&self, number: VersionNumber) -> Result<Edit, AllocError>
         requires from { self.now.floor ≤ number + 1 }
         requires below { number < self.now.served.version.number }
-        ensures { IfOk result (λ e. slice_get (read_edits self.now.edits) number ≡ Some e) }
+        ensures next { IfOk result (λ e. slice_get (read_edits self.now.edits) number ≡ Some e) }
+        ensures sound { IfOk result IsEdit }
     {
         let at = number.number() as usize - edits_below(self.floor);
         let Some(edit) = edit_of(self.alloc, &self.recent[at])? else {

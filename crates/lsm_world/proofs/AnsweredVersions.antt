@@ -17,23 +17,19 @@ use Rattle.lsm_coord.specs.Model.Event.{Event, Reply}
 use Rattle.lsm_coord.specs.Model.State.{State, Version}
 use Rattle.lsm_coord.specs.Model.Step.{Step}
 use Rattle.lsm_coord.proofs.ServedOneWay.{same_list}
+use Rattle.lsm_coord.specs.Model.Laws.{FlushedAscends}
+use Rattle.lsm_coord.proofs.RunInvariants.{ascends_of, sound_of}
 use Rattle.lsm_coord.proofs.StepEffects.{effect}
-use Rattle.lsm_coord.proofs.VersionsStay.{IsSound, step_sound, step_writes}
+use Rattle.lsm_coord.proofs.VersionsStay.{step_sound, step_writes}
 use Rattle.lsm_world.specs.History.{AreFilesOf, History, IsVersionOf, versions_in}
-use Rattle.lsm_world.specs.Shown.{Answers, AreAnswered, AreRising}
+use Rattle.lsm_world.specs.Shown.{Answers, AreAnswered}
 use Rattle.lsm_world.proofs.FourPlaces.{in_place}
 use Rattle.lsm_world.proofs.GrowingHistory.{Grows}
 
 -- ---- rising sequences
 
-pub sound_of : (s : State) → AreRising s → IsSound s
-sound_of s is = record { rising = is.rising; within = is.within; between = is.between }
-
-pub rising_of : (s : State) → IsSound s → AreRising s
-rising_of s is = record { rising = is.rising; within = is.within; between = is.between }
-
-pub rising_after : (s : State) (e : Event) (r : Reply) (t : State) → Step s e r t → AreRising s → AreRising t
-rising_after s e r t step is = rising_of t (step_sound s e t (effect s e r t step) (sound_of s is))
+pub rising_after : (s : State) (e : Event) (r : Reply) (t : State) → Step s e r t → FlushedAscends s → FlushedAscends t
+rising_after s e r t step is = ascends_of t (step_sound s e t (effect s e r t step) (sound_of s is))
 
 -- ---- a version with tables of one history has one list of places
 
@@ -67,7 +63,7 @@ pub record HasNewest (h more : History) (t : State) : Type 0 where
   pub grown : versions_in more ≡ versions_in h ++ now.version ∷ []
   pub answers : Answers now t
 
-module _ (h more : History) (grows : Grows h more) (had : AreFilesOf h) (has : AreFilesOf more) (s t : State) (e : Event) (r : Reply) (step : Step s e r t) (rising : AreRising s) (listed : s.versions ≡ map listing_of (versions_in h)) (answered : AreAnswered h s) where
+module _ (h more : History) (grows : Grows h more) (had : AreFilesOf h) (has : AreFilesOf more) (s t : State) (e : Event) (r : Reply) (step : Step s e r t) (rising : FlushedAscends s) (listed : s.versions ≡ map listing_of (versions_in h)) (answered : AreAnswered h s) where
   -- a table of an earlier version was of the history before
   was_there : (x : ServedValue) → IsServed x → IsVersionOf h x.version → ((p : Placed) → IsIn p x.places → IsIn p more.files) → (p : Placed) → IsIn p x.places → IsIn p h.files
   was_there x is at tables p m =

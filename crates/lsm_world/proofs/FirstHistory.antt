@@ -29,7 +29,7 @@ use Rattle.lsm_world.specs.History.{History, Holds, IsFollowerOf, IsHistory, IsN
 use Rattle.lsm_world.specs.Nodes.{NetworkValue, NodesValue, number_of, up_store}
 use Rattle.lsm_world.specs.Schedules.{AreNew, first_followers, idle_worker}
 use Rattle.lsm_world.specs.Shown.{ShowsStore}
-use Rattle.lsm_world.proofs.AnsweredVersions.{rising_of}
+use Rattle.lsm_coord.proofs.RunInvariants.{ascends_of}
 use Rattle.lsm_world.proofs.FollowerEvents.{new_follower_is}
 use Rattle.lsm_world.proofs.FourPlaces.{in_place}
 
@@ -127,7 +127,7 @@ pub first_shown : (due : Limits) (n : NodesValue) → AreNew due n → IsFit n.c
 first_shown due n is fit = record {
   seat = is.shown;
   followers = sym (ap (map number_of) is.followers);
-  rising = rising_of first_state first_sound;
+  rising = ascends_of first_state first_sound;
   history = first_of n.core;
   known = first_history due n is fit;
   answered = λ x sound at tables.

@@ -8,7 +8,7 @@ use Rattle.lsm_coord.specs.Model.Run.{Run}
 use Rattle.lsm_coord.specs.Model.State.{State, first_state}
 use Rattle.lsm_coord.specs.Model.Step.{Step}
 use Rattle.lsm_coord.proofs.RunInvariants.{followers_agree, listings_agree}
-use Rattle.lsm_world.specs.Headline.{FollowerReadsAreNewest, GiveOneAnswer, ReadsAreNewest, ShowOneListing}
+use Rattle.lsm_world.specs.Headline.{FollowerReadsAreNewest, GiveOneAnswer, ReadsAreNewest, ScansAreNewest, ShowOneListing}
 
 -- ---- one event of a run
 
@@ -27,6 +27,11 @@ module _ (es : List Event) (rs : List Reply) (t : State) (run : Run first_state 
   pub reads_newest : ReadsAreNewest es rs
   reads_newest place key at value is =
       let step = step_at first_state es rs t place (say.Get key at) (say.Got value) run is.0 is.1 in
+      (step.0, step.1, step.2.1.1.0)
+
+  pub scans_newest : ScansAreNewest es rs
+  scans_newest place lo hi at limit pairs is =
+      let step = step_at first_state es rs t place (say.Scan lo hi at limit) (say.Scanned pairs) run is.0 is.1 in
       (step.0, step.1, step.2.1.1.0)
 
   pub follower_reads_newest : FollowerReadsAreNewest es rs

@@ -40,3 +40,6 @@ pub mod DeliveredMessages
 pub mod DispatcherEvents
 pub mod NewVaults
 pub mod HeadlineClauses
+pub mod WorkedSchedules
+pub mod WrongRuns
+pub mod WrongChains

@@ -23,6 +23,7 @@ use Rattle.lsm_coord.specs.Contract.Shows.{listing_of, place_of}
 use Rattle.lsm_coord.specs.Contract.Value.{CoordValue}
 use Rattle.lsm_coord.specs.Model.Changes.{IsIndex, after_move}
 use Rattle.lsm_coord.specs.Model.Event as say
+use Rattle.lsm_coord.specs.Model.Laws.{FlushedAscends}
 use Rattle.lsm_coord.specs.Model.State.{State, Version}
 use Rattle.lsm_coord.specs.Model.Step.{Step}
 use Rattle.lsm_coord.proofs.ShownStates.{stored_same}
@@ -42,7 +43,7 @@ use Rattle.lsm_world.specs.Inner.Working.{IsSoundAsk, KeepsNetwork}
 use Rattle.lsm_world.specs.Nodes.{NetworkValue, StoreValue, at_index, number_of, with_index}
 use Rattle.lsm_world.specs.Replies.{reply_of}
 use Rattle.lsm_world.specs.Schedules.{IsPlain}
-use Rattle.lsm_world.specs.Shown.{AreAnswered, AreRising, FollowsStore, ShowsStore}
+use Rattle.lsm_world.specs.Shown.{AreAnswered, FollowsStore, ShowsStore}
 use Rattle.lsm_world.proofs.DeskPlaces.{set_back}
 use Rattle.lsm_world.proofs.FollowerEvents.{Moves, MovesBy, follows_number}
 use Rattle.lsm_world.proofs.FourPlaces.{in_place}
@@ -80,8 +81,8 @@ core_shows None seat s numbers h = record {
   stored = stored_same seat.edits h.served s (with_followers s numbers) h.stored refl refl refl refl (λ key. refl);
 }
 
-rising_with : (s : State) (numbers : List ℕ) → AreRising s → AreRising (with_followers s numbers)
-rising_with s numbers is = record { rising = is.rising; within = is.within; between = is.between }
+rising_with : (s : State) (numbers : List ℕ) → FlushedAscends s → FlushedAscends (with_followers s numbers)
+rising_with s numbers is = record { ascending = is.ascending; written = is.written; frozen = is.frozen }
 
 answered_with : (h : History) (s : State) (numbers : List ℕ) → AreAnswered h s → AreAnswered h (with_followers s numbers)
 answered_with h s numbers all served is at tables = let one = all served is at tables in record { ordered = one.ordered; answers = one.answers }

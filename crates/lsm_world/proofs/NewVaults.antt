@@ -1,13 +1,16 @@
 -- An opening over a vault that has nothing: why it is refused, and what is left.
-use Rattle.std.proofs.Common.{◌≡◌, ◌⊎◌, ℕ, Bool, [], arith, inl, inr, refl, sym, nat_cmp, ◌∙◌}
+use Rattle.std.proofs.Common.{◌≡◌, ◌⊎◌, ℕ, Bool, true, false, cond, List, [], Option, None, ap, arith, inl, inr, refl, sym, nat_cmp, ◌∙◌}
 use Rattle.std.proofs.lemmas.Cmp.{nat_cmp_total}
 use Rattle.std.specs.FinMap as map
+use Rattle.lsm_key.specs.declared.limits.Limits.{Limits}
 use Rattle.lsm_edit.specs.Version.{first_version}
 use Rattle.lsm_versions.specs.declared.error.OpenError.{OpenError}
 use Rattle.lsm_versions.specs.declared.error.OpenError.TheVariants.{OutOfMemory, BadManifest, MissingTable, Device, NumbersExhausted}
 use Rattle.lsm_versions.specs.Kept.{Kept}
 use Rattle.lsm_versions.specs.Manifest.{Folds}
-use Rattle.lsm_versions.specs.Opening.{MayHaveDropped, MayHaveLost, OpenRefuses}
+use Rattle.lsm_versions.specs.Opening.{MayHaveDropped, MayHaveLost, OpenRefuses, is_live_file, manifest_version}
+use Rattle.lsm_coord.specs.Contract.Seats.{OpensCoord}
+use Rattle.lsm_coord.specs.Contract.Value.{CoordValue}
 
 folds_none : Folds [] first_version
 folds_none = record { spelled = λ text m. absurd m; apply = tt; makes = refl }
@@ -30,3 +33,19 @@ none_dropped Device new h = elim h [ inl same ↦ same | inr lost ↦ lost_none 
 none_dropped BadManifest new h = h
 none_dropped MissingTable new h = h
 none_dropped NumbersExhausted new h = h
+
+-- ---- an opening that succeeds
+
+either_none : (b : Bool) (o : Option (List ℕ)) → o ≡ None → cond b o None ≡ None
+either_none true o none = none
+either_none false o none = refl
+
+keeps_none : (kept : Kept) (stays : ℕ → Bool) → kept ≡ map.empty → map.retain_keys kept stays ≡ map.empty
+keeps_none kept stays none =
+    lost_none stays (map.retain_keys kept stays)
+    (λ n. inl (map.get-retain_keys kept stays n (λ x tied. ap stays (sym (map.nat_cmp-IsAntisymmetric n x tied))) ∙ either_none (stays n) (map.get kept n) (ap (λ (k : Kept). map.get k n) none ∙ map.get-empty nat_cmp n) ∙ sym (map.get-empty nat_cmp n)))
+
+-- the vault of a store that was opened over nothing has no table
+pub opened_kept : (edits : List (List ℕ)) (kept : Kept) (limits : Limits) (c : CoordValue) → OpensCoord edits kept limits c → kept ≡ map.empty → c.kept ≡ map.empty
+opened_kept edits kept limits c opened none =
+    ap (λ (x : CoordValue). x.kept) opened.is ∙ opened.opens.tables ∙ keeps_none kept (is_live_file (manifest_version edits).files []) none

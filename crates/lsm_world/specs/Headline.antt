@@ -7,6 +7,7 @@ use Rattle.lsm_coord.specs.Model.Changes.{read_at}
 use Rattle.lsm_coord.specs.Model.Event.{Event, Reply}
 use Rattle.lsm_coord.specs.Model.Event as say
 use Rattle.lsm_coord.specs.Model.Laws.{IsAnswered}
+use Rattle.lsm_coord.specs.Model.Range.{IsRange}
 use Rattle.lsm_coord.specs.Model.Run.{Run}
 use Rattle.lsm_coord.specs.Model.State.{Place, State, Version, first_state}
 
@@ -18,10 +19,15 @@ IsAnsweredAt events replies place event reply = (slice_get events place ≡ Some
 abbrev pub IsStateAt : List Event → List Reply → ℕ → State → Type 0
 IsStateAt events replies place s = Run first_state (take place events) (take place replies) s
 
--- A read at the coordinator gives the newest accepted write of its key, no later than its point.
+-- A get at the coordinator gives the newest accepted write of its key, no later than its point.
 abbrev pub ReadsAreNewest : List Event → List Reply → Type 0
 ReadsAreNewest events replies = (place : ℕ) (key : List ℕ) (at : Option SnapId) (value : Option (List ℕ)) → IsAnsweredAt events replies place (say.Get key at) (say.Got value)
     → (s : State) × IsStateAt events replies place s × (value ≡ answer s.writes (read_at s at) key)
+
+-- A scan at the coordinator gives the first keys of its range that have a value, each with its newest accepted write, no later than its point.
+abbrev pub ScansAreNewest : List Event → List Reply → Type 0
+ScansAreNewest events replies = (place : ℕ) (lo hi : List ℕ) (at : Option SnapId) (limit : ℕ) (pairs : List (List ℕ × List ℕ)) → IsAnsweredAt events replies place (say.Scan lo hi at limit) (say.Scanned pairs)
+    → (s : State) × IsStateAt events replies place s × IsRange (answer s.writes (read_at s at)) lo hi limit pairs
 
 -- A read at a follower gives the newest accepted write of its key, no later than the flushed sequence of the follower's version.
 abbrev pub FollowerReadsAreNewest : List Event → List Reply → Type 0

@@ -33,8 +33,8 @@ use Rattle.lsm_work.specs.Workers.{TaskValue, WorkerValue}
 use Rattle.lsm_world.specs.Nodes.{NetworkValue, NodesValue, StoreValue, nodes_with}
 
 pub record History : Type 0 where
-  pub files : List Placed  -- each file that a version ever listed, with its table
-  pub jobs : List JobParts  -- each job that was picked
+  pub files : List Placed  -- files with their tables, among them each that a version ever listed
+  pub jobs : List JobParts  -- the jobs that claims, messages and workers name
   pub edits : List Edit  -- each edit, from edit 1
 
 -- ---- versions

@@ -7,3 +7,7 @@ pub mod Asks
 pub mod Schedules
 pub mod Headline
 pub mod Inner
+pub mod Memory
+pub mod Shortage
+pub mod WorkedSchedules
+pub mod WrongWorlds

@@ -1,5 +1,6 @@
 -- Schedules: lists of events, each with its reply, of the nodes of one store (the store's own).
 use Rattle.std.specs.Prelude.{◌≡◌, ◌⊎◌, ℕ, List, [], ◌∷◌, ◌++◌, Option, None, Some, map}
+use Rattle.std.specs.FinMap.{empty}
 use Rattle.lsm_claim.specs.Book.{new_book}
 use Rattle.lsm_key.specs.declared.limits.Limits.{Limits}
 use Rattle.lsm_edit.specs.Edits.{RemovedOnce}
@@ -44,6 +45,7 @@ idle_worker index = record { index = index; task = None }
 pub record AreNew (due : Limits) (n : NodesValue) : Type 0 where
   pub shown : Shows n.core first_state
   pub limits : n.core.limits ≡ due
+  pub kept : n.core.kept ≡ empty
   pub book : n.core.book ≡ new_book 1
   pub desk : n.desk ≡ new_desk
   pub workers : n.network.workers ≡ map idle_worker first_indices

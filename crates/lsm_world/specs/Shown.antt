@@ -9,7 +9,8 @@ use Rattle.lsm_edit.specs.Served.{IsServed, ServedValue, tables_of}
 use Rattle.lsm_coord.specs.Contract.Seats.{ShowsSeat}
 use Rattle.lsm_coord.specs.Contract.Value.{stored_entries}
 use Rattle.lsm_coord.specs.Model.Event.{Event, Reply}
-use Rattle.lsm_coord.specs.Model.State.{State, Version, last_flushed, last_seq}
+use Rattle.lsm_coord.specs.Model.Laws.{FlushedAscends}
+use Rattle.lsm_coord.specs.Model.State.{State}
 use Rattle.lsm_coord.specs.Model.Step.{Step}
 use Rattle.lsm_world.specs.History.{History, IsStoreHistory, IsVersionOf}
 use Rattle.lsm_world.specs.Nodes.{StoreValue, number_of}
@@ -25,19 +26,13 @@ pub record Answers (served : ServedValue) (s : State) : Type 0 where
 abbrev pub AreAnswered : History → State → Type 0
 AreAnswered h s = (served : ServedValue) → IsServed served → IsVersionOf h served.version → ((p : Placed) → IsIn p served.places → IsIn p h.files) → Answers served s
 
--- the flushed sequences of the versions rise, up to the end of the frozen memtable and the last write
-pub record AreRising (s : State) : Type 0 where
-  pub rising : (m n : ℕ) (v w : Version) → m ≤ n → slice_get s.versions m ≡ Some v → slice_get s.versions n ≡ Some w → v.flushed ≤ w.flushed
-  pub within : last_flushed s ≤ last_seq s
-  pub between : (end : ℕ) → s.frozen ≡ Some end → (last_flushed s ≤ end) × (end ≤ last_seq s)
-
 -- ---- the store
 
 -- The seat and the followers show the state, and some history of the store has versions that answer as its writes do.
 pub record ShowsStore (store : StoreValue) (s : State) : Type 0 where
   pub seat : ShowsSeat store.seat s
   pub followers : s.followers ≡ map number_of store.network.followers
-  pub rising : AreRising s
+  pub rising : FlushedAscends s
   pub history : History
   pub known : IsStoreHistory history store
   pub answered : AreAnswered history s

@@ -9,6 +9,7 @@ ghost use Rattle.lsm_world.specs.Asks.{Calls, LacksMemory, restarted_as};
 ghost use Rattle.lsm_world.specs.Events.{event_of};
 ghost use Rattle.lsm_world.specs.Inner.Handing.{IsOfCoordinator};
 ghost use Rattle.lsm_world.specs.Inner.Upkeep.{KeepsFiles};
+ghost use Rattle.lsm_world.specs.Memory.{IsNotShort};
 ghost use Rattle.lsm_world.specs.Replies.{reply_of};
 ghost use Rattle.lsm_world.specs.Schedules.{IsPlain};
 
@@ -29,6 +30,7 @@ pub(crate) fn answer<V: Vault>(alloc: Global, coord: &mut Coord<V>, event: &Even
     ensures follows { Follows coord.old (event_of event.now) (reply_of result) coord.new }
     ensures files { KeepsFiles coord.old coord.new }
     ensures plain { IsPlain result }
+    ensures memory { IsNotShort event.now result }
 {
     match event {
         Event::Write(ops) => write(alloc, coord, ops),

@@ -11,6 +11,7 @@
 mod coordinator;
 mod event;
 mod four;
+mod laws;
 mod messages;
 mod network;
 mod nodes;
@@ -18,11 +19,10 @@ mod refusal;
 mod reply;
 mod stopped;
 mod store;
-#[cfg(test)]
-mod tests;
 mod world;
 
 pub use event::Event;
+pub use laws::{worked_schedules, wrong_worlds};
 pub use refusal::Refusal;
 pub use reply::{PickedJob, Reply, Sent};
 pub use world::World;

@@ -10,6 +10,7 @@ ghost use Rattle.lsm_world.specs.Asks.{AsksNetwork, DeliversOn, IsWork, LacksMem
 ghost use Rattle.lsm_world.specs.History.{History, IsNetwork, first_indices};
 ghost use Rattle.lsm_world.specs.Inner.Handing.{IsOfNetwork, IsOther, IsStored};
 ghost use Rattle.lsm_world.specs.Inner.Working.{HasWorked, IsMessageAt, IsSoundAsk, KeepsNetwork};
+ghost use Rattle.lsm_world.specs.Memory.{IsNotShort};
 ghost use Rattle.lsm_world.specs.Schedules.{first_followers, idle_worker};
 
 use crate::event::Event;
@@ -68,6 +69,7 @@ impl Network {
         ensures asks { LacksMemory self.old result self.new ⊎ AsksNetwork self.old event.now result self.new }
         ensures keeps { KeepsNetwork self.old self.new }
         ensures sound { IsSoundAsk self.old event.now }
+        ensures memory { IsNotShort event.now result }
     {
         match event {
             Event::RestartWorker(index) => self.restart_worker(*index),

@@ -41,12 +41,14 @@ impl<V: Vault> Nodes<V> {
     ghost use Rattle.std.specs.Prelude.{◌≡◌};
     ghost use Rattle.lsm_coord.specs.Contract.Memory.{IsFit};
     ghost use Rattle.lsm_coord.specs.Contract.Shows.{Shows};
+    ghost use Rattle.std.specs.FinMap.{empty};
     ghost use Rattle.lsm_claim.specs.Book.{new_book};
     ghost use Rattle.lsm_coord.specs.Model.State.{State, first_state};
     ghost use Rattle.lsm_world.specs.Asks.{Asks};
     ghost use Rattle.lsm_world.specs.Events.{event_of};
     ghost use Rattle.lsm_world.specs.History.{History, IsHistory};
     ghost use Rattle.lsm_world.specs.Inner.Handing.{IsNoRestart, IsOfCoordinator, IsOfNetwork};
+    ghost use Rattle.lsm_world.specs.Memory.{IsNotShort};
     ghost use Rattle.lsm_world.specs.Replies.{reply_of};
     ghost use Rattle.lsm_world.specs.Nodes.{nodes_of, up_store};
     ghost use Rattle.lsm_world.specs.Schedules.{AreNew, IsPlain};
@@ -56,6 +58,7 @@ impl<V: Vault> Nodes<V> {
     pub(crate) fn new(alloc: Global, coord: Coord<V>) -> Nodes<V>
         requires shown { Shows coord first_state }
         requires book { coord.book ≡ new_book 1 }
+        requires kept { coord.kept ≡ empty }
         ensures new { AreNew coord.limits result }
         ensures core { result.core ≡ coord }
         ensures fit { IsFit result.core }
@@ -77,6 +80,7 @@ impl<V: Vault> Nodes<V> {
         ensures asks { Asks self.old event.now result self.new }
         ensures follows { FollowsStore (up_store self.old) (event_of event.now) (reply_of result) (up_store self.new) }
         ensures plain { IsPlain result }
+        ensures memory { IsNotShort event.now result }
     {
         match event {
             Event::Pick(dispatcher) => self.pick(*dispatcher),
@@ -98,6 +102,7 @@ impl<V: Vault> Nodes<V> {
         ensures asks { Asks self.old event.now result self.new }
         ensures follows { FollowsStore (up_store self.old) (event_of event.now) (reply_of result) (up_store self.new) }
         ensures plain { IsPlain result }
+        ensures memory { IsNotShort event.now result }
     {
         coordinator::answer(self.alloc, &mut self.coord, event)
     }
@@ -108,6 +113,7 @@ impl<V: Vault> Nodes<V> {
         ensures asks { Asks self.old event.now result self.new }
         ensures follows { FollowsStore (up_store self.old) (event_of event.now) (reply_of result) (up_store self.new) }
         ensures plain { IsPlain result }
+        ensures memory { IsNotShort event.now result }
     {
         self.network.answer(event)
     }

@@ -1,11 +1,15 @@
 //! What is answered to an event.
 
+ghost use Rattle.std.specs.Prelude.{◌↔◌, IsTrue};
+ghost use Rattle.lsm_world.specs.Shortage.{LacksMemory};
+
 use crate::refusal::Refusal;
 use bytes::Bytes;
 use lsm_claim::JobId;
-use lsm_coord::{Flushed, ShownVersion, SnapId};
-use lsm_key::{FileNumber, Items, Seq, VersionNumber};
+use lsm_coord::{CoordError, Flushed, ShownVersion, SnapId};
+use lsm_key::{FileNumber, Items, KeyError, Seq, VersionNumber};
 use lsm_msg::NodeIndex;
+use lsm_versions::OpenError;
 
 /// What became of the messages of an event.
 #[derive(Clone, Copy, Debug, PartialEq, Eq)]
@@ -80,4 +84,27 @@ pub enum Reply {
     Current,
     RestartedFollower(NodeIndex),
     Refused(Refusal),
+}
+
+impl Reply {
+    /// Whether memory ran out: the event was refused for it, or its messages were lost.
+    pub fn lacks_memory(&self) -> bool
+        ensures { IsTrue result ↔ LacksMemory self.now }
+    {
+        match self {
+            Reply::Refused(why) => {
+                *why == Refusal::OutOfMemory
+                    || *why == Refusal::Coord(CoordError::OutOfMemory)
+                    || *why == Refusal::Key(KeyError::OutOfMemory)
+                    || *why == Refusal::Open(OpenError::OutOfMemory)
+            }
+            Reply::Picked(_, sent)
+            | Reply::Served(sent)
+            | Reply::Collecting(_, sent)
+            | Reply::Merged(sent)
+            | Reply::Asked(sent)
+            | Reply::Waiting(_, sent) => *sent == Sent::Lost,
+            _ => false,
+        }
+    }
 }

@@ -55,6 +55,7 @@ impl<V: Vault> Stopped<V> {
     ghost use Rattle.lsm_world.specs.History.{History, IsDownHistory};
     ghost use Rattle.lsm_world.specs.Inner.Handing.{IsNoRestart, IsOfNetwork, IsOther, IsStored};
     ghost use Rattle.lsm_world.specs.Inner.Stopping.{down_store};
+    ghost use Rattle.lsm_world.specs.Memory.{IsNotShort};
     ghost use Rattle.lsm_world.specs.Shown.{FollowsStore};
 
     /// Lets a worker or a follower answer an event, or refuses what the coordinator or a dispatcher is asked.
@@ -62,6 +63,7 @@ impl<V: Vault> Stopped<V> {
         requires { IsNoRestart event.now }
         ensures asks { LacksMemory (down_store self.old) result (down_store self.new) ⊎ AsksDown (down_store self.old) event.now result (down_store self.new) }
         ensures follows { FollowsStore (down_store self.old) (event_of event.now) (reply_of result) (down_store self.new) }
+        ensures memory { IsNotShort event.now result }
     {
         match event {
             Event::Write(ops) => refused_write(self.alloc, ops),
@@ -80,6 +82,7 @@ impl<V: Vault> Stopped<V> {
         requires { IsOfNetwork event.now }
         ensures asks { LacksMemory (down_store self.old) result (down_store self.new) ⊎ AsksDown (down_store self.old) event.now result (down_store self.new) }
         ensures follows { FollowsStore (down_store self.old) (event_of event.now) (reply_of result) (down_store self.new) }
+        ensures memory { IsNotShort event.now result }
     {
         self.network.answer(event)
     }

@@ -8,6 +8,7 @@ ghost use Rattle.lsm_world.specs.Asks.{AsksStore, restart_answer, restarted_as};
 ghost use Rattle.lsm_world.specs.Events.{event_of};
 ghost use Rattle.lsm_world.specs.History.{History, IsStoreHistory};
 ghost use Rattle.lsm_world.specs.Inner.Storing.{IsCaughtUp, store_in, store_of};
+ghost use Rattle.lsm_world.specs.Memory.{IsNotShort};
 ghost use Rattle.lsm_world.specs.Nodes.{store_with};
 ghost use Rattle.lsm_world.specs.Replies.{reply_of};
 ghost use Rattle.lsm_world.specs.Schedules.{IsPlain, device_failures};
@@ -44,6 +45,7 @@ impl<V: Vault> Store<V> {
     ghost use Rattle.lsm_world.specs.History.{History, IsDownHistory};
     ghost use Rattle.lsm_world.specs.Inner.Handing.{IsNoRestart};
     ghost use Rattle.lsm_world.specs.Inner.Storing.{IsFitWhileUp, store_of};
+    ghost use Rattle.lsm_world.specs.Memory.{IsNotShort};
     ghost use Rattle.lsm_world.specs.Replies.{reply_of};
     ghost use Rattle.lsm_world.specs.Schedules.{IsFitBy, IsPlain, device_failures};
     ghost use Rattle.lsm_world.specs.Shown.{FollowsStore, ShowsStore};
@@ -55,6 +57,7 @@ impl<V: Vault> Store<V> {
         ensures follows { FollowsStore (store_of self) (event_of event.now) (reply_of result.1) (store_of result.0) }
         ensures plain { IsPlain result.1 }
         ensures counted { device_failures result.1 + (store_of self).seat.failures ≤ (store_of result.0).seat.failures }
+        ensures memory { IsNotShort event.now result.1 }
     {
         match event {
             Event::RestartCoordinator => self.restart(alloc),
@@ -70,6 +73,7 @@ impl<V: Vault> Store<V> {
         ensures follows { FollowsStore (store_of self) (event_of event.now) (reply_of result.1) (store_of result.0) }
         ensures plain { IsPlain result.1 }
         ensures counted { device_failures result.1 + (store_of self).seat.failures ≤ (store_of result.0).seat.failures }
+        ensures memory { IsNotShort event.now result.1 }
     {
         match self {
             Store::Up(nodes) => {
@@ -150,6 +154,7 @@ pub(crate) fn answer<V: Vault>(place: &mut Option<Store<V>>, alloc: Global, even
     ensures follows { FollowsStore (store_in place.old) (event_of event.now) (reply_of result) (store_in place.new) }
     ensures plain { IsPlain result }
     ensures counted { device_failures result + (store_in place.old).seat.failures ≤ (store_in place.new).seat.failures }
+    ensures memory { IsNotShort event.now result }
 {
     let Some(store) = place.take() else {
         unreachable!()

@@ -8,7 +8,8 @@ ghost use Rattle.lsm_world.specs.declared.refusal.Refusal.TheVariants as why;
 ghost use Rattle.lsm_world.specs.declared.reply.Reply.TheVariants as reply;
 ghost use Rattle.lsm_world.specs.Asks.{AsksStore};
 ghost use Rattle.lsm_world.specs.Events.{event_of};
-ghost use Rattle.lsm_world.specs.Headline.{FollowerReadsAreNewest, GiveOneAnswer, ReadsAreNewest, ShowOneListing};
+ghost use Rattle.lsm_world.specs.Headline.{FollowerReadsAreNewest, GiveOneAnswer, ReadsAreNewest, ScansAreNewest, ShowOneListing};
+ghost use Rattle.lsm_world.specs.Memory.{TakesNoMemory};
 ghost use Rattle.lsm_world.specs.Replies.{reply_of};
 ghost use Rattle.lsm_world.specs.Schedules.{AskedAll, IsNew, IsPlain, IsTaken, IsTraced, IsWorld, RunsTo, device_failures};
 ghost use Rattle.lsm_world.specs.Shown.{FollowsStore};
@@ -59,6 +60,7 @@ impl<V: Vault> World<V> {
         requires edits { V.edits vault ≡ [] }
         requires tables { V.tables vault ≡ empty }
         ensures new { IfOk result (IsNew limits) }
+        ensures failures { IfOk result (λ w. V.failures vault ≤ w.nodes.seat.failures) }
         ensures refused { IfErr result (λ e. (e.0 ≡ OutOfMemory) ⊎ (e.0 ≡ Device)) }
         ensures edits { IfErr result (λ e. V.edits e.1 ≡ []) }
         ensures tables { IfErr result (λ e. V.tables e.1 ≡ empty) }
@@ -86,6 +88,8 @@ impl<V: Vault> World<V> {
         ensures plain { IsPlain result }
         // The vault counts a failure more where its device is said to have failed, and never fewer.
         ensures counted { device_failures result + self.old.nodes.seat.failures ≤ self.new.nodes.seat.failures }
+        // An event that takes no memory but for its place in the trace is refused for want of it only if there is no place.
+        ensures memory { TakesNoMemory event → result ≡ reply.Refused why.OutOfMemory → self.new ≡ self.old }
     {
         match self.trace.reserve(1) {
             Err(_) => return Reply::Refused(Refusal::OutOfMemory),
@@ -114,7 +118,8 @@ impl<V: Vault> World<V> {
     /// there is none, nothing happens.
     ///
     /// Whatever the events are, on a new world:
-    /// Each read at the coordinator gives the newest accepted write of its key, no later than its point (`reads`).
+    /// Each get at the coordinator gives the newest accepted write of its key, no later than its point (`reads`), and each scan
+    /// gives the first keys of its range that have a value, each with that value (`scans`).
     /// Each read at a follower gives the newest accepted write of its key, no later than the flushed sequence of the follower's
     /// version (`follower_reads`).
     /// Nodes that show one version number show one listing, and followers at one version give one answer (`one_listing`,
@@ -133,6 +138,7 @@ impl<V: Vault> World<V> {
         ensures world { IsWorld self.new }
         // The headline, of a new world: what the replies say, whatever the events were.
         ensures reads { IfOk result (λ replies. (due : Limits) → IsNew due self.old → ReadsAreNewest (map event_of events.now) (map reply_of replies.items)) }
+        ensures scans { IfOk result (λ replies. (due : Limits) → IsNew due self.old → ScansAreNewest (map event_of events.now) (map reply_of replies.items)) }
         ensures follower_reads { IfOk result (λ replies. (due : Limits) → IsNew due self.old → FollowerReadsAreNewest (map event_of events.now) (map reply_of replies.items)) }
         ensures one_listing { IfOk result (λ replies. (due : Limits) → IsNew due self.old → ShowOneListing (map reply_of replies.items)) }
         ensures one_answer { IfOk result (λ replies. (due : Limits) → IsNew due self.old → GiveOneAnswer (map event_of events.now) (map reply_of replies.items)) }

@@ -67,14 +67,26 @@ DownUntilRestarted = RunOfNew
 -- a merge changes the files, and no answer
 abbrev pub MergeKeepsAnswers : Type 0
 MergeKeepsAnswers = RunOfNew
-    (say.Write (Put a one ∷ []) ∷ say.Flush ∷ say.Snap ∷ say.Write (Delete a ∷ []) ∷ say.Flush ∷ say.Pick 1 ∷ say.Deliver 6 ∷ say.Show say.Coordinator ∷ say.Get a (Some first_snapshot) ∷ say.Get a None ∷ [])
-    (say.Wrote 1 1 ∷ say.Flushed 2 1 1 ∷ say.Snapped first_snapshot 1 ∷ say.Wrote 2 2 ∷ say.Flushed 3 2 2 ∷ say.Other ∷ say.Installed 4 (3 ∷ []) ∷ say.Shown 4 2 (record { level = 1; file = 3 } ∷ []) ∷ say.Got (Some one) ∷ say.Got None ∷ [])
+    (say.Write (Put a one ∷ []) ∷ say.Flush ∷ say.Snap ∷ say.Write (Delete a ∷ []) ∷ say.Flush ∷ say.Pick 1 ∷ say.Deliver 1 ∷ say.Deliver 2 ∷ say.Deliver 3 ∷ say.Deliver 4 ∷ say.Deliver 5 ∷ say.Deliver 6 ∷ say.Show say.Coordinator ∷ say.Get a (Some first_snapshot) ∷ say.Get a None ∷ [])
+    (say.Wrote 1 1 ∷ say.Flushed 2 1 1 ∷ say.Snapped first_snapshot 1 ∷ say.Wrote 2 2 ∷ say.Flushed 3 2 2 ∷ say.Other ∷ say.Other ∷ say.Other ∷ say.Other ∷ say.Other ∷ say.Other ∷ say.Installed 4 (3 ∷ []) ∷ say.Shown 4 2 (record { level = 1; file = 3 } ∷ []) ∷ say.Got (Some one) ∷ say.Got None ∷ [])
 
 -- a follower answers from its version, which may be behind, and begins again at version 0
 abbrev pub FollowerLiesBehind : Type 0
 FollowerLiesBehind = RunOfNew
-    (say.Write (Put a one ∷ []) ∷ say.Flush ∷ say.Write (Put a two ∷ []) ∷ say.Flush ∷ say.Ask 1 ∷ say.Deliver 2 ∷ say.Read 1 a ∷ say.Show (say.Follower 1) ∷ say.Trim 3 ∷ say.Deliver 4 ∷ say.Read 1 a ∷ say.Restart (say.Follower 1) ∷ say.Read 1 a ∷ [])
-    (say.Wrote 1 1 ∷ say.Flushed 2 1 1 ∷ say.Wrote 2 2 ∷ say.Flushed 3 2 2 ∷ say.Other ∷ say.Advanced 2 ∷ say.ReadAt 2 (Some one) ∷ say.Shown 2 1 (record { level = 0; file = 1 } ∷ []) ∷ say.Trimmed 3 ∷ say.Advanced 3 ∷ say.ReadAt 3 (Some two) ∷ say.Reset ∷ say.ReadAt 0 None ∷ [])
+    (say.Write (Put a one ∷ []) ∷ say.Flush ∷ say.Write (Put a two ∷ []) ∷ say.Flush ∷ say.Ask 1 ∷ say.Deliver 1 ∷ say.Deliver 2 ∷ say.Ask 1 ∷ say.Deliver 3 ∷ say.Deliver 4 ∷ say.Deliver 5 ∷ say.Deliver 6 ∷ say.Read 1 a ∷ say.Show (say.Follower 1) ∷ say.Trim 3 ∷ say.Read 1 a ∷ say.Restart (say.Follower 1) ∷ say.Read 1 a ∷ [])
+    (say.Wrote 1 1 ∷ say.Flushed 2 1 1 ∷ say.Wrote 2 2 ∷ say.Flushed 3 2 2 ∷ say.Other ∷ say.Other ∷ say.Advanced 1 ∷ say.Other ∷ say.Other ∷ say.Other ∷ say.Other ∷ say.Advanced 2 ∷ say.ReadAt 2 (Some one) ∷ say.Shown 2 1 (record { level = 0; file = 1 } ∷ []) ∷ say.Trimmed 3 ∷ say.ReadAt 2 (Some one) ∷ say.Reset ∷ say.ReadAt 0 None ∷ [])
+
+-- a claim is given back, a worker starts anew, and a snapshot of the next epoch has the next epoch's name
+abbrev pub EpochsFollow : Type 0
+EpochsFollow = RunOfNew
+    (say.Snap ∷ say.Write (Put a one ∷ []) ∷ say.Flush ∷ say.Pick 1 ∷ say.GiveUp 1 ∷ say.Restart (say.Worker 1) ∷ say.Restart say.Coordinator ∷ say.Snap ∷ say.Restart say.Coordinator ∷ [])
+    (say.Snapped first_snapshot 0 ∷ say.Wrote 1 1 ∷ say.Flushed 2 1 1 ∷ say.Other ∷ say.Other ∷ say.Reset ∷ say.Restarted 2 3 1 ∷ say.Snapped (record { epoch = 2; number = 1 }) 1 ∷ say.Restarted 3 4 1 ∷ [])
+
+-- a refusal of another cause than the state: a full batch of none, a busy dispatcher, a claim of an epoch before, a device that fails
+abbrev pub CausesBesideTheState : Type 0
+CausesBesideTheState = RunOfNew
+    (say.Write [] ∷ say.Write (Put a one ∷ []) ∷ say.Flush ∷ say.Flush ∷ say.Pick 1 ∷ say.Pick 1 ∷ say.Restart say.Coordinator ∷ say.Deliver 6 ∷ say.Trim 3 ∷ say.Trim 3 ∷ [])
+    (say.Refused say.EmptyBatch ∷ say.Wrote 1 1 ∷ say.Refused say.Device ∷ say.Flushed 2 1 1 ∷ say.Other ∷ say.Refused say.Busy ∷ say.Restarted 2 3 1 ∷ say.Refused say.OldEpoch ∷ say.Refused say.OutOfMemory ∷ say.Trimmed 3 ∷ [])
 
 -- A write is not lost while the coordinator runs.
 abbrev pub LostWriteIsNoRun : Type 0
@@ -127,3 +139,43 @@ abbrev pub FlushLosesWriteIsNoRun : Type 0
 FlushLosesWriteIsNoRun = RunOfNew
     (say.Write (Put a one ∷ []) ∷ say.Flush ∷ say.Get a None ∷ [])
     (say.Wrote 1 1 ∷ say.Flushed 2 1 1 ∷ say.Got None ∷ []) → ⊥
+
+-- An install takes some file away.
+abbrev pub InstallOfNothingIsNoRun : Type 0
+InstallOfNothingIsNoRun = RunOfNew (say.Deliver 6 ∷ []) (say.Installed 2 (1 ∷ []) ∷ []) → ⊥
+
+-- An install uses no file number again.
+abbrev pub NumberUsedAgainIsNoRun : Type 0
+NumberUsedAgainIsNoRun = RunOfNew
+    (say.Write (Put a one ∷ []) ∷ say.Flush ∷ say.Deliver 6 ∷ [])
+    (say.Wrote 1 1 ∷ say.Flushed 2 1 1 ∷ say.Installed 3 (1 ∷ []) ∷ []) → ⊥
+
+-- A follower moves to no version that is still to come.
+abbrev pub LeapIsNoRun : Type 0
+LeapIsNoRun = RunOfNew (say.Deliver 2 ∷ []) (say.Advanced 2 ∷ []) → ⊥
+
+-- A follower moves to no version of before.
+abbrev pub FallBackIsNoRun : Type 0
+FallBackIsNoRun = RunOfNew (say.Deliver 2 ∷ []) (say.Advanced 0 ∷ []) → ⊥
+
+-- A snapshot's name is not given twice.
+abbrev pub NameGivenTwiceIsNoRun : Type 0
+NameGivenTwiceIsNoRun = RunOfNew (say.Snap ∷ say.Snap ∷ []) (say.Snapped first_snapshot 0 ∷ say.Snapped first_snapshot 0 ∷ []) → ⊥
+
+-- A restart keeps what was flushed.
+abbrev pub FlushedWriteIsLostIsNoRun : Type 0
+FlushedWriteIsLostIsNoRun = RunOfNew
+    (say.Write (Put a one ∷ []) ∷ say.Flush ∷ say.Restart say.Coordinator ∷ [])
+    (say.Wrote 1 1 ∷ say.Flushed 2 1 1 ∷ say.Restarted 2 3 0 ∷ []) → ⊥
+
+-- The floor does not fall.
+abbrev pub FloorFallsIsNoRun : Type 0
+FloorFallsIsNoRun = RunOfNew (say.Restart say.Coordinator ∷ say.Trim 1 ∷ []) (say.Restarted 2 2 0 ∷ say.Trimmed 1 ∷ []) → ⊥
+
+-- A coordinator that is up does not say that it is down.
+abbrev pub DownWhileUpIsNoRun : Type 0
+DownWhileUpIsNoRun = RunOfNew (say.Get a None ∷ []) (say.Refused say.Down ∷ []) → ⊥
+
+-- One that is down does not answer.
+abbrev pub AnswerWhileDownIsNoRun : Type 0
+AnswerWhileDownIsNoRun = RunOfNew (say.Restart say.Coordinator ∷ say.Get a None ∷ []) (say.Refused say.Device ∷ say.Got None ∷ []) → ⊥

@@ -3,7 +3,7 @@ use Rattle.std.specs.Prelude.{◌≡◌, ℕ, ◌≤◌, List, ◌∷◌, ◌++�
 use Rattle.lsm_key.specs.declared.op.Op.{Op}
 use Rattle.lsm_key.specs.Sets.{IsIn}
 use Rattle.lsm_key.specs.Writes.{answer, last_write, value_of}
-use Rattle.lsm_coord.specs.Model.State.{State, Version, Place, first_state, last_seq}
+use Rattle.lsm_coord.specs.Model.State.{State, Version, Place, first_state, last_flushed, last_seq}
 use Rattle.lsm_coord.specs.declared.snapshot.SnapId.{SnapId}
 use Rattle.lsm_coord.specs.Model.Event.{Event, Reply}
 use Rattle.lsm_coord.specs.Model.Event as say
@@ -42,7 +42,7 @@ SnapshotsAgree = (events : List Event) (replies : List Reply) → RunOfNew event
     → IsAnswered events replies (say.Get key (Some id)) (say.Got other_value)
     → value ≡ other_value
 
--- the event writes another key than this or nothing, and does not restart the coordinator
+-- the event asks for no write of this key, refused or not, and for no restart of the coordinator
 abbrev pub SparesKey : List ℕ → Event → Type 0
 SparesKey key (say.Write ops) = last_write ops key ≡ None
 SparesKey key (say.Restart say.Coordinator) = ⊥
@@ -64,11 +64,12 @@ abbrev pub ScansAreDetermined : Type 0
 ScansAreDetermined = (writes : List Op) (at : ℕ) (lo hi : List ℕ) (limit : ℕ) (pairs others : List (List ℕ × List ℕ))
     → IsRange (answer writes at) lo hi limit pairs → IsRange (answer writes at) lo hi limit others → pairs ≡ others
 
--- flushed sequences ascend with the version number, up to the number of writes
+-- flushed sequences ascend with the version number, up to the end of the frozen memtable and the number of writes
 pub record FlushedAscends (s : State) : Type 0 where
   pub ascending : (m n : ℕ) (v w : Version) → m ≤ n → slice_get s.versions m ≡ Some v → slice_get s.versions n ≡ Some w → v.flushed ≤ w.flushed
   pub written : (n : ℕ) (v : Version) → slice_get s.versions n ≡ Some v → v.flushed ≤ last_seq s
+  pub frozen : (end : ℕ) → s.frozen ≡ Some end → (last_flushed s ≤ end) × (end ≤ last_seq s)
 
--- In a run of a new store, flushed sequences ascend with the version number, up to the number of writes.
+-- In a run of a new store, flushed sequences ascend so.
 abbrev pub FlushedRises : Type 0
 FlushedRises = (events : List Event) (replies : List Reply) (s : State) → Run first_state events replies s → FlushedAscends s

@@ -1,7 +1,8 @@
 //! Answers to messages.
 
-ghost use Rattle.std.specs.Prelude.{◌≡◌, ℕ, ◌<◌, Some, IfOk, IfErr, IsSome};
+ghost use Rattle.std.specs.Prelude.{◌≡◌, ℕ, ◌<◌, Some, IfOk, IfErr, IfSome, IsSome};
 ghost use Rattle.lsm_msg.specs.declared.node.Node.TheVariants.{Coordinator};
+ghost use Rattle.lsm_msg.specs.Messages.{IsBody, IsFileNumber, IsMessage};
 ghost use Rattle.lsm_versions.specs.Retention.{bytes_at};
 ghost use Rattle.lsm_coord.specs.Model.Event.{Deliver, Other};
 ghost use Rattle.lsm_coord.specs.Model.State.{State};
@@ -17,11 +18,12 @@ use std::alloc::AllocError;
 impl<V: Vault> Coord<V> {
     /// Replies to `Fetch`: the table if some version from the floor on lists the file, else `Gone`. Replies to `Ask`: that the
     /// follower is up to date, or the next edit if that is one from the floor on, else the whole current version. Ignores other
-    /// messages. Tables, edits and versions share their bytes.
+    /// messages. What is answered may be sent. Tables, edits and versions share their bytes.
     pub fn serve(&self, message: &Message) -> Result<Option<Message>, AllocError>
         ensures step { (number : ℕ) → Follows self.now (Deliver number) Other self.now }
         ensures ok { IfOk result (λ answer. answer ≡ answer_message self.now message.now message.now.body) }
         ensures listed { IfOk result (λ answer. (s : State) → Shows self.now s → Serves s message.now.body answer) }
+        ensures sound { IsMessage message.now → IfOk result (λ answer. IfSome answer IsMessage) }
         ensures err { IfErr result (λ e. TakesMemory self.now message.now.body) }
     {
         // Proof hint: the retired files are those of earlier versions.
@@ -36,6 +38,7 @@ impl<V: Vault> Coord<V> {
     // What a follower at a version is told: that it is up to date, the next edit, or the whole current version.
     fn body_after(&self, number: VersionNumber) -> Result<Body, AllocError>
         ensures ok { IfOk result (λ body. after_version self.now number ≡ Some body) }
+        ensures sound { IfOk result IsBody }
         ensures err { IfErr result (λ e. number < self.now.served.version.number) }
     {
         let version = self.versions.version();
@@ -52,6 +55,7 @@ impl<V: Vault> Coord<V> {
     // The table of a file, or that it is gone.
     fn file_body(&self, file: FileNumber) -> Result<Body, AllocError>
         ensures ok { IfOk result (λ body. body ≡ table_body file (bytes_at self.now.served.places self.now.retired file)) }
+        ensures sound { IsFileNumber file → IfOk result IsBody }
         ensures err { IfErr result (λ e. IsSome (bytes_at self.now.served.places self.now.retired file)) }
     {
         match self.versions.bytes_of(file.number()) {

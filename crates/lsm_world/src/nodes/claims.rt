@@ -1,14 +1,15 @@
 //! Dispatchers: how they pick jobs, and give them back.
 
-ghost use Rattle.std.specs.Prelude.{◌≡◌, ◌≤◌, [], All, vec_capacity, ◌<◌, ◌^◌};
+ghost use Rattle.std.specs.Prelude.{◌≡◌, ◌≤◌, [], vec_capacity};
 ghost use Rattle.lsm_key.specs.declared.limits.TheConstants.{MAX_INPUTS};
 ghost use Rattle.lsm_coord.specs.declared.dispatcher.Dispatcher.TheVariants.{Idle, Busy};
 ghost use Rattle.lsm_coord.specs.Contract.Desks.{dispatcher_of, with_dispatcher};
-ghost use Rattle.lsm_msg.specs.Messages.{AreSequences, IsMessage};
+ghost use Rattle.lsm_msg.specs.Messages.{IsMessage};
 ghost use Rattle.lsm_world.specs.declared.event.Event.TheVariants.{GiveUp, Pick};
-ghost use Rattle.lsm_world.specs.Asks.{Asks, TellsJob, job_message};
+ghost use Rattle.lsm_world.specs.Asks.{Asks, AsksNode, TellsJob, job_message};
 ghost use Rattle.lsm_world.specs.Events.{event_of};
 ghost use Rattle.lsm_world.specs.Inner.Handing.{TellsPicked, settled_reply};
+ghost use Rattle.lsm_world.specs.Memory.{IsNotShort};
 ghost use Rattle.lsm_world.specs.Replies.{reply_of};
 ghost use Rattle.lsm_world.specs.Nodes.{up_store};
 ghost use Rattle.lsm_world.specs.Schedules.{IsPlain};
@@ -21,8 +22,8 @@ use crate::refusal::Refusal;
 use crate::reply::{PickedJob, Reply};
 use lsm_claim::{Claim, JobId, Settled};
 use lsm_coord::Desk;
-use lsm_key::{FileNumber, Items, MAX_INPUTS, Seq};
-use lsm_msg::{Body, Job, Message, Node, NodeIndex};
+use lsm_key::{FileNumber, Items, MAX_INPUTS};
+use lsm_msg::{Job, Message, NodeIndex};
 use lsm_vault::Vault;
 
 impl<V: Vault> Nodes<V> {
@@ -54,11 +55,12 @@ impl<V: Vault> Nodes<V> {
         }
     }
 
-    /// Lets a dispatcher give its claim back.
+    /// Lets a dispatcher give its claim back. Allocates nothing, so it is never refused for want of memory.
     pub(super) fn give_up(&mut self, dispatcher: NodeIndex) -> Reply
-        ensures asks { Asks self.old (GiveUp dispatcher) result self.new }
+        ensures asks { AsksNode self.old (GiveUp dispatcher) result self.new }
         ensures follows { FollowsStore (up_store self.old) (event_of (GiveUp dispatcher)) (reply_of result) (up_store self.new) }
         ensures plain { IsPlain result }
+        ensures memory { IsNotShort (GiveUp dispatcher) result }
     {
         if self.desk.dispatcher(dispatcher).id().is_none() {
             return Reply::Refused(Refusal::NoClaim);
@@ -103,21 +105,8 @@ fn hand_out(
         None => {}
         Some(_before) => unreachable!(),
     }
-    let sent = network.send(&job_message(dispatcher, job));
+    let sent = network.send(&Message::to_worker(dispatcher, job));
     Reply::Picked(told, sent)
-}
-
-// The message that takes a job to the dispatcher's worker.
-fn job_message(dispatcher: NodeIndex, job: Job) -> Message
-    ensures all { result ≡ job_message dispatcher job }
-    ensures sound { IsMessage result }
-{
-    know_sequences(job.points());
-    Message {
-        src: Node::Coordinator,
-        dst: Node::Worker(dispatcher),
-        body: Body::Job(job),
-    }
 }
 
 // What a reply says of a job. Takes no memory.
@@ -134,14 +123,5 @@ fn picked_job(job: &Job, inputs: Vec<FileNumber>) -> PickedJob
         id: job.id(),
         level: job.level(),
         inputs: Items::from_vec(inputs),
-    }
-}
-
-// Proof hint: sequences are below 2^56. There are at most 64.
-fn know_sequences(points: &[Seq])
-    ensures { AreSequences points.now }
-{
-    for point in points {
-        let _number = point.number();
     }
 }

@@ -25,8 +25,8 @@ unreachable-requires g c =
     let one = spells (g.V.Vault.edits m.vault) m.current.version m.floor m.recent.items c.self.invariant.0.folds c.self.invariant.1 c.args.number from below c.index.result.now (c.index.ensures ∙ (λ i. get_or m.recent.items (c.number.ensures i - c.edits_below.ensures i) c.index.result.now)) in
     subst (λ (o : Option Edit). IfNone o ((e : Edit) → IsSpelledEdit c.index.result.now e → ⊥)) c.in_default.is c.in_ok-edit.ensures.none one.0 one.1
 
-pub returns : goal.returns
-returns g c =
+pub returns-clause-next : goal.returns-clause-next
+returns-clause-next g c =
     let m = c.self.inside in
     let from : m.floor ≤ c.args.number + 1 = subst (λ (w : VersionSetValue). w.floor ≤ c.args.number + 1) (sym c.self.view_is) c.requires.from in
     let below : c.args.number < m.current.version.number = subst (λ (w : VersionSetValue). c.args.number < w.served.version.number) (sym c.self.view_is) c.requires.below in

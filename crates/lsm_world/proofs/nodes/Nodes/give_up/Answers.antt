@@ -1,4 +1,4 @@
-use Rattle.std.proofs.Common.{◌≡◌, ◌≤◌, ◌∙◌, inr, refl, rules, sym}
+use Rattle.std.proofs.Common.{◌≡◌, ◌≤◌, ◌∙◌, refl, rules, sym}
 use Rattle.lsm_coord.specs.declared.dispatcher.Dispatcher.TheVariants.{Busy, Idle}
 use Rattle.lsm_coord.specs.Contract.Desks.{dispatcher_of, with_dispatcher}
 use Rattle.lsm_coord.specs.Model.Event as say
@@ -17,7 +17,7 @@ invariant_of-self g c =
 pub returns-clause-asks : goal.returns-clause-asks
 returns-clause-asks g c =
     let busy : dispatcher_of c.self.inside.desk c.args.dispatcher ≡ Busy c.in-Some.claim = holds_it _ _ (sym c.take.ensures.claim ∙ c.in-Some.is) in
-    rw (← c.self.view_is, c.take.ensures.idle) (inr (give_up_asks (nodes_of c.self.inside.coord c.self.inside.desk c.self.inside.network) _ _ c.args.dispatcher busy c.give_back.ensures.book _ _ _ c.id-id.ensures c.give_back.ensures.answer c.returned.ensures))
+    rw (← c.self.view_is, c.take.ensures.idle) (give_up_asks (nodes_of c.self.inside.coord c.self.inside.desk c.self.inside.network) _ _ c.args.dispatcher busy c.give_back.ensures.book _ _ _ c.id-id.ensures c.give_back.ensures.answer c.returned.ensures)
 
 pub returns-clause-follows : goal.returns-clause-follows
 returns-clause-follows g c =

@@ -10,6 +10,7 @@ invariant_of-result g c =
     let new : AreNew c.args.coord.limits made = record {
       shown = c.requires.shown;
       limits = refl;
+      kept = c.requires.kept;
       book = c.requires.book;
       desk = c.new.ensures;
       workers = c.new-2.ensures.workers;

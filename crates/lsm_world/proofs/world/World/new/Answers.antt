@@ -6,12 +6,15 @@ use Rattle.lsm_versions.specs.Opening.{MayHaveDropped, OpenRefuses}
 use Rattle.lsm_coord.specs.Contract.Value.{CoordValue}
 use Rattle.lsm_world.specs.Schedules.{AreNew}
 use Rattle.lsm_world.proofs.FirstHistory.{first_shown}
-use Rattle.lsm_world.proofs.NewVaults.{new_refused, none_dropped}
+use Rattle.lsm_world.proofs.NewVaults.{new_refused, none_dropped, opened_kept}
 use Rattle.lsm_world.proofs.RunningSchedules.{reached_first}
 use Rattle.lsm_world.proofs.world.World.new.Goals as goal
 
 pub invariant_of-result : goal.invariant_of-result
 invariant_of-result g c = (refl, rw c.new-in-Ok.ensures.items (reached_first c.in-Ok.coord.limits c.new.result c.new.ensures.new c.new.ensures.fit))
+
+pub new-requires-clause-kept : goal.new-requires-clause-kept
+new-requires-clause-kept g c = opened_kept (g.V.Vault.edits c.args.vault) (g.V.Vault.tables c.args.vault) c.args.limits c.in-Ok.coord c.in-Ok.ensures.ok c.requires.tables
 
 pub returns-in-Ok-clause-new : goal.returns-in-Ok-clause-new
 returns-in-Ok-clause-new g c = (

@@ -9,7 +9,7 @@ use Rattle.lsm_coord.specs.Model.State.{State, first_state}
 use Rattle.lsm_world.specs.Events.{event_of}
 use Rattle.lsm_world.specs.Replies.{reply_of}
 use Rattle.lsm_world.specs.Schedules.{IsNew, IsPlain, RunsTo}
-use Rattle.lsm_world.proofs.HeadlineClauses.{follower_reads_newest, one_answer, one_listing, reads_newest}
+use Rattle.lsm_world.proofs.HeadlineClauses.{follower_reads_newest, one_answer, one_listing, reads_newest, scans_newest}
 use Rattle.lsm_world.proofs.RunningSchedules.{asked_more, counted_more, runs_more, taken_or_not, traced_more}
 use Rattle.lsm_world.proofs.world.World.run.Given.{Over}
 use Rattle.lsm_world.proofs.world.World.run.Goals as goal
@@ -44,6 +44,9 @@ run_of_new g c due new =
 
 pub returns-clause-reads : goal.returns-clause-reads
 returns-clause-reads g c = λ due new. let run = run_of_new g c due new in reads_newest _ _ run.0 run.1
+
+pub returns-clause-scans : goal.returns-clause-scans
+returns-clause-scans g c = λ due new. let run = run_of_new g c due new in scans_newest _ _ run.0 run.1
 
 pub returns-clause-follower_reads : goal.returns-clause-follower_reads
 returns-clause-follower_reads g c = λ due new. let run = run_of_new g c due new in follower_reads_newest _ _ run.0 run.1

@@ -1,0 +1,19 @@
+-- Which events take no memory but for their place in the trace (the store's own).
+use Rattle.std.specs.Prelude.{◌≡◌}
+use Rattle.lsm_world.specs.declared.event.Event.{Event}
+use Rattle.lsm_world.specs.declared.event.Event.TheVariants as event
+use Rattle.lsm_world.specs.declared.refusal.Refusal.TheVariants as why
+use Rattle.lsm_world.specs.declared.reply.Reply.{Reply}
+use Rattle.lsm_world.specs.declared.reply.Reply.TheVariants as reply
+
+abbrev pub TakesNoMemory : Event → Type 0
+TakesNoMemory event.Freeze = Unit {0}
+TakesNoMemory (event.Release id) = Unit {0}
+TakesNoMemory (event.GiveUp d) = Unit {0}
+TakesNoMemory (event.RestartWorker index) = Unit {0}
+TakesNoMemory (event.RestartFollower index) = Unit {0}
+TakesNoMemory e = ⊥
+
+-- an event that takes no memory is not refused for want of it
+abbrev pub IsNotShort : Event → Reply → Type 0
+IsNotShort e r = TakesNoMemory e → r ≡ reply.Refused why.OutOfMemory → ⊥

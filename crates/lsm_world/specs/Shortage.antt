@@ -1,0 +1,24 @@
+-- Replies that say that memory ran out (the store's own).
+use Rattle.std.specs.Prelude.{◌≡◌, ◌⊎◌}
+use Rattle.lsm_key.specs.declared.batch.KeyError.TheVariants as key
+use Rattle.lsm_coord.specs.declared.error.CoordError.TheVariants as coord
+use Rattle.lsm_versions.specs.declared.error.OpenError.TheVariants as opening
+use Rattle.lsm_world.specs.declared.refusal.Refusal.{Refusal}
+use Rattle.lsm_world.specs.declared.refusal.Refusal.TheVariants as why
+use Rattle.lsm_world.specs.declared.reply.Reply.{Reply}
+use Rattle.lsm_world.specs.declared.reply.Reply.TheVariants as reply
+use Rattle.lsm_world.specs.declared.reply.Sent.TheVariants.{Lost}
+
+abbrev pub IsOutOfMemory : Refusal → Type 0
+IsOutOfMemory w = (w ≡ why.OutOfMemory) ⊎ ((w ≡ why.Coord coord.OutOfMemory) ⊎ ((w ≡ why.Key key.OutOfMemory) ⊎ (w ≡ why.Open opening.OutOfMemory)))
+
+-- the event was refused for it, or its messages were lost
+abbrev pub LacksMemory : Reply → Type 0
+LacksMemory (reply.Refused w) = IsOutOfMemory w
+LacksMemory (reply.Picked job sent) = sent ≡ Lost
+LacksMemory (reply.Served sent) = sent ≡ Lost
+LacksMemory (reply.Collecting missing sent) = sent ≡ Lost
+LacksMemory (reply.Merged sent) = sent ≡ Lost
+LacksMemory (reply.Asked sent) = sent ≡ Lost
+LacksMemory (reply.Waiting missing sent) = sent ≡ Lost
+LacksMemory r = ⊥

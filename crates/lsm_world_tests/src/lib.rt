@@ -1,0 +1,7 @@
+//! Tests of the world by its public calls: worked schedules, each event with its reply.
+//!
+//! They are a crate of their own, so that the world is proved once. It has no code beside them.
+#![tactic(auto)]
+
+#[cfg(test)]
+mod tests;
