@@ -1,0 +1,23 @@
+//! A space-time diagram of a script's run, as SVG: a line for each node, time downwards, a row for each event, an arrow for each
+//! delivery.
+//!
+//! It promises that texts can't become markup, that no text is longer than its column, and that rows and columns keep their
+//! distances, so that no two labels overlap. It stands on `lsm_world` for events and replies, of which alone it derives who sent which
+//! message, and on `lsm_script` for an event's line.
+#![tactic(auto)]
+
+mod arrows;
+mod chart;
+mod label;
+mod lanes;
+mod laws;
+mod legend;
+mod mark;
+mod place;
+mod svg;
+mod text;
+
+pub use chart::Chart;
+pub use laws::{columns_hold_their_texts, no_text_is_markup, rows_are_apart};
+pub use svg::write_svg;
+pub use text::Escaped;
