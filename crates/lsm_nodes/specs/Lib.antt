@@ -1,0 +1,5 @@
+pub mod Histories
+pub mod Answers
+pub mod Tallies
+pub mod Calls
+pub mod Closing

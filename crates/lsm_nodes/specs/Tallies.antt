@@ -1,0 +1,107 @@
+-- What a caller of a shared coordinator counts and records (per-thread counters: McKenney, Is Parallel Programming Hard, chapter 5).
+use Rattle.std.specs.Prelude.{◌≡◌, ◌⊎◌, ℕ, ◌+◌, Bool, true, false, List, [], ◌∷◌, ◌++◌, length, count_by, if◌then◌else◌}
+use Rattle.std.specs.List.{flat_map}
+use Rattle.lsm_claim.specs.declared.ending.Settled.{Settled}
+use Rattle.lsm_claim.specs.declared.ending.Settled.TheVariants.{Live, Stale}
+use Rattle.lsm_coord.specs.declared.answer.Answer.{Answer}
+use Rattle.lsm_coord.specs.declared.answer.Answer.TheVariants as answer
+use Rattle.lsm_coord.specs.declared.call.Call.{Call}
+use Rattle.lsm_nodes.specs.declared.exchange.Exchange.{Exchange}
+use Rattle.lsm_nodes.specs.declared.tally.Record.{Record}
+
+pub record TallyValue : Type 0 where
+  pub parts : ℕ  -- how many parts of its ledger it has
+  pub picked : ℕ  -- how many claims were settled
+  pub installed : ℕ  -- as installed
+  pub returned : ℕ  -- as returned
+  pub stale : ℕ  -- as neither
+  pub mine : List Record  -- the caller's own records
+  pub others : List (List Record)  -- those of each caller whose tally was merged into it
+
+-- a tally of zero
+abbrev pub new_tally : ℕ → TallyValue
+new_tally parts = record { parts = parts; picked = 0; installed = 0; returned = 0; stale = 0; mine = []; others = [] }
+
+-- ---- records
+
+abbrev pub exchange_of : Call → Answer → Exchange
+exchange_of asked answered = record { call = asked; answer = answered }
+
+abbrev pub record_at : ℕ → Exchange → Record
+record_at position exchange = record { position = position; exchange = exchange }
+
+-- the records of several callers
+abbrev pub all_records : List (List Record) → List Record
+all_records lists = flat_map (λ records. records) lists
+
+-- all records of a tally
+abbrev pub records_of : TallyValue → List Record
+records_of t = all_records (t.mine ∷ t.others)
+
+-- an install that was done
+abbrev pub is_installed : Answer → Bool
+is_installed (answer.Installed number files) = true
+is_installed answered = false
+
+abbrev pub is_done : Record → Bool
+is_done r = is_installed r.exchange.answer
+
+-- 1 for an install that was done, else 0
+abbrev pub installs_by : Answer → ℕ
+installs_by answered = if is_installed answered then 1 else 0
+
+-- ---- what a tally keeps
+
+-- it settled as many claims as it counts, counts the installs that its records tell, and has recorded its share of the history
+pub record IsTally (t : TallyValue) (parts amount : ℕ) : Type 0 where
+  pub whole : parts ≡ t.parts
+  pub settled : t.picked ≡ t.installed + t.returned + t.stale
+  pub done : t.installed ≡ count_by is_done (records_of t)
+  pub counted : amount ≡ length (records_of t)
+
+-- ---- what changes it
+
+-- one record more; an install that is done counts
+abbrev pub after_record : TallyValue → Record → TallyValue
+after_record t r =
+    record t {
+      picked = t.picked + installs_by r.exchange.answer;
+      installed = t.installed + installs_by r.exchange.answer;
+      mine = t.mine ++ r ∷ [];
+    }
+
+-- a claim was given back
+abbrev pub after_return : TallyValue → Settled → TallyValue
+after_return t Live = record t { picked = t.picked + 1; returned = t.returned + 1 }
+after_return t Stale = record t { picked = t.picked + 1; stale = t.stale + 1 }
+
+-- counts and parts are added, lists of records stay apart
+abbrev pub after_merge : TallyValue → TallyValue → TallyValue
+after_merge t u =
+    record {
+      parts = t.parts + u.parts;
+      picked = t.picked + u.picked;
+      installed = t.installed + u.installed;
+      returned = t.returned + u.returned;
+      stale = t.stale + u.stale;
+      mine = t.mine;
+      others = t.others ++ u.mine ∷ [] ++ u.others;
+    }
+
+-- nothing was recorded; or the exchange is the last of the caller's own records
+abbrev pub MayRecord : Type 0 → TallyValue → TallyValue → Exchange → Type 0
+MayRecord missed t u exchange = (missed × (u ≡ t)) ⊎ ((position : ℕ) × (u ≡ after_record t (record_at position exchange)))
+
+-- ---- dispatchers
+
+-- a pick that gave a job
+abbrev pub gives_job : Answer → Bool
+gives_job (answer.Picked job) = true
+gives_job answered = false
+
+abbrev pub is_pick : Record → Bool
+is_pick r = gives_job r.exchange.answer
+
+-- the caller recorded more, and has settled as many claims more as it was given jobs
+abbrev pub SettlesPicks : TallyValue → TallyValue → Type 0
+SettlesPicks t u = (more : List Record) × (u.mine ≡ t.mine ++ more) × (u.picked ≡ t.picked + count_by is_pick more)

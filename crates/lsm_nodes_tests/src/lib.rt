@@ -1,0 +1,8 @@
+//! Tests of node threads by their public calls: what a thread wrote, two merges that are away at once, a claim that outlives its
+//! hub, and calls that find no memory.
+//!
+//! They are a crate of their own, so that the loops are proved once. It has no code beside them.
+#![tactic(auto)]
+
+#[cfg(test)]
+mod tests;

@@ -1,0 +1,3 @@
+pub mod Publications
+pub mod Writers
+pub mod Rule

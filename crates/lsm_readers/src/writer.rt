@@ -1,0 +1,121 @@
+//! What publishes.
+
+ghost use Rattle.std.specs.Prelude.{◌≡◌, ◌⊎◌, ◌++◌, ◌∷◌, [], OnOk, IfErr};
+ghost use Rattle.std.specs.Option.{option_map};
+ghost use Rattle.left_right.specs.Handles.{published, pending};
+ghost use Rattle.lsm_readers.specs.Publications.{IsLater};
+ghost use Rattle.lsm_readers.specs.declared.error.PublishError.TheVariants.{NotTaken, Pending};
+
+use crate::{LogName, Publication, PublicationLog, PublishError, Told, View};
+use left_right::{Absorb, WriteHandle};
+use lsm_edit::Served;
+use std::alloc::Global;
+use std::marker::Model;
+use std::sync::Wait;
+
+/// How many versions can be published to one log.
+const MAX_PUBLICATIONS: u64 = 1 << 62;
+
+/// A value that stands for a list of publications.
+pub trait Lists {
+    ghost use Rattle.std.specs.Prelude.{List};
+    ghost use Rattle.lsm_edit.specs.Served.{ServedValue};
+
+    ghost lists: { Self → List ServedValue };
+}
+
+impl<J: LogName> Lists for Publication<J> {
+    ghost lists = { λ p. p };
+}
+
+impl<J: LogName> Lists for View<J> {
+    ghost lists = { λ v. v };
+}
+
+/// Publishes versions to readers; `Publisher` is the one type of it that is used. Contracts see what is published, and all
+/// that it took: what is taken and not published waits for memory.
+///
+/// Invariant: with what waits, what is published is all that was taken.
+#[derive(Drop)]
+pub struct FollowerWriter<T: Absorb<T> + Lists + Drop, F: Lists + Drop, L: Drop, R: Wait + Drop> {
+    alloc: Global,
+    handle: WriteHandle<T, T, R>,
+    taken: F,
+    waiting: Option<T>,
+    log: L,
+}
+
+/// What publishes versions to readers of a log.
+pub type Publisher<J, R> = FollowerWriter<Publication<J>, View<J>, PublicationLog<J>, R>;
+
+impl<T: Absorb<T> + Lists + Drop, F: Lists + Drop, L: Drop, R: Wait + Drop> Model
+    for FollowerWriter<T, F, L, R> {
+    ghost use Rattle.std.specs.Prelude.{map};
+    ghost use Rattle.std.specs.Option.{option_map};
+    ghost use Rattle.left_right.specs.Handles.{published, pending};
+    ghost use Rattle.lsm_readers.specs.Writers.{WriterValue, IsTaken};
+
+    ghost Value = { WriterValue };
+
+    ghost view = { λ w. record { published = T.lists (published w.handle); taken = F.lists w.taken } };
+
+    ghost invariant = { λ w. IsTaken (T.lists (published w.handle)) (map T.lists (pending w.handle)) (option_map T.lists w.waiting) (F.lists w.taken) };
+}
+
+impl<J: LogName, R: Wait + Drop> FollowerWriter<Publication<J>, View<J>, PublicationLog<J>, R> {
+    pub(crate) fn new(
+        alloc: Global,
+        handle: WriteHandle<Publication<J>, Publication<J>, R>,
+        view: View<J>,
+        log: PublicationLog<J>,
+    ) -> FollowerWriter<Publication<J>, View<J>, PublicationLog<J>, R>
+        requires { (published handle ≡ view) × (pending handle ≡ []) }
+        ensures { result ≡ record { published = view; taken = view } }
+    {
+        FollowerWriter {
+            alloc,
+            handle,
+            taken: view,
+            waiting: None,
+            log,
+        }
+    }
+
+    /// Shows a copy of the version to readers, with all that waits. Waits for those that still read the version before the
+    /// last one; no reader waits for it.
+    /// Refuses: `NotTaken` if there is no memory for a copy, or somebody else published to the log; `Pending` if there is no
+    /// memory to show it, and the next publication that succeeds shows it too.
+    #[tactic(auto, using(crate::proofs::Adding::last_push, crate::proofs::Adding::newest_push))]
+    pub fn publish(&mut self, served: &Served) -> Result<(), PublishError>
+        requires { IsLater self.old.taken served.now }
+        ensures taken { (self.new.taken ≡ self.old.taken) ⊎ (self.new.taken ≡ self.old.taken ++ served.now ∷ []) }
+        ensures ok { OnOk result ((self.new.taken ≡ self.old.taken ++ served.now ∷ []) × (self.new.published ≡ self.new.taken)) }
+        ensures not_taken { IfErr result (λ e. e ≡ NotTaken → self.new ≡ self.old) }
+        ensures pending { IfErr result (λ e. e ≡ Pending → (self.new.taken ≡ self.old.taken ++ served.now ∷ []) × (self.new.published ≡ self.old.published)) }
+    {
+        let Ok(copy) = served.copy(self.alloc) else {
+            return Err(PublishError::NotTaken);
+        };
+        let mut view = self.taken.copy();
+        if view.len() >= MAX_PUBLICATIONS || !view.add(&self.log, served) {
+            return Err(PublishError::NotTaken);
+        }
+        self.taken = view.copy();
+        self.waiting = None;
+        if let Err(publication) = self.handle.append(Publication::new(self.alloc, copy, view)) {
+            self.waiting = Some(publication);
+            return Err(PublishError::Pending);
+        }
+        match self.handle.publish() {
+            Ok(()) => Ok(()),
+            Err(_) => Err(PublishError::Pending),
+        }
+    }
+
+    /// Tells what is published.
+    pub fn tell(&self) -> Told<J>
+        ensures { result ≡ self.now.published }
+    {
+        Told::of(self.handle.published().view().copy())
+    }
+}

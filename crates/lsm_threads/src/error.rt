@@ -1,0 +1,12 @@
+//! Why the threads found nothing.
+
+use thiserror::Error;
+
+/// Why the threads did not come to an end that can be told.
+#[derive(Clone, Copy, Debug, PartialEq, Eq, Error)]
+pub enum ThreadsError {
+    #[error("the threads found something else than was stored")]
+    ReadFault,
+    #[error("out of memory")]
+    OutOfMemory,
+}

@@ -1,0 +1,108 @@
+//! A store that threads share, from its writes to the reads of a follower.
+
+ghost use Rattle.std.specs.Prelude.{◌≡◌, []};
+
+mod fill;
+mod follow;
+mod merge;
+
+use crate::error::ThreadsError;
+use bytes::Bytes;
+use fill::{fill, reason_of};
+use follow::follow;
+use lsm_coord::{Coord, ShownVersion};
+use lsm_edit::Served;
+use lsm_key::{DEFAULT_BASE, Limits, VersionNumber};
+use lsm_nodes::{Hub, PARTS, Start, Witness};
+use lsm_readers::{LogName, NewLog};
+use lsm_vault::{MemoryVault, Vault};
+use merge::merge;
+use std::alloc::Global;
+use std::marker::Brand;
+use std::snapshot::Snapshot;
+use std::sync::Wait;
+use std::sync::ledger::Blank;
+use std::thread::Threads;
+
+/// What the threads found.
+#[derive(Debug, Drop)]
+pub struct ThreadsReport {
+    /// How many claims the dispatchers settled: as installed, as returned, or as stale.
+    pub picked: u64,
+    pub installed: u64,
+    pub returned: u64,
+    pub stale: u64,
+    /// The coordinator's version.
+    pub shown: ShownVersion,
+    /// The reads of a follower that came to it.
+    pub reads: Vec<FollowerRead>,
+}
+
+/// A read of a follower.
+#[derive(Debug, Drop)]
+pub struct FollowerRead {
+    pub key: &'static [u8],
+    pub at: VersionNumber,
+    pub value: Option<Bytes>,
+}
+
+/// Four flushes of two keys, two dispatchers of one round with a worker each, and a follower with a reader, all in threads of their
+/// own over one new store in memory, whose level 0 is due at two files.
+pub fn run_threads<R: Threads + Wait + Sync>(
+    rt: &R,
+    alloc: Global,
+) -> Result<ThreadsReport, ThreadsError> {
+    let Some(limits) = Limits::new(2, DEFAULT_BASE) else {
+        return Err(ThreadsError::ReadFault);
+    };
+    let Ok(coord) = Coord::open(alloc, MemoryVault::new(alloc), limits) else {
+        return Err(ThreadsError::OutOfMemory);
+    };
+    over_hub::<MemoryVault, Brand, Snapshot<Served>, R>(
+        rt,
+        alloc,
+        coord,
+        Blank::new(PARTS),
+        NewLog::new(),
+    )
+}
+
+// The same over a coordinator that was just opened.
+fn over_hub<
+    V: Vault + Drop + Send,
+    J: Start + LogName + Send + Sync,
+    N: Witness + Drop + Send,
+    R: Threads + Wait + Sync,
+>(
+    rt: &R,
+    alloc: Global,
+    coord: Coord<V>,
+    blank: Blank,
+    log: NewLog,
+) -> Result<ThreadsReport, ThreadsError>
+    requires ledger { (blank.name ≡ J.name) × (blank.parts ≡ J.parts) × (J.parts ≡ PARTS) }
+    requires start { coord ≡ J.start }
+    requires idle { coord.book.live ≡ [] }
+    requires log { log ≡ J.log }
+{
+    let (hub, mut tally) = Hub::<V, J, N>::new(alloc, coord, blank);
+    fill(rt, alloc, &hub, &mut tally)?;
+    let mut tally = merge(rt, alloc, &hub, tally)?;
+    let shown = match hub.show(rt, &mut tally) {
+        Ok(shown) => shown,
+        Err(why) => return Err(reason_of(why)),
+    };
+    let reads = follow(rt, alloc, &hub, shown.number, log)?;
+    let report = ThreadsReport {
+        picked: tally.picked(),
+        installed: tally.installed(),
+        returned: tally.returned(),
+        stale: tally.stale(),
+        shown,
+        reads,
+    };
+    match hub.close(tally) {
+        Ok(_history) => Ok(report),
+        Err(_) => Err(ThreadsError::ReadFault),
+    }
+}
