@@ -11,8 +11,8 @@ use thiserror::Error;
 /// The exit status if the arguments or the script are refused.
 pub const REFUSED: u8 = 2;
 
-/// The exit status after a read or write fault, or if memory runs out.
-const FAILED: u8 = 1;
+/// The exit status after a read or write fault, if memory runs out, or after a wrong answer.
+pub const FAILED: u8 = 1;
 
 /// Why a script was not run to its end.
 #[derive(Clone, Copy, Debug, PartialEq, Eq, Error)]

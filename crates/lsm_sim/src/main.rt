@@ -1,10 +1,13 @@
-//! The program `lsmsim`: runs a script of events against a store and its nodes, and prints each reply.
+//! The program `lsmsim`: runs a script of events against a store and its nodes, and prints each reply or draws what happened;
+//! explores all short schedules; or runs a store that threads share.
 #![tactic(auto)]
 
 mod batch;
 mod command;
 mod deliver;
+mod draw;
 mod error;
+mod explore;
 mod fault;
 mod follow;
 mod followers;
@@ -23,16 +26,20 @@ mod streams;
 #[cfg(test)]
 mod tests;
 mod text;
+mod threads;
 mod token;
 mod words;
 
-use error::{REFUSED, RunError, code_of};
-use options::limits_of;
+use draw::draw_script;
+use error::{FAILED, REFUSED, RunError, code_of};
+use explore::explore_schedules;
+use options::{Subcommand, subcommand_of};
 use run::run_script;
 use std::io::ErrorKind;
 use std::process::ExitCode;
 use std::rt::Env;
 use std::{env, io};
+use threads::show_threads;
 
 /// Reports the error on standard error.
 fn fail(rt: &impl Eprint, error: RunError) -> ExitCode {
@@ -71,12 +78,20 @@ fn main(rt: HostRuntime) -> ExitCode {
             return ExitCode::from(REFUSED);
         }
     };
-    let limits = match limits_of(rt.alloc(), words.as_slice()) {
-        Ok(limits) => limits,
+    let subcommand = match subcommand_of(rt.alloc(), words.as_slice()) {
+        Ok(subcommand) => subcommand,
         Err(error) => return answer(&rt, error),
     };
-    match run_script(rt.alloc(), &mut rt.reader(), &mut io::writer(&rt), limits) {
-        Ok(()) => ExitCode::SUCCESS,
+    let (reader, writer) = (&mut rt.reader(), &mut io::writer(&rt));
+    let done = match subcommand {
+        Subcommand::Run(limits) => run_script(rt.alloc(), reader, writer, limits).map(|()| true),
+        Subcommand::Draw(limits) => draw_script(rt.alloc(), reader, writer, limits).map(|()| true),
+        Subcommand::Explore(exploration) => explore_schedules(&rt, writer, exploration),
+        Subcommand::Threads => show_threads(&rt, rt.alloc(), writer).map(|()| true),
+    };
+    match done {
+        Ok(true) => ExitCode::SUCCESS,
+        Ok(false) => ExitCode::from(FAILED),
         Err(error) => fail(&rt, error),
     }
 }

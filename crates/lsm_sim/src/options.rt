@@ -15,6 +15,33 @@ const L0_HELP: &str = "Level 0 is due from this many files on, 1 to 1000 [defaul
 const BASE_HELP: &str =
     "Level 1 is due past this many bytes, 1 to 1000000000000; each deeper level holds ten times as many [default: 10485760]";
 
+/// What a command line asks for.
+#[derive(Drop)]
+pub(crate) enum Subcommand {
+    /// Run a script, and print a line for each reply.
+    Run(Limits),
+    /// Run a script, and draw its events and messages.
+    Draw(Limits),
+    /// Run all schedules of so many events, and compare the replies with a model.
+    Explore(Exploration),
+    /// Run a store that threads share, and print what they found.
+    Threads,
+}
+
+/// What to explore.
+#[derive(Clone, Copy)]
+pub(crate) struct Exploration {
+    /// How many events a schedule has.
+    pub(crate) events: u64,
+    pub(crate) limits: Limits,
+    /// As many as the machine has processors, if it is not given.
+    pub(crate) threads: Option<u64>,
+    pub(crate) seed: u64,
+}
+
+/// Level 0 of an exploration is due from this many files on, unless another number is given.
+const EXPLORED_L0: u64 = 2;
+
 /// The files of level 0 from which on it is due.
 fn l0<'a>(alloc: Global) -> Arg<'a> {
     Arg::new(alloc, "l0")
@@ -41,6 +68,50 @@ fn run<'a>(alloc: Global) -> Result<Command<'a>, AllocError> {
         .arg(base(alloc))
 }
 
+/// `draw`, with its options.
+fn draw<'a>(alloc: Global) -> Result<Command<'a>, AllocError> {
+    Command::new(alloc, "draw")
+        .about("Run a script from standard input and draw its events and messages as SVG")
+        .arg(l0(alloc))?
+        .arg(base(alloc))
+}
+
+/// `explore`, with its options.
+fn explore<'a>(alloc: Global) -> Result<Command<'a>, AllocError> {
+    let events = Arg::new(alloc, "events")
+        .long("events")
+        .value_name("N")
+        .help(
+            "The events of a schedule, 1 to 1000; past 9 some schedules are run by chance, in place of all",
+        )
+        .required(true)
+        .value_parser(value_parser!(u64).range(1..=1000));
+    let l0 = l0(alloc).help("Level 0 is due from this many files on, 1 to 1000 [default: 2]");
+    let threads = Arg::new(alloc, "threads")
+        .long("threads")
+        .value_name("T")
+        .help("Threads, 1 to 64 [default: as many as there are processors]")
+        .value_parser(value_parser!(u64).range(1..=64));
+    let seed = Arg::new(alloc, "seed")
+        .long("seed")
+        .value_name("S")
+        .help("Which schedules are run by chance [default: 1]")
+        .value_parser(value_parser!(u64));
+    Command::new(alloc, "explore")
+        .about("Run all schedules of so many events and compare the replies with a model")
+        .arg(events)?
+        .arg(l0)?
+        .arg(threads)?
+        .arg(seed)
+}
+
+/// `threads`, which has no options.
+fn threads<'a>(alloc: Global) -> Command<'a> {
+    Command::new(alloc, "threads").about(
+        "Run two dispatchers, two workers and a follower in threads over one store and print what they found",
+    )
+}
+
 /// The command line that the program takes.
 fn command<'a>(alloc: Global) -> Result<Command<'a>, AllocError> {
     Command::new(alloc, "lsmsim")
@@ -49,7 +120,10 @@ fn command<'a>(alloc: Global) -> Result<Command<'a>, AllocError> {
         .about("A key-value store as a leveled LSM tree")
         .no_binary_name(true)
         .subcommand_required(true)
-        .subcommand(run(alloc)?)
+        .subcommand(run(alloc)?)?
+        .subcommand(draw(alloc)?)?
+        .subcommand(explore(alloc)?)?
+        .subcommand(threads(alloc))
 }
 
 /// The limits of these numbers, each its default if it is not given, or `None` if one is outside its range.
@@ -61,18 +135,38 @@ fn limits_from(l0: Option<u64>, base: Option<u64>) -> Option<Limits>
     Limits::new(l0.unwrap_or(DEFAULT_L0), base.unwrap_or(DEFAULT_BASE))
 }
 
-/// The limits that the arguments of `run` ask for.
-fn limits_in(matches: &ArgMatches<'_>) -> Option<Limits> {
-    let run = matches.subcommand_matches("run")?;
-    limits_from(run.get_one("l0"), run.get_one("base"))
+/// The limits that the options of a subcommand ask for.
+fn limits_in(options: &ArgMatches<'_>) -> Option<Limits> {
+    limits_from(options.get_one("l0"), options.get_one("base"))
 }
 
-/// The limits that the words after the program's name ask for. Every other line, help too, is an error of `clap`.
-pub(crate) fn limits_of<'a>(alloc: Global, words: &'a [String]) -> Result<Limits, Error> {
+/// What the options of `explore` ask for.
+fn exploration_in(options: &ArgMatches<'_>) -> Option<Exploration> {
+    let l0 = options.get_one("l0").unwrap_or(EXPLORED_L0);
+    Some(Exploration {
+        events: options.get_one("events")?,
+        limits: limits_from(Some(l0), None)?,
+        threads: options.get_one("threads"),
+        seed: options.get_one("seed").unwrap_or(1),
+    })
+}
+
+/// The subcommand, or `None` if a limit is outside its range.
+fn subcommand_in(matches: &ArgMatches<'_>) -> Option<Subcommand> {
+    match matches.subcommand()? {
+        ("explore", options) => Some(Subcommand::Explore(exploration_in(options)?)),
+        ("threads", _) => Some(Subcommand::Threads),
+        ("draw", options) => Some(Subcommand::Draw(limits_in(options)?)),
+        (_, options) => Some(Subcommand::Run(limits_in(options)?)),
+    }
+}
+
+/// The subcommand that the words after the program's name ask for. Every other line, help too, is an error of `clap`.
+pub(crate) fn subcommand_of<'a>(alloc: Global, words: &'a [String]) -> Result<Subcommand, Error> {
     let mut command = command(alloc)?;
     let matches = command.try_get_matches_from_mut(words)?;
-    match limits_in(&matches) {
-        Some(limits) => Ok(limits),
+    match subcommand_in(&matches) {
+        Some(subcommand) => Ok(subcommand),
         None => Err(command.error(ErrorKind::ValueValidation, "a limit is outside its range")?),
     }
 }

@@ -40,7 +40,7 @@ pub fn run_script<R: Read, W: Write>(
 }
 
 /// The nodes of a new store over a vault in memory. Such a vault, while it is empty, is refused only if memory runs out.
-fn new_world(alloc: Global, limits: Limits) -> Result<World<MemoryVault>, AllocError>
+pub(crate) fn new_world(alloc: Global, limits: Limits) -> Result<World<MemoryVault>, AllocError>
     ensures { IfOk result (IsNew limits) }
 {
     match World::new(alloc, MemoryVault::new(alloc), limits) {

@@ -21,4 +21,12 @@ impl ClockKind {
             ClockKind::Processor => rt.process_cpu_time(),
         }
     }
+
+    /// The time of this thread: of the wall, or that it has a processor.
+    pub(crate) fn now_of_thread(self, rt: &HostRuntime) -> io::Result<Duration> {
+        match self {
+            ClockKind::Wall => rt.monotonic(),
+            ClockKind::Processor => rt.thread_cpu_time(),
+        }
+    }
 }

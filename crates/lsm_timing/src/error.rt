@@ -44,6 +44,14 @@ pub(crate) const NO_PICK: TimingError = TimingError::Plain("no merge was picked"
 
 pub(crate) const EXHAUSTED: TimingError = TimingError::Plain("numbers are exhausted");
 
+pub(crate) const NO_READERS: TimingError = TimingError::Plain("a reader could not be made");
+
+pub(crate) const NO_NODE: TimingError = TimingError::Plain("there is no node of this index");
+
+pub(crate) const NO_CLOSE: TimingError = TimingError::Plain(
+    "the history of the store is not what its threads recorded",
+);
+
 impl TimingError {
     // The text before the reason of another crate.
     fn text(self) -> &'static str {

@@ -9,6 +9,7 @@ mod clock;
 mod error;
 mod figure;
 mod fill;
+mod forms;
 mod globals;
 mod keys;
 mod memory;
@@ -19,6 +20,7 @@ mod picks;
 mod reads;
 mod script;
 mod tables;
+mod threads;
 mod watch;
 
 use bench::Bench;
@@ -27,7 +29,10 @@ use keys::{KeyShape, Shape};
 use options::{Task, request_of};
 use std::io::ErrorKind;
 use std::process::ExitCode;
+use std::sync::Wait;
+use std::thread::Threads;
 use std::{env, io};
+use threads::Crew;
 
 /// The exit status if the arguments are refused.
 const REFUSED: u8 = 2;
@@ -61,7 +66,7 @@ fn words_of(rt: &HostRuntime) -> io::Result<Vec<String>> {
     Ok(words.collect(rt.alloc())?)
 }
 
-fn run(bench: Bench, task: Task) -> Result<(), TimingError> {
+fn run<R: Threads + Wait + Sync>(rt: &R, bench: Bench, task: Task) -> Result<(), TimingError> {
     match task {
         Task::Fill { entries, batch } => fill::time_fill(bench, entries, batch),
         Task::Get { entries, reads } => reads::time_gets(bench, entries, reads),
@@ -76,7 +81,13 @@ fn run(bench: Bench, task: Task) -> Result<(), TimingError> {
         Task::Open { megabytes } => tables::time_open(bench, megabytes),
         Task::Pick { files } => picks::time_picks(bench, files),
         Task::Script { lines } => script::print_script(&bench.rt, lines),
-        Task::All => run_all(bench),
+        Task::Threads(crew) => threads::time_threads(rt, bench, crew),
+        Task::Reads {
+            entries,
+            reads,
+            readers,
+        } => threads::time_still_reads(rt, bench, entries, reads, readers),
+        Task::All => run_all(rt, bench),
     }
 }
 
@@ -90,7 +101,7 @@ const OTHER: Shape = Shape {
 };
 
 /// Each figure at a small size.
-fn run_all(bench: Bench) -> Result<(), TimingError> {
+fn run_all<R: Threads + Wait + Sync>(rt: &R, bench: Bench) -> Result<(), TimingError> {
     fill::time_fill(bench, MERGED, 1_000)?;
     reads::time_gets(bench, MERGED, 2_000)?;
     reads::time_scans(bench, MERGED, None)?;
@@ -100,7 +111,8 @@ fn run_all(bench: Bench) -> Result<(), TimingError> {
     tables::time_open(bench, 1)?;
     picks::time_picks(bench, 5)?;
     script::print_script(&bench.rt, 12)?;
-    run_more(bench)
+    run_more(bench)?;
+    run_threads(rt, bench)
 }
 
 fn run_more(bench: Bench) -> Result<(), TimingError> {
@@ -114,6 +126,19 @@ fn run_more(bench: Bench) -> Result<(), TimingError> {
         ..bench
     };
     reads::time_gets(other, 20_000, 500)
+}
+
+fn run_threads<R: Threads + Wait + Sync>(rt: &R, bench: Bench) -> Result<(), TimingError> {
+    threads::time_still_reads(rt, bench, 2_000, 500, 3)?;
+    threads::time_threads(
+        rt,
+        bench,
+        Crew {
+            seconds: 1,
+            readers: 1,
+            has_workers: true,
+        },
+    )
 }
 
 fn main(rt: HostRuntime) -> ExitCode {
@@ -136,7 +161,7 @@ fn main(rt: HostRuntime) -> ExitCode {
         clock: request.clock,
         shape: request.shape,
     };
-    match run(bench, request.task) {
+    match run(&rt, bench, request.task) {
         Ok(()) => ExitCode::SUCCESS,
         Err(error) => fail(&rt, error),
     }

@@ -1,14 +1,13 @@
 //! The command line.
 
 use crate::clock::ClockKind;
+use crate::forms::{FORMS, Form, Need, Number};
 use crate::globals::{clock, clock_in, keys, shape_in, value};
 use crate::keys::Shape;
+use crate::threads::Crew;
 use clap::error::ErrorKind;
 use clap::{Arg, ArgMatches, Command, Error, value_parser};
 use std::alloc::{AllocError, Global};
-
-/// The most entries of a store that is filled.
-const MAX_ENTRIES: i64 = 100_000_000;
 
 /// What the command line asks for.
 #[derive(Clone, Copy)]
@@ -21,213 +20,60 @@ pub(crate) struct Request {
 /// What is timed, and at which size.
 #[derive(Clone, Copy)]
 pub(crate) enum Task {
-    Fill { entries: u64, batch: u64 },
-    Get { entries: u64, reads: u64 },
+    Fill {
+        entries: u64,
+        batch: u64,
+    },
+    Get {
+        entries: u64,
+        reads: u64,
+    },
     /// One scan of all, or a number of short ones.
-    Scan { entries: u64, scans: Option<u64> },
-    Churn { operations: u64 },
-    Pauses { entries: u64, batch: u64 },
-    MemoryFill { entries: u64 },
-    MemoryMemtable { entries: u64 },
-    MemoryTables { entries: u64 },
-    Merge { megabytes: u64 },
-    Flush { entries: u64 },
-    Open { megabytes: u64 },
-    Pick { files: u64 },
-    Script { lines: u64 },
+    Scan {
+        entries: u64,
+        scans: Option<u64>,
+    },
+    Churn {
+        operations: u64,
+    },
+    Pauses {
+        entries: u64,
+        batch: u64,
+    },
+    MemoryFill {
+        entries: u64,
+    },
+    MemoryMemtable {
+        entries: u64,
+    },
+    MemoryTables {
+        entries: u64,
+    },
+    Merge {
+        megabytes: u64,
+    },
+    Flush {
+        entries: u64,
+    },
+    Open {
+        megabytes: u64,
+    },
+    Pick {
+        files: u64,
+    },
+    Script {
+        lines: u64,
+    },
+    Threads(Crew),
+    /// Gets of several readers at once.
+    Reads {
+        entries: u64,
+        reads: u64,
+        readers: u64,
+    },
     /// Each at a small size.
     All,
 }
-
-/// Whether a number of a command must be given.
-#[derive(Clone, Copy)]
-enum Need {
-    Always,
-    Never,
-    /// Optional, with this default.
-    OrElse(&'static str),
-}
-
-/// A number of a command, from 1 on.
-#[derive(Clone, Copy)]
-struct Number {
-    id: &'static str,
-    most: i64,
-    need: Need,
-    help: &'static str,
-}
-
-/// How a figure is asked for: a command with a number or two.
-#[derive(Clone, Copy)]
-struct Form {
-    name: &'static str,
-    about: &'static str,
-    number: Number,
-    other: Option<Number>,
-}
-
-const ENTRIES: Number = Number {
-    id: "N",
-    most: MAX_ENTRIES,
-    need: Need::Always,
-    help: "How many entries",
-};
-
-const BATCH: Number = Number {
-    id: "BATCH",
-    most: 1_000,
-    need: Need::Always,
-    help: "Entries of a batch",
-};
-
-const MEMTABLE: Number = Number {
-    id: "N",
-    most: 61_538,
-    need: Need::OrElse("61538"),
-    help: "How many entries the memtable has",
-};
-
-const FILL: Form = Form {
-    name: "fill",
-    about: "Put entries into a new store, with all flushes and merges",
-    number: ENTRIES,
-    other: Some(BATCH),
-};
-
-const GET: Form = Form {
-    name: "get",
-    about: "Get random keys that exist, and keys that do not",
-    number: ENTRIES,
-    other: Some(Number {
-        id: "M",
-        most: MAX_ENTRIES,
-        need: Need::Always,
-        help: "How many gets of each",
-    }),
-};
-
-const SCAN: Form = Form {
-    name: "scan",
-    about: "Scan the whole store, or 20 keys from random ones",
-    number: ENTRIES,
-    other: Some(Number {
-        id: "K",
-        most: MAX_ENTRIES,
-        need: Need::Never,
-        help: "How many scans of 20 keys, instead of one of all",
-    }),
-};
-
-const CHURN: Form = Form {
-    name: "churn",
-    about: "Put and delete keys in random order, four times as often as there are keys, and scan what is left",
-    number: Number {
-        id: "N",
-        most: MAX_ENTRIES,
-        need: Need::Always,
-        help: "How many operations, one in eight a deletion",
-    },
-    other: None,
-};
-
-const PAUSES: Form = Form {
-    name: "pauses",
-    about: "Tell the longest calls of a fill, and of the flush of a full memtable",
-    number: ENTRIES,
-    other: Some(BATCH),
-};
-
-const MEMORY_FILL: Form = Form {
-    name: "memory_fill",
-    about: "Tell the bytes by which the process grows as a store is filled",
-    number: ENTRIES,
-    other: None,
-};
-
-const MEMORY_MEMTABLE: Form = Form {
-    name: "memory_memtable",
-    about: "Tell the bytes by which the process grows as a memtable is written",
-    number: MEMTABLE,
-    other: None,
-};
-
-const MEMORY_TABLES: Form = Form {
-    name: "memory_tables",
-    about: "Tell the bytes by which the process grows as tables are made",
-    number: ENTRIES,
-    other: None,
-};
-
-const MERGE: Form = Form {
-    name: "merge",
-    about: "Merge the tables of two levels",
-    number: Number {
-        id: "MB",
-        most: 230,
-        need: Need::Always,
-        help: "Megabytes of keys and values",
-    },
-    other: None,
-};
-
-const FLUSH: Form = Form {
-    name: "flush",
-    about: "Flush a memtable",
-    number: MEMTABLE,
-    other: None,
-};
-
-const OPEN: Form = Form {
-    name: "open",
-    about: "Open tables",
-    number: Number {
-        id: "MB",
-        most: 2_000,
-        need: Need::Always,
-        help: "Megabytes of keys and values",
-    },
-    other: None,
-};
-
-const PICK: Form = Form {
-    name: "pick",
-    about: "Pick a merge, 20 times",
-    number: Number {
-        id: "FILES",
-        most: 100_000,
-        need: Need::OrElse("5000"),
-        help: "How many files the version has",
-    },
-    other: None,
-};
-
-const SCRIPT: Form = Form {
-    name: "script",
-    about: "Print a script for 'lsmsim run'",
-    number: Number {
-        id: "LINES",
-        most: MAX_ENTRIES,
-        need: Need::Always,
-        help: "How many lines",
-    },
-    other: None,
-};
-
-const FORMS: [Form; 13] = [
-    FILL,
-    GET,
-    SCAN,
-    CHURN,
-    PAUSES,
-    MEMORY_FILL,
-    MEMORY_MEMTABLE,
-    MEMORY_TABLES,
-    MERGE,
-    FLUSH,
-    OPEN,
-    PICK,
-    SCRIPT,
-];
 
 fn arg_of<'a>(alloc: Global, number: Number) -> Arg<'a> {
     let arg = Arg::new(alloc, number.id)
@@ -244,7 +90,15 @@ fn subcommand<'a>(alloc: Global, form: Form) -> Result<Command<'a>, AllocError> 
     let command = Command::new(alloc, form.name)
         .about(form.about)
         .arg(arg_of(alloc, form.number))?;
-    match form.other {
+    with_arg(alloc, with_arg(alloc, command, form.other)?, form.third)
+}
+
+fn with_arg<'a>(
+    alloc: Global,
+    command: Command<'a>,
+    number: Option<Number>,
+) -> Result<Command<'a>, AllocError> {
+    match number {
         None => Ok(command),
         Some(number) => command.arg(arg_of(alloc, number)),
     }
@@ -271,6 +125,15 @@ fn command<'a>(alloc: Global) -> Result<Command<'a>, AllocError> {
 // The number of an argument that has one.
 fn number_in(found: &ArgMatches<'_>, id: &str) -> u64 {
     found.get_one(id).unwrap_or(1)
+}
+
+// The threads that are to run. No number of readers is none.
+fn crew_in(found: &ArgMatches<'_>, has_workers: bool) -> Crew {
+    Crew {
+        seconds: number_in(found, "SECONDS"),
+        readers: found.get_one("READERS").unwrap_or(0),
+        has_workers,
+    }
 }
 
 fn task_in(name: &str, found: &ArgMatches<'_>) -> Option<Task> {
@@ -309,6 +172,20 @@ fn task_in(name: &str, found: &ArgMatches<'_>) -> Option<Task> {
             lines: number_in(found, "LINES"),
         }),
         "all" => Some(Task::All),
+        _ => shared_in(name, found),
+    }
+}
+
+// A task of threads that share a store.
+fn shared_in(name: &str, found: &ArgMatches<'_>) -> Option<Task> {
+    match name {
+        "threads" => Some(Task::Threads(crew_in(found, true))),
+        "threads_alone" => Some(Task::Threads(crew_in(found, false))),
+        "reads" => Some(Task::Reads {
+            entries: number_in(found, "N"),
+            reads: number_in(found, "M"),
+            readers: number_in(found, "READERS"),
+        }),
         _ => None,
     }
 }

@@ -1,0 +1,53 @@
+//! Drawing a script.
+
+use crate::error::RunError;
+use crate::lines::write_line;
+use crate::run::new_world;
+use crate::script::parse;
+use crate::streams::{read_all, write_all};
+use lsm_draw::{Chart, write_svg};
+use lsm_key::Limits;
+use lsm_vault::MemoryVault;
+use lsm_world::{Event, World};
+use std::alloc::{AllocError, Global};
+use std::io::{Read, Write};
+
+/// Runs the script that the reader gives against the nodes of a new store, and writes one SVG document of what happened. The
+/// script is read whole first; if it is faulty, or memory runs out, nothing is written.
+pub fn draw_script<R: Read, W: Write>(
+    alloc: Global,
+    reader: &mut R,
+    writer: &mut W,
+    limits: Limits,
+) -> Result<(), RunError> {
+    let text = read_all(alloc, reader)?;
+    let events = parse(alloc, &text)?;
+    let mut world = new_world(alloc, limits)?;
+    let charted = chart(alloc, &mut world, &events);
+    world.close();
+    let mut picture = Vec::new(alloc);
+    write_svg(&mut picture, &charted?).map_err(|_| RunError::OutOfMemory)?;
+    write_all(writer, &picture)?;
+    writer.flush().map_err(|_| RunError::WriteFault)
+}
+
+/// Runs the events in order.
+fn chart(
+    alloc: Global,
+    world: &mut World<MemoryVault>,
+    events: &[Event],
+) -> Result<Chart, AllocError> {
+    let mut chart = Chart::new(alloc);
+    let mut line = Vec::new(alloc);
+    for event in events {
+        let reply = world.step(event.copy(alloc)?);
+        line.clear();
+        write_line(alloc, &mut line, &reply)?;
+        chart.row(
+            event,
+            &reply,
+            String::from_utf8_lossy(alloc, line.trim_ascii_end())?.as_str(),
+        )?;
+    }
+    Ok(chart)
+}

@@ -1,0 +1,119 @@
+//! What the threads of a run share.
+
+use super::Crew;
+use super::reads::Gets;
+use crate::bench::Bench;
+use crate::clock::ClockKind;
+use crate::error::{NO_NODE, TimingError};
+use lsm_coord::CoordError;
+use lsm_msg::NodeIndex;
+use std::sync::atomic::{AtomicBool, AtomicU64, Ordering};
+use std::time::Duration;
+use std::{io, thread};
+
+/// How many milliseconds a thread sleeps that has nothing to do.
+const REST: u64 = 1;
+
+/// What the threads of a run share.
+#[derive(Drop)]
+pub(crate) struct Course {
+    pub(crate) bench: Bench,
+    pub(crate) has_workers: bool,
+    // Two indices of nodes of one kind.
+    pub(crate) first: NodeIndex,
+    pub(crate) second: NodeIndex,
+    // When it is over, by the clock of the wall.
+    end: Duration,
+    is_over: AtomicBool,
+    // How many entries are written.
+    entries: AtomicU64,
+    // How often there was no memory.
+    missed: AtomicU64,
+}
+
+impl Course {
+    /// Begins a run.
+    pub(crate) fn begin(bench: Bench, crew: Crew) -> Result<Course, TimingError> {
+        let Some(first) = NodeIndex::new(1) else {
+            return Err(NO_NODE);
+        };
+        let Some(second) = NodeIndex::new(2) else {
+            return Err(NO_NODE);
+        };
+        let start = ClockKind::Wall.now(&bench.rt)?;
+        Ok(Course {
+            bench,
+            has_workers: crew.has_workers,
+            first,
+            second,
+            end: start.saturating_add(Duration::from_secs(crew.seconds)),
+            is_over: AtomicBool::new(false),
+            entries: AtomicU64::new(0),
+            missed: AtomicU64::new(0),
+        })
+    }
+
+    /// What the clock of the wall shows, of which a pause is taken.
+    pub(crate) fn now(&self) -> io::Result<Duration> {
+        ClockKind::Wall.now(&self.bench.rt)
+    }
+
+    /// Whether the time is over.
+    pub(crate) fn is_due(&self) -> io::Result<bool> {
+        Ok(self.now()? >= self.end)
+    }
+
+    /// Whether it was ended.
+    pub(crate) fn is_over(&self) -> bool {
+        self.is_over.load(Ordering::SeqCst)
+    }
+
+    /// The flag that is set when it was ended.
+    pub(crate) fn flag(&self) -> &AtomicBool {
+        &self.is_over
+    }
+
+    /// Ends it, for all threads.
+    pub(crate) fn finish(&self) {
+        self.is_over.store(true, Ordering::SeqCst);
+    }
+
+    /// Tells how many entries are written.
+    pub(crate) fn set_entries(&self, entries: u64) {
+        self.entries.store(entries, Ordering::SeqCst);
+    }
+
+    /// Gets of what is written, until it is over.
+    pub(crate) fn gets(&self) -> Gets<'_> {
+        Gets {
+            bench: self.bench,
+            entries: &self.entries,
+            is_over: &self.is_over,
+            most: u64::MAX,
+        }
+    }
+
+    /// Counts that there was no memory.
+    pub(crate) fn miss(&self) {
+        self.missed.fetch_add(1, Ordering::SeqCst);
+    }
+
+    /// How often there was no memory.
+    pub(crate) fn missed(&self) -> u64 {
+        self.missed.load(Ordering::SeqCst)
+    }
+
+    /// Counts a call that was refused for want of memory, and says that it is not done. Any other refusal ends the run.
+    pub(crate) fn outlive(&self, why: CoordError) -> Result<bool, TimingError> {
+        if why != CoordError::OutOfMemory {
+            return Err(TimingError::from(why));
+        }
+        self.miss();
+        Ok(false)
+    }
+
+    /// Lets other threads run for a while.
+    pub(crate) fn rest(&self) {
+        thread::sleep(&self.bench.rt, Duration::from_millis(REST));
+    }
+}
