@@ -13,8 +13,6 @@ mod laws;
 mod next;
 mod recorded;
 mod served;
-#[cfg(test)]
-mod tests;
 mod valid;
 mod version;
 

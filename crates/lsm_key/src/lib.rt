@@ -18,8 +18,6 @@ mod op;
 mod range;
 mod refused;
 mod seq;
-#[cfg(test)]
-mod tests;
 
 pub use batch::{Batch, KeyError};
 pub use entry::{Entry, EntryRef, InternalKey, Kind};

@@ -12,8 +12,6 @@ mod chunk;
 mod front;
 mod memtable;
 mod prefix;
-#[cfg(test)]
-mod tests;
 mod versions;
 
 pub use memtable::Memtable;

@@ -14,10 +14,10 @@ use Rattle.lsm_key.specs.Visible.{has_key}
 use Rattle.lsm_key.proofs.AscendingEntries.{Falls, ascending_falls}
 use Rattle.lsm_key.proofs.Membership.{IsIn-at, IsIn-append_left, IsIn-append_cases}
 use Rattle.lsm_key.proofs.LatestOfList.{has_key-is}
-use Rattle.lsm_table.specs.BlockReading.{last_of}
+use Rattle.lsm_block.specs.BlockReading.{last_of}
 use Rattle.lsm_table.specs.Tables.{largest_key, key_of_entry}
 use Rattle.lsm_table.proofs.TableContents.{largest_in}
-use Rattle.lsm_table.proofs.EntriesGrow.{last_at}
+use Rattle.lsm_block.proofs.EntriesGrow.{last_at}
 use Rattle.lsm_merge.specs.declared.cut.TheConstants.{OUTPUT_TARGET}
 use Rattle.lsm_merge.specs.Outputs.{weight_of, before_last_key, AreCut, EncodeEntries}
 use Rattle.lsm_merge.specs.Cutting.{IsFirstOutput}

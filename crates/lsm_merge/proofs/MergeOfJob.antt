@@ -9,9 +9,9 @@ use Rattle.lsm_key.specs.Sets.{IsIn, SameMembers}
 use Rattle.lsm_key.proofs.AscendingEntries.{Falls, ascending_falls, falls_ascend}
 use Rattle.lsm_key.proofs.EntryOrder.{ascending_unique}
 use Rattle.lsm_key.proofs.Membership.{SameMembers-permutation}
-use Rattle.lsm_table.specs.Blocks.{AreEntries, HasSequence}
+use Rattle.lsm_block.specs.Blocks.{AreEntries, HasSequence}
 use Rattle.lsm_table.specs.Tables.{Opened}
-use Rattle.lsm_table.proofs.EntriesGrow.{each_in}
+use Rattle.lsm_block.proofs.EntriesGrow.{each_in}
 use Rattle.lsm_edit.specs.Served.{AreAsRecorded}
 use Rattle.lsm_msg.specs.declared.job.JobParts.{JobParts}
 use Rattle.lsm_msg.specs.Jobs.{IsJob}

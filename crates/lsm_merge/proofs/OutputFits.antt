@@ -14,9 +14,9 @@ use Rattle.lsm_key.specs.Sets.{IsIn}
 use Rattle.lsm_key.specs.Visible.{has_key}
 use Rattle.lsm_key.proofs.AscendingEntries.{IsIn-filter, ascending_falls, falls_ascend}
 use Rattle.lsm_key.proofs.Membership.{IsIn-at, IsIn-append_left, IsIn-append_right}
-use Rattle.lsm_table.specs.Blocks.{AreEntries, HasSequence}
+use Rattle.lsm_block.specs.Blocks.{AreEntries, HasSequence}
 use Rattle.lsm_table.specs.Tables.{table, largest_key}
-use Rattle.lsm_table.proofs.EntriesGrow.{each_in}
+use Rattle.lsm_block.proofs.EntriesGrow.{each_in}
 use Rattle.lsm_table.proofs.TableWeights.{table_weighs}
 use Rattle.lsm_merge.specs.declared.cut.TheConstants.{OUTPUT_TARGET}
 use Rattle.lsm_merge.specs.Outputs.{weight_of, before_last_key}

@@ -3,7 +3,7 @@
 ghost use Rattle.std.specs.Prelude.{◌≡◌, ◌<◌, ◌≤◌, ℕ, length, take, drop, IfOk};
 ghost use Rattle.lsm_key.specs.Entries.{IsEntry};
 ghost use Rattle.lsm_key.specs.Limits.{entry_weight};
-ghost use Rattle.lsm_table.specs.Blocks.{AreEntries};
+ghost use Rattle.lsm_block.specs.Blocks.{AreEntries};
 ghost use Rattle.lsm_merge.specs.Cutting.{AreFew, IsSplitInto, IsFirstOutput, IsKeyEnd};
 ghost use Rattle.lsm_merge.specs.Outputs.{weight_of};
 

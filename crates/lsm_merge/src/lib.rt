@@ -13,8 +13,6 @@ mod inputs;
 mod keep;
 mod laws;
 mod merging;
-#[cfg(test)]
-mod tests;
 
 pub use cut::OUTPUT_TARGET;
 pub use error::MergeError;

@@ -17,8 +17,6 @@ mod message;
 mod node;
 mod reading;
 mod rules;
-#[cfg(test)]
-mod tests;
 mod writing;
 
 pub use fault::{MsgError, MsgFault};

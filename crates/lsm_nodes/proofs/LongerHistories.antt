@@ -16,16 +16,16 @@ use Rattle.lsm_coord.specs.Contract.Sound.{IsSound, KeepsSound}
 use Rattle.lsm_coord.specs.Contract.Value.{CoordValue}
 use Rattle.lsm_coord.proofs.RunInvariants.{run_then}
 use Rattle.lsm_nodes.specs.Answers.{answer_of}
-use Rattle.lsm_nodes.specs.Histories.{AreGiven, AreSound, HoldsMerge, HoldsMerges, IsPickedIn, IsShared, SharedValue, WitnessedValue, event_of, events_of, installed_by, installed_in, installs_in, replies_of, reply_of}
+use Rattle.lsm_nodes.specs.Histories.{AreGiven, AreSoundJobs, HoldsMerge, HoldsMerges, IsPickedIn, IsShared, SharedValue, WitnessedValue, event_of, events_of, installed_by, installed_in, installs_in, replies_of, reply_of}
 
 -- what a call owes to the history that it ends
 pub record Extends (past : List WitnessedValue) (a : CoordValue) (w : WitnessedValue) (b : CoordValue) : Type 0 where
   pub installs : installs_in b.edits ≡ installs_in a.edits ++ installed_by w.exchange.answer
   pub made : a.book.made ≤ b.book.made
   pub given : (job : JobParts) → w.exchange.answer ≡ answer.Picked job → job.id.number ≤ b.book.made
-  pub step : HoldsMerge past w.before w.exchange.call w.exchange.answer → AreSound past a → Follows a (event_of w.exchange.call) (reply_of w.exchange.call w.exchange.answer) b
+  pub step : HoldsMerge past w.before w.exchange.call w.exchange.answer → AreSoundJobs past a → Follows a (event_of w.exchange.call) (reply_of w.exchange.call w.exchange.answer) b
   pub sound :
-      HoldsMerge past w.before w.exchange.call w.exchange.answer → AreGiven past a → AreSound past a → (s : State) → Shows a s
+      HoldsMerge past w.before w.exchange.call w.exchange.answer → AreGiven past a → AreSoundJobs past a → (s : State) → Shows a s
       → (job : JobParts) → IsPickedIn past job ⊎ (w.exchange.answer ≡ answer.Picked job) → holds b.book job.id ≡ true → IsSound b job
 
 installed_push : (history : List WitnessedValue) (w : WitnessedValue) → installed_in (history ++ w ∷ []) ≡ installed_in history ++ installed_by w.exchange.answer

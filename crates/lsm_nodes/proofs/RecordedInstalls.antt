@@ -29,14 +29,14 @@ use Rattle.lsm_coord.proofs.InstallRefusals.{rejected_keeps, rejected_stored}
 use Rattle.lsm_coord.proofs.JobsStaySound.{nothing_keeps}
 use Rattle.lsm_coord.proofs.OpenedOutputs.{tables_length}
 use Rattle.lsm_nodes.specs.Answers.{HasFewFiles, install_answer}
-use Rattle.lsm_nodes.specs.Calls.{Installs}
-use Rattle.lsm_nodes.specs.Histories.{AreSound, HoldsMerge, IsPickedIn, WitnessedValue, event_of, installed_by, installs_in, installs_of, reply_of}
+use Rattle.lsm_nodes.specs.Calls.{InstallsResult}
+use Rattle.lsm_nodes.specs.Histories.{AreSoundJobs, HoldsMerge, IsPickedIn, WitnessedValue, event_of, installed_by, installs_in, installs_of, reply_of}
 use Rattle.lsm_nodes.proofs.LongerHistories.{Extends}
 use Rattle.lsm_nodes.proofs.RecordedCalls.{installs_push, plainly}
 use Rattle.lsm_nodes.proofs.SettledClaims.{made_after}
 
 -- an install has as many files as the result has tables
-pub few_files : (a b : CoordValue) (claim : LiveJob) (made : JobResult) (r : Install) → Installs a claim made r b → HasFewFiles (length made.tables) r
+pub few_files : (a b : CoordValue) (claim : LiveJob) (made : JobResult) (r : Install) → InstallsResult a claim made r b → HasFewFiles (length made.tables) r
 few_files a b claim made (became.Done number files) h =
     let d = h.became in
     let all : List FileMeta = records (d.0.want.level + 1) a.served.version.next_file d.2 in
@@ -46,8 +46,8 @@ few_files a b claim made (became.Kept back why) h = tt
 
 -- of an install that is done
 module _ (past : List WitnessedValue) (a : CoordValue) (w : WitnessedValue) (b : CoordValue) (claim : LiveJob) (made : JobResult) (number : ℕ) (files : List ℕ) (asked : w.exchange.call ≡ call.Install claim.id made)
-    (told : w.exchange.answer ≡ answer.Installed number files) (before : w.before ≡ a.served) (h : Installs a claim made (became.Done number files) b) where
-  merged : HoldsMerge past w.before w.exchange.call w.exchange.answer → AreSound past a → HoldsSoundMerge a claim.id made
+    (told : w.exchange.answer ≡ answer.Installed number files) (before : w.before ≡ a.served) (h : InstallsResult a claim made (became.Done number files) b) where
+  merged : HoldsMerge past w.before w.exchange.call w.exchange.answer → AreSoundJobs past a → HoldsSoundMerge a claim.id made
   merged x sound =
       let held : (job : JobParts) × IsPickedIn past job × (job.id ≡ claim.id) × HoldsMergeOf a.served job made =
       subst (λ (s : ServedValue). HoldsMerge past s (call.Install claim.id made) (answer.Installed number files)) before (subst (λ (y : Answer). HoldsMerge past w.before (call.Install claim.id made) y) told (subst (λ (y : Call). HoldsMerge past w.before y w.exchange.answer) asked x)) in
@@ -84,7 +84,7 @@ module _ (past : List WitnessedValue) (a : CoordValue) (w : WitnessedValue) (b :
   }
 
 pub extends_install : (past : List WitnessedValue) (a : CoordValue) (w : WitnessedValue) (b : CoordValue) (claim : LiveJob) (made : JobResult) (r : Install) → w.exchange.call ≡ call.Install claim.id made → w.exchange.answer ≡ install_answer r → w.before ≡ a.served
-    → Installs a claim made r b → Extends past a w b
+    → InstallsResult a claim made r b → Extends past a w b
 extends_install past a w b claim made (became.Done number files) asked told before h = extends_done past a w b claim made number files asked told before h
 extends_install past a w b claim made (became.Stale id epoch) asked told before h =
     plainly past a w b (call.Install claim.id made) (answer.Stale id epoch) asked told tt (ap (λ (c : CoordValue). installs_in c.edits) h.became.3) (ap (λ (c : CoordValue). c.book) h.became.3) (h.step 1 (λ is. absurd is)) (λ s shown. nothing_keeps a b h.became.3)

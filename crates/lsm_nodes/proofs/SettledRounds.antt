@@ -10,7 +10,7 @@ use Rattle.lsm_coord.specs.declared.answer.Answer.TheVariants as answer
 use Rattle.lsm_coord.specs.declared.call.Call.{Call}
 use Rattle.lsm_coord.specs.declared.call.Call.TheVariants as call
 use Rattle.lsm_nodes.specs.declared.tally.Record.{Record}
-use Rattle.lsm_nodes.specs.Tallies.{MayRecord, SettlesPicks, TallyValue, after_record, after_return, exchange_of, gives_job, installs_by, is_pick, record_at}
+use Rattle.lsm_nodes.specs.Tallies.{MayRecord, SettlesPicks, TallyValue, after_record, exchange_of, gives_job, installs_by, is_pick, record_at, with_return}
 
 -- records were added, of which so many picked a job, and so many claims were counted
 pub record Adds (t u : TallyValue) (picks counted : ℕ) : Type 0 where
@@ -64,7 +64,7 @@ installs_one t u asked number files missed never (inl m) = absurd (never m.0)
 installs_one t u asked number files missed never (inr r) = adds_record t u r.0 asked (answer.Installed number files) r.1
 
 -- a claim that is given back counts
-pub returns_one : (t u : TallyValue) (settled : Settled) → u ≡ after_return t settled → Adds t u 0 1
+pub returns_one : (t u : TallyValue) (settled : Settled) → u ≡ with_return t settled → Adds t u 0 1
 returns_one t u Live is = record { more = []; mine = ap (λ (x : TallyValue). x.mine) is ∙ sym (append-nil t.mine); picks_are = refl; picked = ap (λ (x : TallyValue). x.picked) is }
 returns_one t u Stale is = record { more = []; mine = ap (λ (x : TallyValue). x.mine) is ∙ sym (append-nil t.mine); picks_are = refl; picked = ap (λ (x : TallyValue). x.picked) is }
 

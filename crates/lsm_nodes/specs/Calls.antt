@@ -116,7 +116,7 @@ pub record PicksJob (old : CoordValue) (result : Result (Option (LiveJob × JobP
   pub job : IfOk result (λ picked. IfSome picked (λ r. IsSound new r.1))
   pub sound : KeepsSound old new
 
-pub record Installs (old : CoordValue) (claim : LiveJob) (made : JobResult) (result : Install) (new : CoordValue) : Type 0 where
+pub record InstallsResult (old : CoordValue) (claim : LiveJob) (made : JobResult) (result : Install) (new : CoordValue) : Type 0 where
   pub became : Became old claim made result new
   pub failures : old.failures ≤ new.failures
   pub step : (message : ℕ) → (IsDone result → HoldsSoundMerge old claim.id made) → Follows old (say.Deliver message) (install_reply result) new

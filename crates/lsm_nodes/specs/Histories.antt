@@ -122,8 +122,8 @@ abbrev pub AreGiven : List WitnessedValue → CoordValue → Type 0
 AreGiven history c = (job : JobParts) → IsPickedIn history job → job.id.number ≤ c.book.made
 
 -- each job that was picked and is live may be installed
-abbrev pub AreSound : List WitnessedValue → CoordValue → Type 0
-AreSound history c = (job : JobParts) → IsPickedIn history job → holds c.book job.id ≡ true → IsSound c job
+abbrev pub AreSoundJobs : List WitnessedValue → CoordValue → Type 0
+AreSoundJobs history c = (job : JobParts) → IsPickedIn history job → holds c.book job.id ≡ true → IsSound c job
 
 -- ---- the value under the lock
 
@@ -141,7 +141,7 @@ RunsFrom start history c = (s : State) → Shows start s → (t : State) × Run 
 
 -- if it showed one, each job that was picked and is live may be installed
 abbrev pub AreSoundFrom : CoordValue → List WitnessedValue → CoordValue → Type 0
-AreSoundFrom start history c = (s : State) → Shows start s → AreSound history c
+AreSoundFrom start history c = (s : State) → Shows start s → AreSoundJobs history c
 
 -- The total of the ledger is the history's length, and the installs in the manifest are those at the start and those of the
 -- history. If each install of the history holds the merge of its job, the history is a run from each state that was shown at the

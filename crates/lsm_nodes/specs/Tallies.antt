@@ -71,9 +71,9 @@ after_record t r =
     }
 
 -- a claim was given back
-abbrev pub after_return : TallyValue → Settled → TallyValue
-after_return t Live = record t { picked = t.picked + 1; returned = t.returned + 1 }
-after_return t Stale = record t { picked = t.picked + 1; stale = t.stale + 1 }
+abbrev pub with_return : TallyValue → Settled → TallyValue
+with_return t Live = record t { picked = t.picked + 1; returned = t.returned + 1 }
+with_return t Stale = record t { picked = t.picked + 1; stale = t.stale + 1 }
 
 -- counts and parts are added, lists of records stay apart
 abbrev pub after_merge : TallyValue → TallyValue → TallyValue

@@ -69,7 +69,7 @@ impl<J: Ledger> Model for Tally<J> {
 impl<J: Ledger> Tally<J> {
     ghost use Rattle.std.specs.Prelude.{◌≡◌, ◌+◌, ◌<◌, ◌^◌, IfErr, OnOk, count_by, length};
     ghost use Rattle.lsm_claim.specs.declared.ending.Settled.TheVariants.{Stale};
-    ghost use Rattle.lsm_nodes.specs.Tallies.{after_merge, after_return, is_done, new_tally, records_of};
+    ghost use Rattle.lsm_nodes.specs.Tallies.{after_merge, is_done, new_tally, records_of, with_return};
 
     // A tally of zero with all parts of a share.
     pub(crate) fn new(alloc: Global, share: Share<J>, parts: u64) -> Tally<J>
@@ -175,7 +175,7 @@ impl<J: Ledger> Tally<J> {
     // Counts a claim that was given back.
     pub(crate) fn count(&mut self, settled: Settled)
         requires { self.old.picked + 1 < 2 ^ 64 }
-        ensures { self.new ≡ after_return self.old settled }
+        ensures { self.new ≡ with_return self.old settled }
     {
         self.picked += 1;
         match settled {

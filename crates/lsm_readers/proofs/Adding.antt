@@ -7,8 +7,8 @@ use prog.Atomic.{either}
 use Rattle.logbook.specs.Pages.{Cell, cell, keeps, no_nib, step, Moves, Goes}
 use Rattle.lsm_edit.specs.Served.{ServedValue, first_served}
 use Rattle.lsm_readers.specs.Publications.{AreRising, AreRisingFrom, IsLater, last_after, last_published}
-use Rattle.lsm_readers.specs.Rule.{IsKept, Adds}
-use Rattle.lsm_readers.specs.Writers.{newest}
+use Rattle.lsm_readers.specs.Rule.{AddsToLog, IsLog}
+use Rattle.lsm_readers.specs.Writers.{last_list}
 use Rattle.lsm_readers.proofs.Beginnings.{prefix_self, prefix_whole}
 
 rising_append : (before : ServedValue) (a b : List ServedValue) → AreRisingFrom before.version.number a → AreRisingFrom (last_after before a).version.number b → AreRisingFrom before.version.number (a ++ b)
@@ -24,7 +24,7 @@ moved xs ys n = Unit {0}
 
 pub adds_goes : (log v : List ServedValue) (p : ServedValue) (old : ℕ) → length v ≡ old → IsLater v p → AreRising log → IsPrefix v log
     → (b : Bool) → (length log == old) ≡ b
-    → Goes IsKept shown moved 0 (v, (no_nib, None)) (λ n. either (n == old) (old + 1) n) (Adds (step 0 old (old + 1) p) (v, (no_nib, None))) ((length log, true) ∷ (0, true) ∷ []) log
+    → Goes IsLog shown moved 0 (v, (no_nib, None)) (λ n. either (n == old) (old + 1) n) (AddsToLog (step 0 old (old + 1) p) (v, (no_nib, None))) ((length log, true) ∷ (0, true) ∷ []) log
 adds_goes log v p old len later rising pre true is =
     let here : length log ≡ old = grind (arith, nat_tests) in
     let same : v ≡ log = prefix_whole v log pre (omega arith) in
@@ -53,9 +53,9 @@ adds_goes log v p old len later rising pre false is =
 
 -- whatever the log is, the exchange adds the publication to all that was seen, or finds that the log is longer
 pub adds_moves : (v : List ServedValue) (p : ServedValue) (old : ℕ) → length v ≡ old → IsLater v p
-    → Moves IsKept shown moved 0 (v, (no_nib, None)) (λ n. either (n == old) (old + 1) n) (Adds (step 0 old (old + 1) p) (v, (no_nib, None)))
+    → Moves IsLog shown moved 0 (v, (no_nib, None)) (λ n. either (n == old) (old + 1) n) (AddsToLog (step 0 old (old + 1) p) (v, (no_nib, None)))
 adds_moves v p old len later cs log kept pre away =
-    let P : List Cell → Type 0 = λ c. (0 < length c) × ((cell c 0).1 ≡ true) × Goes IsKept shown moved 0 (v, (no_nib, None)) (λ n. either (n == old) (old + 1) n) (Adds (step 0 old (old + 1) p) (v, (no_nib, None))) c log in
+    let P : List Cell → Type 0 = λ c. (0 < length c) × ((cell c 0).1 ≡ true) × Goes IsLog shown moved 0 (v, (no_nib, None)) (λ n. either (n == old) (old + 1) n) (AddsToLog (step 0 old (old + 1) p) (v, (no_nib, None))) c log in
     subst P (sym kept.words) (omega arith, refl, adds_goes log v p old len later kept.rising pre (length log == old) refl)
 
 last_append : (before : ServedValue) (a b : List ServedValue) → last_after before (a ++ b) ≡ last_after (last_after before a) b
@@ -65,7 +65,7 @@ last_append before (p ∷ a) b = last_append p a b
 pub last_push : (ps : List ServedValue) (p : ServedValue) → last_published (ps ++ p ∷ []) ≡ p
 last_push ps p = last_append first_served ps (p ∷ [])
 
-pub newest_push : (xs : List ServedValue) (ops : List (List ServedValue)) (y : List ServedValue) → newest xs (ops ++ y ∷ []) ≡ y
+pub newest_push : (xs : List ServedValue) (ops : List (List ServedValue)) (y : List ServedValue) → last_list xs (ops ++ y ∷ []) ≡ y
 newest_push xs [] y = refl
 newest_push xs (o ∷ ops) y = newest_push o ops y
 

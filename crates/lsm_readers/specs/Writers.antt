@@ -7,14 +7,14 @@ pub record WriterValue : Type 0 where
   pub taken : List ServedValue  -- with what waits for memory
 
 -- the last of some lists, or the first one
-abbrev pub newest : List ServedValue → List (List ServedValue) → List ServedValue
-newest xs [] = xs
-newest xs (ys ∷ yss) = newest ys yss
+abbrev pub last_list : List ServedValue → List (List ServedValue) → List ServedValue
+last_list xs [] = xs
+last_list xs (ys ∷ yss) = last_list ys yss
 
-abbrev pub newest_with : List ServedValue → Option (List ServedValue) → List ServedValue
-newest_with xs None = xs
-newest_with xs (Some ys) = ys
+abbrev pub last_list_with : List ServedValue → Option (List ServedValue) → List ServedValue
+last_list_with xs None = xs
+last_list_with xs (Some ys) = ys
 
--- what is published, what is pending after it, and what waits to be pending: the newest of them is all that was taken
-abbrev pub IsTaken : List ServedValue → List (List ServedValue) → Option (List ServedValue) → List ServedValue → Type 0
-IsTaken published pending waiting taken = newest_with (newest published pending) waiting ≡ taken
+-- what is published, what is pending after it, and what waits to be pending: the last of them is all that was taken
+abbrev pub IsAllTaken : List ServedValue → List (List ServedValue) → Option (List ServedValue) → List ServedValue → Type 0
+IsAllTaken published pending waiting taken = last_list_with (last_list published pending) waiting ≡ taken

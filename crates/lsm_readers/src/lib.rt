@@ -13,8 +13,6 @@ mod publication;
 mod reader;
 mod rule;
 mod start;
-#[cfg(test)]
-mod tests;
 mod told;
 mod view;
 mod writer;

@@ -10,9 +10,9 @@ pub struct Rising;
 impl Rule<Served, u64> for Rising {
     ghost use Rattle.std.specs.Prelude.{[]};
     ghost use base.Fml.{ftrue};
-    ghost use Rattle.lsm_readers.specs.Rule.{IsKept};
+    ghost use Rattle.lsm_readers.specs.Rule.{IsLog};
 
-    ghost holds = { λ cells log. IsKept cells log };
+    ghost holds = { λ cells log. IsLog cells log };
 
     ghost first = { [] };
 
@@ -38,9 +38,9 @@ impl Gain<Served, u64> for NoGain {
 pub struct Addition;
 
 impl Play<Served, u64> for Addition {
-    ghost use Rattle.lsm_readers.specs.Rule.{Adds};
+    ghost use Rattle.lsm_readers.specs.Rule.{AddsToLog};
 
-    ghost then = { Adds };
+    ghost then = { AddsToLog };
 }
 
 impl Plain<Served, Served, u64> for Addition {

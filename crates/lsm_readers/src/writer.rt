@@ -53,13 +53,13 @@ impl<T: Absorb<T> + Lists + Drop, F: Lists + Drop, L: Drop, R: Wait + Drop> Mode
     ghost use Rattle.std.specs.Prelude.{map};
     ghost use Rattle.std.specs.Option.{option_map};
     ghost use Rattle.left_right.specs.Handles.{published, pending};
-    ghost use Rattle.lsm_readers.specs.Writers.{WriterValue, IsTaken};
+    ghost use Rattle.lsm_readers.specs.Writers.{IsAllTaken, WriterValue};
 
     ghost Value = { WriterValue };
 
     ghost view = { λ w. record { published = T.lists (published w.handle); taken = F.lists w.taken } };
 
-    ghost invariant = { λ w. IsTaken (T.lists (published w.handle)) (map T.lists (pending w.handle)) (option_map T.lists w.waiting) (F.lists w.taken) };
+    ghost invariant = { λ w. IsAllTaken (T.lists (published w.handle)) (map T.lists (pending w.handle)) (option_map T.lists w.waiting) (F.lists w.taken) };
 }
 
 impl<J: LogName, R: Wait + Drop> FollowerWriter<Publication<J>, View<J>, PublicationLog<J>, R> {

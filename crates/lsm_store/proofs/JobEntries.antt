@@ -7,7 +7,7 @@ use Rattle.lsm_key.specs.Limits.{entry_weight}
 use Rattle.lsm_key.specs.Places.{AreOrdered, all_entries}
 use Rattle.lsm_key.specs.Sets.{IsIn}
 use Rattle.lsm_key.proofs.Membership.{IsIn-append_left, IsIn-append_right, IsIn-append_cases}
-use Rattle.lsm_table.specs.Blocks.{entries}
+use Rattle.lsm_block.specs.Blocks.{entries}
 use Rattle.lsm_table.specs.Tables.{Opened, header, index, table}
 use Rattle.lsm_table.proofs.TableWeights.{entries_weigh}
 use Rattle.lsm_edit.specs.declared.file.FileMeta.{FileMeta}

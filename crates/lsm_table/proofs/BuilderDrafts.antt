@@ -5,11 +5,11 @@ use Rattle.lsm_key.specs.declared.entry.Entry.{Entry}
 use Rattle.lsm_key.specs.declared.limits.TheConstants.{MAX_TABLE_BYTES}
 use Rattle.lsm_table.specs.declared.building.BuildError.TheVariants.{TableFull}
 use Rattle.lsm_key.specs.Entries.{IsEntry}
-use Rattle.lsm_table.specs.Blocks.{HasSequence}
-use Rattle.lsm_table.specs.BlockReading.{may_follow, last_of}
+use Rattle.lsm_block.specs.Blocks.{HasSequence}
+use Rattle.lsm_block.specs.BlockReading.{may_follow, last_of}
 use Rattle.lsm_table.specs.Tables.{table}
 use Rattle.lsm_table.specs.Building.{IsDraft, add_fault}
-use Rattle.lsm_table.proofs.EntriesGrow.{one_more}
+use Rattle.lsm_block.proofs.EntriesGrow.{one_more}
 use Rattle.lsm_table.proofs.TableSizes.{size_more, weight_more}
 
 pub fault_full : (es : List Entry) (e : Entry) → may_follow (last_of es) e ≡ true → MAX_TABLE_BYTES < length (table (es ++ e ∷ [])) → add_fault es e ≡ Some TableFull

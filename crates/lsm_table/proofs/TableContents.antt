@@ -17,9 +17,9 @@ use Rattle.lsm_key.proofs.EntryOrder.{far, ascending_unique}
 use Rattle.lsm_key.proofs.Membership.{IsIn-at, IsIn-place}
 use Rattle.lsm_table.specs.declared.fault.TableFault.{TableFault}
 use Rattle.lsm_key.specs.Entries.{IsEntry}
-use Rattle.lsm_table.specs.BlockReading.{last_of}
+use Rattle.lsm_block.specs.BlockReading.{last_of}
 use Rattle.lsm_table.specs.Tables.{IsTable, key_of_entry, smallest_key, largest_key}
-use Rattle.lsm_table.proofs.EntriesGrow.{each_in, last_at}
+use Rattle.lsm_block.proofs.EntriesGrow.{each_in, last_at}
 use Rattle.lsm_table.proofs.TableLaws.{table_again}
 
 -- the one key is not above the other

@@ -10,10 +10,10 @@ use Rattle.lsm_key.specs.Limits.{entry_weight}
 use Rattle.lsm_key.specs.Sets.{IsIn}
 use Rattle.lsm_key.specs.Spelling.{key, trailer}
 use Rattle.lsm_key.proofs.Membership.{IsIn-at}
-use Rattle.lsm_table.specs.Blocks.{entry, entries}
-use Rattle.lsm_table.specs.BlockReading.{last_of}
+use Rattle.lsm_block.specs.Blocks.{entry, entries}
+use Rattle.lsm_block.specs.BlockReading.{last_of}
 use Rattle.lsm_table.specs.Tables.{end_key, header, index, table}
-use Rattle.lsm_table.proofs.EntriesGrow.{last_at}
+use Rattle.lsm_block.proofs.EntriesGrow.{last_at}
 use Rattle.lsm_table.proofs.TableSizes.{entry_size}
 
 pub entries_weigh : (es : List Entry) → length (entries es) ≡ sum_by entry_weight es

@@ -2,18 +2,16 @@
 //!
 //! It promises that bytes are opened as a table exactly when they are the one encoding of valid entries in order, that
 //! otherwise the first fault is named, that a look-up in a table finds the newest visible entry, and that a builder
-//! makes the table of the entries that it was given. It stands on `lsm_key` for entries, their order and the fields of
-//! a format, and on `bytes` for shared buffers.
+//! makes the table of the entries that it was given. It stands on `lsm_block` for blocks, on `lsm_key` for entries, their
+//! order and the fields of a format, and on `bytes` for shared buffers.
 #![tactic(auto)]
 
-mod block;
 mod building;
 mod fault;
 mod laws;
 mod reading;
 mod table;
 
-pub use block::{Block, BlockError, BlockFault, decode_block, encode_block};
 pub use building::{BuildError, TableBuilder, encode_table};
 pub use fault::{TableError, TableFault};
 pub use laws::{
@@ -21,6 +19,3 @@ pub use laws::{
 };
 pub use reading::BLOCK_TARGET;
 pub use table::Table;
-
-#[cfg(test)]
-mod tests;

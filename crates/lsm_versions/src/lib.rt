@@ -11,8 +11,6 @@ mod opening;
 mod putting;
 mod recent;
 mod retired;
-#[cfg(test)]
-mod tests;
 mod version_set;
 
 pub use error::OpenError;

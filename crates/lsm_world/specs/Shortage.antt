@@ -13,12 +13,12 @@ abbrev pub IsOutOfMemory : Refusal → Type 0
 IsOutOfMemory w = (w ≡ why.OutOfMemory) ⊎ ((w ≡ why.Coord coord.OutOfMemory) ⊎ ((w ≡ why.Key key.OutOfMemory) ⊎ (w ≡ why.Open opening.OutOfMemory)))
 
 -- the event was refused for it, or its messages were lost
-abbrev pub LacksMemory : Reply → Type 0
-LacksMemory (reply.Refused w) = IsOutOfMemory w
-LacksMemory (reply.Picked job sent) = sent ≡ Lost
-LacksMemory (reply.Served sent) = sent ≡ Lost
-LacksMemory (reply.Collecting missing sent) = sent ≡ Lost
-LacksMemory (reply.Merged sent) = sent ≡ Lost
-LacksMemory (reply.Asked sent) = sent ≡ Lost
-LacksMemory (reply.Waiting missing sent) = sent ≡ Lost
-LacksMemory r = ⊥
+abbrev pub SaysOutOfMemory : Reply → Type 0
+SaysOutOfMemory (reply.Refused w) = IsOutOfMemory w
+SaysOutOfMemory (reply.Picked job sent) = sent ≡ Lost
+SaysOutOfMemory (reply.Served sent) = sent ≡ Lost
+SaysOutOfMemory (reply.Collecting missing sent) = sent ≡ Lost
+SaysOutOfMemory (reply.Merged sent) = sent ≡ Lost
+SaysOutOfMemory (reply.Asked sent) = sent ≡ Lost
+SaysOutOfMemory (reply.Waiting missing sent) = sent ≡ Lost
+SaysOutOfMemory r = ⊥

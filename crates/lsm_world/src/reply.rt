@@ -1,7 +1,7 @@
 //! What is answered to an event.
 
 ghost use Rattle.std.specs.Prelude.{◌↔◌, IsTrue};
-ghost use Rattle.lsm_world.specs.Shortage.{LacksMemory};
+ghost use Rattle.lsm_world.specs.Shortage.{SaysOutOfMemory};
 
 use crate::refusal::Refusal;
 use bytes::Bytes;
@@ -89,7 +89,7 @@ pub enum Reply {
 impl Reply {
     /// Whether memory ran out: the event was refused for it, or its messages were lost.
     pub fn lacks_memory(&self) -> bool
-        ensures { IsTrue result ↔ LacksMemory self.now }
+        ensures { IsTrue result ↔ SaysOutOfMemory self.now }
     {
         match self {
             Reply::Refused(why) => {

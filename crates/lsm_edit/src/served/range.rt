@@ -1,8 +1,5 @@
 //! Ranges of keys over all tables of a version.
 
-#[cfg(test)]
-mod tests;
-
 ghost use Rattle.std.specs.Prelude.{◌≡◌, ◌≤◌, ◌++◌, ◌&&◌, All, IfOk, OnOk, IsPermutation, filter, map, nat_eq, not};
 ghost use Rattle.lsm_key.specs.Order.{IsInOrder, is_between, key_le};
 ghost use Rattle.lsm_key.specs.Places.{all_entries};

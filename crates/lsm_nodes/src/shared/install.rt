@@ -3,7 +3,7 @@
 ghost use Rattle.std.specs.Prelude.{◌≡◌, ◌+◌, ◌<◌, ◌≤◌, ◌^◌, ◌⊎◌};
 ghost use Rattle.lsm_coord.specs.declared.call.Call.TheVariants as call;
 ghost use Rattle.lsm_nodes.specs.Answers.{install_answer};
-ghost use Rattle.lsm_nodes.specs.Calls.{Installs, IsMissed, IsRecorded};
+ghost use Rattle.lsm_nodes.specs.Calls.{InstallsResult, IsMissed, IsRecorded};
 ghost use Rattle.lsm_nodes.specs.Tallies.{exchange_of, installs_by};
 
 use super::{Shared, Start, has_room, log};
@@ -21,7 +21,7 @@ impl<V: Vault, J: Start, N: Witness + Drop> Shared<V, J, N> {
     pub fn install(&mut self, claim: Claim, made: &JobResult, tally: &mut Tally<J>) -> Install
         requires part { 0 < tally.old.parts }
         requires fits { tally.old.picked + 1 < 2 ^ 64 }
-        ensures { ((result ≡ Install.Kept claim InstallError.OutOfMemory) × IsMissed self.old self.new tally.old tally.new) ⊎ (IsRecorded self.old self.new tally.old tally.new (exchange_of (call.Install claim.id made.now) (install_answer result)) × Installs self.old.coord claim made.now result self.new.coord) }
+        ensures { ((result ≡ Install.Kept claim InstallError.OutOfMemory) × IsMissed self.old self.new tally.old tally.new) ⊎ (IsRecorded self.old self.new tally.old tally.new (exchange_of (call.Install claim.id made.now) (install_answer result)) × InstallsResult self.old.coord claim made.now result self.new.coord) }
     {
         let Shared {
             coord,

@@ -1,7 +1,7 @@
 use Rattle.std.proofs.Common.{List, None, sym, ap, ◌∙◌, subst}
 use Rattle.std.proofs.lemmas.Result.{err_from_is_err_and}
 use Rattle.lsm_key.specs.declared.entry.Entry.{Entry}
-use Rattle.lsm_table.specs.Blocks.{AreEntries}
+use Rattle.lsm_block.specs.Blocks.{AreEntries}
 use Rattle.lsm_edit.specs.declared.file.FileMeta.{FileMeta}
 use Rattle.lsm_edit.specs.Served.{AreAsRecorded}
 use Rattle.lsm_merge.specs.Cutting.{AreFew, IsSplitInto}

@@ -1,7 +1,7 @@
 use Rattle.std.proofs.Common.{◌++◌, length, arith}
-use Rattle.lsm_table.specs.Blocks.{HasSequence}
+use Rattle.lsm_block.specs.Blocks.{HasSequence}
 use Rattle.lsm_table.specs.Tables.{header, index}
-use Rattle.lsm_table.proofs.EntriesGrow.{each_more, each_whole, one_written}
+use Rattle.lsm_block.proofs.EntriesGrow.{each_more, each_whole, one_written}
 use Rattle.lsm_table.proofs.TableSizes.{parts_small}
 use Rattle.lsm_table.proofs.building.spelling.Goals as goal
 

@@ -2,9 +2,9 @@ use Rattle.std.proofs.Common.{List, subst, sym, ap, ◌∙◌}
 use Rattle.std.specs.List.{AllByRecursion}
 use Rattle.lsm_key.specs.Entries.{IsEntry}
 use Rattle.lsm_key.specs.declared.entry.Entry.{Entry}
-use Rattle.lsm_table.specs.Blocks.{HasSequence}
+use Rattle.lsm_block.specs.Blocks.{HasSequence}
 use Rattle.lsm_table.specs.Tables.{table}
-use Rattle.lsm_table.proofs.EntriesGrow.{each_from}
+use Rattle.lsm_block.proofs.EntriesGrow.{each_from}
 use Rattle.lsm_table.proofs.TableSizes.{made}
 use Rattle.lsm_table.proofs.table.Table.from_entries.Goals as goal
 

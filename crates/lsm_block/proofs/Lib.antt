@@ -1,0 +1,4 @@
+pub mod EntriesGrow
+pub mod BlockFields
+pub mod BlockFronts
+pub mod BlockRuns

@@ -1,0 +1,168 @@
+//! A writer and its readers, on one thread and on two.
+
+ghost use Rattle.std.specs.Prelude.{◌≡◌, ◌≤◌, ◌<◌, IfOk, OnOk, IsTrue, [], ◌∷◌};
+ghost use Rattle.lsm_edit.specs.Edit.{IsEdit};
+ghost use Rattle.lsm_edit.specs.Served.{AreAsRecorded};
+ghost use Rattle.lsm_readers.specs.Publications.{last_published};
+
+use bytes::Bytes;
+use lsm_edit::{Edit, FileMeta, Served, Version, decode_edit, is_as_recorded};
+use lsm_readers::{FollowerReader, LogName, NewLog, Publisher, readers};
+use lsm_table::Table;
+use std::alloc::Global;
+use std::marker::Brand;
+use std::process::Abort;
+use std::sync::Wait;
+use std::test::Fail;
+use std::thread;
+use std::thread::{Threads, join};
+
+// The edits of an opening and of a flush of a, and the table that it makes: a put of a at sequence 1.
+const EPOCH: &[u8] =
+    b"\0\0\0\0\0\0\0\x01\x03\0\0\0\0\0\0\0\0\0\0\0\0\0\0\0\x01\0\0\0\0\0\0\0\x01\0\0\0\0\0\0\0\0";
+
+const FLUSH: &[u8] =
+    b"\0\0\0\0\0\0\0\x02\x01\0\0\0\0\0\0\0\x01\0\0\0\0\0\0\0\x01\0\0\0\0\0\0\0\x02\0\0\0\0\0\0\0\x01\0\0\0\0\0\0\0\x01\0\0\x01a\0\x01a\0\0\0\x30\0\0\0\x01";
+
+const TABLE: &[u8] =
+    b"LSMT\x01\x01\0\0\0\0\0\0\x01\0\0\0\x01\0\0\0\x10\0\x01a\0\0\0\0\0\0\x01\x01\0\x01a\0\0\0\0\0\0\x01\x01\0\0\0\x011";
+
+fn edit_of(alloc: Global, bytes: &'static [u8]) -> Result<Edit, Fail>
+    ensures { IfOk result IsEdit }
+{
+    Ok(decode_edit(alloc, Bytes::from_static(bytes))?)
+}
+
+// Whether it is as the record of the one file says.
+fn is_recorded(files: &[FileMeta], table: &Table) -> bool
+    ensures { IsTrue result → AreAsRecorded files.now (table.now ∷ []) }
+{
+    match files.split_first() {
+        Some((file, rest)) => rest.is_empty() && is_as_recorded(file, table),
+        None => false,
+    }
+}
+
+// Version 2: a store that was opened and took a flush.
+fn flushed(alloc: Global) -> Result<Served, Fail> {
+    let mut version = Version::new(alloc);
+    version.apply(&edit_of(alloc, EPOCH)?)?;
+    version.apply(&edit_of(alloc, FLUSH)?)?;
+    let table = Table::open(alloc, Bytes::from_static(TABLE))?;
+    if !is_recorded(version.files(), &table) {
+        return Err("another table")?;
+    }
+    let mut tables = Vec::new(alloc);
+    tables.push(table)?;
+    Ok(Served::from_tables(version, tables)?)
+}
+
+// The version after one more opening.
+fn open_again(alloc: Global, served: &mut Served) -> Result<(), Fail>
+    ensures { OnOk result (served.old.version.number < served.new.version.number) }
+{
+    if served.version().number() >= 100 || served.version().epoch() >= 100 {
+        return Err("many versions")?;
+    }
+    let opening = Edit::epoch(alloc, served.version());
+    served
+        .advance(&opening, Vec::new(alloc))
+        .map_err(|(why, _)| why)?;
+    Ok(())
+}
+
+// Publishes the versions after this one, up to 7.
+#[tactic(auto, using(lsm_readers::proofs::Adding::last_push))]
+fn publish_to_seven<J: LogName, R: Wait + Drop>(
+    alloc: Global,
+    writer: &mut Publisher<J, R>,
+    mut served: Served,
+) -> Result<(), Fail>
+    requires { (last_published writer.old.taken).version.number ≤ served.version.number }
+{
+    for _ in 0..100 {
+        if served.version().number() >= 7 {
+            return Ok(());
+        }
+        open_again(alloc, &mut served)?;
+        writer.publish(&served)?;
+    }
+    Err("not at 7")?
+}
+
+fn told<J: LogName, R: Wait + Drop>(alloc: Global, rt: R, log: NewLog) -> Result<(), Fail>
+    requires { log ≡ J.log }
+{
+    let (mut writer, mut all) = readers::<J, R>(alloc, rt, log, 2)?;
+    let (Some(mut first), Some(mut second)) = (all.pop(), all.pop()) else {
+        return Err("no reader")?;
+    };
+    let (before, nothing) = first.get(b"a")?;
+    publish_to_seven(alloc, &mut writer, flushed(alloc)?)?;
+    second.learn(writer.tell());
+    let (number, found) = second.get(b"a")?;
+    let (same, none) = first.get(b"b")?;
+    if before.number() != 0 || number.number() != 7 || same.number() != 7 {
+        return Err("another version")?;
+    }
+    if nothing.is_some()
+        || none.is_some()
+        || !found.is_some_and(|v| v.as_slice() == b"1".as_slice())
+    {
+        return Err("another value")?;
+    }
+    Ok(())
+}
+
+// Whether it comes to version 7, and never to an earlier version than before.
+fn reads_to_seven<J: LogName>(reader: &mut FollowerReader<J>) -> bool {
+    let mut last = 0;
+    for _ in 0..2_000_000 {
+        let now = match reader.get(b"a") {
+            Ok((number, _value)) => number.number(),
+            Err(_) => return false,
+        };
+        if now < last || now >= 7 {
+            return now == 7;
+        }
+        last = now;
+        thread::yield_now();
+    }
+    false
+}
+
+fn published_beside<J: LogName + Send + Sync, R: Threads + Wait + Sync>(
+    alloc: Global,
+    rt: &R,
+    log: NewLog,
+) -> Result<(), Fail>
+    requires { log ≡ J.log }
+{
+    let (mut writer, mut all) = readers::<J, &R>(alloc, rt, log, 1)?;
+    let Some(mut reader) = all.pop() else {
+        return Err("no reader")?;
+    };
+    let served = flushed(alloc)?;
+    let (written, read) = join(
+        rt,
+        || publish_to_seven(alloc, &mut writer, served),
+        || reads_to_seven(&mut reader),
+    );
+    written?;
+    if !read {
+        return Err("the reader went back, not on, or is out of memory")?;
+    }
+    Ok(())
+}
+
+#[test]
+fn a_reader_that_was_told_answers_at_what_was_told(rt: HostRuntime) -> Result<(), Fail> {
+    let log = NewLog::new();
+    told::<Brand, _>(rt.alloc(), &rt, log)
+}
+
+#[test]
+fn a_reader_of_another_thread_goes_on_to_what_is_published(rt: HostRuntime) -> Result<(), Fail> {
+    let log = NewLog::new();
+    published_beside::<Brand, _>(rt.alloc(), &rt, log)
+}
