@@ -11,8 +11,6 @@ mod error;
 mod hull;
 mod job;
 mod laws;
-#[cfg(test)]
-mod tests;
 
 pub use book::{Claim, ClaimBook};
 pub use ending::{Ending, Settled};

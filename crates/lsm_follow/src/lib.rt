@@ -10,8 +10,6 @@
 mod change;
 mod follower;
 mod pending;
-#[cfg(test)]
-mod tests;
 
 pub use change::FollowChange;
 pub use follower::Follower;

@@ -1,5 +1,5 @@
 -- What a round adds to a tally: each job that it picks, it settles.
-use Rattle.std.proofs.Common.{◌≡◌, ℕ, ◌+◌, Bool, false, List, [], ◌∷◌, ◌++◌, count_by, cond, refl, sym, ap, subst, ◌∙◌, inl, inr, arith, append-nil, append_assoc}
+use Rattle.std.proofs.Common.{◌≡◌, ℕ, ◌+◌, ◌≤◌, Bool, false, List, [], ◌∷◌, ◌++◌, count_by, cond, refl, sym, ap, subst, ◌∙◌, inl, inr, arith, append-nil, append_assoc}
 use Rattle.std.proofs.lemmas.List.Sums.{sum_by-append}
 use Rattle.lsm_claim.specs.declared.ending.Settled.{Settled}
 use Rattle.lsm_claim.specs.declared.ending.Settled.TheVariants.{Live, Stale}
@@ -10,7 +10,7 @@ use Rattle.lsm_coord.specs.declared.answer.Answer.TheVariants as answer
 use Rattle.lsm_coord.specs.declared.call.Call.{Call}
 use Rattle.lsm_coord.specs.declared.call.Call.TheVariants as call
 use Rattle.lsm_nodes.specs.declared.tally.Record.{Record}
-use Rattle.lsm_nodes.specs.Tallies.{MayRecord, SettlesPicks, TallyValue, after_record, exchange_of, gives_job, installs_by, is_pick, record_at, with_return}
+use Rattle.lsm_nodes.specs.Tallies.{IsDispatched, MayRecord, SettlesPicks, TallyValue, after_record, exchange_of, gives_job, installs_by, is_pick, record_at, with_return}
 
 -- records were added, of which so many picked a job, and so many claims were counted
 pub record Adds (t u : TallyValue) (picks counted : ℕ) : Type 0 where
@@ -78,3 +78,20 @@ settles_then t u v a b = (
   b.1 ∙ ap (λ (rs : List Record). rs ++ b.0) a.1 ∙ append_assoc t.mine a.0 b.0,
   omega (arith, a.2, b.2, count_pick-append a.0 b.0),
 )
+
+-- ---- several rounds
+
+pub dispatched_none : (t : TallyValue) → IsDispatched t 0 t
+dispatched_none t = record { parts = refl; picked = omega arith; others = refl; settled = ([], sym (append-nil t.mine), omega arith) }
+
+pub dispatched_then : (t u v : TallyValue) (rounds more : ℕ) → IsDispatched t rounds u → IsDispatched u more v → IsDispatched t (rounds + more) v
+dispatched_then t u v rounds more a b = record {
+  parts = b.parts ∙ a.parts;
+  picked = omega (arith, a.picked, b.picked);
+  others = b.others ∙ a.others;
+  settled = settles_then t u v a.settled b.settled;
+}
+
+-- fewer rounds are at most as many
+pub dispatched_within : (t u : TallyValue) (rounds most : ℕ) → rounds ≤ most → IsDispatched t rounds u → IsDispatched t most u
+dispatched_within t u rounds most le a = record { parts = a.parts; picked = omega (arith, a.picked, le); others = a.others; settled = a.settled }

@@ -1,5 +1,5 @@
 -- What a caller of a shared coordinator counts and records (per-thread counters: McKenney, Is Parallel Programming Hard, chapter 5).
-use Rattle.std.specs.Prelude.{◌≡◌, ◌⊎◌, ℕ, ◌+◌, Bool, true, false, List, [], ◌∷◌, ◌++◌, length, count_by, if◌then◌else◌}
+use Rattle.std.specs.Prelude.{◌≡◌, ◌⊎◌, ℕ, ◌+◌, ◌≤◌, Bool, true, false, List, [], ◌∷◌, ◌++◌, length, count_by, if◌then◌else◌}
 use Rattle.std.specs.List.{flat_map}
 use Rattle.lsm_claim.specs.declared.ending.Settled.{Settled}
 use Rattle.lsm_claim.specs.declared.ending.Settled.TheVariants.{Live, Stale}
@@ -105,3 +105,10 @@ is_pick r = gives_job r.exchange.answer
 -- the caller recorded more, and has settled as many claims more as it was given jobs
 abbrev pub SettlesPicks : TallyValue → TallyValue → Type 0
 SettlesPicks t u = (more : List Record) × (u.mine ≡ t.mine ++ more) × (u.picked ≡ t.picked + count_by is_pick more)
+
+-- so many rounds of a dispatcher at most: the parts stay, each round settles one claim at most, and each job that it was given is settled
+pub record IsDispatched (t : TallyValue) (rounds : ℕ) (u : TallyValue) : Type 0 where
+  pub parts : u.parts ≡ t.parts
+  pub picked : u.picked ≤ t.picked + rounds
+  pub others : u.others ≡ t.others
+  pub settled : SettlesPicks t u

@@ -13,8 +13,6 @@ mod limit;
 mod outcome;
 mod reach;
 mod rule;
-#[cfg(test)]
-mod tests;
 mod want;
 
 pub use error::PickError;

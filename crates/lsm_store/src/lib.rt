@@ -5,7 +5,5 @@
 #![tactic(auto)]
 
 mod compact;
-#[cfg(test)]
-mod tests;
 
 pub use compact::{compact_once, result_of};

@@ -1,6 +1,7 @@
 //! A follower and what answers it, in two threads.
 
 ghost use Rattle.std.specs.Prelude.{◌≡◌, ◌≤◌, IfErr, IfOk};
+ghost use mathlib.Core.List.{IsPrefix};
 ghost use Rattle.lsm_readers.specs.Publications.{last_published};
 
 use crate::both::other_begins;
@@ -36,6 +37,7 @@ pub fn come_to<
     requires { (last_published writer.taken).version.number ≤ follower.served.version.number }
     ensures onward { IfOk result (λ r. follower.served.version.number ≤ r.0.served.version.number) }
     ensures behind { IfOk result (λ r. (last_published r.1.taken).version.number ≤ r.0.served.version.number) }
+    ensures taken { IfOk result (λ r. IsPrefix writer.taken r.1.taken) }
     ensures refused { IfErr result (λ r. (r.0 ≡ follower) × (r.1 ≡ writer.entry)) }
 {
     let Ok((to_coordinator, questions)) = unbounded(alloc) else {
@@ -50,7 +52,7 @@ pub fn come_to<
         rt,
         move || -> (Follower, Publisher<J, &R>)
             requires { (last_published writer.taken).version.number ≤ follower.served.version.number }
-            ensures { (follower.served.version.number ≤ result.0.served.version.number) × ((last_published result.1.taken).version.number ≤ result.0.served.version.number) }
+            ensures { (follower.served.version.number ≤ result.0.served.version.number) × ((last_published result.1.taken).version.number ≤ result.0.served.version.number) × IsPrefix writer.taken result.1.taken }
         {
             begun.store(true, Ordering::SeqCst);
             follower_loop(rt, alloc, follower, writer, inbox, to_coordinator, goal)

@@ -1,6 +1,7 @@
 //! A dispatcher and its worker, in two threads.
 
-ghost use Rattle.std.specs.Prelude.{◌≡◌, ◌+◌, ◌<◌, ◌≤◌, ◌^◌, IfErr, IfOk};
+ghost use Rattle.std.specs.Prelude.{◌≡◌, ◌+◌, ◌<◌, ◌^◌, IfErr, IfOk};
+ghost use Rattle.lsm_nodes.specs.Tallies.{IsDispatched};
 
 use crate::both::other_begins;
 use crate::link::ChannelLink;
@@ -16,7 +17,8 @@ use std::sync::atomic::{AtomicBool, Ordering};
 use std::thread::{Threads, join};
 
 /// At most so many rounds of a dispatcher, beside a new worker in a thread of its own. A round is the last one if the flag is set, or if it
-/// installs nothing: nothing is due, or the worker may have ended, or has no thread. Refuses if there is no memory for channels, and hands the tally back.
+/// installs nothing: nothing is due, or the worker may have ended, or has no thread. Each job that it was given is settled. Refuses if there is
+/// no memory for channels, and hands the tally back.
 pub fn dispatch_with_worker<
     V: Vault + Send,
     J: Start + Send + Sync,
@@ -33,8 +35,7 @@ pub fn dispatch_with_worker<
 ) -> Result<Tally<J>, Tally<J>>
     requires part { 0 < tally.parts }
     requires fits { tally.picked + rounds < 2 ^ 64 }
-    ensures parts { IfOk result (λ t. t.parts ≡ tally.parts) }
-    ensures picked { IfOk result (λ t. t.picked ≤ tally.picked + rounds) }
+    ensures dispatched { IfOk result (IsDispatched tally rounds) }
     ensures refused { IfErr result (λ t. t ≡ tally) }
 {
     let Ok((to_worker, inbox)) = unbounded(alloc) else {
@@ -49,7 +50,7 @@ pub fn dispatch_with_worker<
         rt,
         move || -> Tally<J>
             requires { (0 < tally.parts) × (tally.picked + rounds < 2 ^ 64) }
-            ensures { (result.parts ≡ tally.parts) × (result.picked ≤ tally.picked + rounds) }
+            ensures { IsDispatched tally rounds result }
         {
             begun.store(true, Ordering::SeqCst);
             let mut link = ChannelLink::new(rt, alloc, hub, index, to_worker, from_worker);
@@ -65,6 +66,7 @@ pub fn dispatch_with_worker<
 }
 
 // Rounds up to one that installs nothing or sees the flag, at most so many.
+#[tactic(auto, using(lsm_nodes::proofs::SettledRounds::dispatched_then, lsm_nodes::proofs::SettledRounds::dispatched_within, lsm_nodes::proofs::SettledRounds::dispatched_none))]
 fn rounds_by<V: Vault, J: Start, N: Witness + Drop, L: Link, R: Wait>(
     rt: &R,
     hub: &Hub<V, J, N>,
@@ -75,8 +77,7 @@ fn rounds_by<V: Vault, J: Start, N: Witness + Drop, L: Link, R: Wait>(
 ) -> Tally<J>
     requires part { 0 < tally.parts }
     requires fits { tally.picked + rounds < 2 ^ 64 }
-    ensures parts { result.parts ≡ tally.parts }
-    ensures picked { result.picked ≤ tally.picked + rounds }
+    ensures { IsDispatched tally rounds result }
 {
     let mut tally = tally;
     for _round in 0..rounds {

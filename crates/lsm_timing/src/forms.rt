@@ -207,7 +207,7 @@ const READERS: Number = Number {
 
 const THREADS: Form = Form {
     name: "threads",
-    about: "Let a writer, two dispatchers with workers, a follower and its readers share a store",
+    about: "Let two writers, two dispatchers with workers, a follower and its readers share a store",
     number: SECONDS,
     other: Some(READERS),
     third: None,

@@ -1,4 +1,4 @@
-//! Threads over one store: a writer, dispatchers with their workers, a follower, and its readers.
+//! Threads over one store: two writers, dispatchers with their workers, a follower, and its readers.
 
 ghost use Rattle.std.specs.Prelude.{◌≡◌, ◌<◌, []};
 
@@ -31,7 +31,7 @@ pub(crate) use still::time_still_reads;
 use tell::{Claims, Ends, tell_ends};
 use writer::{Writing, write_until_due};
 
-/// How long threads run, and which there are beside the writer and the follower.
+/// How long threads run, and which there are beside the writers and the follower.
 #[derive(Clone, Copy)]
 pub(crate) struct Crew {
     pub(crate) seconds: u64,
@@ -118,25 +118,24 @@ fn run_all<
     let third = tally.split();
     let (written, (dispatched, read)) = join(
         rt,
-        move || -> (Result<Writing, TimingError>, Tally<J>)
-            requires { 0 < first.parts }
-        { write_until_due(rt, course, hub, first) },
+        move || -> (Result<Writing, TimingError>, (Tally<J>, Tally<J>))
+            requires { (0 < tally.parts) × (0 < first.parts) }
+        { write_until_due(rt, course, hub, tally, first) },
         move || -> ((Tally<J>, Tally<J>), (u64, Reads))
             requires { (0 < second.parts) × (0 < third.parts) × (publisher ≡ record { published = []; taken = [] }) }
         { run_beside(rt, course, hub, second, third, publisher, readers) },
     );
-    ends_of(course, tally, written, dispatched, read)
+    ends_of(course, written, dispatched, read)
 }
 
 // What the threads did, and the tally with the records of all.
 fn ends_of<J: Start>(
     course: &Course,
-    tally: Tally<J>,
-    written: (Result<Writing, TimingError>, Tally<J>),
+    written: (Result<Writing, TimingError>, (Tally<J>, Tally<J>)),
     dispatched: (Tally<J>, Tally<J>),
     read: (u64, Reads),
 ) -> Result<(Ends, Tally<J>), TimingError> {
-    let (writing, first) = written;
+    let (writing, (tally, first)) = written;
     let (second, third) = dispatched;
     let (followed, reads) = read;
     let tally = merged(merged(merged(tally, first)?, second)?, third)?;
@@ -159,7 +158,7 @@ fn claims_of<J: Start>(tally: &Tally<J>) -> Claims {
     }
 }
 
-// All threads but the writer.
+// All threads but the writers.
 fn run_beside<
     'a,
     V: Vault + Send,

@@ -10,8 +10,6 @@ mod fused;
 mod laws;
 mod memory;
 mod tables;
-#[cfg(test)]
-mod tests;
 mod vault;
 
 pub use error::VaultError;

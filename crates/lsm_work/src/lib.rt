@@ -9,8 +9,6 @@
 
 mod change;
 mod task;
-#[cfg(test)]
-mod tests;
 mod worker;
 
 pub use change::WorkChange;

@@ -8,6 +8,7 @@ use crate::error::{NO_NODE, TimingError};
 use lsm_coord::CoordError;
 use lsm_msg::NodeIndex;
 use std::sync::atomic::{AtomicBool, AtomicU64, Ordering};
+use std::sync::{Mutex, MutexGuard, Wait};
 use std::time::Duration;
 use std::{io, thread};
 
@@ -25,6 +26,8 @@ pub(crate) struct Course {
     // When it is over, by the clock of the wall.
     end: Duration,
     is_over: AtomicBool,
+    // Whose turn it is to flush.
+    turn: Mutex<()>,
     // How many entries are written.
     entries: AtomicU64,
     // How often there was no memory.
@@ -48,6 +51,7 @@ impl Course {
             second,
             end: start.saturating_add(Duration::from_secs(crew.seconds)),
             is_over: AtomicBool::new(false),
+            turn: Mutex::new(()),
             entries: AtomicU64::new(0),
             missed: AtomicU64::new(0),
         })
@@ -78,9 +82,14 @@ impl Course {
         self.is_over.store(true, Ordering::SeqCst);
     }
 
-    /// Tells how many entries are written.
-    pub(crate) fn set_entries(&self, entries: u64) {
-        self.entries.store(entries, Ordering::SeqCst);
+    /// Waits until no other writer flushes.
+    pub(crate) fn turn<R: Wait>(&self, rt: &R) -> MutexGuard<'_, ()> {
+        self.turn.lock(rt)
+    }
+
+    /// Counts entries that are written.
+    pub(crate) fn add_entries(&self, entries: u64) {
+        self.entries.fetch_add(entries, Ordering::SeqCst);
     }
 
     /// Gets of what is written, until it is over.

@@ -1,4 +1,4 @@
-//! The writer.
+//! The writers.
 
 ghost use Rattle.std.specs.Prelude.{◌≡◌, ◌<◌};
 
@@ -10,7 +10,11 @@ use lsm_key::Batch;
 use lsm_nodes::{Hub, Start, Tally, Witness};
 use lsm_vault::Vault;
 use std::sync::Wait;
+use std::thread::{Threads, join};
 use std::time::Duration;
+
+/// How many writers there are. Each writes one batch in so many.
+const WRITERS: u64 = 2;
 
 /// What was written.
 #[derive(Clone, Copy)]
@@ -28,18 +32,74 @@ const NOTHING: Writing = Writing {
     time: Duration::ZERO,
 };
 
-/// Writes one batch after another until the time is over, and then ends the run.
-pub(crate) fn write_until_due<V: Vault, J: Start, N: Witness + Drop, R: Wait>(
+// What came of a batch.
+#[derive(Clone, Copy, PartialEq, Eq)]
+enum Wrote {
+    All,
+    /// The memtable has no room for it.
+    Full,
+    NoMemory,
+}
+
+impl Writing {
+    /// With what another writer wrote.
+    pub(crate) fn and(self, other: Writing) -> Writing {
+        Writing {
+            entries: self.entries.wrapping_add(other.entries),
+            longest: self.longest.max(other.longest),
+            time: self.time.max(other.time),
+        }
+    }
+}
+
+/// Lets two writers write one batch after another until the time is over, and then ends the run.
+pub(crate) fn write_until_due<
+    V: Vault + Send,
+    J: Start + Send + Sync,
+    N: Witness + Drop + Send,
+    R: Threads + Wait + Sync,
+>(
     rt: &R,
     course: &Course,
     hub: &Hub<V, J, N>,
+    first: Tally<J>,
+    second: Tally<J>,
+) -> (Result<Writing, TimingError>, (Tally<J>, Tally<J>))
+    requires first { 0 < first.parts }
+    requires second { 0 < second.parts }
+{
+    let ((one, first), (other, second)) = join(
+        rt,
+        move || -> (Result<Writing, TimingError>, Tally<J>)
+            requires { 0 < first.parts }
+        { write_as(rt, course, hub, 0, first) },
+        move || -> (Result<Writing, TimingError>, Tally<J>)
+            requires { 0 < second.parts }
+        { write_as(rt, course, hub, 1, second) },
+    );
+    course.finish();
+    (of_both(one, other), (first, second))
+}
+
+fn of_both(
+    one: Result<Writing, TimingError>,
+    other: Result<Writing, TimingError>,
+) -> Result<Writing, TimingError> {
+    Ok(one?.and(other?))
+}
+
+// The batches of one of the writers.
+fn write_as<V: Vault, J: Start, N: Witness + Drop, R: Wait>(
+    rt: &R,
+    course: &Course,
+    hub: &Hub<V, J, N>,
+    index: u64,
     tally: Tally<J>,
 ) -> (Result<Writing, TimingError>, Tally<J>)
     requires { 0 < tally.parts }
 {
     let mut tally = tally;
-    let writing = write_timed(rt, course, hub, &mut tally);
-    course.finish();
+    let writing = write_timed(rt, course, hub, index, &mut tally);
     (writing, tally)
 }
 
@@ -47,12 +107,13 @@ fn write_timed<V: Vault, J: Start, N: Witness + Drop, R: Wait>(
     rt: &R,
     course: &Course,
     hub: &Hub<V, J, N>,
+    index: u64,
     tally: &mut Tally<J>,
 ) -> Result<Writing, TimingError>
     requires { 0 < tally.old.parts }
 {
     let start = course.bench.now()?;
-    let writing = write_all(rt, course, hub, tally)?;
+    let writing = write_all(rt, course, hub, index, tally)?;
     let time = course.bench.now()?.saturating_sub(start);
     Ok(Writing { time, ..writing })
 }
@@ -61,6 +122,7 @@ fn write_all<V: Vault, J: Start, N: Witness + Drop, R: Wait>(
     rt: &R,
     course: &Course,
     hub: &Hub<V, J, N>,
+    index: u64,
     tally: &mut Tally<J>,
 ) -> Result<Writing, TimingError>
     requires { 0 < tally.old.parts }
@@ -70,65 +132,107 @@ fn write_all<V: Vault, J: Start, N: Witness + Drop, R: Wait>(
         if course.is_due()? {
             break;
         }
-        writing = write_next(rt, course, hub, tally, writing)?;
-        course.set_entries(writing.entries);
+        writing = write_next(rt, course, hub, index, tally, writing)?;
     }
     Ok(writing)
 }
 
-// Writes the next batch, unless there is no memory for it.
+// Writes the next batch of one of the writers, unless there is no memory for it.
 fn write_next<V: Vault, J: Start, N: Witness + Drop, R: Wait>(
     rt: &R,
     course: &Course,
     hub: &Hub<V, J, N>,
+    index: u64,
     tally: &mut Tally<J>,
     writing: Writing,
 ) -> Result<Writing, TimingError>
     requires { 0 < tally.old.parts }
     ensures { tally.new.parts ≡ tally.old.parts }
 {
-    let number = writing.entries / BATCH;
+    let before = writing.entries / BATCH;
+    let number = before.wrapping_mul(WRITERS).wrapping_add(index);
     let Ok(batch) = batch_number(course.bench, number, u64::MAX, BATCH) else {
         course.miss();
         return Ok(writing);
     };
     let start = course.now()?;
-    let is_written = write(rt, course, hub, tally, &batch)?;
+    let wrote = write(rt, course, hub, tally, &batch)?;
     let took = course.now()?.saturating_sub(start);
+    let longest = writing.longest.max(took);
+    if wrote != Wrote::All {
+        return Ok(Writing { longest, ..writing });
+    }
+    course.add_entries(BATCH);
+    let entries = writing.entries.wrapping_add(BATCH);
     Ok(Writing {
-        entries: writing
-            .entries
-            .wrapping_add(if is_written { BATCH } else { 0 }),
-        longest: writing.longest.max(took),
+        entries,
+        longest,
         ..writing
     })
 }
 
-// Writes a batch, after a flush if the memtable is full, and says whether there was the memory for it.
+// Writes a batch. If the memtable is full, one writer flushes it while the other one waits, and then it is written if the other one has not filled it.
 fn write<V: Vault, J: Start, N: Witness + Drop, R: Wait>(
     rt: &R,
     course: &Course,
     hub: &Hub<V, J, N>,
     tally: &mut Tally<J>,
     batch: &Batch,
-) -> Result<bool, TimingError>
+) -> Result<Wrote, TimingError>
+    requires { 0 < tally.old.parts }
+    ensures { tally.new.parts ≡ tally.old.parts }
+{
+    match write_once(rt, course, hub, tally, batch)? {
+        Wrote::Full => {}
+        ended => return Ok(ended),
+    }
+    let _turn = course.turn(rt);
+    match write_once(rt, course, hub, tally, batch)? {
+        Wrote::Full => {}
+        ended => return Ok(ended),
+    }
+    if !flush(rt, course, hub, tally)? {
+        return Ok(Wrote::NoMemory);
+    }
+    write_once(rt, course, hub, tally, batch)
+}
+
+// Writes a batch if the memtable has room for it.
+fn write_once<V: Vault, J: Start, N: Witness + Drop, R: Wait>(
+    rt: &R,
+    course: &Course,
+    hub: &Hub<V, J, N>,
+    tally: &mut Tally<J>,
+    batch: &Batch,
+) -> Result<Wrote, TimingError>
     requires { 0 < tally.old.parts }
     ensures { tally.new.parts ≡ tally.old.parts }
 {
     match hub.write(rt, batch, tally) {
-        Ok(_) => return Ok(true),
-        Err(CoordError::MemtableFull) => {}
-        Err(why) => return course.outlive(why),
+        Ok(_) => Ok(Wrote::All),
+        Err(CoordError::MemtableFull) => Ok(Wrote::Full),
+        Err(why) => {
+            course.outlive(why)?;
+            Ok(Wrote::NoMemory)
+        }
     }
+}
+
+// Flushes the memtable and lets go of the tables that no version has any more. Says whether there was the memory for it.
+fn flush<V: Vault, J: Start, N: Witness + Drop, R: Wait>(
+    rt: &R,
+    course: &Course,
+    hub: &Hub<V, J, N>,
+    tally: &mut Tally<J>,
+) -> Result<bool, TimingError>
+    requires { 0 < tally.old.parts }
+    ensures { tally.new.parts ≡ tally.old.parts }
+{
     let version = match hub.flush(rt, tally) {
         Ok(flushed) => flushed.number,
         Err(why) => return course.outlive(why),
     };
     match hub.trim(rt, version, tally) {
-        Ok(_) => {}
-        Err(why) => return course.outlive(why),
-    }
-    match hub.write(rt, batch, tally) {
         Ok(_) => Ok(true),
         Err(why) => course.outlive(why),
     }

@@ -2,11 +2,11 @@
 
 mod growing;
 
-use crate::{PickError, pick};
 use growing::{File, add, opened, with_files};
 use lsm_claim::{ClaimBook, Ending, Want};
 use lsm_edit::Served;
 use lsm_key::{DEFAULT_BASE, Limits};
+use lsm_pick::{PickError, pick};
 use std::alloc::Global;
 use std::test::Fail;
 

@@ -1,12 +1,12 @@
 //! Compactions: which version and files they make, and that reads stay.
 
-use crate::{compact_once, result_of};
 use bytes::Bytes;
 use lsm_claim::Claim;
 use lsm_coord::{Coord, CoordError, Desk, Seat, SnapId};
 use lsm_edit::FileMeta;
 use lsm_key::{Batch, FileNumber, Limits, Op, VersionNumber};
 use lsm_msg::NodeIndex;
+use lsm_store::{compact_once, result_of};
 use lsm_vault::MemoryVault;
 use std::alloc::Global;
 use std::process::Abort;

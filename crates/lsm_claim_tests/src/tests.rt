@@ -1,7 +1,7 @@
 //! What no clause says: that calls succeed, and that conflicts, names and counts are the ones that are meant.
 
-use crate::{Claim, ClaimBook, ClaimError, Ending, Hull, JobId, Settled, Want, shares_level};
 use bytes::Bytes;
+use lsm_claim::{Claim, ClaimBook, ClaimError, Ending, Hull, JobId, Settled, Want, shares_level};
 use lsm_key::{Items, KeyRangeRef};
 use std::alloc::Global;
 use std::process::Abort;

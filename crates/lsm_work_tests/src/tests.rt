@@ -3,13 +3,13 @@
 ghost use Rattle.std.specs.Prelude.{IfOk};
 ghost use Rattle.lsm_key.specs.Entries.{IsEntry};
 
-use crate::{WorkChange, Worker};
 use bytes::Bytes;
 use lsm_claim::JobId;
 use lsm_edit::FileMeta;
 use lsm_key::{Entry, FileNumber, InternalKey, Items, Kind, Seq};
 use lsm_msg::{Body, Job, JobParts, Message, Node, NodeIndex};
 use lsm_table::{BuildError, Table, TableBuilder};
+use lsm_work::{WorkChange, Worker};
 use std::alloc::{AllocError, Global};
 use std::process::Abort;
 use std::test::Fail;

@@ -3,9 +3,9 @@
 ghost use Rattle.std.specs.Prelude.{IfOk};
 ghost use Rattle.lsm_edit.specs.Edit.{IsEdit};
 
-use crate::{FollowChange, Follower};
 use bytes::Bytes;
 use lsm_edit::{Edit, Version, decode_edit};
+use lsm_follow::{FollowChange, Follower};
 use lsm_key::{FileNumber, VersionNumber};
 use lsm_msg::{Body, Message, Node, NodeIndex};
 use std::alloc::Global;

@@ -1,8 +1,8 @@
 //! What no clause says: that calls succeed, which call of a fused vault fails, and the texts of errors.
 
-use crate::{FusedVault, MemoryVault, Vault, VaultError};
 use bytes::Bytes;
 use lsm_key::FileNumber;
+use lsm_vault::{FusedVault, MemoryVault, Vault, VaultError};
 use std::test::Fail;
 
 /// How many calls `call` has.
