@@ -1,6 +1,6 @@
 -- What a claim that ends without a result leaves.
 use Rattle.std.proofs.Common.{◌≡◌, ℕ, Bool, true, false, not, cond, List, [], ◌∷◌, refl, sym, subst, ◌∙◌}
-use Rattle.std.proofs.lemmas.Bool.{and_parts, eqb-true}
+use Rattle.std.proofs.lemmas.Bool.{and_parts, eq-eqb, eqb-true}
 use Rattle.std.specs.Prelude.{nat_eq}
 use Rattle.std.specs.List.{list_any}
 use Rattle.lsm_key.specs.Sets.{IsIn}
@@ -40,6 +40,14 @@ settled_has P b id ending gone same =
 pub epoch_after : (b : BookValue) (id : JobId) (ending : Ending) → (after_settling b id ending).epoch ≡ b.epoch
 epoch_after b id ending = settled_has (λ epoch live. epoch ≡ b.epoch) b id ending refl refl
 
+made_with : (ending : Ending) (b : BookValue) → (with_ending ending b).made ≡ b.made
+made_with Installed b = refl
+made_with Returned b = refl
+
+-- the end of a claim issues none
+pub made_after : (b : BookValue) (id : JobId) (ending : Ending) → (after_settling b id ending).made ≡ b.made
+made_after b id ending = either (λ (x : BookValue). x.made ≡ b.made) (holds b id) (with_ending ending (record b { live = without_job id b.live })) b (made_with ending (record b { live = without_job id b.live })) refl
+
 -- no job comes
 pub live_before : (b : BookValue) (id : JobId) (ending : Ending) (j : LiveJob) → IsIn j (after_settling b id ending).live → IsIn j b.live
 live_before b id ending j =
@@ -50,6 +58,9 @@ pub held_before : (b : BookValue) (id name : JobId) (ending : Ending) → holds 
 held_before b id name ending h =
     let found = any_is (λ k. same_job_id k.id name) (after_settling b id ending).live h in
     any_from (λ k. same_job_id k.id name) b.live found.0 (live_before b id ending found.0 found.1) found.2
+
+pub same_self : (a b : JobId) → a ≡ b → same_job_id a b ≡ true
+same_self a b e = subst (λ (x : JobId). same_job_id a x ≡ true) e (rw (eq-eqb a.epoch a.epoch refl) (eq-eqb a.number a.number refl))
 
 pub same_name : (a b : JobId) → same_job_id a b ≡ true → a ≡ b
 same_name a b h =

@@ -1,7 +1,7 @@
 -- What becomes of a claim, and what an install keeps.
 use Rattle.std.proofs.Common.{◌≡◌, ℕ, Bool, true, false, not, cond, ◌||◌, List, [], ◌∷◌, ◌++◌, inl, inr, Option, None, Some, refl, sym, ap, subst, ◌∙◌, unwrap_or}
 use Rattle.std.specs.List.{find, list_any}
-use Rattle.std.proofs.lemmas.Bool.{true≢false, false_from_ne_true, eq-eqb}
+use Rattle.std.proofs.lemmas.Bool.{true≢false, false_from_ne_true}
 use Rattle.lsm_key.specs.declared.entry.Entry.{Entry}
 use Rattle.lsm_key.specs.Sets.{IsIn}
 use Rattle.lsm_key.proofs.AscendingEntries.{IsIn-filter}
@@ -33,7 +33,7 @@ use Rattle.lsm_coord.specs.Contract.Value.{CoordValue, version_set}
 use Rattle.lsm_coord.specs.Inner.Putting.{PutsOutputs}
 use Rattle.lsm_coord.proofs.InstallEdits.{recorded_of, records_inside, records_recorded}
 use Rattle.lsm_coord.proofs.OpenedOutputs.{tables_each}
-use Rattle.lsm_coord.proofs.GiveBackSteps.{epoch_after, live_before, orderly_after, same_name}
+use Rattle.lsm_coord.proofs.GiveBackSteps.{epoch_after, live_before, orderly_after, same_name, same_self}
 
 -- ---- what is found in a list
 
@@ -148,9 +148,6 @@ stays_apart b id live j is held here named m =
     false_from_ne_true (conflicts live.want j.want) (λ h.
     let one : live ≡ j = is.apart live j here other.0 h in
     true≢false (sym other.1 ∙ ap not (same_self j.id id (ap (λ (k : LiveJob). k.id) (sym one) ∙ named))))
-  where
-    same_self : (a c : JobId) → a ≡ c → same_job_id a c ≡ true
-    same_self a c e = subst (λ (x : JobId). same_job_id a x ≡ true) e (rw (eq-eqb a.epoch a.epoch refl) (eq-eqb a.number a.number refl))
 
 pub held_by : (b : BookValue) (live : LiveJob) (id : JobId) → find (λ j. same_job_id j.id id) b.live ≡ Some live → holds b id ≡ true
 held_by b live id h = let r = found_some (λ j. same_job_id j.id id) b.live live h in any_from (λ j. same_job_id j.id id) b.live live r.0 r.1

@@ -102,10 +102,13 @@ fn share_out(
     tasks: &mut Vec<Task>,
 ) -> Result<Tally, AllocError> {
     let mut tally = Tally::new();
+    // Seed 1 has the schedules of the generators 1, 2, .., and each seed those after.
+    let before = settings.seed.wrapping_sub(1).wrapping_mul(RANDOM_SCHEDULES);
+    let first = before.wrapping_add(1);
     for alphabet in Alphabet::ALL {
         if settings.events > MAX_EXHAUSTED {
             for i in 0..RANDOM_SCHEDULES {
-                tasks.push(Task::Random(alphabet, settings.seed.wrapping_add(i)))?;
+                tasks.push(Task::Random(alphabet, first.wrapping_add(i)))?;
             }
         } else {
             let events = share_out_beginnings(alloc, settings, alphabet, tasks)?;

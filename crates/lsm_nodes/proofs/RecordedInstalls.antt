@@ -22,7 +22,7 @@ use Rattle.lsm_coord.specs.Contract.Installing.{HoldsMergeOf, HoldsSoundMerge, r
 use Rattle.lsm_coord.specs.Contract.Replies.{error_of}
 use Rattle.lsm_coord.specs.Contract.Shows.{Follows}
 use Rattle.lsm_coord.specs.Contract.Value.{CoordValue}
-use Rattle.lsm_coord.proofs.GiveBackSteps.{held_before}
+use Rattle.lsm_coord.proofs.GiveBackSteps.{held_before, made_after}
 use Rattle.lsm_coord.proofs.InstallEdits.{records_length}
 use Rattle.lsm_coord.proofs.InstallOutcomes.{held_by}
 use Rattle.lsm_coord.proofs.InstallRefusals.{rejected_keeps, rejected_stored}
@@ -33,7 +33,6 @@ use Rattle.lsm_nodes.specs.Calls.{InstallsResult}
 use Rattle.lsm_nodes.specs.Histories.{AreSoundJobs, HoldsMerge, IsPickedIn, WitnessedValue, event_of, installed_by, installs_in, installs_of, reply_of}
 use Rattle.lsm_nodes.proofs.LongerHistories.{Extends}
 use Rattle.lsm_nodes.proofs.RecordedCalls.{installs_push, plainly}
-use Rattle.lsm_nodes.proofs.SettledClaims.{made_after}
 
 -- an install has as many files as the result has tables
 pub few_files : (a b : CoordValue) (claim : LiveJob) (made : JobResult) (r : Install) → InstallsResult a claim made r b → HasFewFiles (length made.tables) r

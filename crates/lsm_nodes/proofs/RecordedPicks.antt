@@ -23,14 +23,13 @@ use Rattle.lsm_coord.specs.Contract.Replies.{pick_reply}
 use Rattle.lsm_coord.specs.Contract.Shows.{Follows}
 use Rattle.lsm_coord.specs.Contract.Sound.{IsSound, KeepsSound}
 use Rattle.lsm_coord.specs.Contract.Value.{CoordValue}
-use Rattle.lsm_coord.proofs.GiveBackSteps.{held_before, same_name}
+use Rattle.lsm_coord.proofs.GiveBackSteps.{held_before, made_after, same_name}
 use Rattle.lsm_nodes.specs.Answers.{pick_answer}
 use Rattle.lsm_nodes.specs.Calls.{PicksInVain, PicksJob}
 use Rattle.lsm_nodes.specs.Histories.{WitnessedValue, event_of, installed_by, installs_in, reply_of}
 use Rattle.lsm_nodes.specs.Tallies.{installs_by}
 use Rattle.lsm_nodes.proofs.LongerHistories.{Extends}
 use Rattle.lsm_nodes.proofs.RecordedCalls.{same_after}
-use Rattle.lsm_nodes.proofs.SettledClaims.{made_after}
 
 -- ---- the call
 

@@ -1,10 +1,8 @@
 -- Claims beside the history: what is known of the value under the lock stays known when one is given back.
-use Rattle.std.proofs.Common.{◌≡◌, ℕ, Bool, true, false, cond, List, refl, ap, subst, ◌∙◌, arith}
-use Rattle.lsm_claim.specs.declared.ending.Ending.{Ending}
-use Rattle.lsm_claim.specs.declared.ending.Ending.TheVariants.{Installed, Returned}
+use Rattle.std.proofs.Common.{◌≡◌, ℕ, true, List, ap, subst, ◌∙◌, arith}
+use Rattle.lsm_claim.specs.declared.ending.Ending.TheVariants.{Returned}
 use Rattle.lsm_claim.specs.declared.job.JobId.{JobId}
-use Rattle.lsm_claim.specs.Book.{BookValue, after_settling, holds, with_ending}
-use Rattle.lsm_claim.specs.Jobs.{without_job}
+use Rattle.lsm_claim.specs.Book.{holds}
 use Rattle.lsm_coord.specs.Model.Changes.{IsIndex}
 use Rattle.lsm_coord.specs.Model.Event as say
 use Rattle.lsm_coord.specs.Model.State.{State}
@@ -12,20 +10,8 @@ use Rattle.lsm_coord.specs.Contract.Calls.{after_give_back}
 use Rattle.lsm_coord.specs.Contract.Shows.{Follows, Shows}
 use Rattle.lsm_coord.specs.Contract.Sound.{KeepsSound}
 use Rattle.lsm_coord.specs.Contract.Value.{CoordValue}
-use Rattle.lsm_coord.proofs.GiveBackSteps.{held_before}
+use Rattle.lsm_coord.proofs.GiveBackSteps.{held_before, made_after}
 use Rattle.lsm_nodes.specs.Histories.{IsShared, WitnessedValue, installs_in}
-
-counted : (ending : Ending) (b : BookValue) → (with_ending ending b).made ≡ b.made
-counted Installed b = refl
-counted Returned b = refl
-
-made_by : (held : Bool) (b : BookValue) (id : JobId) (ending : Ending) → (cond held (with_ending ending (record b { live = without_job id b.live })) b).made ≡ b.made
-made_by true b id ending = counted ending (record b { live = without_job id b.live })
-made_by false b id ending = refl
-
--- the end of a claim issues none
-pub made_after : (b : BookValue) (id : JobId) (ending : Ending) → (after_settling b id ending).made ≡ b.made
-made_after b id ending = made_by (holds b id) b id ending
 
 pub shared_back : (start : CoordValue) (c d : CoordValue) (id : JobId) (history : List WitnessedValue) (total : ℕ) → IsShared start (record { coord = c; history = history }) total → d ≡ after_give_back c id
     → ((dispatcher : ℕ) → IsIndex dispatcher → Follows c (say.GiveUp dispatcher) say.Other d) → KeepsSound c d → IsShared start (record { coord = d; history = history }) total

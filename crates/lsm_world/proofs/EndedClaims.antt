@@ -1,7 +1,7 @@
 -- Claims that a dispatcher gives up, or that are no longer live.
 use Rattle.std.proofs.Common.{◌≡◌, ℕ, ◌<◌, ◌≤◌, Bool, true, false, not, cond, List, Some, refl, sym, ap, subst, ◌∙◌, inl, inr}
-use Rattle.std.specs.Prelude.{nat_eq, slice_get, slice_set}
-use Rattle.std.proofs.lemmas.Bool.{and_from, eq-eqb, true≢false}
+use Rattle.std.specs.Prelude.{slice_get, slice_set}
+use Rattle.std.proofs.lemmas.Bool.{true≢false}
 use Rattle.lsm_key.specs.Sets.{IsIn}
 use Rattle.lsm_key.proofs.AscendingEntries.{IsIn-filter}
 use Rattle.lsm_key.proofs.Lists.{any_from}
@@ -15,7 +15,7 @@ use Rattle.lsm_coord.specs.declared.dispatcher.Dispatcher.TheVariants.{Idle, Bus
 use Rattle.lsm_coord.specs.Contract.Calls.{after_give_back}
 use Rattle.lsm_coord.specs.Contract.Sound.{KeepsSound}
 use Rattle.lsm_coord.specs.Contract.Value.{CoordValue}
-use Rattle.lsm_coord.proofs.GiveBackSteps.{epoch_after, live_before}
+use Rattle.lsm_coord.proofs.GiveBackSteps.{epoch_after, live_before, made_after, same_self}
 use Rattle.lsm_store.proofs.Compactions.{fewer_held}
 use Rattle.lsm_world.specs.History.{History, IsHistory, WasGiven}
 use Rattle.lsm_world.specs.Nodes.{NodesValue}
@@ -24,24 +24,9 @@ use Rattle.lsm_world.proofs.QuietCalls.{files_stay}
 
 -- ---- the book after a claim ended
 
-named_itself : (a b : JobId) → a ≡ b → same_job_id a b ≡ true
-named_itself a b same =
-    and_from (nat_eq a.epoch b.epoch) (nat_eq a.number b.number) (eq-eqb a.epoch b.epoch (ap (λ (x : JobId). x.epoch) same)) (eq-eqb a.number b.number (ap (λ (x : JobId). x.number) same))
-
 -- a live claim is held by its name
 pub live_held : (b : BookValue) (j : LiveJob) (id : JobId) → IsIn j b.live → j.id ≡ id → holds b id ≡ true
-live_held b j id m same = any_from (λ (k : LiveJob). same_job_id k.id id) b.live j m (named_itself j.id id same)
-
-made_with : (ending : Ending) (b : BookValue) → (with_ending ending b).made ≡ b.made
-made_with Installed b = refl
-made_with Returned b = refl
-
-pub made_after : (b : BookValue) (id : JobId) (ending : Ending) → (after_settling b id ending).made ≡ b.made
-made_after b id ending = by (holds b id)
-  where
-    by : (t : Bool) → (cond t (with_ending ending (record b { live = without_job id b.live })) b).made ≡ b.made
-    by true = made_with ending (record b { live = without_job id b.live })
-    by false = refl
+live_held b j id m same = any_from (λ (k : LiveJob). same_job_id k.id id) b.live j m (same_self j.id id same)
 
 -- the names stay given
 pub given_after : (b : BookValue) (id : JobId) (ending : Ending) (other : JobId) → WasGiven b other → WasGiven (after_settling b id ending) other
@@ -63,7 +48,7 @@ ended b id ending j m same = by (holds b id) refl m
     by : (t : Bool) → holds b id ≡ t → IsIn j (cond t (with_ending ending (record b { live = without_job id b.live })) b).live → ⊥
     by true held m =
         let kept = IsIn-filter (λ (k : LiveJob). not (same_job_id k.id id)) j b.live (subst (λ (js : List LiveJob). IsIn j js) (live_with ending (record b { live = without_job id b.live })) m) in
-        true≢false (sym kept.1 ∙ ap not (named_itself j.id id same))
+        true≢false (sym kept.1 ∙ ap not (same_self j.id id same))
     by false held m = true≢false (sym (live_held b j id m same) ∙ held)
 
 -- ---- the nodes

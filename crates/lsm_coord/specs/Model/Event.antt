@@ -20,7 +20,7 @@ pub data Event : Type 0 where
   Get : (key : List ℕ) (at : Option SnapId) → Event
   Scan : (lo hi : List ℕ) (at : Option SnapId) (limit : ℕ) → Event
   Read : (follower : ℕ) (key : List ℕ) → Event
-  Show : (node : Node) → Event
+  Show : (node : Node) → Event  -- a worker lists nothing, so no reply to that is allowed
   Deliver : (message : ℕ) → Event
   Pick : (dispatcher : ℕ) → Event
   GiveUp : (dispatcher : ℕ) → Event
