@@ -7,7 +7,7 @@ use Rattle.std.specs.List.Sorted.{IsNonDecreasingBy}
 use Rattle.lsm_key.specs.Sets.{IsIn}
 use Rattle.lsm_key.proofs.Membership.{IsIn-append_cases, IsIn-append_left, IsIn-append_right, IsIn-at}
 use Rattle.lsm_nodes.specs.declared.exchange.Exchange.{Exchange}
-use Rattle.lsm_nodes.specs.declared.tally.Record.{Record}
+use Rattle.lsm_nodes.specs.declared.shared.tally.Record.{Record}
 use Rattle.lsm_nodes.specs.Closing.{AreAmong, RisesAbove, records_from}
 use Rattle.lsm_nodes.specs.Histories.{WitnessedValue}
 use Rattle.lsm_nodes.specs.Tallies.{all_records, record_at}

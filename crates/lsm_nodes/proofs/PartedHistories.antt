@@ -9,7 +9,7 @@ use Rattle.lsm_key.specs.Sets.{IsIn}
 use Rattle.lsm_key.proofs.Membership.{IsIn-append_cases, IsIn-append_left, IsIn-append_right, SameMembers-permutation}
 use Rattle.lsm_coord.specs.declared.answer.Answer.{Answer}
 use Rattle.lsm_coord.specs.declared.answer.Answer.TheVariants as answer
-use Rattle.lsm_nodes.specs.declared.tally.Record.{Record}
+use Rattle.lsm_nodes.specs.declared.shared.tally.Record.{Record}
 use Rattle.lsm_nodes.specs.Closing.{AllRise, AreAmong, IsPartedInto, RisesAbove, records_from}
 use Rattle.lsm_nodes.specs.Histories.{WitnessedValue, installed_by, installed_in}
 use Rattle.lsm_nodes.specs.Tallies.{all_records, is_done, is_installed, record_at}

@@ -1,5 +1,5 @@
 -- Records of tallies: what a tally keeps when it gets one more, and when another is merged into it.
-use Rattle.std.proofs.Common.{◌≡◌, ℕ, ◌+◌, List, [], ◌∷◌, ◌++◌, length, arith, ap, sym, ◌∙◌, subst, count_by, cond, length-append, append-nil, append_assoc, refl}
+use Rattle.std.proofs.Common.{◌≡◌, ℕ, ◌+◌, Bool, List, [], ◌∷◌, ◌++◌, length, arith, ap, sym, ◌∙◌, subst, count_by, cond, length-append, append-nil, append_assoc, refl}
 use Rattle.std.proofs.lemmas.Grind.{flat_map-append}
 use Rattle.std.proofs.lemmas.List.Sums.{sum_by-append}
 use Rattle.lsm_coord.specs.declared.answer.Answer.{Answer}
@@ -8,12 +8,12 @@ use Rattle.lsm_coord.specs.declared.call.Call.{Call}
 use Rattle.lsm_edit.specs.Served.{ServedValue}
 use Rattle.lsm_nodes.specs.Calls.{IsRecorded}
 use Rattle.lsm_nodes.specs.Histories.{SharedValue, WitnessedValue}
-use Rattle.lsm_nodes.specs.declared.tally.Record.{Record}
+use Rattle.lsm_nodes.specs.declared.shared.tally.Record.{Record}
 use Rattle.lsm_nodes.specs.Tallies.{IsTally, TallyValue, after_merge, after_record, all_records, exchange_of, installs_by, is_done, record_at, records_of}
 use Rattle.lsm_nodes.proofs.LongerHistories.{IsPlain}
 
-count_done-append : (rs qs : List Record) → count_by is_done (rs ++ qs) ≡ count_by is_done rs + count_by is_done qs
-count_done-append rs qs = sum_by-append (λ (r : Record). cond (is_done r) 1 0) rs qs
+pub count-append : (is : Record → Bool) (rs qs : List Record) → count_by is (rs ++ qs) ≡ count_by is rs + count_by is qs
+count-append is rs qs = sum_by-append (λ (r : Record). cond (is r) 1 0) rs qs
 
 -- a tally with one record more has recorded one more of the history
 pub tally_push : (t u : TallyValue) (r : Record) (parts amount now_parts now : ℕ) → IsTally t parts amount → u ≡ after_record t r → now_parts ≡ parts → now ≡ amount + 1 → IsTally u now_parts now
@@ -21,7 +21,7 @@ tally_push t u r parts amount now_parts now k is same more =
     let rest = all_records t.others in
     let one : count_by is_done (r ∷ []) ≡ installs_by r.exchange.answer = omega arith in
     let done : count_by is_done ((t.mine ++ r ∷ []) ++ rest) ≡ count_by is_done (t.mine ++ rest) + installs_by r.exchange.answer =
-    omega (arith, count_done-append (t.mine ++ r ∷ []) rest, count_done-append t.mine (r ∷ []), count_done-append t.mine rest, one) in
+    omega (arith, count-append is_done (t.mine ++ r ∷ []) rest, count-append is_done t.mine (r ∷ []), count-append is_done t.mine rest, one) in
     let length_is : length ((t.mine ++ r ∷ []) ++ rest) ≡ length (t.mine ++ rest) + 1 =
     omega (arith, length-append (t.mine ++ r ∷ []) rest, length-append t.mine (r ∷ []), length-append t.mine rest) in
     subst (λ (x : TallyValue). IsTally x now_parts now) (sym is)
@@ -93,6 +93,10 @@ tally_merge t u parts amount more_parts more now_parts now k l ps ns =
     record {
       whole = omega (arith, ps, k.whole, l.whole);
       settled = omega (arith, k.settled, l.settled);
-      done = omega (arith, k.done, l.done, ap (count_by is_done) all, count_done-append (records_of t) (records_of u));
+      done = omega (arith, k.done, l.done, ap (count_by is_done) all, count-append is_done (records_of t) (records_of u));
       counted = omega (arith, ns, k.counted, l.counted, ap length all, length-append (records_of t) (records_of u));
     }
+
+-- the installs of a manifest that has these after those
+pub more_installs : (all before after : List (ℕ × List ℕ)) (count : ℕ) → all ≡ before ++ after → length after ≡ count → length all ≡ length before + count
+more_installs all before after count is are = ap (λ (xs : List (ℕ × List ℕ)). length xs) is ∙ (length-append before after ∙ ap (λ (n : ℕ). length before + n) are)

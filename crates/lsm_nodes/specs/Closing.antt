@@ -2,7 +2,7 @@
 use Rattle.std.specs.Prelude.{ℕ, ◌+◌, ◌<◌, List, [], ◌∷◌}
 use Rattle.std.specs.List.Sorted.{IsPermutation}
 use Rattle.lsm_key.specs.Sets.{IsIn}
-use Rattle.lsm_nodes.specs.declared.tally.Record.{Record}
+use Rattle.lsm_nodes.specs.declared.shared.tally.Record.{Record}
 use Rattle.lsm_nodes.specs.Histories.{WitnessedValue}
 use Rattle.lsm_nodes.specs.Tallies.{all_records, record_at}
 

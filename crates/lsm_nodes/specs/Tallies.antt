@@ -1,13 +1,14 @@
 -- What a caller of a shared coordinator counts and records (per-thread counters: McKenney, Is Parallel Programming Hard, chapter 5).
 use Rattle.std.specs.Prelude.{◌≡◌, ◌⊎◌, ℕ, ◌+◌, ◌≤◌, Bool, true, false, List, [], ◌∷◌, ◌++◌, length, count_by, if◌then◌else◌}
-use Rattle.std.specs.List.{flat_map}
+use Rattle.std.specs.List.{AllByRecursion, flat_map}
 use Rattle.lsm_claim.specs.declared.ending.Settled.{Settled}
 use Rattle.lsm_claim.specs.declared.ending.Settled.TheVariants.{Live, Stale}
 use Rattle.lsm_coord.specs.declared.answer.Answer.{Answer}
 use Rattle.lsm_coord.specs.declared.answer.Answer.TheVariants as answer
 use Rattle.lsm_coord.specs.declared.call.Call.{Call}
+use Rattle.lsm_coord.specs.declared.call.Call.TheVariants as call
 use Rattle.lsm_nodes.specs.declared.exchange.Exchange.{Exchange}
-use Rattle.lsm_nodes.specs.declared.tally.Record.{Record}
+use Rattle.lsm_nodes.specs.declared.shared.tally.Record.{Record}
 
 pub record TallyValue : Type 0 where
   pub parts : ℕ  -- how many parts of its ledger it has
@@ -102,9 +103,29 @@ gives_job answered = false
 abbrev pub is_pick : Record → Bool
 is_pick r = gives_job r.exchange.answer
 
--- the caller recorded more, and has settled as many claims more as it was given jobs
-abbrev pub SettlesPicks : TallyValue → TallyValue → Type 0
-SettlesPicks t u = (more : List Record) × (u.mine ≡ t.mine ++ more) × (u.picked ≡ t.picked + count_by is_pick more)
+-- an install whose claim was stale
+abbrev pub finds_stale : Answer → Bool
+finds_stale (answer.Stale id epoch) = true
+finds_stale answered = false
+
+abbrev pub is_stale : Record → Bool
+is_stale r = finds_stale r.exchange.answer
+
+-- what a dispatcher asks of a coordinator
+abbrev pub IsOfDispatcher : Call → Type 0
+IsOfDispatcher call.Pick = Unit {0}
+IsOfDispatcher (call.Install id made) = Unit {0}
+IsOfDispatcher asked = ⊥
+
+-- The caller recorded picks and installs, and no other call. It has settled as many claims more as it was given jobs. Each that was
+-- stale when it was to be installed counts as stale.
+pub record SettlesPicks (t u : TallyValue) : Type 0 where
+  pub more : List Record
+  pub mine : u.mine ≡ t.mine ++ more
+  pub asked : AllByRecursion (λ r. IsOfDispatcher r.exchange.call) more
+  pub picked : u.picked ≡ t.picked + count_by is_pick more
+  pub returned : t.returned ≤ u.returned
+  pub stale : t.stale + count_by is_stale more ≤ u.stale
 
 -- so many rounds of a dispatcher at most: the parts stay, each round settles one claim at most, and each job that it was given is settled
 pub record IsDispatched (t : TallyValue) (rounds : ℕ) (u : TallyValue) : Type 0 where

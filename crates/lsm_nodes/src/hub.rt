@@ -1,12 +1,12 @@
 //! The lock.
 
-ghost use Rattle.std.specs.Prelude.{◌≡◌, ◌≢◌, ◌∷◌, [], IfErr, IfOk, IsErrAnd, length};
+ghost use Rattle.std.specs.Prelude.{◌≡◌, ◌≢◌, ◌+◌, ◌∷◌, [], IfErr, IfOk, IsErrAnd, length};
 
 mod calls;
 
 use crate::exchange::Witness;
 use crate::shared::{Shared, Start};
-use crate::tally::Tally;
+use crate::shared::Tally;
 use lsm_coord::Coord;
 use lsm_vault::Vault;
 use std::alloc::Global;
@@ -36,7 +36,7 @@ pub struct Hub<V: Vault, J: Start, N: Witness + Drop> {
 
 impl<V: Vault, J: Start, N: Witness + Drop> Hub<V, J, N> {
     ghost use Rattle.lsm_nodes.specs.Closing.{IsPartedInto};
-    ghost use Rattle.lsm_nodes.specs.Histories.{installed_in};
+    ghost use Rattle.lsm_nodes.specs.Histories.{installed_in, installs_in};
     ghost use Rattle.lsm_nodes.specs.Tallies.{new_tally};
 
     /// A hub, and the tally that has all parts of its ledger.
@@ -52,8 +52,10 @@ impl<V: Vault, J: Start, N: Witness + Drop> Hub<V, J, N> {
     }
 
     /// Closes it with the tally into which all others were merged: the history is then exactly the records of all tallies, each
-    /// once, each caller's in its order, and the tally's installs are those of the history. A refusal hands both back. Of which
+    /// once, each caller's in its order, and the tally's installs are those of the history, which are those that the manifest has beside
+    /// the ones at the start. A refusal hands both back. Of which
     /// history a record is wrong no clause can say here: `Shared::matches` says it.
+    #[tactic(auto, using(crate::proofs::TalliedRecords::more_installs))]
     pub fn close(
         self,
         tally: Tally<J>,
@@ -64,6 +66,7 @@ impl<V: Vault, J: Start, N: Witness + Drop> Hub<V, J, N> {
         ensures back { IfErr result (λ e. e.2 ≡ tally) }
         ensures history { IfOk result (λ s. IsPartedInto s.history (tally.mine ∷ tally.others)) }
         ensures installs { IfOk result (λ s. length (installed_in s.history) ≡ tally.installed) }
+        ensures edits { IfOk result (λ s. length (installs_in s.coord.edits) ≡ length (installs_in J.start.edits) + tally.installed) }
     {
         let mut tally = tally;
         let Hub { lock } = self;
@@ -74,6 +77,8 @@ impl<V: Vault, J: Start, N: Witness + Drop> Hub<V, J, N> {
         if !shared.matches(&mut tally) {
             return Err((CloseError::WrongRecord, Hub::around(shared), tally));
         }
+        // Proof hint: the installs of the manifest.
+        let _history = shared.history();
         Ok(shared)
     }
 

@@ -6,7 +6,7 @@ ghost use Rattle.lsm_nodes.specs.Closing.{AllRise, AreAmong, IsPartedInto, Rises
 ghost use Rattle.lsm_nodes.specs.Tallies.{all_records, record_at};
 
 use crate::exchange::{Exchange, Witness, Witnessed};
-use crate::tally::{Record, Records};
+use crate::shared::{Record, Records};
 
 /// Whether the lists have exactly the records of the history, each once, each list in its order. It asks that there are as many.
 pub(crate) fn is_parted<N: Witness + Drop>(

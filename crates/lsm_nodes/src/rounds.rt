@@ -6,7 +6,7 @@ ghost use Rattle.lsm_nodes.specs.Tallies.{SettlesPicks, is_done, records_of};
 use crate::exchange::Witness;
 use crate::hub::Hub;
 use crate::shared::Start;
-use crate::tally::Tally;
+use crate::shared::Tally;
 use lsm_claim::Settled;
 use lsm_coord::Install;
 use lsm_msg::{Job, JobResult};

@@ -6,17 +6,19 @@ ghost use Rattle.lsm_nodes.specs.Tallies.{exchange_of, record_at};
 mod claims;
 mod install;
 mod read;
+mod tally;
 mod write;
 
 use crate::exchange::{Exchange, Witness, Witnessed};
 use crate::matching::is_parted;
-use crate::tally::{Record, Tally};
 use crate::twice::Twice;
 use lsm_coord::{Answer, Call, Coord, Seat};
 use lsm_vault::Vault;
 use std::alloc::Global;
 use std::marker::{Brand, Model};
 use std::sync::ledger::{Book, Ledger, Share};
+pub(crate) use tally::Records;
+pub use tally::{Record, Tally};
 
 /// The ledger of a hub, with the coordinator at the start. A program takes `Brand`, and picks both where it makes the hub.
 pub trait Start: Ledger {

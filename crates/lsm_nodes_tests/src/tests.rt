@@ -5,6 +5,7 @@ ghost use Rattle.std.specs.Prelude.{◌≡◌, ◌<◌, ◌≤◌, []};
 mod calls;
 mod claims;
 mod memory;
+mod returns;
 
 use bytes::Bytes;
 use lsm_coord::Coord;
@@ -285,7 +286,7 @@ fn counted_anew<R: Threads + Wait + Sync>(rt: &R, alloc: Global) -> Option<Count
 fn two_jobs_are_away_at_once(rt: HostRuntime) -> Result<(), Fail> {
     let counts = counted_anew(&rt, rt.alloc()).ok_or("refused, or out of memory")?;
     if counts.installed < 2 {
-        return Err("a job came back, or was not picked: out of memory?")?;
+        return Err("a job came back, or was not picked: is it out of memory?")?;
     }
     assert!(rt;
         counts

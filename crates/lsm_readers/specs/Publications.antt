@@ -1,4 +1,4 @@
--- Lists of publications: the versions that readers were shown, one after another. Each list begins with version 0, which is not written.
+-- Lists of publications: the versions that were taken to be shown to readers, one after another. Each list begins with version 0, which is not written.
 use Rattle.std.specs.Prelude.{ℕ, ◌<◌, List, [], ◌∷◌, length}
 use mathlib.Core.List.{IsPrefix}
 use Rattle.lsm_edit.specs.Served.{ServedValue, first_served}
@@ -7,7 +7,7 @@ abbrev pub last_after : ServedValue → List ServedValue → ServedValue
 last_after before [] = before
 last_after before (p ∷ ps) = last_after p ps
 
--- what readers are shown
+-- the last version of such a list
 abbrev pub last_published : List ServedValue → ServedValue
 last_published ps = last_after first_served ps
 

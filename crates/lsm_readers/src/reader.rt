@@ -15,7 +15,7 @@ use left_right::ReadHandle;
 use lsm_key::VersionNumber;
 use std::marker::Model;
 
-/// Reads what was published last, in a thread of its own. Contracts see the publications that it has seen or was told.
+/// Reads what is published, in a thread of its own. Contracts see the publications that it has seen or was told.
 #[derive(Drop)]
 pub struct FollowerReader<J: LogName> {
     handle: ReadHandle<Publication<J>>,
@@ -47,7 +47,8 @@ impl<J: LogName> FollowerReader<J> {
         self.view = self.view.longer(told.view());
     }
 
-    /// The number of the version that was published last, and the value that a key has there. It waits for nobody.
+    /// The number of the version that it finds, which is no earlier than any that it has seen or was told, and the value that a key
+    /// has there. It waits for nobody.
     /// Refuses: `NotEntered` if the writer is gone, or what it reaches is older than what this reader has seen or was told;
     /// `OutOfMemory` if the value can't be copied, which it has seen nevertheless.
     pub fn get(&mut self, key: &[u8]) -> Result<(VersionNumber, Option<Vec<u8>>), ReadError>

@@ -2,7 +2,7 @@
 
 ghost use Rattle.std.specs.Prelude.{◌≡◌, ◌≤◌, IfErr, IfOk};
 ghost use mathlib.Core.List.{IsPrefix};
-ghost use Rattle.lsm_readers.specs.Publications.{last_published};
+ghost use Rattle.lsm_threads.specs.Following.{IsInStep};
 
 use crate::both::other_begins;
 use crate::follower::follower_loop;
@@ -34,9 +34,9 @@ pub fn come_to<
     writer: Publisher<J, &'a R>,
     goal: VersionNumber,
 ) -> Result<(Follower, Publisher<J, &'a R>), (Follower, Publisher<J, &'a R>)>
-    requires { (last_published writer.taken).version.number ≤ follower.served.version.number }
+    requires { IsInStep follower.served writer.taken }
     ensures onward { IfOk result (λ r. follower.served.version.number ≤ r.0.served.version.number) }
-    ensures behind { IfOk result (λ r. (last_published r.1.taken).version.number ≤ r.0.served.version.number) }
+    ensures in_step { IfOk result (λ r. IsInStep r.0.served r.1.taken) }
     ensures taken { IfOk result (λ r. IsPrefix writer.taken r.1.taken) }
     ensures refused { IfErr result (λ r. (r.0 ≡ follower) × (r.1 ≡ writer.entry)) }
 {
@@ -51,8 +51,8 @@ pub fn come_to<
     let (followed, ()) = join(
         rt,
         move || -> (Follower, Publisher<J, &R>)
-            requires { (last_published writer.taken).version.number ≤ follower.served.version.number }
-            ensures { (follower.served.version.number ≤ result.0.served.version.number) × ((last_published result.1.taken).version.number ≤ result.0.served.version.number) × IsPrefix writer.taken result.1.taken }
+            requires { IsInStep follower.served writer.taken }
+            ensures { (follower.served.version.number ≤ result.0.served.version.number) × IsInStep result.0.served result.1.taken × IsPrefix writer.taken result.1.taken }
         {
             begun.store(true, Ordering::SeqCst);
             follower_loop(rt, alloc, follower, writer, inbox, to_coordinator, goal)

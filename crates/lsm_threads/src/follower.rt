@@ -4,7 +4,8 @@ ghost use Rattle.std.specs.Prelude.{◌≤◌, ◌<◌, All, IfSome};
 ghost use Rattle.lsm_msg.specs.Messages.{IsMessage};
 ghost use Rattle.lsm_follow.specs.Onward.{IsOnward};
 ghost use mathlib.Core.List.{IsPrefix};
-ghost use Rattle.lsm_readers.specs.Publications.{last_published};
+ghost use Rattle.lsm_readers.specs.Publications.{IsLater};
+ghost use Rattle.lsm_threads.specs.Following.{IsInStep};
 
 use crate::mail::{receive, send, send_all};
 use bytes::Bytes;
@@ -19,7 +20,7 @@ use std::sync::Wait;
 /// Asks for what comes after a follower's version, hands the follower what comes, sends what it answers, publishes each
 /// version that it moves to, and asks again, also if it gave a version up. Ends, with both, if it is at the goal or past it,
 /// or is told that it is current, a channel is closed, what came is no message, or memory runs out; the version that was then
-/// not published is shown with the next publication, or was not taken.
+/// not published is shown with the next publication, or was not taken. What is published last is the follower's version or an earlier one.
 #[tactic(auto, using(lsm_readers::proofs::Beginnings::prefix_self, lsm_readers::proofs::Beginnings::prefix_trans))]
 pub fn follower_loop<J: LogName, R: Wait, W: Wait + Drop>(
     rt: &R,
@@ -30,9 +31,9 @@ pub fn follower_loop<J: LogName, R: Wait, W: Wait + Drop>(
     to: Sender<Bytes>,
     goal: VersionNumber,
 ) -> (Follower, Publisher<J, W>)
-    requires { (last_published writer.taken).version.number ≤ follower.served.version.number }
+    requires { IsInStep follower.served writer.taken }
     ensures onward { follower.served.version.number ≤ result.0.served.version.number }
-    ensures behind { (last_published result.1.taken).version.number ≤ result.0.served.version.number }
+    ensures in_step { IsInStep result.0.served result.1.taken }
     ensures taken { IsPrefix writer.taken result.1.taken }
 {
     if is_there(&follower, goal) || !send(rt, alloc, &to, &follower.ask()) {
@@ -71,6 +72,7 @@ fn is_there(follower: &Follower, goal: VersionNumber) -> bool {
 
 // Waits for a message, hands it to the follower, publishes the version that it moves to, and sends what it answers. Says
 // whether the loop goes on.
+#[tactic(auto, using(crate::proofs::InStep::in_step_onward, crate::proofs::InStep::later_on, lsm_readers::proofs::Beginnings::prefix_self))]
 fn turn<J: LogName, R: Wait, W: Wait + Drop>(
     rt: &R,
     alloc: Global,
@@ -80,9 +82,9 @@ fn turn<J: LogName, R: Wait, W: Wait + Drop>(
     to: &Sender<Bytes>,
     goal: VersionNumber,
 ) -> bool
-    requires { (last_published writer.old.taken).version.number ≤ follower.old.served.version.number }
+    requires { IsInStep follower.old.served writer.old.taken }
     ensures onward { follower.old.served.version.number ≤ follower.new.served.version.number }
-    ensures behind { (last_published writer.new.taken).version.number ≤ follower.new.served.version.number }
+    ensures in_step { IsInStep follower.new.served writer.new.taken }
     ensures taken { IsPrefix writer.old.taken writer.new.taken }
 {
     let before = follower.show().number;
@@ -113,10 +115,10 @@ fn hand_over<R: Wait>(
 }
 
 // Publishes the follower's version, and says whether readers are shown it.
-#[tactic(auto, using(lsm_readers::proofs::Adding::taken_behind))]
+#[tactic(auto, using(crate::proofs::InStep::in_step_published))]
 fn publish<J: LogName, W: Wait + Drop>(follower: &Follower, writer: &mut Publisher<J, W>) -> bool
-    requires { (last_published writer.old.taken).version.number < follower.now.served.version.number }
-    ensures behind { (last_published writer.new.taken).version.number ≤ follower.now.served.version.number }
+    requires { IsLater writer.old.taken follower.now.served }
+    ensures in_step { IsInStep follower.now.served writer.new.taken }
     ensures taken { IsPrefix writer.old.taken writer.new.taken }
 {
     writer.publish(follower.served()).is_ok()

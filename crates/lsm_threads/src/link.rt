@@ -1,5 +1,7 @@
 //! The link to a worker that runs in a thread of its own.
 
+ghost use Rattle.std.specs.Prelude.{◌≡◌, IfErr, IfOk, IfSome};
+
 use crate::mail::{receive, send};
 use crate::serve::answer;
 use bytes::Bytes;
@@ -45,7 +47,9 @@ impl<'a, V: Vault, J: Start, N: Witness + Drop, R: Wait> ChannelLink<'a, V, J, N
 }
 
 impl<V: Vault, J: Start, N: Witness + Drop, R: Wait> Link for ChannelLink<'_, V, J, N, R> {
-    fn carry(&mut self, job: Job) -> Option<JobResult> {
+    fn carry(&mut self, job: Job) -> Option<JobResult>
+        ensures { IfSome result (λ made. made.job ≡ job.id) }
+    {
         let id = job.id();
         if !send(
             self.rt,
@@ -57,10 +61,11 @@ impl<V: Vault, J: Start, N: Witness + Drop, R: Wait> Link for ChannelLink<'_, V,
         }
         for _ in self.rt.forever() {
             let message = receive(self.rt, self.alloc, &self.from)?;
-            if is_result_of(&message, id) {
-                return result_in(message);
-            }
-            if !answer(self.rt, self.alloc, self.hub, &message, &self.to) {
+            let asked = match result_of(message, id) {
+                Ok(made) => return Some(made),
+                Err(asked) => asked,
+            };
+            if !answer(self.rt, self.alloc, self.hub, &asked, &self.to) {
                 return None;
             }
         }
@@ -68,17 +73,14 @@ impl<V: Vault, J: Start, N: Witness + Drop, R: Wait> Link for ChannelLink<'_, V,
     }
 }
 
-// Whether the message brings the result of this job.
-fn is_result_of(message: &Message, id: JobId) -> bool {
-    match &message.body {
-        Body::Result(made) => made.job == id,
-        _ => false,
-    }
-}
-
-fn result_in(message: Message) -> Option<JobResult> {
-    match message.body {
-        Body::Result(made) => Some(made),
-        _ => None,
+// The result of this job, or else the message.
+fn result_of(message: Message, id: JobId) -> Result<JobResult, Message>
+    ensures ok { IfOk result (λ made. made.job ≡ id) }
+    ensures err { IfErr result (λ m. m ≡ message) }
+{
+    let Message { src, dst, body } = message;
+    match body {
+        Body::Result(made) if made.job == id => Ok(made),
+        body => Err(Message { src, dst, body }),
     }
 }

@@ -1,8 +1,9 @@
 //! Calls under the lock: each locks once.
 
-ghost use Rattle.std.specs.Prelude.{◌≡◌, ◌+◌, ◌<◌, ◌^◌, Err, IfOk, IfSome};
+ghost use Rattle.std.specs.Prelude.{◌≡◌, ◌+◌, ◌<◌, ◌^◌, Err, IfErr, IfOk, IfSome};
 ghost use Rattle.lsm_coord.specs.declared.call.Call.TheVariants as call;
-ghost use Rattle.lsm_coord.specs.Contract.Serving.{answer_message};
+ghost use Rattle.lsm_coord.specs.Contract.Memory.{IsFit};
+ghost use Rattle.lsm_coord.specs.Contract.Serving.{TakesMemory, answer_message};
 ghost use Rattle.lsm_coord.specs.Contract.Value.{CoordValue};
 ghost use Rattle.lsm_msg.specs.Messages.{IsMessage};
 ghost use Rattle.lsm_nodes.specs.Answers.{flush_answer, freeze_answer, get_answer, install_answer, pick_answer, release_answer, scan_answer, show_answer, snapshot_answer, trim_answer, write_answer};
@@ -11,7 +12,7 @@ ghost use Rattle.lsm_nodes.specs.Tallies.{MayRecord, exchange_of};
 use super::Hub;
 use crate::exchange::Witness;
 use crate::shared::Start;
-use crate::tally::Tally;
+use crate::shared::Tally;
 use bytes::Bytes;
 use lsm_claim::{Claim, Settled};
 use lsm_coord::{CoordError, Flushed, Install, InstallError, ShownVersion, SnapId};
@@ -155,14 +156,15 @@ impl<V: Vault, J: Start, N: Witness + Drop> Hub<V, J, N> {
         self.lock.lock(rt).install(claim, made, tally)
     }
 
-    /// `Shared::give_back`, under the lock.
+    /// `Shared::give_back`, under the lock. No clause can name the coordinator there, so none says which of the two it answers.
     pub fn give_back<R: Wait>(&self, rt: &R, claim: Claim) -> Settled {
         self.lock.lock(rt).give_back(claim)
     }
 
-    /// `Shared::serve`, under the lock.
+    /// `Shared::serve`, under the lock: the answer of a coordinator whose versions, files and claims are fit.
     pub fn serve<R: Wait>(&self, rt: &R, message: &Message) -> Result<Option<Message>, AllocError>
-        ensures answer { IfOk result (λ answer. (c : CoordValue) × (answer ≡ answer_message c message.now message.now.body)) }
+        ensures answer { IfOk result (λ answer. (c : CoordValue) × IsFit c × (answer ≡ answer_message c message.now message.now.body)) }
+        ensures err { IfErr result (λ e. (c : CoordValue) × IsFit c × TakesMemory c message.now.body) }
         ensures sound { IsMessage message.now → IfOk result (λ answer. IfSome answer IsMessage) }
     {
         self.lock.lock(rt).serve(message)

@@ -1,11 +1,15 @@
 //! Claims under the lock: picks, which are recorded, and what goes on beside the history.
 
-ghost use Rattle.std.specs.Prelude.{◌≡◌, ◌<◌, ◌⊎◌, Err, IfErr, IfOk, IfSome};
+ghost use Rattle.std.specs.Prelude.{◌≡◌, ◌<◌, ◌⊎◌, ℕ, Err, IfErr, IfOk, IfSome};
 ghost use Rattle.lsm_claim.specs.Book.{settle_answer};
 ghost use Rattle.lsm_coord.specs.declared.call.Call.TheVariants as call;
 ghost use Rattle.lsm_coord.specs.Contract.Calls.{after_give_back};
+ghost use Rattle.lsm_coord.specs.Contract.Memory.{IsFit};
 ghost use Rattle.lsm_coord.specs.Contract.Serving.{Serves, TakesMemory, answer_message};
-ghost use Rattle.lsm_coord.specs.Contract.Shows.{Shows};
+ghost use Rattle.lsm_coord.specs.Contract.Shows.{Follows, Shows};
+ghost use Rattle.lsm_coord.specs.Contract.Sound.{KeepsSound};
+ghost use Rattle.lsm_coord.specs.Model.Changes.{IsIndex};
+ghost use Rattle.lsm_coord.specs.Model.Event.{Deliver, GiveUp, Other};
 ghost use Rattle.lsm_coord.specs.Model.State.{State};
 ghost use Rattle.lsm_msg.specs.Messages.{IsMessage};
 ghost use Rattle.lsm_nodes.specs.Answers.{pick_answer};
@@ -15,7 +19,7 @@ ghost use Rattle.lsm_nodes.specs.Tallies.{exchange_of};
 use super::{Shared, Start, has_room, log};
 use crate::answers::{picked_answers, refused};
 use crate::exchange::Witness;
-use crate::tally::Tally;
+use crate::shared::Tally;
 use crate::twice::Twice;
 use lsm_claim::{Claim, Settled};
 use lsm_coord::{Answer, Call, Coord, CoordError};
@@ -52,6 +56,8 @@ impl<V: Vault, J: Start, N: Witness + Drop> Shared<V, J, N> {
         ensures history { self.new.history ≡ self.old.history }
         ensures coord { self.new.coord ≡ after_give_back self.old.coord claim.id }
         ensures answer { result ≡ settle_answer self.old.coord.book claim.id }
+        ensures step { (dispatcher : ℕ) → IsIndex dispatcher → Follows self.old.coord (GiveUp dispatcher) Other self.new.coord }
+        ensures sound { KeepsSound self.old.coord self.new.coord }
     {
         let Shared {
             coord,
@@ -64,11 +70,15 @@ impl<V: Vault, J: Start, N: Witness + Drop> Shared<V, J, N> {
 
     /// `Coord::serve`. It is not recorded.
     pub fn serve(&self, message: &Message) -> Result<Option<Message>, AllocError>
+        ensures step { (number : ℕ) → Follows self.now.coord (Deliver number) Other self.now.coord }
         ensures ok { IfOk result (λ answer. answer ≡ answer_message self.now.coord message.now message.now.body) }
         ensures listed { IfOk result (λ answer. (s : State) → Shows self.now.coord s → Serves s message.now.body answer) }
         ensures err { IfErr result (λ e. TakesMemory self.now.coord message.now.body) }
         ensures sound { IsMessage message.now → IfOk result (λ answer. IfSome answer IsMessage) }
+        ensures fit { IsFit self.now.coord }
     {
+        // Proof hint: what the coordinator keeps.
+        let _history = self.history();
         self.coord.serve(message)
     }
 }

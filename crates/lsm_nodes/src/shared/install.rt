@@ -9,7 +9,7 @@ ghost use Rattle.lsm_nodes.specs.Tallies.{exchange_of, installs_by};
 use super::{Shared, Start, has_room, log};
 use crate::exchange::Witness;
 use crate::installed::{install_answers, install_calls};
-use crate::tally::Tally;
+use crate::shared::Tally;
 use lsm_claim::Claim;
 use lsm_coord::{Install, InstallError};
 use lsm_msg::JobResult;

@@ -11,7 +11,7 @@ use crate::answers::{
     get_answers, get_calls, or_memory, scan_answers, scan_calls, show_answers, trim_answers,
 };
 use crate::exchange::Witness;
-use crate::tally::Tally;
+use crate::shared::Tally;
 use crate::twice::Twice;
 use bytes::Bytes;
 use lsm_coord::{Call, Coord, CoordError, ShownVersion, SnapId};

@@ -11,7 +11,7 @@ use crate::answers::{
     flush_answers, freeze_answers, release_answers, snapshot_answers, write_answers, write_calls,
 };
 use crate::exchange::Witness;
-use crate::tally::Tally;
+use crate::shared::Tally;
 use crate::twice::Twice;
 use lsm_coord::{Call, CoordError, Flushed, SnapId};
 use lsm_key::{Batch, Seq};

@@ -18,6 +18,7 @@ use std::thread::Threads;
 const KEYS: [&[u8]; 2] = [b"a", b"m"];
 
 // The reads of a follower that has come to a version, or to the current one.
+#[tactic(auto, using(crate::proofs::InStep::in_step_new))]
 pub(super) fn follow<
     V: Vault + Send,
     J: Start + LogName + Send + Sync,

@@ -41,6 +41,7 @@ pub(crate) fn follow_and_read<
 }
 
 // The follower, and the version that it came to.
+#[tactic(auto, using(lsm_threads::proofs::InStep::in_step_new))]
 fn follow_until_over<
     'a,
     V: Vault + Send,

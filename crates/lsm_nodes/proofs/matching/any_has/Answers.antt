@@ -2,7 +2,7 @@
 use Rattle.std.proofs.Common.{List, ◌∷◌, ◌+◌, ◌≡◌, drop, refl, sym, subst, ◌∙◌}
 use Rattle.std.proofs.lemmas.Bool.{true≢false}
 use Rattle.lsm_key.specs.Sets.{IsIn}
-use Rattle.lsm_nodes.specs.declared.tally.Record.{Record}
+use Rattle.lsm_nodes.specs.declared.shared.tally.Record.{Record}
 use Rattle.lsm_nodes.specs.Closing.{AllRise}
 use Rattle.lsm_nodes.specs.Tallies.{record_at}
 use Rattle.lsm_nodes.proofs.MatchedRecords.{in_item, in_rest, left_from}

@@ -7,7 +7,7 @@ use Rattle.std.proofs.lemmas.List.Sorted.{answers_always}
 use Rattle.lsm_key.proofs.Lists.{any_from}
 use Rattle.lsm_key.proofs.Membership.{IsIn-at}
 use Rattle.lsm_edit.proofs.NumberSearch.{searched}
-use Rattle.lsm_nodes.specs.declared.tally.Record.{Record}
+use Rattle.lsm_nodes.specs.declared.shared.tally.Record.{Record}
 use Rattle.lsm_nodes.specs.Tallies.{record_at}
 use Rattle.lsm_nodes.proofs.MatchedRecords.{found_there, positions_rise}
 use Rattle.lsm_nodes.proofs.matching.has.Goals as goal

@@ -2,7 +2,7 @@
 use Rattle.std.proofs.Common.{inl, inr, sym, ◌∙◌}
 use Rattle.std.proofs.lemmas.Bool.{true≢false}
 use Rattle.lsm_key.proofs.Membership.{IsIn-append_cases, IsIn-append_left, IsIn-append_right}
-use Rattle.lsm_nodes.specs.declared.tally.Record.{Record}
+use Rattle.lsm_nodes.specs.declared.shared.tally.Record.{Record}
 use Rattle.lsm_nodes.specs.Tallies.{all_records, record_at}
 use Rattle.lsm_nodes.proofs.matching.stands_in.Goals as goal
 

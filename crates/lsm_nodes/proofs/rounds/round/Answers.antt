@@ -11,11 +11,11 @@ use Rattle.lsm_coord.specs.declared.error.CoordError.TheVariants.{OutOfMemory}
 use Rattle.lsm_coord.specs.Contract.Replies.{error_of}
 use Rattle.lsm_nodes.specs.Answers.{picked_answer}
 use Rattle.lsm_nodes.specs.Tallies.{MayRecord, TallyValue, exchange_of}
-use Rattle.lsm_nodes.proofs.SettledRounds.{Adds, adds_then, installs_one, picks_none, picks_one, returns_one, settles}
+use Rattle.lsm_nodes.proofs.SettledRounds.{Adds, adds_then, finds_one, installs_one, picks_none, picks_one, returns_one, settles, stale_by}
 use Rattle.lsm_nodes.proofs.rounds.round.Goals as goal
 
 -- a pick that gave a job, by what the pick ensures
-first : (t u : TallyValue) (given : Option (LiveJob × JobParts)) (picked : LiveJob × JobParts) → given ≡ Some picked → MayRecord (Ok given ≡ Err OutOfMemory) t u (exchange_of call.Pick (picked_answer given)) → Adds t u 1 0
+first : (t u : TallyValue) (given : Option (LiveJob × JobParts)) (picked : LiveJob × JobParts) → given ≡ Some picked → MayRecord (Ok given ≡ Err OutOfMemory) t u (exchange_of call.Pick (picked_answer given)) → Adds t u 1 0 0 0
 first t u given picked is h =
     let never : Ok (Some picked) ≡ Err OutOfMemory → ⊥ = λ e. cc in
     picks_one t u picked _ never (subst (λ (x : Option (LiveJob × JobParts)). MayRecord (Ok x ≡ Err OutOfMemory) t u (exchange_of call.Pick (picked_answer x))) is h)
@@ -26,7 +26,7 @@ returns-in-Done-clause-settled g c =
     let u = c.pick.new.tally in
     let v = c.install.new.tally in
     let never : became.Done c.in-Done._number c.in-Done._files ≡ became.Kept c.in-Ok-Some.claim kept.OutOfMemory → ⊥ = λ e. cc in
-    settles t v 1 (adds_then t u v 1 0 0 1 (first t u c.in-Ok-Some.field-0 (c.in-Ok-Some.claim, c.in-Ok-Some.job) c.in-Ok-Some.field-0-is c.in-Ok-Some.ensures.recorded) (installs_one u v (call.Install c.in-Ok-Some.claim.id c.in-Some.made) c.in-Done._number c.in-Done._files _ never c.in-Done.ensures))
+    settles t v 1 0 0 (omega arith) (adds_then t u v 1 0 0 1 0 0 0 0 (first t u c.in-Ok-Some.field-0 (c.in-Ok-Some.claim, c.in-Ok-Some.job) c.in-Ok-Some.field-0-is c.in-Ok-Some.ensures.recorded) (installs_one u v c.in-Ok-Some.claim.id c.in-Some.made c.in-Done._number c.in-Done._files _ never c.in-Done.ensures))
 
 pub returns-in-Stale-clause-settled : goal.returns-in-Stale-clause-settled
 returns-in-Stale-clause-settled g c =
@@ -35,8 +35,9 @@ returns-in-Stale-clause-settled g c =
     let v = c.install.new.tally in
     let w = c.count-in-Stale.new.self in
     let picked = first t u c.in-Ok-Some.field-0 (c.in-Ok-Some.claim, c.in-Ok-Some.job) c.in-Ok-Some.field-0-is c.in-Ok-Some.ensures.recorded in
-    let tried = picks_none u v (call.Install c.in-Ok-Some.claim.id c.in-Some.made) (answer.Stale c.in-Stale.field-0 c.in-Stale.field-1) _ refl refl c.in-Stale.ensures in
-    settles t w 1 (adds_then t v w 1 0 0 1 (adds_then t u v 1 0 0 0 picked tried) (returns_one v w Stale c.count-in-Stale.ensures))
+    let never : became.Stale c.in-Stale.field-0 c.in-Stale.field-1 ≡ became.Kept c.in-Ok-Some.claim kept.OutOfMemory → ⊥ = λ e. cc in
+    let tried = finds_one u v c.in-Ok-Some.claim.id c.in-Some.made c.in-Stale.field-0 c.in-Stale.field-1 _ never c.in-Stale.ensures in
+    settles t w 1 1 1 (omega arith) (adds_then t v w 1 0 0 1 1 0 0 1 (adds_then t u v 1 0 0 0 0 1 0 0 picked tried) (returns_one v w Stale c.count-in-Stale.ensures))
 
 pub returns-clause-settled : goal.returns-clause-settled
 returns-clause-settled g c =
@@ -45,5 +46,6 @@ returns-clause-settled g c =
     let v = c.install.new.tally in
     let w = c.count-in-Kept.new.self in
     let picked = first t u c.in-Ok-Some.field-0 (c.in-Ok-Some.claim, c.in-Ok-Some.job) c.in-Ok-Some.field-0-is c.in-Ok-Some.ensures.recorded in
-    let tried = picks_none u v (call.Install c.in-Ok-Some.claim.id c.in-Some.made) (answer.Refused (error_of c.in-Kept.field-1)) _ refl refl c.in-Kept.ensures in
-    settles t w 1 (adds_then t v w 1 0 0 1 (adds_then t u v 1 0 0 0 picked tried) (returns_one v w c.give_back-in-Kept.result c.count-in-Kept.ensures))
+    let tried = picks_none u v (call.Install c.in-Ok-Some.claim.id c.in-Some.made) (answer.Refused (error_of c.in-Kept.field-1)) _ refl refl refl tt c.in-Kept.ensures in
+    let back = c.give_back-in-Kept.result in
+    settles t w 1 0 (stale_by back) (omega arith) (adds_then t v w 1 0 0 1 0 0 0 (stale_by back) (adds_then t u v 1 0 0 0 0 0 0 0 picked tried) (returns_one v w back c.count-in-Kept.ensures))

@@ -1,10 +1,10 @@
 use Rattle.std.proofs.Common.{◌≤◌}
 use mathlib.Core.List.{IsPrefix}
-use Rattle.lsm_readers.specs.Publications.{last_published}
+use Rattle.lsm_threads.specs.Following.{IsInStep}
 use Rattle.lsm_threads.proofs.follower.follower_loop.Given as goal
 
 abbrev pub invariant-loop : goal.invariant-loop
 invariant-loop g l =
-    ((last_published l.writer.taken).version.number ≤ l.follower.served.version.number)
+    IsInStep l.follower.served l.writer.taken
     × (l.fn.follower.served.version.number ≤ l.follower.served.version.number)
     × IsPrefix l.fn.writer.taken l.writer.taken

@@ -2,7 +2,7 @@
 use Rattle.std.proofs.Common.{ℕ, ◌+◌, List, [], ◌∷◌, ◌++◌, length, ap, subst, sym, ◌∙◌, inr}
 use Rattle.lsm_claim.specs.declared.job.JobId.{JobId}
 use Rattle.lsm_coord.specs.declared.call.Call.TheVariants as call
-use Rattle.lsm_nodes.specs.declared.tally.Record.{Record}
+use Rattle.lsm_nodes.specs.declared.shared.tally.Record.{Record}
 use Rattle.lsm_nodes.specs.Answers.{HasFewFiles, install_answer}
 use Rattle.lsm_nodes.specs.Calls.{InstallsResult}
 use Rattle.lsm_nodes.specs.Histories.{SharedValue, WitnessedValue}

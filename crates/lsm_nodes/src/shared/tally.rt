@@ -23,7 +23,7 @@ pub(crate) struct Records {
 
 impl Model for Records {
     ghost use Rattle.std.specs.Prelude.{List};
-    ghost use Rattle.lsm_nodes.specs.declared.tally.Record.{Record};
+    ghost use Rattle.lsm_nodes.specs.declared.shared.tally.Record.{Record};
 
     ghost Value = { List Record };
 
@@ -40,19 +40,19 @@ impl Records {
     }
 }
 
-/// What a caller counted and recorded, and what was merged into it. It keeps that `picked` is the sum of `installed`,
+/// What a caller counted and recorded, and what was merged into it. Only the calls under the lock write its records. It keeps that `picked` is the sum of `installed`,
 /// `returned` and `stale`, that `installed` is the number of its records of installs that were done, and that the number of its
 /// records is its share of the history's length. It has some of the parts of its ledger.
 #[derive(Drop)]
 pub struct Tally<J: Ledger> {
     parts: u64,
-    pub(crate) picked: u64,
-    pub(crate) installed: u64,
+    pub(super) picked: u64,
+    pub(super) installed: u64,
     returned: u64,
     stale: u64,
-    pub(crate) mine: Vec<Record>,
-    pub(crate) others: Vec<Records>,
-    pub(crate) share: Share<J>,
+    pub(super) mine: Vec<Record>,
+    pub(super) others: Vec<Records>,
+    pub(super) share: Share<J>,
     alloc: Global,
 }
 
@@ -142,7 +142,7 @@ impl<J: Ledger> Tally<J> {
         self.parts
     }
 
-    /// How many claims were settled: installed, returned or stale.
+    /// How many claims its dispatchers settled, or that it installed: installed, returned or stale.
     pub fn picked(&self) -> u64
         ensures picked { result ≡ self.now.picked }
         ensures sum { self.now.picked ≡ self.now.installed + self.now.returned + self.now.stale }

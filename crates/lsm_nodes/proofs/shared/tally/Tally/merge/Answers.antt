@@ -1,9 +1,9 @@
 -- The merged tally has the records of both.
 use Rattle.std.proofs.Common.{◌≡◌, ◌++◌, ◌∷◌, [], List, ap, ◌∙◌, subst, sym}
 use Rattle.lsm_nodes.specs.Tallies.{IsTally, TallyValue, after_merge}
-use Rattle.lsm_nodes.specs.declared.tally.Record.{Record}
+use Rattle.lsm_nodes.specs.declared.shared.tally.Record.{Record}
 use Rattle.lsm_nodes.proofs.TalliedRecords.{tally_merge}
-use Rattle.lsm_nodes.proofs.tally.Tally.merge.Goals as goal
+use Rattle.lsm_nodes.proofs.shared.tally.Tally.merge.Goals as goal
 
 pub invariant_of-self-2 : goal.invariant_of-self-2
 invariant_of-self-2 g c =

@@ -1,7 +1,7 @@
 -- Each list that is left has room.
 use Rattle.std.proofs.Common.{◌≡◌, ◌+◌, ◌≤◌, ◌++◌, length, vec_len, vec_capacity}
 use Rattle.std.specs.Vec.Iter.{into_iter_items}
-use Rattle.lsm_nodes.proofs.tally.move_all.Given as goal
+use Rattle.lsm_nodes.proofs.shared.tally.move_all.Given as goal
 
 abbrev pub invariant-loop-records : goal.invariant-loop-records
 invariant-loop-records l =
