@@ -5,8 +5,7 @@ ghost use Rattle.std.specs.Prelude.{◌≡◌, ◌≢◌, ◌+◌, ◌∷◌, []
 mod calls;
 
 use crate::exchange::Witness;
-use crate::shared::{Shared, Start};
-use crate::shared::Tally;
+use crate::shared::{Shared, Start, Tally};
 use lsm_coord::Coord;
 use lsm_vault::Vault;
 use std::alloc::Global;

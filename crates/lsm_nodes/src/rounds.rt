@@ -5,8 +5,7 @@ ghost use Rattle.lsm_nodes.specs.Tallies.{SettlesPicks, is_done, records_of};
 
 use crate::exchange::Witness;
 use crate::hub::Hub;
-use crate::shared::Start;
-use crate::shared::Tally;
+use crate::shared::{Start, Tally};
 use lsm_claim::Settled;
 use lsm_coord::Install;
 use lsm_msg::{Job, JobResult};
@@ -32,15 +31,16 @@ fn round<V: Vault, J: Start, N: Witness + Drop, L: Link, R: Wait>(
     ensures others { tally.new.others ≡ tally.old.others }
     ensures settled { SettlesPicks tally.old tally.new }
 {
-    let Ok(Some((claim, job))) = hub.pick(rt, tally) else {
-        return;
-    };
-    match link.carry(job) {
-        None => tally.count(hub.give_back(rt, claim)),
-        Some(made) => match hub.install(rt, claim, &made, tally) {
-            Install::Done(_number, _files) => {}
-            Install::Stale(_, _) => tally.count(Settled::Stale),
-            Install::Kept(claim, _) => tally.count(hub.give_back(rt, claim)),
+    match hub.pick(rt, tally) {
+        Ok(None) => {}
+        Err(_) => {}
+        Ok(Some((claim, job))) => match link.carry(job) {
+            None => tally.count(hub.give_back(rt, claim)),
+            Some(made) => match hub.install(rt, claim, &made, tally) {
+                Install::Done(_number, _files) => {}
+                Install::Stale(_, _) => tally.count(Settled::Stale),
+                Install::Kept(claim, _) => tally.count(hub.give_back(rt, claim)),
+            },
         },
     }
 }

@@ -11,8 +11,7 @@ ghost use Rattle.lsm_nodes.specs.Tallies.{MayRecord, exchange_of};
 
 use super::Hub;
 use crate::exchange::Witness;
-use crate::shared::Start;
-use crate::shared::Tally;
+use crate::shared::{Start, Tally};
 use bytes::Bytes;
 use lsm_claim::{Claim, Settled};
 use lsm_coord::{CoordError, Flushed, Install, InstallError, ShownVersion, SnapId};

@@ -1,5 +1,5 @@
 -- The job that was picked is settled, whatever becomes of it.
-use Rattle.std.proofs.Common.{◌≡◌, Option, Some, Ok, Err, subst, refl}
+use Rattle.std.proofs.Common.{◌≡◌, ◌+◌, Option, Result, Some, Ok, Err, subst, refl, arith}
 use Rattle.lsm_claim.specs.declared.ending.Settled.TheVariants.{Stale}
 use Rattle.lsm_claim.specs.declared.job.LiveJob.{LiveJob}
 use Rattle.lsm_msg.specs.declared.job.JobParts.{JobParts}
@@ -7,11 +7,12 @@ use Rattle.lsm_coord.specs.declared.answer.Answer.TheVariants as answer
 use Rattle.lsm_coord.specs.declared.call.Call.TheVariants as call
 use Rattle.lsm_coord.specs.declared.coord.install.Install.TheVariants as became
 use Rattle.lsm_coord.specs.declared.coord.install.InstallError.TheVariants as kept
+use Rattle.lsm_coord.specs.declared.error.CoordError.{CoordError}
 use Rattle.lsm_coord.specs.declared.error.CoordError.TheVariants.{OutOfMemory}
 use Rattle.lsm_coord.specs.Contract.Replies.{error_of}
-use Rattle.lsm_nodes.specs.Answers.{picked_answer}
+use Rattle.lsm_nodes.specs.Answers.{pick_answer, picked_answer}
 use Rattle.lsm_nodes.specs.Tallies.{MayRecord, TallyValue, exchange_of}
-use Rattle.lsm_nodes.proofs.SettledRounds.{Adds, adds_then, finds_one, installs_one, picks_none, picks_one, returns_one, settles, stale_by}
+use Rattle.lsm_nodes.proofs.SettledRounds.{Adds, adds_then, finds_one, installs_one, picks_none, picks_one, returns_one, settles, settles_none, stale_by}
 use Rattle.lsm_nodes.proofs.rounds.round.Goals as goal
 
 -- a pick that gave a job, by what the pick ensures
@@ -48,4 +49,29 @@ returns-clause-settled g c =
     let picked = first t u c.in-Ok-Some.field-0 (c.in-Ok-Some.claim, c.in-Ok-Some.job) c.in-Ok-Some.field-0-is c.in-Ok-Some.ensures.recorded in
     let tried = picks_none u v (call.Install c.in-Ok-Some.claim.id c.in-Some.made) (answer.Refused (error_of c.in-Kept.field-1)) _ refl refl refl tt c.in-Kept.ensures in
     let back = c.give_back-in-Kept.result in
-    settles t w 1 0 (stale_by back) (omega arith) (adds_then t v w 1 0 0 1 0 0 0 (stale_by back) (adds_then t u v 1 0 0 0 0 0 0 0 picked tried) (returns_one v w back c.count-in-Kept.ensures))
+    settles t w 1 0 (0 + stale_by back) (omega arith) (adds_then t v w 1 0 0 1 0 0 0 (stale_by back) (adds_then t u v 1 0 0 0 0 0 0 0 picked tried) (returns_one v w back c.count-in-Kept.ensures))
+
+-- nothing is picked
+pub returns-in-Ok-None-clause-settled : goal.returns-in-Ok-None-clause-settled
+returns-in-Ok-None-clause-settled g c =
+    let t = c.args.tally.now in
+    let u = c.pick.new.tally in
+    let P : Option (LiveJob × JobParts) → Type 0 = λ given. MayRecord (Ok given ≡ Err OutOfMemory) t u (exchange_of call.Pick (picked_answer given)) in
+    settles_none t u answer.Idle _ refl refl refl (subst P c.in-Ok-None.field-0-is c.in-Ok-None.ensures.recorded)
+
+pub returns-in-Err-clause-settled : goal.returns-in-Err-clause-settled
+returns-in-Err-clause-settled g c =
+    let t = c.args.tally.now in
+    let u = c.pick.new.tally in
+    let P : Result (Option (LiveJob × JobParts)) CoordError → Type 0 = λ r. MayRecord (r ≡ Err OutOfMemory) t u (exchange_of call.Pick (pick_answer r)) in
+    settles_none t u (answer.Refused c.in-Err.field-0) _ refl refl refl (subst P c.in-Err.is c.pick.ensures.recorded)
+
+-- no result comes back
+pub returns-in-None-clause-settled : goal.returns-in-None-clause-settled
+returns-in-None-clause-settled g c =
+    let t = c.args.tally.now in
+    let u = c.pick.new.tally in
+    let w = c.count.new.self in
+    let back = c.give_back.result in
+    let picked = first t u c.in-Ok-Some.field-0 (c.in-Ok-Some.claim, c.in-Ok-Some.job) c.in-Ok-Some.field-0-is c.in-Ok-Some.ensures.recorded in
+    settles t w 1 0 (0 + stale_by back) (omega arith) (adds_then t u w 1 0 0 1 0 0 0 (stale_by back) picked (returns_one u w back c.count.ensures))
