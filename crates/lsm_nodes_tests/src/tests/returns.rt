@@ -42,7 +42,7 @@ impl Link for Idle {
 
 /// What a round of a dispatcher counted, and the job that is picked after it.
 #[derive(Clone, Copy, Debug, PartialEq, Eq)]
-struct Round {
+struct RoundCounts {
     picked: u64,
     installed: u64,
     returned: u64,
@@ -57,7 +57,7 @@ fn round<V: Vault + Drop, J: Start, N: Witness + Drop, R: Wait>(
     coord: Coord<V>,
     blank: Blank,
     link: &mut Idle,
-) -> Option<Round>
+) -> Option<RoundCounts>
     requires ledger { (blank.name ≡ J.name) × (blank.parts ≡ J.parts) × (J.parts ≡ PARTS) }
     requires start { coord ≡ J.start }
     requires idle { coord.book.live ≡ [] }
@@ -73,7 +73,7 @@ fn round<V: Vault + Drop, J: Start, N: Witness + Drop, R: Wait>(
     };
     let next = job.id();
     let _settled = hub.give_back(rt, claim);
-    Some(Round {
+    Some(RoundCounts {
         picked: tally.picked(),
         installed: tally.installed(),
         returned: tally.returned(),
@@ -83,7 +83,7 @@ fn round<V: Vault + Drop, J: Start, N: Witness + Drop, R: Wait>(
 }
 
 // The same of a new store.
-fn round_anew<R: Wait>(rt: &R, alloc: Global, brings_another: bool) -> Option<Round> {
+fn round_anew<R: Wait>(rt: &R, alloc: Global, brings_another: bool) -> Option<RoundCounts> {
     let limits = Limits::new(2, DEFAULT_BASE)?;
     let Ok(coord) = Coord::open(alloc, MemoryVault::new(alloc), limits) else {
         return None;
@@ -96,7 +96,7 @@ fn round_anew<R: Wait>(rt: &R, alloc: Global, brings_another: bool) -> Option<Ro
 }
 
 // One claim went back while it was live, and its number is used.
-const RETURNED: Round = Round {
+const RETURNED: RoundCounts = RoundCounts {
     picked: 1,
     installed: 0,
     returned: 1,
