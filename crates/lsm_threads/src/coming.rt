@@ -37,7 +37,7 @@ pub fn come_to<
     requires { IsInStep follower.served writer.taken }
     ensures onward { IfOk result (λ r. follower.served.version.number ≤ r.0.served.version.number) }
     ensures in_step { IfOk result (λ r. IsInStep r.0.served r.1.taken) }
-    ensures taken { IfOk result (λ r. IsPrefix writer.taken r.1.taken) }
+    ensures taken { IfOk result (λ r. IsPrefix writer.entry.taken r.1.taken) }
     ensures refused { IfErr result (λ r. (r.0 ≡ follower) × (r.1 ≡ writer.entry)) }
 {
     let Ok((to_coordinator, questions)) = unbounded(alloc) else {
@@ -52,7 +52,7 @@ pub fn come_to<
         rt,
         move || -> (Follower, Publisher<J, &R>)
             requires { IsInStep follower.served writer.taken }
-            ensures { (follower.served.version.number ≤ result.0.served.version.number) × IsInStep result.0.served result.1.taken × IsPrefix writer.taken result.1.taken }
+            ensures { (follower.served.version.number ≤ result.0.served.version.number) × IsInStep result.0.served result.1.taken × IsPrefix writer.entry.taken result.1.taken }
         {
             begun.store(true, Ordering::SeqCst);
             follower_loop(rt, alloc, follower, writer, inbox, to_coordinator, goal)

@@ -80,7 +80,13 @@ fn result_of(message: Message, id: JobId) -> Result<JobResult, Message>
 {
     let Message { src, dst, body } = message;
     match body {
-        Body::Result(made) if made.job == id => Ok(made),
+        Body::Result(made) => {
+            if made.job == id {
+                return Ok(made);
+            }
+            let body = Body::Result(made);
+            Err(Message { src, dst, body })
+        }
         body => Err(Message { src, dst, body }),
     }
 }
