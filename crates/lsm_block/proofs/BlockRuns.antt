@@ -94,18 +94,18 @@ block_again bytes (x ∷ more) is = rw is.spelled (entries_again (length (entrie
 
 -- ---- the loop
 
-pub record Reads (bytes : List ℕ) (es : List Entry) (rest : List ℕ) : Type 0 where
+pub record ReadSoFar (bytes : List ℕ) (es : List Entry) (rest : List ℕ) : Type 0 where
   pub fuel : ℕ
   pub enough : length rest < fuel
   pub total : entries_at fuel es rest ≡ read_block bytes
   pub sound : AreEntries es
   pub fits : IsBytes rest
 
-pub starts : (bytes : List ℕ) → IsBytes bytes → Reads bytes [] bytes
+pub starts : (bytes : List ℕ) → IsBytes bytes → ReadSoFar bytes [] bytes
 unfolding read_block
 starts bytes fits = record { fuel = length bytes + 1; enough = omega arith; total = refl; sound = no_entries; fits = fits }
 
-pub faulty : (bytes : List ℕ) (es : List Entry) (rest : List ℕ) (e : Refused BlockFault) → Reads bytes es rest → Fails e (next_at es rest) → Fails e (read_block bytes)
+pub faulty : (bytes : List ℕ) (es : List Entry) (rest : List ℕ) (e : Refused BlockFault) → ReadSoFar bytes es rest → Fails e (next_at es rest) → Fails e (read_block bytes)
 unfolding entries_at
 faulty bytes es rest OutOfMemory r h = tt
 faulty bytes es rest (Fault f) r h = by r.fuel r.enough r.total
@@ -114,7 +114,7 @@ faulty bytes es rest (Fault f) r h = by r.fuel r.enough r.total
     by zero lt t = absurd (omega (arith, lt))
     by (suc n) lt t = sym t ∙ rw h refl
 
-pub goes_on : (bytes : List ℕ) (es : List Entry) (rest : List ℕ) (x : Entry) (after : List ℕ) → Reads bytes es rest → next_at es rest ≡ Ok (x, after) → (length after < length rest) × AreEntries (es ++ x ∷ []) × ((length after ≡ 0 → ⊥) → Reads bytes (es ++ x ∷ []) after) × (length after ≡ 0 → read_block bytes ≡ Ok (es ++ x ∷ []))
+pub goes_on : (bytes : List ℕ) (es : List Entry) (rest : List ℕ) (x : Entry) (after : List ℕ) → ReadSoFar bytes es rest → next_at es rest ≡ Ok (x, after) → (length after < length rest) × AreEntries (es ++ x ∷ []) × ((length after ≡ 0 → ⊥) → ReadSoFar bytes (es ++ x ∷ []) after) × (length after ≡ 0 → read_block bytes ≡ Ok (es ++ x ∷ []))
 unfolding entries_at
 goes_on bytes es rest x after r h =
     let t = next_takes es rest (x, after) r.fits r.sound h in
@@ -122,7 +122,7 @@ goes_on bytes es rest x after r h =
     let less : length after < length rest = omega (arith, long, entry_some x) in
     (less, t.1, λ some. on r.fuel r.enough r.total some less t.1 t.0.rest_fits, λ none. off r.fuel r.enough r.total none)
   where
-    on : (n : ℕ) → length rest < n → entries_at n es rest ≡ read_block bytes → (length after ≡ 0 → ⊥) → length after < length rest → AreEntries (es ++ x ∷ []) → IsBytes after → Reads bytes (es ++ x ∷ []) after
+    on : (n : ℕ) → length rest < n → entries_at n es rest ≡ read_block bytes → (length after ≡ 0 → ⊥) → length after < length rest → AreEntries (es ++ x ∷ []) → IsBytes after → ReadSoFar bytes (es ++ x ∷ []) after
     on zero lt t some less sound fits = absurd (omega (arith, lt))
     on (suc n) lt t some less sound fits = record { fuel = n; enough = omega (arith, lt, less); total = (let reads : entries_at (suc n) es rest ≡ entries_at n (es ++ x ∷ []) after = rw (h, ne_eqb (length after) 0 some) refl in sym reads ∙ t); sound = sound; fits = fits }
 

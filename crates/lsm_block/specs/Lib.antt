@@ -1,2 +1,4 @@
 pub mod Blocks
 pub mod BlockReading
+pub mod Spans
+pub mod Fences

@@ -7,11 +7,17 @@
 
 mod block;
 mod fault;
+mod fences;
+mod lent;
 mod reading;
 mod sharing;
+mod walk;
 mod writing;
 
 pub use block::{Block, decode_block, may_come, read_entries};
 pub use fault::{BlockError, BlockFault};
+pub use fences::{Fences, get_in};
+pub use lent::entry_in;
 pub use sharing::share_block;
+pub use walk::seek_in;
 pub use writing::{encode_block, write_entry};

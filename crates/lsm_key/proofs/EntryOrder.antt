@@ -42,6 +42,12 @@ is_lt_tests false false = refl
 pub of_one_key : (k : List ℕ) (s t : ℕ) → is_lt (place_cmp k s k t) ≡ ltb t s
 of_one_key k s t = rw (tied_itself nat_list_cmp_total k) (is_lt_tests (ltb t s) (eqb t s))
 
+-- of one key the earlier entry is the newer
+pub newer_first : (x y : Entry) → Precedes x y → x.ikey.key ≡ y.ikey.key → y.ikey.seq < x.ikey.seq
+newer_first x y p e =
+    let q : is_lt (place_cmp y.ikey.key x.ikey.seq y.ikey.key y.ikey.seq) ≡ true = subst (λ (k : List ℕ). is_lt (place_cmp k x.ikey.seq y.ikey.key y.ikey.seq) ≡ true) e p in
+    ltb-true y.ikey.seq x.ikey.seq (sym (of_one_key y.ikey.key x.ikey.seq y.ikey.seq) ∙ q)
+
 nat_equal : (x y : ℕ) → nat_cmp x y ≡ Equal → x ≡ y
 nat_equal x y e = eqb-true x y (by (ltb x y) (eqb x y) e)
   where

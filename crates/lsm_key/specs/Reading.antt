@@ -22,6 +22,11 @@ abbrev pub Gives : {X Y F : Type 0} → (X → Y) → Result X (Refused F) → R
 Gives view (Ok x) read = read ≡ Ok (view x)
 Gives view (Err e) read = Fails e read
 
+-- what a reader of borrowed bytes returned, through view, is what reading gives
+abbrev pub Reads : {X Y F : Type 0} → (X → Y) → Result X F → Result Y F → Type 0
+Reads view (Ok x) read = read ≡ Ok (view x)
+Reads view (Err e) read = read ≡ Err e
+
 -- a number and the bytes after it
 abbrev pub number_at : {F : Type 0} → F → Width → List ℕ → Result (ℕ × List ℕ) F
 number_at short w bytes =

@@ -10,11 +10,13 @@ mod entry;
 mod fields;
 mod items;
 mod laws;
+mod lent;
 mod limits;
 mod lookup;
 mod merge;
 mod number;
 mod op;
+mod prefix;
 mod range;
 mod refused;
 mod seq;
@@ -30,6 +32,7 @@ pub use laws::{
     an_earlier_place_is_newer, limits_are_these, newest_is_the_greatest, order_does_not_matter,
     visible_is_the_greatest,
 };
+pub use lent::{key_in, piece_in, trailer_in, u16_in, u32_in, u64_in};
 pub use limits::{
     DEFAULT_BASE, DEFAULT_L0, ENTRY_OVERHEAD, Limits, MAX_BASE, MAX_BATCH_OPS, MAX_BATCH_WEIGHT,
     MAX_DEEPER, MAX_INPUT_BYTES, MAX_INPUTS, MAX_JOB_LEVEL, MAX_KEY_BYTES, MAX_L0, MAX_LEVEL,
@@ -40,6 +43,7 @@ pub use lookup::{compare_place, range_in, seek_in};
 pub use merge::merge_lists;
 pub use number::{FileNumber, VersionNumber};
 pub use op::Op;
+pub use prefix::prefix_of;
 pub use range::{KeyRange, KeyRangeRef};
 pub use refused::Refused;
 pub use seq::Seq;

@@ -14,12 +14,12 @@ use Rattle.lsm_key.specs.Sets.{IsIn}
 use Rattle.lsm_key.specs.Order.{key_between, key_le}
 use Rattle.lsm_key.proofs.Lists.{slice_get-front}
 use Rattle.lsm_mem.specs.declared.bucket.Bucket.{Bucket}
-use Rattle.lsm_mem.specs.Prefix.{prefix_of}
+use Rattle.lsm_key.specs.Prefix.{prefix_of}
 use Rattle.lsm_mem.specs.Chains.{Chain, chains_between, entries_in, keys_in}
 use Rattle.lsm_mem.specs.Buckets.{chains_in, chains_of_buckets, HasPrefix, IsPlaced, ArePlaced}
 use Rattle.lsm_mem.proofs.ChainsOfMap.{key_cmp}
 use Rattle.lsm_mem.proofs.EntriesBetween.{filter_own, none_between}
-use Rattle.lsm_mem.proofs.PrefixOrder.{prefix_before}
+use Rattle.lsm_key.proofs.PrefixOrder.{prefix_before}
 
 abbrev Pair : Type 0
 Pair = ℕ × Bucket

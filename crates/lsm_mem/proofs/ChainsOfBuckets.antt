@@ -8,12 +8,12 @@ use Rattle.lsm_key.specs.declared.entry.Entry.{Entry}
 use Rattle.lsm_key.specs.Sets.{IsIn}
 use Rattle.lsm_key.proofs.Membership.{IsIn-append_cases, IsIn-append_left, IsIn-append_right}
 use Rattle.lsm_mem.specs.declared.bucket.Bucket.{Bucket}
-use Rattle.lsm_mem.specs.Prefix.{prefix_of}
+use Rattle.lsm_key.specs.Prefix.{prefix_of}
 use Rattle.lsm_mem.specs.Chains.{Chain, with_entry, without_newest}
 use Rattle.lsm_mem.specs.Buckets.{chains_in, chains_of_buckets, HasPrefix, IsPlaced, ArePlaced}
 use Rattle.lsm_mem.proofs.ChainOrder.{not_both}
 use Rattle.lsm_mem.proofs.NumberedPairs.{is_number, AreBelow, AreAbove, Found, Absent}
-use Rattle.lsm_mem.proofs.PrefixOrder.{prefix_before}
+use Rattle.lsm_key.proofs.PrefixOrder.{prefix_before}
 use Rattle.lsm_mem.proofs.ChainsApart.{IsAfterChains, with_entry-after, with_entry-before, without_newest-after, without_newest-before, with_entry-keys, with_entry-some, without_newest-keys}
 use Rattle.lsm_mem.specs.Chains.{IsBeforeChains}
 

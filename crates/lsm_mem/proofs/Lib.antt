@@ -6,7 +6,6 @@ pub mod BatchEntries
 pub mod MemtableTotals
 pub mod EntriesBetween
 pub mod ChainKeys
-pub mod PrefixOrder
 pub mod BucketRanges
 pub mod ChainsApart
 pub mod ChainsOfBuckets

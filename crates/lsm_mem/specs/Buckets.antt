@@ -10,7 +10,7 @@ use Rattle.lsm_mem.specs.declared.bucket.Lent.{Lent}
 use Rattle.lsm_mem.specs.declared.bucket.Lent.TheVariants.{Key, Keys}
 use Rattle.lsm_mem.specs.declared.front.Front.{Front}
 use Rattle.lsm_mem.specs.Chains.{Chain}
-use Rattle.lsm_mem.specs.Prefix.{prefix_of}
+use Rattle.lsm_key.specs.Prefix.{prefix_of}
 
 -- the chain of the versions of a key, if there are any
 abbrev pub chain_of_versions : List Entry → List Chain

@@ -1,5 +1,4 @@
 pub mod Buckets
 pub mod Chains
 pub mod Memtable
-pub mod Prefix
 pub mod Runs

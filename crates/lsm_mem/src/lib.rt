@@ -11,7 +11,6 @@ mod chains;
 mod chunk;
 mod front;
 mod memtable;
-mod prefix;
 mod versions;
 
 pub use memtable::Memtable;

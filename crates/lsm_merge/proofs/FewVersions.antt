@@ -7,11 +7,12 @@ use Rattle.lsm_key.specs.Order.{Precedes}
 use Rattle.lsm_key.specs.Sets.{IsIn}
 use Rattle.lsm_key.specs.Visible.{has_key}
 use Rattle.lsm_key.proofs.AscendingEntries.{Falls}
+use Rattle.lsm_key.proofs.EntryOrder.{newer_first}
 use Rattle.lsm_key.proofs.LatestOfList.{has_key-is, has_key-at}
 use Rattle.lsm_key.specs.declared.range.KeyRange.{KeyRange}
 use Rattle.lsm_msg.specs.Merge.{may_go}
 use Rattle.lsm_merge.specs.Keeping.{is_seen_alone, is_needed, stays, kept_list}
-use Rattle.lsm_merge.proofs.KeptInOnePass.{newer_first, alone_is, key_gone, kept_list-in}
+use Rattle.lsm_merge.proofs.KeptInOnePass.{alone_is, key_gone, kept_list-in}
 
 -- how many points are below a sequence
 abbrev points_below : List ℕ → ℕ → ℕ

@@ -7,11 +7,11 @@ use Rattle.std.specs.Cmp.Lexicographic.{slice_cmp}
 use Rattle.std.proofs.lemmas.Bool.{false≢true, true≢false, and_parts, and_from, or_cases, or_left, or_right, leb-true, le-leb, ltb-true, lt-ltb, cases_lt, not-true, not_from_false}
 use Rattle.std.proofs.lemmas.Cmp.{nat_list_cmp_total, tied_itself}
 use Rattle.lsm_key.specs.declared.entry.Entry.{Entry}
-use Rattle.lsm_key.specs.Order.{Precedes, key_lt, place_cmp}
+use Rattle.lsm_key.specs.Order.{Precedes, key_lt}
 use Rattle.lsm_key.specs.Sets.{IsIn, SameMembers}
 use Rattle.lsm_key.specs.Visible.{Latest, IsUnique, has_key, is_seen, latest}
 use Rattle.lsm_key.proofs.AscendingEntries.{Falls}
-use Rattle.lsm_key.proofs.EntryOrder.{before_trans, of_one_key, keys_equal, is_less}
+use Rattle.lsm_key.proofs.EntryOrder.{before_trans, keys_equal, is_less, newer_first}
 use Rattle.lsm_key.proofs.LatestOfList.{AreApart, latest-is, latest_one, at_visible, has_key-is, has_key-at, is_seen-key, is_seen-low, is_seen-from}
 use Rattle.lsm_key.specs.declared.range.KeyRange.{KeyRange}
 use Rattle.lsm_msg.specs.Merge.{IsNeeded, IsKept, HoldsKept, may_go}
@@ -42,12 +42,6 @@ by_key x y p = first_decides x.ikey.key y.ikey.key (slice_cmp nat_cmp x.ikey.key
 
 pub precedes-trans : (x y z : Entry) → Precedes x y → Precedes y z → Precedes x z
 precedes-trans x y z p q = before_trans x.ikey.key x.ikey.seq y.ikey.key y.ikey.seq z.ikey.key z.ikey.seq p q
-
--- of one key the earlier entry is the newer
-pub newer_first : (x y : Entry) → Precedes x y → x.ikey.key ≡ y.ikey.key → y.ikey.seq < x.ikey.seq
-newer_first x y p e =
-    let q : is_lt (place_cmp y.ikey.key x.ikey.seq y.ikey.key y.ikey.seq) ≡ true = subst (λ (k : List ℕ). is_lt (place_cmp k x.ikey.seq y.ikey.key y.ikey.seq) ≡ true) e p in
-    ltb-true y.ikey.seq x.ikey.seq (sym (of_one_key y.ikey.key x.ikey.seq y.ikey.seq) ∙ q)
 
 -- a key that was passed does not come again
 pub key_gone : (k : List ℕ) (y x z : Entry) → y.ikey.key ≡ k → Precedes y x → (x.ikey.key ≡ k → ⊥) → (z ≡ x) ⊎ Precedes x z → z.ikey.key ≡ k → ⊥

@@ -12,6 +12,7 @@ use Rattle.lsm_key.specs.Places.{all_entries}
 use Rattle.lsm_key.specs.Sets.{IsIn, SameMembers}
 use Rattle.lsm_key.specs.Visible.{has_key}
 use Rattle.lsm_key.proofs.AscendingEntries.{Falls, ascending_falls}
+use Rattle.lsm_key.proofs.EntryOrder.{newer_first}
 use Rattle.lsm_key.proofs.Membership.{IsIn-at, IsIn-append_left, IsIn-append_cases}
 use Rattle.lsm_key.proofs.LatestOfList.{has_key-is}
 use Rattle.lsm_block.specs.BlockReading.{last_of}
@@ -22,7 +23,7 @@ use Rattle.lsm_merge.specs.declared.cut.TheConstants.{OUTPUT_TARGET}
 use Rattle.lsm_merge.specs.Outputs.{weight_of, before_last_key, AreCut, EncodeEntries}
 use Rattle.lsm_merge.specs.Cutting.{IsFirstOutput}
 use Rattle.lsm_merge.specs.Laws.{AMergeHasOneOutcome}
-use Rattle.lsm_merge.proofs.KeptInOnePass.{less-irrefl, precedes-trans, newer_first}
+use Rattle.lsm_merge.proofs.KeptInOnePass.{less-irrefl, precedes-trans}
 
 -- ---- a set has one list in order
 

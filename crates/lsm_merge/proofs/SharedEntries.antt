@@ -15,10 +15,10 @@ use Rattle.lsm_key.specs.Places.{all_entries}
 use Rattle.lsm_key.specs.Sets.{IsIn}
 use Rattle.lsm_key.specs.Visible.{has_key}
 use Rattle.lsm_key.proofs.AscendingEntries.{Falls, falls_ascend, ascending_falls, first_in_order, rest_in_order}
-use Rattle.lsm_key.proofs.EntryOrder.{pair_total, keys_equal, place_equal}
+use Rattle.lsm_key.proofs.EntryOrder.{pair_total, keys_equal, newer_first, place_equal}
 use Rattle.lsm_key.proofs.LatestOfList.{has_key-is, has_key-at}
 use Rattle.lsm_merge.specs.Inputs.{HaveSameEntry}
-use Rattle.lsm_merge.proofs.KeptInOnePass.{newer_first, precedes-trans}
+use Rattle.lsm_merge.proofs.KeptInOnePass.{precedes-trans}
 
 -- the entry has the key and the sequence
 abbrev pub is_at : List ℕ → ℕ → Entry → Bool

@@ -23,7 +23,7 @@ use Rattle.lsm_msg.proofs.KeptEntries.{kept_input}
 use Rattle.lsm_merge.specs.Inputs.{lists_of}
 use Rattle.lsm_merge.specs.Outputs as merge
 use Rattle.lsm_merge.specs.Outputs.{HasLowerKeys}
-use Rattle.lsm_merge.proofs.KeptInOnePass.{newer_first}
+use Rattle.lsm_key.proofs.EntryOrder.{newer_first}
 use Rattle.lsm_coord.specs.Contract.Installing.{AreAscending, AreOutputTables, DecodeTo, is_table_inside}
 use Rattle.lsm_store.specs.Compacting.{tables_at}
 use Rattle.lsm_store.proofs.JobEntries.{input_entries, few_inputs, from_input}

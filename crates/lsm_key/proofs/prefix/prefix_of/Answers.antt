@@ -1,8 +1,8 @@
 use Rattle.std.proofs.Common.{sym, ap, ◌∙◌}
 use Rattle.std.specs.Ordering.{is_lt}
-use Rattle.lsm_mem.specs.Prefix.{leading}
-use Rattle.lsm_mem.proofs.PrefixOrder.{prefix_starts, prefix_least, prefix_greatest}
-use Rattle.lsm_mem.proofs.prefix.prefix_of.Goals as goal
+use Rattle.lsm_key.specs.Prefix.{leading}
+use Rattle.lsm_key.proofs.PrefixOrder.{prefix_starts, prefix_least, prefix_greatest}
+use Rattle.lsm_key.proofs.prefix.prefix_of.Goals as goal
 
 pub returns-in-Some-clause-value : goal.returns-in-Some-clause-value
 returns-in-Some-clause-value c = c.leading.ensures ∙ ap (leading 8) c.in-Some.ensures.cases.1 ∙ sym (prefix_starts c.args.front.now c.args.key.now c.in-Some.ensures.cases.0)

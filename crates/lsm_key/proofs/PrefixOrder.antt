@@ -4,14 +4,14 @@ use Rattle.std.specs.declared.cmp.Ordering.{Ordering}
 use Rattle.std.specs.declared.cmp.Ordering.TheVariants.{Less, Equal, Greater}
 use Rattle.std.specs.Bool.{nat_lt}
 use Rattle.std.specs.Ordering.{nat_cmp, ordering_then, match_ordering, is_lt}
+use Rattle.std.specs.Cmp.Lexicographic.{slice_cmp}
 use Rattle.std.specs.Str.{bytes_eq}
 use Rattle.std.proofs.lemmas.Bool.{ltb-true, eqb-true}
 use Rattle.std.proofs.Math.Nat.{pow-suc, one-le-pow}
 use Rattle.std.proofs.lemmas.Cmp.{ranked}
 use Rattle.std.proofs.lemmas.Nat.{mul-le}
 use Rattle.lsm_key.proofs.FieldLaws.{IsBytes}
-use Rattle.lsm_mem.specs.Prefix.{byte_at, leading, prefix_of}
-use Rattle.lsm_mem.proofs.ChainsOfMap.{key_cmp}
+use Rattle.lsm_key.specs.Prefix.{byte_at, leading, prefix_of}
 
 -- one more digit before those that are below a power
 digit_below : (n b rest : ℕ) → b < 256 → rest < 256 ^ n → b * 256 ^ n + rest < 256 ^ suc n
@@ -44,7 +44,7 @@ digits_apart p a b r s more low lt =
     let rows : (b + 1) * p ≤ a * p = mul-le (b + 1) p a p (omega (arith, more)) (omega arith) in
     omega (arith, rows, low, lt)
 
-first_before : (n x y : ℕ) (xs ys : List ℕ) (o : Ordering) → o ≡ nat_cmp x y → IsBytes ys → x * 256 ^ n + leading n xs < y * 256 ^ n + leading n ys → (leading n xs < leading n ys → key_cmp xs ys ≡ Less) → ordering_then o (key_cmp xs ys) ≡ Less
+first_before : (n x y : ℕ) (xs ys : List ℕ) (o : Ordering) → o ≡ nat_cmp x y → IsBytes ys → x * 256 ^ n + leading n xs < y * 256 ^ n + leading n ys → (leading n xs < leading n ys → slice_cmp nat_cmp xs ys ≡ Less) → ordering_then o (slice_cmp nat_cmp xs ys) ≡ Less
 first_before n x y xs ys Less is v lt rest = refl
 first_before n x y xs ys Equal is v lt rest =
     let same : x ≡ y = ranked x y Equal is in
@@ -52,7 +52,7 @@ first_before n x y xs ys Equal is v lt rest =
     rest (omega (arith, own, lt))
 first_before n x y xs ys Greater is v lt rest = absurd (digits_apart (256 ^ n) x y (leading n xs) (leading n ys) (ranked x y Greater is) (leading_below n ys v) lt)
 
-leading_before : (n : ℕ) (a b : List ℕ) → IsBytes b → leading n a < leading n b → key_cmp a b ≡ Less
+leading_before : (n : ℕ) (a b : List ℕ) → IsBytes b → leading n a < leading n b → slice_cmp nat_cmp a b ≡ Less
 leading_before zero a b bytes lt = absurd (omega arith)
 leading_before (suc n) [] [] bytes lt = absurd (omega arith)
 leading_before (suc n) [] (y ∷ ys) bytes lt = refl
@@ -71,8 +71,8 @@ prefix_below (f ∷ fs) [] bytes = omega arith
 prefix_below (f ∷ fs) (b ∷ bs) bytes = below_at (nat_cmp b f) f fs b bs (prefix_below fs bs (λ i. bytes (suc i)))
 
 both_at : (f : ℕ) (fs : List ℕ) (x y : ℕ) (xs ys : List ℕ) (o p q : Ordering) → o ≡ nat_cmp x f → p ≡ nat_cmp y f → q ≡ nat_cmp x y → prefix_of fs ys ≤ 2 ^ 64 - 1
-    → (prefix_of fs xs < prefix_of fs ys → key_cmp xs ys ≡ Less)
-    → match_ordering o 0 (prefix_of fs xs) (2 ^ 64 - 1) < match_ordering p 0 (prefix_of fs ys) (2 ^ 64 - 1) → ordering_then q (key_cmp xs ys) ≡ Less
+    → (prefix_of fs xs < prefix_of fs ys → slice_cmp nat_cmp xs ys ≡ Less)
+    → match_ordering o 0 (prefix_of fs xs) (2 ^ 64 - 1) < match_ordering p 0 (prefix_of fs ys) (2 ^ 64 - 1) → ordering_then q (slice_cmp nat_cmp xs ys) ≡ Less
 both_at f fs x y xs ys o p Less a b c small rest lt = refl
 both_at f fs x y xs ys Less Less Equal a b c small rest lt = absurd (omega arith)
 both_at f fs x y xs ys Equal Less Equal a b c small rest lt = absurd (omega arith)
@@ -93,7 +93,7 @@ both_at f fs x y xs ys Less Greater Greater a b c small rest lt = let u = ranked
 both_at f fs x y xs ys Equal Greater Greater a b c small rest lt = let u = ranked x f Equal a in let v = ranked y f Greater b in let w = ranked x y Greater c in absurd (omega (arith, u, v, w))
 both_at f fs x y xs ys Greater Greater Greater a b c small rest lt = absurd (omega arith)
 
-pub prefix_before : (front a b : List ℕ) → IsBytes b → prefix_of front a < prefix_of front b → key_cmp a b ≡ Less
+pub prefix_before : (front a b : List ℕ) → IsBytes b → prefix_of front a < prefix_of front b → slice_cmp nat_cmp a b ≡ Less
 prefix_before [] a b bytes lt = leading_before 8 a b bytes lt
 prefix_before (f ∷ fs) [] [] bytes lt = absurd (omega arith)
 prefix_before (f ∷ fs) [] (y ∷ ys) bytes lt = refl
@@ -111,15 +111,15 @@ module _ (f : ℕ) (fs : List ℕ) (b : ℕ) (bs : List ℕ) where
   starts_at true false less same h rest = absurd cc
   starts_at false false less same h rest = absurd cc
 
-  before_at : (lt eq : Bool) → (eq && bytes_eq (take (length fs) bs) fs) ≡ false → is_lt (ordering_then (cond lt Less (cond eq Equal Greater)) (key_cmp bs fs)) ≡ true
-      → (bytes_eq (take (length fs) bs) fs ≡ false → is_lt (key_cmp bs fs) ≡ true → prefix_of fs bs ≡ 0)
+  before_at : (lt eq : Bool) → (eq && bytes_eq (take (length fs) bs) fs) ≡ false → is_lt (ordering_then (cond lt Less (cond eq Equal Greater)) (slice_cmp nat_cmp bs fs)) ≡ true
+      → (bytes_eq (take (length fs) bs) fs ≡ false → is_lt (slice_cmp nat_cmp bs fs) ≡ true → prefix_of fs bs ≡ 0)
       → match_ordering (cond lt Less (cond eq Equal Greater)) 0 (prefix_of fs bs) (2 ^ 64 - 1) ≡ 0
   before_at true eq h less rest = refl
   before_at false true h less rest = rest h less
   before_at false false h less rest = absurd cc
 
-  after_at : (lt eq : Bool) → (eq && bytes_eq (take (length fs) bs) fs) ≡ false → is_lt (ordering_then (cond lt Less (cond eq Equal Greater)) (key_cmp bs fs)) ≡ false
-      → (bytes_eq (take (length fs) bs) fs ≡ false → is_lt (key_cmp bs fs) ≡ false → prefix_of fs bs ≡ 2 ^ 64 - 1)
+  after_at : (lt eq : Bool) → (eq && bytes_eq (take (length fs) bs) fs) ≡ false → is_lt (ordering_then (cond lt Less (cond eq Equal Greater)) (slice_cmp nat_cmp bs fs)) ≡ false
+      → (bytes_eq (take (length fs) bs) fs ≡ false → is_lt (slice_cmp nat_cmp bs fs) ≡ false → prefix_of fs bs ≡ 2 ^ 64 - 1)
       → match_ordering (cond lt Less (cond eq Equal Greater)) 0 (prefix_of fs bs) (2 ^ 64 - 1) ≡ 2 ^ 64 - 1
   after_at true eq h less rest = absurd cc
   after_at false true h less rest = rest h less
@@ -132,13 +132,13 @@ prefix_starts (f ∷ fs) [] h = absurd cc
 prefix_starts (f ∷ fs) (b ∷ bs) h = starts_at f fs b bs (nat_lt b f) (nat_eq b f) refl refl h (prefix_starts fs bs)
 
 -- of one before all these
-pub prefix_least : (front key : List ℕ) → bytes_eq (take (length front) key) front ≡ false → is_lt (key_cmp key front) ≡ true → prefix_of front key ≡ 0
+pub prefix_least : (front key : List ℕ) → bytes_eq (take (length front) key) front ≡ false → is_lt (slice_cmp nat_cmp key front) ≡ true → prefix_of front key ≡ 0
 prefix_least [] key h less = absurd cc
 prefix_least (f ∷ fs) [] h less = refl
 prefix_least (f ∷ fs) (b ∷ bs) h less = before_at f fs b bs (nat_lt b f) (nat_eq b f) h less (prefix_least fs bs)
 
 -- of one after all these
-pub prefix_greatest : (front key : List ℕ) → bytes_eq (take (length front) key) front ≡ false → is_lt (key_cmp key front) ≡ false → prefix_of front key ≡ 2 ^ 64 - 1
+pub prefix_greatest : (front key : List ℕ) → bytes_eq (take (length front) key) front ≡ false → is_lt (slice_cmp nat_cmp key front) ≡ false → prefix_of front key ≡ 2 ^ 64 - 1
 prefix_greatest [] key h less = absurd cc
 prefix_greatest (f ∷ fs) [] h less = absurd cc
 prefix_greatest (f ∷ fs) (b ∷ bs) h less = after_at f fs b bs (nat_lt b f) (nat_eq b f) h less (prefix_greatest fs bs)

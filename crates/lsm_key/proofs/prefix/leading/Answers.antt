@@ -1,8 +1,8 @@
 use Rattle.std.proofs.Common.{◌≡◌, ◌+◌, ◌*◌, ◌≤◌, ◌^◌, arith}
 use Rattle.std.proofs.Math.Nat.{pow-le-pow_right}
-use Rattle.lsm_mem.specs.Prefix.{leading}
-use Rattle.lsm_mem.proofs.PrefixOrder.{leading_more, leading_below}
-use Rattle.lsm_mem.proofs.prefix.leading.Goals as goal
+use Rattle.lsm_key.specs.Prefix.{leading}
+use Rattle.lsm_key.proofs.PrefixOrder.{leading_more, leading_below}
+use Rattle.lsm_key.proofs.prefix.leading.Goals as goal
 
 pub loop-i-preserved : goal.loop-i-preserved
 loop-i-preserved c =

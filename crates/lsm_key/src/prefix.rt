@@ -1,7 +1,7 @@
 //! The first bytes of a key after a front, as a number.
 
 ghost use Rattle.std.specs.Prelude.{◌≡◌, ℕ, ◌<◌, slice_index};
-ghost use Rattle.lsm_mem.specs.Prefix.{byte_at, leading, prefix_of};
+ghost use Rattle.lsm_key.specs.Prefix.{byte_at, leading, prefix_of};
 
 // How many bytes of a key its prefix has.
 const PREFIX_BYTES: usize = 8;
@@ -9,7 +9,7 @@ const PREFIX_BYTES: usize = 8;
 /// The first 8 bytes of a key after the front as a big-endian number, with zeros in place of those that it does not have. A key
 /// that does not begin with the front has the least number or the greatest one. Keys with different prefixes are in the
 /// order of their prefixes, whatever the front is.
-pub(crate) fn prefix_of(front: &[u8], key: &[u8]) -> u64
+pub fn prefix_of(front: &[u8], key: &[u8]) -> u64
     ensures value { result ≡ prefix_of front.now key.now }
     ensures bytes { (i : ℕ) → slice_index key.now i < 256 }
 {

@@ -1,0 +1,88 @@
+//! Some entries of a span, by the prefixes of their keys and where they begin: a look-up begins its walk at one of them.
+
+ghost use Rattle.std.specs.Prelude.{◌≡◌, List};
+ghost use Rattle.std.specs.Option.{option_map};
+ghost use Rattle.lsm_key.specs.declared.entry.Entry.{Entry};
+ghost use Rattle.lsm_key.specs.Visible.{visible, lent_entry};
+ghost use Rattle.lsm_block.specs.Spans.{IsSpan, IsSomeSpan};
+ghost use Rattle.lsm_block.specs.Fences.{AreFences, MayBegin};
+
+use crate::walk::seek_in;
+use bytes::Bytes;
+use lsm_key::{EntryRef, Seq, prefix_of};
+use std::alloc::{AllocError, Global};
+
+/// Fences of a span, in its order: the prefix of an entry's key after the front, and where the entry begins, in bytes from the
+/// beginning of the span. Any bytes may be the front: it decides only how well the prefixes tell keys apart.
+#[derive(Debug, Drop)]
+pub struct Fences {
+    front: Bytes,
+    prefixes: Vec<u64>,
+    places: Vec<u32>,
+}
+
+impl Fences {
+    ghost use Rattle.std.specs.Prelude.{◌≡◌, ◌++◌, ◌∷◌, [], IfOk, OnOk, OnErr};
+    ghost use Rattle.lsm_key.specs.Prefix.{prefix_of};
+
+    /// No fence, with room for `count`.
+    pub fn with_capacity(alloc: Global, front: Bytes, count: usize) -> Result<Fences, AllocError>
+        ensures { IfOk result (λ f. (f.front ≡ front) × (f.prefixes.items ≡ []) × (f.places.items ≡ [])) }
+    {
+        let prefixes = Vec::with_capacity(alloc, count)?;
+        let places = Vec::with_capacity(alloc, count)?;
+        Ok(Fences {
+            front,
+            prefixes,
+            places,
+        })
+    }
+
+    /// Adds a fence at the end, for an entry of this key that begins at the place. A refusal changes nothing.
+    pub fn push(&mut self, key: &[u8], place: u32) -> Result<(), AllocError>
+        ensures front { self.new.front ≡ self.old.front }
+        ensures ok { OnOk result ((self.new.prefixes.items ≡ self.old.prefixes.items ++ prefix_of self.old.front key.now ∷ []) × (self.new.places.items ≡ self.old.places.items ++ place ∷ [])) }
+        ensures err { OnErr result ((self.new.prefixes.items ≡ self.old.prefixes.items) × (self.new.places.items ≡ self.old.places.items)) }
+    {
+        self.places.reserve(1)?;
+        self.prefixes.push(prefix_of(self.front.as_slice(), key))?;
+        self.places.push_reserved(place);
+        Ok(())
+    }
+}
+
+// Where a walk for the key may begin: at the last fence, as far as a search finds it, whose prefix is less than the key's.
+fn begin_of(fences: &Fences, key: &[u8]) -> u32
+    ensures { MayBegin fences.now.front fences.now.prefixes.items fences.now.places.items key.now result }
+{
+    let Fences {
+        front,
+        prefixes,
+        places,
+    } = fences;
+    let prefix = prefix_of(front.as_slice(), key);
+    let count = prefixes.partition_point(|other| *other < prefix);
+    if count == 0 || count > prefixes.len() || count > places.len() {
+        return 0;
+    }
+    // The search is trusted for speed alone: what it found is tested again.
+    if prefixes[count - 1] < prefix {
+        places[count - 1]
+    } else {
+        0
+    }
+}
+
+/// The entry of the key with the greatest sequence at most `at`, in a span with fences. O(log n) for n fences, and a walk from
+/// one of them to the entry. Allocates nothing.
+pub fn get_in<'a>(bytes: &'a [u8], fences: &Fences, key: &[u8], at: Seq) -> Option<EntryRef<'a>>
+    requires known { IsSomeSpan bytes.now }
+    requires fenced { (es : List Entry) → IsSpan bytes.now es → AreFences fences.now.front es fences.now.prefixes.items fences.now.places.items }
+    ensures { (es : List Entry) → IsSpan bytes.now es → option_map lent_entry result ≡ visible es key.now at }
+{
+    let begin = begin_of(fences, key) as usize;
+    if begin > bytes.len() {
+        return None;
+    }
+    seek_in(&bytes[begin..], key, at)
+}
