@@ -31,7 +31,7 @@ use Rattle.lsm_coord.specs.Contract.Sound.{KeepsSound}
 use Rattle.lsm_coord.specs.Contract.Value.{CoordValue, version_set}
 use Rattle.lsm_coord.proofs.JobsStaySound.{nothing_keeps}
 use Rattle.lsm_nodes.specs.Answers.{answer_of, flush_answer, freeze_answer, get_answer, release_answer, scan_answer, show_answer, snapshot_answer, trim_answer, write_answer}
-use Rattle.lsm_nodes.specs.Calls.{Flushes, Freezes, Gets, IsOrMemory, ReleasesSnapshot, ScansKeys, ShowsVersion, TakesSnapshot, Trims, Writes}
+use Rattle.lsm_nodes.specs.Calls.{Flushes, Freezes, Gets, ReleasesSnapshot, ScansKeys, ShowsVersion, TakesSnapshot, Trims, Writes}
 use Rattle.lsm_nodes.specs.Histories.{WitnessedValue, event_of, installs_in, installs_of, is_install, reply_of}
 use Rattle.lsm_nodes.proofs.LongerHistories.{Extends, IsPlain, extends_plain, plain_answer}
 
@@ -115,6 +115,10 @@ extends_release past a w b id (Ok x) asked told h =
 extends_release past a w b id (Err e) asked told h = same_after past a w b (call.Release id) (release_answer (Err e)) asked told tt h.err h.step
 
 -- ---- answers that may not have been copied
+
+-- the outcome; or out of memory, in place of one that is no refusal
+abbrev pub IsOrMemory : {T : Type 0} → Result T CoordError → Result T CoordError → Type 0
+IsOrMemory outcome result = (result ≡ outcome) ⊎ (IsOk outcome × (result ≡ Err OutOfMemory))
 
 pub or_memory_gives : {T E : Type 0} (told : T → Answer) (outcome result : Result T CoordError) (copied : Result Answer E) (answered : Answer) → IfOk copied (λ a. a ≡ answer_of told outcome) → OnErr copied (IsOk outcome)
     → MatchResult copied (λ a. (result ≡ outcome) × (answered ≡ a)) (λ e. (result ≡ Err OutOfMemory) × (answered ≡ answer.Refused OutOfMemory))

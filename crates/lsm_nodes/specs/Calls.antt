@@ -1,5 +1,5 @@
 -- What each call of a shared coordinator does: all that the coordinator's own contract says of it, or nothing.
-use Rattle.std.specs.Prelude.{◌≡◌, ◌⊎◌, ℕ, ◌+◌, ◌≤◌, List, [], ◌∷◌, ◌++◌, Option, None, Some, Result, Ok, Err, OnOk, OnErr, IfErr, IfOk, IfSome, IsOk, Vec, length, map, max}
+use Rattle.std.specs.Prelude.{◌≡◌, ◌⊎◌, ℕ, ◌+◌, ◌≤◌, List, [], ◌∷◌, ◌++◌, Option, None, Some, Result, Ok, Err, OnOk, OnErr, IfErr, IfOk, IfSome, Vec, length, map, max}
 use Rattle.lsm_key.specs.declared.op.Op.{Op}
 use Rattle.lsm_key.specs.Faults.{Refuses}
 use Rattle.lsm_claim.specs.declared.job.LiveJob.{LiveJob}
@@ -132,9 +132,3 @@ pub record Trims (old : CoordValue) (to : ℕ) (result : Result (ℕ × List ℕ
   pub refused : IfErr result (λ e. TrimRefuses old to e new)
   pub failures : old.failures ≤ new.failures
   pub sound : KeepsSound old new
-
--- ---- copies of answers
-
--- the outcome; or out of memory, in place of one that is no refusal
-abbrev pub IsOrMemory : {T : Type 0} → Result T CoordError → Result T CoordError → Type 0
-IsOrMemory outcome result = (result ≡ outcome) ⊎ (IsOk outcome × (result ≡ Err OutOfMemory))
