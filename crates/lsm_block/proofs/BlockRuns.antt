@@ -1,5 +1,5 @@
 -- Entries one after the other: one list of entries has these bytes, and no fault beside it.
-use Rattle.std.proofs.Common.{◌≡◌, ℕ, zero, suc, ◌+◌, ◌<◌, Bool, true, false, cond, eqb, List, [], ◌∷◌, ◌++◌, length, Result, Ok, Err, refl, sym, ap, subst, ◌∙◌, append_assoc, arith, inl, inr, ◌⊎◌}
+use Rattle.std.proofs.Common.{◌≡◌, ℕ, zero, suc, ◌+◌, ◌<◌, ◌≤◌, Bool, true, false, cond, eqb, List, [], ◌∷◌, ◌++◌, length, Result, Ok, Err, refl, sym, ap, subst, ◌∙◌, append_assoc, arith, inl, inr, ◌⊎◌}
 use Rattle.std.specs.Prelude.{IfOk}
 use Rattle.std.proofs.lemmas.Bool.{eqb-true, eq-eqb, ne_eqb}
 use Rattle.std.proofs.lemmas.List.{append-nil, length-append, nil_from_length}
@@ -33,6 +33,13 @@ next_takes es bytes x fits sound e =
 
 pub entry_some : (e : Entry) → 0 < length (entry e)
 entry_some e = rw (length-append) (omega arith)
+
+-- no more entries than bytes
+pub as_long : (es : List Entry) → length es ≤ length (entries es)
+as_long [] = omega arith
+as_long (x ∷ es) =
+    let len : length (entries (x ∷ es)) ≡ length (entry x) + length (entries es) = ap length (flat_map-cons entry x es) ∙ length-append (entry x) (entries es) in
+    omega (arith, len, entry_some x, as_long es)
 
 entries_one : (x : Entry) → entries (x ∷ []) ≡ entry x
 entries_one x = append-nil (entry x)
@@ -133,3 +140,7 @@ goes_on bytes es rest x after r h =
 pub is_found : (bytes : List ℕ) (r : Result (List Entry) (Refused BlockFault)) → IsBytes bytes → Gives (λ b. b) r (read_block bytes) → IfOk r (λ b. IsBlock bytes b)
 is_found bytes (Ok es) fits given = block_takes bytes es fits given
 is_found bytes (Err e) fits given = tt
+
+-- bytes are the block of one list of entries
+pub block_one : (bytes : List ℕ) (es fs : List Entry) → IsBlock bytes es → read_block bytes ≡ Ok fs → es ≡ fs
+block_one bytes es fs is read = ok_is {F = BlockFault} es fs (sym (block_again bytes es is) ∙ read)

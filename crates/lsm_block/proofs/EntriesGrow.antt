@@ -23,6 +23,12 @@ last_at x es d = (let k : length (x ∷ es) - 1 ≡ length es = omega arith in r
 pub last_is : (es : List Entry) (e : Entry) → 0 < length es → e ≡ get_or es (length es - 1) e → last_of es ≡ Some e
 last_is es e some is = slice_get-get_or es (length es - 1) e (omega (arith, some)) ∙ ap (λ (x : Entry). Some x) (sym is)
 
+pub last_added : (es : List Entry) (e : Entry) → last_of (es ++ e ∷ []) ≡ Some e
+last_added es e =
+    let len : length (es ++ e ∷ []) ≡ length es + 1 = length-append es (e ∷ []) in
+    let n : length (es ++ e ∷ []) - 1 ≡ length es + 0 = omega (arith, len) in
+    last_is (es ++ e ∷ []) e (omega (arith, len)) (sym (ap (λ (i : ℕ). get_or (es ++ e ∷ []) i e) n ∙ get_or-append-add es (e ∷ []) 0 e))
+
 -- ---- one more entry at the end
 
 next_taken : (es : List Entry) (i : ℕ) (e : Entry) → i < length es → e ≡ get_or es i e → take (i + 1) es ≡ take i es ++ e ∷ []

@@ -31,7 +31,7 @@ ascending_rest : (front more : List Entry) → IsAscending (front ++ more) → I
 ascending_rest [] more up = up
 ascending_rest (e ∷ front) more up = ascending_rest front more (tail e (front ++ more) up)
 
-sound_rest : (front more : List Entry) → AreEntries (front ++ more) → AreEntries more
+pub sound_rest : (front more : List Entry) → AreEntries (front ++ more) → AreEntries more
 sound_rest front more sound = record { each = each_rest IsEntry front more sound.each; sequences = each_rest HasSequence front more sound.sequences; ascending = ascending_rest front more sound.ascending }
 
 -- whole entries of a span, to its end, are a span

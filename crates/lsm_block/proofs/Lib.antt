@@ -1,6 +1,11 @@
 pub mod EntriesGrow
 pub mod BlockFields
-pub mod BlockFronts
 pub mod BlockRuns
-pub mod SpanWalks
 pub mod FencedSpans
+pub mod IndexedSoFar
+pub mod BlockEntries
+pub mod SpanFronts
+pub mod SpanWalks
+pub mod SpanRanges
+pub mod RangeFilters
+pub mod RangeLoops

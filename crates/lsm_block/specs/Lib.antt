@@ -2,3 +2,5 @@ pub mod Blocks
 pub mod BlockReading
 pub mod Spans
 pub mod Fences
+pub mod Indexed
+pub mod Ranges

@@ -1,56 +1,120 @@
 //! Blocks: one or more entries in the order of their internal keys, without a gap.
 
-ghost use Rattle.std.specs.Prelude.{◌≡◌, List, IfOk, Ok};
-ghost use Rattle.std.specs.Option.{option_map};
+ghost use Rattle.std.specs.Prelude.{◌≡◌, List, IfOk, Ok, Some, filter, length, map, slice_get};
+ghost use Rattle.std.specs.Option.{option_copied, option_map};
 ghost use Rattle.lsm_key.specs.declared.entry.Entry.{Entry};
 ghost use Rattle.lsm_key.specs.Visible.{visible, lent_entry};
+ghost use Rattle.lsm_key.specs.Order.{is_between, key_le};
 ghost use Rattle.lsm_key.specs.Reading.{Gives};
-ghost use Rattle.lsm_block.specs.Blocks.{AreEntries, IsBlock};
-ghost use Rattle.lsm_block.specs.BlockReading.{next_at, read_block, may_follow, last_of};
+ghost use Rattle.lsm_block.specs.Blocks.{IsBlock};
+ghost use Rattle.lsm_block.specs.BlockReading.{read_block, last_of, may_follow};
+ghost use Rattle.lsm_block.specs.Spans.{IsSpan};
 
-use crate::fault::{BlockError, BlockFault};
+use crate::fault::BlockError;
+use crate::fences::{Fences, get_in};
+use crate::indexing::{Indexed, index_block};
+use crate::ranges::{entries_between, entries_in, key_after_in};
 use crate::reading::read_entry;
 use bytes::Bytes;
-use lsm_key::{ENTRY_OVERHEAD, Entry, EntryRef, Refused, Seq, compare_place, know_bytes, seek_in};
-use std::alloc::Global;
+use lsm_key::{Entry, EntryRef, Seq, compare_place, know_bytes};
+use std::alloc::{AllocError, Global};
 use std::marker::Model;
+use std::sync::Arc;
 
-/// The entries of a block, in order. They share its bytes.
+/// A block: its bytes, and fences for look-ups. Its entries are read where they lie. Its copies share all.
 #[derive(Debug, Drop)]
 pub struct Block {
-    entries: Vec<Entry>,
+    bytes: Bytes,
+    index: Arc<Indexed>,
 }
 
 impl Model for Block {
+    ghost use Rattle.std.specs.Prelude.{List};
+    ghost use Rattle.lsm_key.specs.declared.entry.Entry.{Entry};
+    ghost use Rattle.lsm_block.specs.Indexed.{IsIndexedBlock, block_entries};
+
     ghost Value = { List Entry };
 
-    ghost view = { λ b. b.entries.items };
+    ghost view = { λ b. block_entries b.bytes };
 
-    ghost invariant = { λ b. AreEntries b.entries.items };
+    ghost invariant = { λ b. IsIndexedBlock b.bytes b.index.value };
 }
 
 impl Block {
+    /// The same block. It shares the bytes and the fences.
+    pub fn copy(&self) -> Result<Block, AllocError>
+        ensures { IfOk result (λ copy. copy ≡ self.now) }
+    {
+        let bytes = self.bytes.clone()?;
+        let index = Arc::try_clone(&self.index)?;
+        Ok(Block { bytes, index })
+    }
+
     /// The entry of the key with the greatest sequence at most `at`. Allocates nothing.
     pub fn seek(&self, key: &[u8], at: Seq) -> Option<EntryRef<'_>>
         ensures { option_map lent_entry result ≡ visible self.now key.now at }
     {
-        seek_in(&self.entries, key, at)
+        let fences: &Fences = &self.index.fences;
+        get_in(self.bytes.as_slice(), fences, key, at)
     }
 
-    /// The entries, in order.
-    pub fn entries(&self) -> &[Entry]
-        ensures all { result.now ≡ self.now }
-        ensures sound { AreEntries self.now }
+    /// The entries whose key is at or after `lo` and before `hi`, in order. Shares the bytes.
+    pub fn range(&self, alloc: Global, lo: &[u8], hi: &[u8]) -> Result<Vec<Entry>, AllocError>
+        ensures { IfOk result (λ list. list.items ≡ filter (is_between lo.now hi.now) self.now) }
     {
-        &self.entries
+        entries_between(alloc, &self.bytes, &self.index.fences, lo, hi)
     }
 
-    /// Entries known to be valid and in order.
-    pub fn of(entries: Vec<Entry>) -> Block
-        requires { AreEntries entries.items }
-        ensures { result ≡ entries.items }
+    /// The entries, in order. Shares the bytes.
+    pub fn entries(&self, alloc: Global) -> Result<Vec<Entry>, AllocError>
+        ensures { IfOk result (λ list. list.items ≡ self.now) }
     {
-        Block { entries }
+        entries_in(alloc, &self.bytes, self.index.count)
+    }
+
+    /// The key of the entry `count` entries after the first one whose key is at or after `lo`. Allocates nothing.
+    pub fn key_after(&self, lo: &[u8], count: usize) -> Option<&[u8]>
+        ensures { option_copied result ≡ slice_get (map (λ e. e.ikey.key) (filter (λ e. key_le lo.now e.ikey.key) self.now)) count }
+    {
+        key_after_in(self.bytes.as_slice(), &self.index.fences, lo, count)
+    }
+
+    /// Its bytes.
+    pub fn bytes(&self) -> &[u8]
+        ensures { IsSpan result.now self.now }
+    {
+        self.bytes.as_slice()
+    }
+
+    /// How many entries it has.
+    pub fn count(&self) -> usize
+        ensures { result ≡ length self.now }
+    {
+        self.index.count
+    }
+
+    /// The first entry. Shares the bytes.
+    pub fn first(&self) -> Result<Entry, AllocError>
+        ensures { IfOk result (λ e. slice_get self.now 0 ≡ Some e) }
+    {
+        let mut rest = self.bytes.clone()?;
+        match read_entry(&mut rest) {
+            Ok(entry) => Ok(entry),
+            // Memory ran out: a block has no fault.
+            Err(_) => Err(AllocError),
+        }
+    }
+
+    /// The last entry. Shares the bytes.
+    pub fn last(&self) -> Result<Entry, AllocError>
+        ensures { IfOk result (λ e. last_of self.now ≡ Some e) }
+    {
+        let mut rest = self.bytes.slice(self.index.last..)?;
+        match read_entry(&mut rest) {
+            Ok(entry) => Ok(entry),
+            // Memory ran out: a block has no fault.
+            Err(_) => Err(AllocError),
+        }
     }
 }
 
@@ -66,34 +130,20 @@ pub fn may_come(before: &[Entry], entry: &Entry) -> bool
     }
 }
 
-// The next entry, which must follow those before it.
-#[tactic(auto, unfolding(crate::specs::BlockReading::next_at))]
-fn read_next(before: &[Entry], rest: &mut Bytes) -> Result<Entry, BlockError>
-    ensures { Gives (λ e. (e, rest.new)) result (next_at before.now rest.old) }
-{
-    let entry = read_entry(rest)?;
-    if !may_come(before, &entry) {
-        return Err(Refused::Fault(BlockFault::OutOfOrder));
-    }
-    Ok(entry)
-}
-
-/// The block that the bytes encode, all of them. Shares the bytes. Room is reserved for as many entries as `about` says,
-/// if the bytes can hold them, since growing the list would move its entries.
-pub fn read_entries(alloc: Global, bytes: Bytes, about: usize) -> Result<Block, BlockError>
+/// The block that the bytes encode, all of them. Shares the bytes. The hints are what most of its keys begin with, and about how many
+/// entries it has. Any will do: with good ones a look-up is fast, and no memory is moved.
+pub fn decode_with_hints(
+    alloc: Global,
+    bytes: Bytes,
+    front: Bytes,
+    about: usize,
+) -> Result<Block, BlockError>
     ensures { Gives (λ b. b) result (read_block bytes) }
 {
     know_bytes(&bytes);
-    let room = about.min(bytes.len() / ENTRY_OVERHEAD);
-    let mut entries = Vec::with_capacity(alloc, room)?;
-    let mut rest = bytes;
-    loop {
-        let entry = read_next(&entries, &mut rest)?;
-        entries.push(entry)?;
-        if rest.is_empty() {
-            return Ok(Block { entries });
-        }
-    }
+    let index = index_block(alloc, bytes.as_slice(), front, about)?;
+    let index = Arc::new(alloc, index)?;
+    Ok(Block { bytes, index })
 }
 
 /// The block that the bytes encode, all of them. Shares the bytes.
@@ -106,5 +156,5 @@ pub fn decode_block(alloc: Global, bytes: Bytes) -> Result<Block, BlockError>
     ensures exact { Gives (λ b. b) result (read_block bytes) }
 {
     know_bytes(&bytes);
-    read_entries(alloc, bytes, 0)
+    decode_with_hints(alloc, bytes, Bytes::new(), 0)
 }

@@ -52,7 +52,7 @@ impl Fences {
 }
 
 // Where a walk for the key may begin: at the last fence, as far as a search finds it, whose prefix is less than the key's.
-fn begin_of(fences: &Fences, key: &[u8]) -> u32
+pub(crate) fn begin_of(fences: &Fences, key: &[u8]) -> u32
     ensures { MayBegin fences.now.front fences.now.prefixes.items fences.now.places.items key.now result }
 {
     let Fences {

@@ -150,5 +150,5 @@ fn number_past(files: &[FileMeta], least: u64) -> u64
 fn know_table(table: &Table)
     ensures { IsTable table.now.bytes table.now.entries }
 {
-    let _entries = table.entries();
+    let _bytes = table.bytes();
 }

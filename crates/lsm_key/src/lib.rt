@@ -1,8 +1,7 @@
 //! Keys, key ranges, sequences, numbers, entries, batches of writes and the limits: what every other crate of the store uses.
 //!
-//! It promises a total order of internal keys, batches within their limits, a look-up among sorted entries that finds
-//! the newest visible one, and readers and writers of the fields that all formats share. It stands on no other crate
-//! of the store.
+//! It promises a total order of internal keys, and of the prefixes of keys; batches within their limits; and readers and
+//! writers of the fields that all formats share. It stands on no other crate of the store.
 #![tactic(auto)]
 
 mod batch;
@@ -24,7 +23,7 @@ mod seq;
 pub use batch::{Batch, KeyError};
 pub use entry::{Entry, EntryRef, InternalKey, Kind};
 pub use fields::{
-    know_bytes, read_key, read_piece, read_ranged_u8, read_ranged_u32, read_ranged_u64,
+    know_bytes, know_slice, read_key, read_piece, read_ranged_u8, read_ranged_u32, read_ranged_u64,
     read_trailer, read_u8, read_u16, read_u32, read_u64, write_key, write_trailer,
 };
 pub use items::Items;
@@ -39,7 +38,7 @@ pub use limits::{
     MAX_LIVE_CLAIMS, MAX_MEMTABLE_WEIGHT, MAX_NODES, MAX_NUMBER, MAX_POINTS, MAX_SNAPSHOTS,
     MAX_TABLE_BYTES, MAX_VALUE_BYTES, NUM_LEVELS,
 };
-pub use lookup::{compare_place, range_in, seek_in};
+pub use lookup::compare_place;
 pub use merge::merge_lists;
 pub use number::{FileNumber, VersionNumber};
 pub use op::Op;

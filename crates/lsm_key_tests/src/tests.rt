@@ -6,7 +6,7 @@ use bytes::{BufMut, Bytes, BytesMut};
 use lsm_key::{
     Batch, Entry, InternalKey, Items, KeyError, KeyRangeRef, Kind, Limits, MAX_NUMBER, Op, Refused,
     Seq, compare_place, read_key, read_piece, read_ranged_u8, read_ranged_u32, read_ranged_u64,
-    read_trailer, read_u8, read_u16, read_u32, read_u64, seek_in, write_key, write_trailer,
+    read_trailer, read_u8, read_u16, read_u32, read_u64, write_key, write_trailer,
 };
 use std::alloc::{AllocError, Global};
 use std::cmp::Ordering;
@@ -254,40 +254,5 @@ fn items_are_a_vector(rt: HostRuntime) -> Result<(), Fail> {
     let vec = items.into_vec();
     let items = Items::from_vec(vec);
     assert_eq!(rt; items.as_slice(), [4, 5].as_slice());
-    Ok(())
-}
-
-fn entry_of(key: &'static [u8], seq: Seq, kind: Kind) -> Entry
-    ensures { (result.ikey.key ≡ key.now) × (result.ikey.seq ≡ seq) }
-{
-    Entry {
-        ikey: ikey_of(key, seq, kind),
-        value: Bytes::new(),
-    }
-}
-
-#[test]
-fn a_seek_finds_the_newest_up_to_a_sequence(rt: HostRuntime) -> Result<(), Fail> {
-    let entries = vec![in rt.alloc();
-        entry_of(b"j", Seq::new(1), Kind::Put),
-        entry_of(b"k", Seq::new(9), Kind::Put),
-        entry_of(b"k", Seq::new(5), Kind::Delete),
-        entry_of(b"k", Seq::new(2), Kind::Put),
-        entry_of(b"l", Seq::new(3), Kind::Put),
-    ]?;
-    for at in 1..12u64 {
-        let found = seek_in(entries.as_slice(), b"k", Seq::new(at));
-        let number = match found {
-            Some(entry) => entry.seq.number(),
-            None => 0,
-        };
-        let want = match at {
-            0..=1 => 0,
-            2..=4 => 2,
-            5..=8 => 5,
-            _ => 9,
-        };
-        assert_eq!(rt; number, want, "at {at}");
-    }
     Ok(())
 }

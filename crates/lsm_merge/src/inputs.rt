@@ -2,13 +2,15 @@
 
 ghost use Rattle.std.specs.Prelude.{◌≡◌, ◌↔◌, All, IfOk, IsTrue, map};
 ghost use Rattle.lsm_key.specs.Order.{IsAscending, IsInOrder, precedes};
+ghost use Rattle.lsm_key.specs.Visible.{lent_entry};
 ghost use Rattle.lsm_edit.specs.Served.{AreAsRecorded};
 ghost use Rattle.std.specs.List.{list_any};
 ghost use Rattle.lsm_merge.specs.Inputs.{HaveSameEntry, lists_of};
 ghost use Rattle.lsm_merge.specs.Comparing.{AllTables, has_place};
 
+use lsm_block::entry_in;
 use lsm_edit::{FileMeta, is_as_recorded};
-use lsm_key::{Entry, InternalKey, compare_place};
+use lsm_key::{Entry, EntryRef, compare_place};
 use lsm_table::Table;
 use std::alloc::{AllocError, Global};
 
@@ -35,7 +37,7 @@ pub(crate) fn copies_of(alloc: Global, tables: &[Table]) -> Result<Vec<Vec<Entry
 {
     let mut lists = Vec::with_capacity(alloc, tables.len())?;
     for table in tables {
-        let list = table.entries().to_vec(alloc)?;
+        let list = table.entries(alloc)?;
         lists.push(list)?;
     }
     Ok(lists)
@@ -76,24 +78,33 @@ pub(crate) fn have_same_entry(tables: &[Table]) -> bool
 fn shares_entry(table: &Table, later: &[Table]) -> bool
     ensures { result ≡ list_any (λ e. list_any (λ t. has_place e.ikey t.entries) later.now) table.now.entries }
 {
-    table
-        .entries()
-        .iter()
-        .any(|entry| is_in_one(later, &entry.ikey))
+    let mut rest = table.block().bytes();
+    while !rest.is_empty() {
+        let (entry, after) = match entry_in(rest) {
+            Ok(found) => found,
+            // Never reached: a block has no fault.
+            Err(_) => return false,
+        };
+        if is_in_one(later, &entry) {
+            return true;
+        }
+        rest = after;
+    }
+    false
 }
 
 // Whether one of the tables has an entry of the key and sequence.
-fn is_in_one(tables: &[Table], ikey: &InternalKey) -> bool
-    ensures { result ≡ list_any (λ t. has_place ikey.now t.entries) tables.now }
+fn is_in_one(tables: &[Table], entry: &EntryRef<'_>) -> bool
+    ensures { result ≡ list_any (λ t. has_place (lent_entry entry.now).ikey t.entries) tables.now }
 {
-    tables.iter().any(|table| has_place(table, ikey))
+    tables.iter().any(|table| has_place(table, entry))
 }
 
-fn has_place(table: &Table, ikey: &InternalKey) -> bool
-    ensures { result ≡ has_place ikey.now table.now.entries }
+fn has_place(table: &Table, entry: &EntryRef<'_>) -> bool
+    ensures { result ≡ has_place (lent_entry entry.now).ikey table.now.entries }
 {
-    match table.get(ikey.key.as_slice(), ikey.seq) {
-        Some(found) => found.seq == ikey.seq,
+    match table.get(entry.key, entry.seq) {
+        Some(found) => found.seq == entry.seq,
         None => false,
     }
 }

@@ -141,7 +141,8 @@ fn rows_in(alloc: Global, output: Bytes) -> Result<Vec<Row>, Fail> {
 
 fn rows_of(alloc: Global, table: &Table) -> Result<Vec<Row>, Fail> {
     let mut rows = Vec::new(alloc);
-    for entry in table.entries() {
+    let entries = table.entries(alloc)?;
+    for entry in &entries {
         let key = *entry.ikey.key.as_slice().first().ok_or("no key")?;
         let seq = u16::try_from(entry.ikey.seq.number())?;
         let value = entry.value.as_slice().first().copied();

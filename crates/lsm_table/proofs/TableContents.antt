@@ -1,5 +1,6 @@
 -- What a table's entries are, for holders of tables.
 use Rattle.std.proofs.Common.{◌≡◌, ℕ, ◌+◌, ◌-◌, ◌<◌, ◌≤◌, true, false, List, [], ◌∷◌, length, get_or, Some, refl, sym, ap, subst, ◌∙◌, arith, inl, inr}
+use Rattle.std.specs.Prelude.{slice_get}
 use Rattle.std.specs.declared.cmp.Ordering.{Ordering}
 use Rattle.std.specs.declared.cmp.Ordering.TheVariants.{Less, Equal, Greater}
 use Rattle.std.specs.Ordering.{ordering_then, nat_cmp, is_lt, is_gt}
@@ -56,6 +57,14 @@ largest_in (x ∷ es) some =
     let n : ℕ = length es in
     let last : last_of (x ∷ es) ≡ Some (get_or (x ∷ es) n x) = last_at x es x in
     (get_or (x ∷ es) n x, IsIn-at (x ∷ es) n x (omega arith), sym (ap key_of_entry last))
+
+-- the keys of the first and of the last entry
+pub smallest_is : (es : List Entry) (e : Entry) → slice_get es 0 ≡ Some e → e.ikey.key ≡ smallest_key es
+smallest_is [] e h = absurd cc
+smallest_is (x ∷ es) e h = let same : x ≡ e = cc in sym (ap (λ (y : Entry). y.ikey.key) same)
+
+pub largest_is : (es : List Entry) (e : Entry) → last_of es ≡ Some e → e.ikey.key ≡ largest_key es
+largest_is es e h = sym (ap key_of_entry h)
 
 pub from_smallest : (es : List Entry) → IsAscending es → (e : Entry) → IsIn e es → NotAbove (smallest_key es) e.ikey.key
 from_smallest [] up e m = absurd m

@@ -125,9 +125,10 @@ fn two_entries_of_a_key_are_written(rt: HostRuntime) -> Result<(), Fail> {
 #[test]
 fn entries_are_encoded_as_they_were(rt: HostRuntime) -> Result<(), Fail> {
     let table = table_of_two(rt.alloc())?;
-    let bytes = encode_table(rt.alloc(), table.entries())?;
+    let entries = table.entries(rt.alloc())?;
+    let bytes = encode_table(rt.alloc(), &entries)?;
     assert!(rt; bytes.as_slice() == TWO.as_slice());
-    let block = encode_block(rt.alloc(), table.block().entries())?;
+    let block = encode_block(rt.alloc(), &entries)?;
     assert!(rt; block.as_slice() == &TWO[32..]);
     Ok(())
 }
@@ -288,7 +289,8 @@ fn each_fault_of_a_block(rt: HostRuntime) -> Result<(), Fail> {
 // The table of these entries, built from the first to the last.
 fn built_again(alloc: Global, table: &Table) -> Result<Bytes, BuildError> {
     let mut builder = TableBuilder::new(alloc);
-    for entry in table.entries() {
+    let entries = table.entries(alloc)?;
+    for entry in &entries {
         add(&mut builder, entry.clone()?)?;
     }
     builder.finish()

@@ -7,7 +7,7 @@ ghost use Rattle.lsm_key.specs.Order.{key_le, key_lt};
 use super::Coord;
 use bytes::Bytes;
 use lsm_edit::Served;
-use lsm_key::{Entry, NUM_LEVELS};
+use lsm_key::NUM_LEVELS;
 use lsm_vault::Vault;
 use std::alloc::AllocError;
 
@@ -58,7 +58,7 @@ impl<V: Vault> Coord<V> {
             if placed.meta.level > 0 {
                 break;
             }
-            least = lesser(least, key_in(placed.table.entries(), from, count));
+            least = lesser(least, placed.table.key_after(from, count));
         }
         for level in 1..NUM_LEVELS {
             least = lesser(least, key_in_level(served, level, from, count));
@@ -76,14 +76,7 @@ fn lesser<'a>(one: Option<&'a [u8]>, other: Option<&'a [u8]>) -> Option<&'a [u8]
     }
 }
 
-// The key of the entry `count` entries after the first one at or after `from`.
-fn key_in<'a>(entries: &'a [Entry], from: &[u8], count: usize) -> Option<&'a [u8]> {
-    let first = entries.partition_point(|entry| entry.ikey.key.as_slice().cmp(from).is_lt());
-    let entry = entries.get(first.checked_add(count)?)?;
-    Some(entry.ikey.key.as_slice())
-}
-
-// The same over the tables of a deeper level.
+// The key of the entry `count` entries after the first one at or after `from`, over the tables of a deeper level.
 fn key_in_level<'a>(served: &'a Served, level: u8, from: &[u8], count: usize) -> Option<&'a [u8]>
     requires { 1 ≤ level }
 {
@@ -92,10 +85,9 @@ fn key_in_level<'a>(served: &'a Served, level: u8, from: &[u8], count: usize) ->
         if placed.meta.level != level {
             return None;
         }
-        let entries = placed.table.entries();
-        match key_in(entries, from, left) {
+        match placed.table.key_after(from, left) {
             Some(key) => return Some(key),
-            None => left = left.saturating_sub(entries.len()),
+            None => left = left.saturating_sub(placed.table.count()),
         }
     }
     None

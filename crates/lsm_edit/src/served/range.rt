@@ -63,7 +63,7 @@ fn lists_in_level_zero(
         if placed.meta.level > 0 {
             return Ok(lists);
         }
-        let list = copies_of(alloc, placed.table.range(lo, hi))?;
+        let list = placed.table.range(alloc, lo, hi)?;
         lists.push(list)?;
     }
     Ok(lists)
@@ -90,7 +90,8 @@ fn list_in_level(
         if !begins_below(placed, level, hi) {
             return Ok(list);
         }
-        append_copies(&mut list, placed.table.range(lo, hi))?;
+        let more = placed.table.range(alloc, lo, hi)?;
+        append_all(&mut list, more)?;
     }
     Ok(list)
 }
@@ -102,17 +103,11 @@ fn begins_below(placed: &Placed, level: u8, key: &[u8]) -> bool
     placed.meta.level == level && key.cmp(placed.meta.smallest.as_slice()).is_gt()
 }
 
-// Copies of entries. Shares the bytes.
-fn copies_of(alloc: Global, entries: &[Entry]) -> Result<Vec<Entry>, AllocError>
-    ensures { IfOk result (λ copies. copies.items ≡ entries.now) }
+// Appends entries to a list.
+fn append_all(list: &mut Vec<Entry>, entries: Vec<Entry>) -> Result<(), AllocError>
+    ensures { OnOk result (list.new.items ≡ list.old.items ++ entries.items) }
 {
-    let copies = entries.to_vec(alloc)?;
-    Ok(copies)
-}
-
-// The same, appended to a list.
-fn append_copies(list: &mut Vec<Entry>, entries: &[Entry]) -> Result<(), AllocError>
-    ensures { OnOk result (list.new.items ≡ list.old.items ++ entries.now) }
-{
-    list.extend_from_slice(entries)
+    let mut entries = entries;
+    list.append(&mut entries)?;
+    Ok(())
 }

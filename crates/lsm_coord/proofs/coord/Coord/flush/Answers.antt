@@ -30,13 +30,13 @@ returns-in-Some-clause-step g c = λ s h.
     (s, flush_refused s (refusal_of c.in-Some.why) forced, h)
 
 pub from_entries-requires-clause-each : goal.from_entries-requires-clause-each
-from_entries-requires-clause-each g c = subst AreSound (sym c.in_ok-entries.ensures.all) c.in_ok-entries.ensures.sound.sound
+from_entries-requires-clause-each g c = subst AreSound (sym (c.as_slice.ensures.value ∙ c.in_ok-entries.ensures.all)) c.in_ok-entries.ensures.sound.sound
 
 pub from_entries-requires-clause-small : goal.from_entries-requires-clause-small
 from_entries-requires-clause-small g c =
-    let es = c.in_ok-entries.entries.items in
+    let es = c.as_slice.result.now in
     let some : 0 < length es = search rules in
-    light_fits es some (subst (λ (entries : List Entry). sum_by entry_weight entries ≤ MAX_MEMTABLE_WEIGHT) (sym c.in_ok-entries.ensures.all) c.in_ok-entries.ensures.sound.light)
+    light_fits es some (subst (λ (entries : List Entry). sum_by entry_weight entries ≤ MAX_MEMTABLE_WEIGHT) (sym (c.as_slice.ensures.value ∙ c.in_ok-entries.ensures.all)) c.in_ok-entries.ensures.sound.light)
 
 pub add_table-requires-clause-newer : goal.add_table-requires-clause-newer
 add_table-requires-clause-newer g c =
@@ -53,14 +53,14 @@ returns-clause-step g c = λ s h.
     let number : c.number-number.result ≡ v.served.version.number = c.number-number.ensures.value ∙ ap (λ (x : VersionValue). x.number) c.version.ensures ∙ ap (λ (x : CoordValue). x.served.version.number) c.self.view_is in
     let file : c.next_file-file.result ≡ v.served.version.next_file = c.next_file-file.ensures.value ∙ ap (λ (x : VersionValue). x.next_file) c.version-2.ensures ∙ ap (λ (x : CoordValue). x.served.version.next_file) c.self.view_is in
     let adds : AddsTable v c.in_ok-meta.meta c.in_ok-table.table c.add_table.new.self = c.in_ok-add_table.ensures.ok in
-    let whole : c.in_ok-table.table.entries ≡ (flush_source v).memtable = c.in_ok-table.ensures ∙ c.in_ok-entries.ensures.all ∙ c.flushable.ensures in
+    let whole : c.in_ok-table.table.entries ≡ (flush_source v).memtable = c.in_ok-table.ensures ∙ c.as_slice.ensures.value ∙ c.in_ok-entries.ensures.all ∙ c.flushable.ensures in
     let spelled = subst (IsSpelledEdit adds.text) adds.edit_is adds.spelled in
     let applies = subst (λ (e : Edit). apply_fault v.served.version e ≡ None) adds.edit_is adds.applies in
     let shows = shows_after v v.frozen s c.in_ok-meta.meta c.in_ok-table.table adds.text h refl whole (c.in_ok-meta.ensures.place.0 ∙ file) c.in_ok-meta.ensures.place.1 spelled applies in
     (after_flush s, (may, (omega (arith, versions, number, c.new.ensures), c.flush_end-seq.ensures ∙ sym (end_of v v.frozen s h refl), c.new-2.ensures ∙ file ∙ sym h.tables.next_file, refl)), subst (λ (x : CoordValue). Shows x (after_flush s)) (sym adds.new_is) (Shows-beside _ _ _ _ (after_flush s) shows))
 
 pub returns-clause-ok : goal.returns-clause-ok
-returns-clause-ok g c = (sym c.flush_fault.ensures ∙ c.in-None.is, (c.in_ok-meta.meta, c.in_ok-table.table, c.in_ok-table.ensures ∙ c.in_ok-entries.ensures.all ∙ c.flushable.ensures, c.in_ok-add_table.ensures.ok))
+returns-clause-ok g c = (sym c.flush_fault.ensures ∙ c.in-None.is, (c.in_ok-meta.meta, c.in_ok-table.table, c.in_ok-table.ensures ∙ c.as_slice.ensures.value ∙ c.in_ok-entries.ensures.all ∙ c.flushable.ensures, c.in_ok-add_table.ensures.ok))
 
 pub returns-in_err-add_table-clause-step : goal.returns-in_err-add_table-clause-step
 returns-in_err-add_table-clause-step g c = λ s h.

@@ -21,10 +21,10 @@ loop-placed-preserved c =
     let rest = take (length places - start) (drop start places) in
     let p = c.placed-item.result in
     let list = c.loop-placed.list.items in
-    walked_more c.args.lo.now c.args.hi.now c.args.level places start rest (take_rest places start) list c.append_copies.new.list.items c.loop-placed.placed-index p c.loop-placed-test.true c.placed-item.is
+    walked_more c.args.lo.now c.args.hi.now c.args.level places start rest (take_rest places start) list c.append_all.new.list.items c.loop-placed.placed-index p c.loop-placed-test.true c.placed-item.is
     (and_parts (is_of c.args.level p) _ (sym c.begins_below.ensures ∙ c.if-not-begins_below.false)).0
     c.loop-placed.invariant
-    (c.in_ok-append_copies.ensures ∙ ap (λ (es : List Entry). list ++ es) c.range.ensures)
+    (c.in_ok-append_all.ensures ∙ ap (λ (es : List Entry). list ++ es) c.in_ok-more.ensures)
 
 pub returns-then-not-begins_below-clause-all : goal.returns-then-not-begins_below-clause-all
 returns-then-not-begins_below-clause-all c =

@@ -30,7 +30,7 @@ loop-placed-preserved c =
     let up = table_ascending p.table.bytes p.table.entries (c.requires.recorded p m).table in
     let pushed : items_of c.push.new.self.items ≡ lists ++ c.in_ok-list.list.items ∷ [] = ap items_of c.in_ok-push.ensures.items ∙ map-append (λ v. v.items) c.loop-placed.lists.items (c.in_ok-list.list ∷ []) in
     subst (λ (xss : List (List Entry)). Gathers lo hi (filter (is_of 0) places) xss (filter (is_of 0) rest)) (sym pushed)
-    (gathers_more lo hi (filter (is_of 0) places) (filter (is_of 0) rest) lists p c.in_ok-list.list.items before up (c.in_ok-list.ensures ∙ c.range.ensures))
+    (gathers_more lo hi (filter (is_of 0) places) (filter (is_of 0) rest) lists p c.in_ok-list.list.items before up c.in_ok-list.ensures)
 
 pub returns-then-placed-gt0-clause-all : goal.returns-then-placed-gt0-clause-all
 returns-then-placed-gt0-clause-all c =

@@ -1,0 +1,157 @@
+//! A block of keys that are easily mistaken for one another, each with some versions, beside the list of these keys.
+
+use bytes::{BufMut, Bytes, BytesMut};
+use lsm_block::{Block, decode_block, decode_with_hints, seek_in};
+use lsm_key::Seq;
+use std::alloc::Global;
+use std::test::Fail;
+
+// Keys in order: of 1, 7, 8 and 9 bytes, with the least and the greatest byte, some of them beginnings of others.
+const KEYS: [&[u8]; 14] = [
+    b"\x00",
+    b"\x00\x00",
+    b"a",
+    b"a\x00",
+    b"a\x00\x00\x00\x00\x00\x00\x00",
+    b"a\x00\x00\x00\x00\x00\x00\x00\x00",
+    b"user:00",
+    b"user:000",
+    b"user:0000",
+    b"user:0001",
+    b"user:001",
+    b"\xff\xff\xff\xff\xff\xff\xff",
+    b"\xff\xff\xff\xff\xff\xff\xff\xff",
+    b"\xff\xff\xff\xff\xff\xff\xff\xff\xff",
+];
+
+// The sequences of each key's versions, the newest first: the second one is a deletion.
+const SEQS: [u64; 3] = [9, 5, 2];
+
+// Appends an entry, spelled by hand.
+fn spell(out: &mut BytesMut, key: &[u8], seq: u64) -> Result<(), Fail> {
+    out.put_u16(u16::try_from(key.len())?)?;
+    out.put_slice(key)?;
+    if seq == 5 {
+        out.put_u64(5 * 256)?;
+        out.put_u32(0)?;
+        return Ok(());
+    }
+    out.put_u64(seq.wrapping_mul(256).wrapping_add(1))?;
+    out.put_u32(1)?;
+    out.put_u8(u8::try_from(seq)?)?;
+    Ok(())
+}
+
+fn bytes_of(alloc: Global) -> Result<Bytes, Fail> {
+    let mut out = BytesMut::new(alloc);
+    for key in KEYS {
+        for seq in SEQS {
+            spell(&mut out, key, seq)?;
+        }
+    }
+    Ok(out.freeze()?)
+}
+
+fn block_of(alloc: Global, front: &'static [u8]) -> Result<Block, Fail> {
+    match decode_with_hints(alloc, bytes_of(alloc)?, Bytes::from_static(front), 42) {
+        Ok(block) => Ok(block),
+        Err(_) => Err("no block")?,
+    }
+}
+
+// The newest sequence up to one, of a key that has all of them.
+fn newest(at: u64) -> Option<u64> {
+    SEQS.iter().copied().find(|seq| *seq <= at)
+}
+
+// The sequence that a look-up finds.
+fn seen(block: &Block, key: &[u8], at: Seq) -> Option<u64> {
+    match block.seek(key, at) {
+        Some(entry) => Some(entry.seq.number()),
+        None => None,
+    }
+}
+
+// The same by a walk from the front.
+fn seen_by_walk(block: &Block, key: &[u8], at: Seq) -> Option<u64> {
+    match seek_in(block.bytes(), key, at) {
+        Some(entry) => Some(entry.seq.number()),
+        None => None,
+    }
+}
+
+#[test]
+fn a_seek_finds_the_newest_up_to_a_sequence(rt: HostRuntime) -> Result<(), Fail> {
+    for front in [b"".as_slice(), b"user:", b"user:0000", b"zzz"] {
+        let block = block_of(rt.alloc(), front)?;
+        for key in KEYS {
+            for at in 0..11 {
+                assert!(rt;
+                    seen(&block, key, Seq::new(at)) == newest(at),
+                    "{key:?} at {at}"
+                );
+                assert!(rt;
+                    seen_by_walk(&block, key, Seq::new(at)) == newest(at),
+                    "{key:?} at {at}"
+                );
+            }
+        }
+    }
+    Ok(())
+}
+
+#[test]
+fn a_key_that_is_not_there_is_not_found(rt: HostRuntime) -> Result<(), Fail> {
+    let block = block_of(rt.alloc(), b"user:")?;
+    for key in [
+        b"".as_slice(),
+        b"\x01",
+        b"a\x00\x00",
+        b"user:",
+        b"user:00000",
+        b"user:1",
+        b"\xff",
+    ] {
+        assert!(rt; block.seek(key, Seq::new(9)).is_none(), "{key:?}");
+    }
+    Ok(())
+}
+
+#[test]
+fn a_range_has_the_versions_of_its_keys(rt: HostRuntime) -> Result<(), Fail> {
+    let block = block_of(rt.alloc(), b"user:")?;
+    for (i, lo) in KEYS.iter().enumerate() {
+        for (j, hi) in KEYS.iter().enumerate() {
+            let range = block.range(rt.alloc(), lo, hi)?;
+            let want = j.saturating_sub(i).saturating_mul(3);
+            assert!(rt; range.len() == want, "{lo:?} to {hi:?}");
+        }
+    }
+    Ok(())
+}
+
+#[test]
+fn a_key_stands_so_many_entries_after_another(rt: HostRuntime) -> Result<(), Fail> {
+    let block = block_of(rt.alloc(), b"user:")?;
+    for (i, lo) in KEYS.iter().enumerate() {
+        for count in 0..50usize {
+            let want = KEYS.get(i.saturating_add(count / 3)).copied();
+            assert!(rt; block.key_after(lo, count) == want, "{count} after {lo:?}");
+        }
+    }
+    Ok(())
+}
+
+#[test]
+fn a_copy_has_all_entries(rt: HostRuntime) -> Result<(), Fail> {
+    let block = match decode_block(rt.alloc(), bytes_of(rt.alloc())?) {
+        Ok(block) => block,
+        Err(_) => Err("no block")?,
+    };
+    let copy = block.copy()?;
+    drop(block);
+    let entries = copy.entries(rt.alloc())?;
+    assert!(rt; (entries.len(), copy.count()) == (42, 42));
+    assert!(rt; entries.first() == Some(&copy.first()?) && entries.last() == Some(&copy.last()?));
+    Ok(())
+}
