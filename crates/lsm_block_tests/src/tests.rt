@@ -2,7 +2,7 @@
 
 use bytes::{BufMut, Bytes, BytesMut};
 use lsm_block::{Block, decode_block, decode_with_hints, seek_in};
-use lsm_key::Seq;
+use lsm_key::{Refused, Seq};
 use std::alloc::Global;
 use std::test::Fail;
 
@@ -55,7 +55,8 @@ fn bytes_of(alloc: Global) -> Result<Bytes, Fail> {
 fn block_of(alloc: Global, front: &'static [u8]) -> Result<Block, Fail> {
     match decode_with_hints(alloc, bytes_of(alloc)?, Bytes::from_static(front), 42) {
         Ok(block) => Ok(block),
-        Err(_) => Err("no block")?,
+        Err(Refused::OutOfMemory) => Err("out of memory")?,
+        Err(Refused::Fault(_)) => Err("no block")?,
     }
 }
 
@@ -146,7 +147,8 @@ fn a_key_stands_so_many_entries_after_another(rt: HostRuntime) -> Result<(), Fai
 fn a_copy_has_all_entries(rt: HostRuntime) -> Result<(), Fail> {
     let block = match decode_block(rt.alloc(), bytes_of(rt.alloc())?) {
         Ok(block) => block,
-        Err(_) => Err("no block")?,
+        Err(Refused::OutOfMemory) => Err("out of memory")?,
+        Err(Refused::Fault(_)) => Err("no block")?,
     };
     let copy = block.copy()?;
     drop(block);
