@@ -51,7 +51,7 @@ step : (b : Bool) (one out : List Entry) (others : Result (List Entry) BlockFaul
 step true one out others e = inl (refl, ok_is {F = BlockFault} one out e)
 step false one out others e = inr (refl, e)
 
-entries_take : (n : ℕ) (es : List Entry) (bytes : List ℕ) (out : List Entry) → IsBytes bytes → AreEntries es → entries_at n es bytes ≡ Ok out → (more : List Entry) × (out ≡ es ++ more) × AreEntries out × (bytes ≡ entries more) × (0 < length more)
+pub entries_take : (n : ℕ) (es : List Entry) (bytes : List ℕ) (out : List Entry) → IsBytes bytes → AreEntries es → entries_at n es bytes ≡ Ok out → (more : List Entry) × (out ≡ es ++ more) × AreEntries out × (bytes ≡ entries more) × (0 < length more)
 unfolding entries_at
 entries_take zero es bytes out fits sound e = absurd cc
 entries_take (suc n) es bytes out fits sound e =
@@ -82,7 +82,7 @@ next_again es x more sound =
     let reads : entry_at (entries (x ∷ more)) ≡ Ok (x, entries more) = ap entry_at (flat_map-cons entry x more) ∙ entry_again x (entries more) (each_rest IsEntry es (x ∷ more) sound.each).0 (each_rest HasSequence es (x ∷ more) sound.sequences).0 in
     rw (reads, follows es x more sound.ascending) refl
 
-entries_again : (n : ℕ) (es : List Entry) (x : Entry) (more : List Entry) → AreEntries (es ++ x ∷ more) → length (entries (x ∷ more)) < n → entries_at n es (entries (x ∷ more)) ≡ Ok (es ++ x ∷ more)
+pub entries_again : (n : ℕ) (es : List Entry) (x : Entry) (more : List Entry) → AreEntries (es ++ x ∷ more) → length (entries (x ∷ more)) < n → entries_at n es (entries (x ∷ more)) ≡ Ok (es ++ x ∷ more)
 unfolding entries_at
 entries_again zero es x more sound lt = absurd (omega (arith, lt))
 entries_again (suc n) es x [] sound lt = rw (next_again es x [] sound) refl
@@ -101,39 +101,39 @@ block_again bytes (x ∷ more) is = rw is.spelled (entries_again (length (entrie
 
 -- ---- the loop
 
-pub record ReadSoFar (bytes : List ℕ) (es : List Entry) (rest : List ℕ) : Type 0 where
+-- what reading gives in all is what it gives from here on
+pub record ReadSoFar (given : Result (List Entry) BlockFault) (es : List Entry) (rest : List ℕ) : Type 0 where
   pub fuel : ℕ
   pub enough : length rest < fuel
-  pub total : entries_at fuel es rest ≡ read_block bytes
+  pub total : entries_at fuel es rest ≡ given
   pub sound : AreEntries es
   pub fits : IsBytes rest
 
-pub starts : (bytes : List ℕ) → IsBytes bytes → ReadSoFar bytes [] bytes
-unfolding read_block
-starts bytes fits = record { fuel = length bytes + 1; enough = omega arith; total = refl; sound = no_entries; fits = fits }
+pub starts : (es : List Entry) (rest : List ℕ) → AreEntries es → IsBytes rest → ReadSoFar (entries_at (length rest + 1) es rest) es rest
+starts es rest sound fits = record { fuel = length rest + 1; enough = omega arith; total = refl; sound = sound; fits = fits }
 
-pub faulty : (bytes : List ℕ) (es : List Entry) (rest : List ℕ) (e : Refused BlockFault) → ReadSoFar bytes es rest → Fails e (next_at es rest) → Fails e (read_block bytes)
+pub faulty : (given : Result (List Entry) BlockFault) (es : List Entry) (rest : List ℕ) (e : Refused BlockFault) → ReadSoFar given es rest → Fails e (next_at es rest) → Fails e (given)
 unfolding entries_at
-faulty bytes es rest OutOfMemory r h = tt
-faulty bytes es rest (Fault f) r h = by r.fuel r.enough r.total
+faulty given es rest OutOfMemory r h = tt
+faulty given es rest (Fault f) r h = by r.fuel r.enough r.total
   where
-    by : (n : ℕ) → length rest < n → entries_at n es rest ≡ read_block bytes → read_block bytes ≡ Err f
+    by : (n : ℕ) → length rest < n → entries_at n es rest ≡ given → given ≡ Err f
     by zero lt t = absurd (omega (arith, lt))
     by (suc n) lt t = sym t ∙ rw h refl
 
-pub goes_on : (bytes : List ℕ) (es : List Entry) (rest : List ℕ) (x : Entry) (after : List ℕ) → ReadSoFar bytes es rest → next_at es rest ≡ Ok (x, after) → (length after < length rest) × AreEntries (es ++ x ∷ []) × ((length after ≡ 0 → ⊥) → ReadSoFar bytes (es ++ x ∷ []) after) × (length after ≡ 0 → read_block bytes ≡ Ok (es ++ x ∷ []))
+pub goes_on : (given : Result (List Entry) BlockFault) (es : List Entry) (rest : List ℕ) (x : Entry) (after : List ℕ) → ReadSoFar given es rest → next_at es rest ≡ Ok (x, after) → (length after < length rest) × AreEntries (es ++ x ∷ []) × ((length after ≡ 0 → ⊥) → ReadSoFar given (es ++ x ∷ []) after) × (length after ≡ 0 → given ≡ Ok (es ++ x ∷ []))
 unfolding entries_at
-goes_on bytes es rest x after r h =
+goes_on given es rest x after r h =
     let t = next_takes es rest (x, after) r.fits r.sound h in
     let long : length rest ≡ length (entry x) + length after = ap length t.0.parts ∙ length-append (entry x) after in
     let less : length after < length rest = omega (arith, long, entry_some x) in
     (less, t.1, λ some. on r.fuel r.enough r.total some less t.1 t.0.rest_fits, λ none. off r.fuel r.enough r.total none)
   where
-    on : (n : ℕ) → length rest < n → entries_at n es rest ≡ read_block bytes → (length after ≡ 0 → ⊥) → length after < length rest → AreEntries (es ++ x ∷ []) → IsBytes after → ReadSoFar bytes (es ++ x ∷ []) after
+    on : (n : ℕ) → length rest < n → entries_at n es rest ≡ given → (length after ≡ 0 → ⊥) → length after < length rest → AreEntries (es ++ x ∷ []) → IsBytes after → ReadSoFar given (es ++ x ∷ []) after
     on zero lt t some less sound fits = absurd (omega (arith, lt))
     on (suc n) lt t some less sound fits = record { fuel = n; enough = omega (arith, lt, less); total = (let reads : entries_at (suc n) es rest ≡ entries_at n (es ++ x ∷ []) after = rw (h, ne_eqb (length after) 0 some) refl in sym reads ∙ t); sound = sound; fits = fits }
 
-    off : (n : ℕ) → length rest < n → entries_at n es rest ≡ read_block bytes → length after ≡ 0 → read_block bytes ≡ Ok (es ++ x ∷ [])
+    off : (n : ℕ) → length rest < n → entries_at n es rest ≡ given → length after ≡ 0 → given ≡ Ok (es ++ x ∷ [])
     off zero lt t none = absurd (omega (arith, lt))
     off (suc n) lt t none = sym t ∙ rw (h, eq-eqb (length after) 0 none) refl
 

@@ -1,25 +1,27 @@
 -- What a walk over the bytes of a block has found so far.
-use Rattle.std.proofs.Common.{◌≡◌, ℕ, ◌+◌, ◌-◌, ◌<◌, ◌≤◌, Bool, true, cond, List, [], ◌∷◌, ◌++◌, length, Option, Some, None, Result, Ok, Err, refl, sym, ap, ◌∙◌, append_assoc, arith, inl, inr}
+use Rattle.std.proofs.Common.{◌≡◌, ℕ, ◌+◌, ◌-◌, ◌<◌, ◌≤◌, Bool, true, cond, List, [], ◌∷◌, ◌++◌, length, drop, Option, Some, None, Result, Ok, Err, refl, sym, ap, ◌∙◌, append_assoc, arith, inl, inr}
 use Rattle.std.specs.Prelude.{MatchOption, OnOk, slice_index}
 use Rattle.std.specs.Ordering.{is_lt}
 use Rattle.std.proofs.lemmas.Bool.{cases_lt}
 use Rattle.std.proofs.Math.Seq.{get_or-append_seam}
-use Rattle.std.proofs.lemmas.List.{length-append, append-nil, get_or_append_left}
+use Rattle.std.proofs.lemmas.List.{length-append, append-nil, get_or_append_left, nil_from_length, take-append-drop}
 use Rattle.std.proofs.lemmas.List.Concat.{flat_map-append}
 use Rattle.lsm_key.specs.declared.entry.Entry.{Entry}
 use Rattle.lsm_key.specs.Order.{place_cmp}
 use Rattle.lsm_key.specs.Prefix.{prefix_of}
 use Rattle.lsm_block.specs.Blocks.{entry, entries}
-use Rattle.lsm_block.specs.BlockReading.{last_of, may_follow, entry_at, next_at, read_block}
+use Rattle.lsm_block.specs.BlockReading.{last_of, may_follow, entry_at, next_at, entries_at}
 use Rattle.lsm_block.specs.declared.fault.BlockFault.{BlockFault}
 use Rattle.lsm_block.specs.declared.fault.BlockFault.TheVariants.{OutOfOrder}
 use Rattle.lsm_block.specs.Fences.{AreFences, IsFence}
-use Rattle.lsm_block.specs.Indexed.{IsLastAt, IsLastKey}
+use Rattle.lsm_block.specs.Indexed.{IsLastAt, IsLastKey, IsReadTo, entries_before}
+use Rattle.lsm_block.specs.Spans.{IsSpan}
+use Rattle.lsm_block.specs.declared.indexing.Indexed.{Indexed}
 use Rattle.lsm_block.proofs.BlockFields.{entry_takes}
 use Rattle.lsm_block.proofs.EntriesGrow.{last_added}
 use Rattle.lsm_block.proofs.BlockRuns.{ReadSoFar, starts, faulty, goes_on, next_takes, as_long}
 use Rattle.lsm_key.specs.declared.refused.Refused.TheVariants.{Fault}
-use Rattle.lsm_key.proofs.FieldLaws.{IsBytes}
+use Rattle.lsm_key.proofs.FieldLaws.{IsBytes, IsBytes-drop}
 
 pub on_ok_from : {A E P Q : Type 0} (r : Result A E) → (P → Q) → OnOk r P → OnOk r Q
 on_ok_from (Ok x) f h = f h
@@ -99,52 +101,68 @@ module _ (front : List ℕ) (es : List Entry) (prefixes places : List ℕ) (are 
 -- ---- the walk
 
 -- entries read so far, the key of the last, their count and fences
-pub record Walked (bytes : List ℕ) (es : List Entry) (rest key : List ℕ) (seq : ℕ) (front prefixes places : List ℕ) (count : ℕ) : Type 0 where
-  pub so_far : ReadSoFar bytes es rest
+pub record Walked (given : Result (List Entry) BlockFault) (bytes : List ℕ) (es : List Entry) (rest key : List ℕ) (seq : ℕ) (front prefixes places : List ℕ) (count : ℕ) : Type 0 where
+  pub so_far : ReadSoFar given es rest
   pub parts : bytes ≡ entries es ++ rest
   pub last : IsLastKey es key seq
   pub fenced : AreFences front es prefixes places
   pub counted : count ≡ length es
   pub few : length es ≤ length (entries es)
 
--- none is read yet
-pub walk_starts : (bytes : List ℕ) (seq : ℕ) (front prefixes places : List ℕ) → IsBytes bytes → prefixes ≡ [] → places ≡ [] → Walked bytes [] bytes [] seq front prefixes places 0
-walk_starts bytes seq front prefixes places fits p q = record {
-  so_far = starts bytes fits;
-  parts = refl;
-  last = refl;
-  fenced = rw (p, q) (record { paired = refl; each = λ i lt. absurd (omega (arith, lt)) });
-  counted = refl;
-  few = omega arith;
-}
+-- what was found before the place where the walk begins
+pub walk_starts : (bytes : List ℕ) (begin : ℕ) (found : Indexed) (key : List ℕ) (seq : ℕ) → IsBytes bytes → IsReadTo bytes begin found → IsLastKey (entries_before bytes begin) key seq
+    → Walked (entries_at (length (drop begin bytes) + 1) (entries_before bytes begin) (drop begin bytes)) bytes (entries_before bytes begin) (drop begin bytes) key seq found.fences.front found.fences.prefixes.items found.fences.places.items found.count
+walk_starts bytes begin found key seq fits known last =
+    let es = entries_before bytes begin in
+    record {
+      so_far = starts es (drop begin bytes) known.span.sound (IsBytes-drop begin bytes fits);
+      parts = sym (take-append-drop begin bytes) ∙ ap (λ (b : List ℕ). b ++ drop begin bytes) known.span.spelled;
+      last = last;
+      fenced = known.index.fenced;
+      counted = known.index.counted;
+      few = as_long es;
+    }
 
-module _ (bytes : List ℕ) (es : List Entry) (rest key : List ℕ) (seq : ℕ) (front prefixes places : List ℕ) (count : ℕ) (w : Walked bytes es rest key seq front prefixes places count) where
+module _ (given : Result (List Entry) BlockFault) (bytes : List ℕ) (es : List Entry) (rest key : List ℕ) (seq : ℕ) (front prefixes places : List ℕ) (count : ℕ) (w : Walked given bytes es rest key seq front prefixes places count) where
   pub place_is : length bytes - length rest ≡ length (entries es)
   place_is = omega (arith, ap length w.parts, length-append (entries es) rest)
 
-  pub walk_fails : (f : BlockFault) → next_at es rest ≡ Err f → read_block bytes ≡ Err f
-  walk_fails f h = faulty bytes es rest (Fault f) w.so_far h
+  pub walk_fails : (f : BlockFault) → next_at es rest ≡ Err f → given ≡ Err f
+  walk_fails f h = faulty given es rest (Fault f) w.so_far h
 
   module _ (e : Entry) (after : List ℕ) (read : next_at es rest ≡ Ok (e, after)) where
     pub walk_shortens : length after < length rest
-    walk_shortens = (goes_on bytes es rest e after w.so_far read).0
+    walk_shortens = (goes_on given es rest e after w.so_far read).0
+
+    -- so many entries are no more than the bytes
+    pub count_fits : count + 1 ≤ length bytes
+    count_fits = omega (arith, walk_shortens, w.counted, w.few, ap length w.parts, length-append (entries es) rest)
+
+    split : bytes ≡ entries (es ++ e ∷ []) ++ after
+    split =
+        let takes = (next_takes es rest (e, after) w.so_far.fits w.so_far.sound read).0 in
+        let more_is : entries (es ++ e ∷ []) ≡ entries es ++ entry e = flat_map-append entry es (e ∷ []) ∙ ap (λ (b : List ℕ). entries es ++ b) (append-nil (entry e)) in
+        w.parts ∙ ap (λ (b : List ℕ). entries es ++ b) takes.parts ∙ sym (append_assoc (entries es) (entry e) after) ∙ ap (λ (b : List ℕ). b ++ after) (sym more_is)
 
     module _ (others : List ℕ) (more : List ℕ) (ahead : List ℕ) (fenced : AreFences others (es ++ e ∷ []) more ahead) where
-      pub walk_goes_on : (length after ≡ 0 → ⊥) → Walked bytes (es ++ e ∷ []) after e.ikey.key e.ikey.seq others more ahead (count + 1)
-      walk_goes_on some =
-          let takes = (next_takes es rest (e, after) w.so_far.fits w.so_far.sound read).0 in
-          let more_is : entries (es ++ e ∷ []) ≡ entries es ++ entry e = flat_map-append entry es (e ∷ []) ∙ ap (λ (b : List ℕ). entries es ++ b) (append-nil (entry e)) in
-          record {
-            so_far = (goes_on bytes es rest e after w.so_far read).2 some;
-            parts = w.parts ∙ ap (λ (b : List ℕ). entries es ++ b) takes.parts ∙ sym (append_assoc (entries es) (entry e) after) ∙ ap (λ (b : List ℕ). b ++ after) (sym more_is);
-            last = rw (last_added es e) (refl, refl);
-            fenced = fenced;
-            counted = omega (arith, w.counted, length-append es (e ∷ []));
-            few = as_long (es ++ e ∷ []);
-          }
+      pub walk_goes_on : (length after ≡ 0 → ⊥) → Walked given bytes (es ++ e ∷ []) after e.ikey.key e.ikey.seq others more ahead (count + 1)
+      walk_goes_on some = record {
+        so_far = (goes_on given es rest e after w.so_far read).2 some;
+        parts = split;
+        last = rw (last_added es e) (refl, refl);
+        fenced = fenced;
+        counted = omega (arith, w.counted, length-append es (e ∷ []));
+        few = as_long (es ++ e ∷ []);
+      }
 
-      pub walk_ends : length after ≡ 0 → read_block bytes ≡ Ok (es ++ e ∷ [])
-      walk_ends none = (goes_on bytes es rest e after w.so_far read).3 none
+      pub walk_ends : length after ≡ 0 → (given ≡ Ok (es ++ e ∷ [])) × IsSpan bytes (es ++ e ∷ [])
+      walk_ends none = (
+        (goes_on given es rest e after w.so_far read).3 none,
+        record {
+          sound = (goes_on given es rest e after w.so_far read).1;
+          spelled = split ∙ ap (λ (b : List ℕ). entries (es ++ e ∷ []) ++ b) (nil_from_length after none) ∙ append-nil (entries (es ++ e ∷ []));
+        },
+      )
 
       pub counted_more : count + 1 ≡ length (es ++ e ∷ [])
       counted_more = omega (arith, w.counted, length-append es (e ∷ []))

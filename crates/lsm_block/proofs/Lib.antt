@@ -6,6 +6,8 @@ pub mod IndexedSoFar
 pub mod BlockEntries
 pub mod SpanFronts
 pub mod SpanWalks
+pub mod ReadBlocks
 pub mod SpanRanges
 pub mod RangeFilters
 pub mod RangeLoops
+pub mod BlocksInTurn

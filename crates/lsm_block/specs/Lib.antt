@@ -3,4 +3,5 @@ pub mod BlockReading
 pub mod Spans
 pub mod Fences
 pub mod Indexed
+pub mod Reader
 pub mod Ranges

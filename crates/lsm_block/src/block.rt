@@ -8,6 +8,7 @@ ghost use Rattle.lsm_key.specs.Order.{is_between, key_le};
 ghost use Rattle.lsm_key.specs.Reading.{Gives};
 ghost use Rattle.lsm_block.specs.Blocks.{IsBlock};
 ghost use Rattle.lsm_block.specs.BlockReading.{read_block, last_of, may_follow};
+ghost use Rattle.lsm_block.specs.Indexed.{IsIndexedBlock, block_entries};
 ghost use Rattle.lsm_block.specs.Spans.{IsSpan};
 
 use crate::fault::BlockError;
@@ -41,6 +42,19 @@ impl Model for Block {
 }
 
 impl Block {
+    /// The block of these bytes, whose index was found.
+    pub(crate) fn with_index(
+        alloc: Global,
+        bytes: Bytes,
+        index: Indexed,
+    ) -> Result<Block, AllocError>
+        requires { IsIndexedBlock bytes index }
+        ensures { IfOk result (λ b. b ≡ block_entries bytes) }
+    {
+        let index = Arc::new(alloc, index)?;
+        Ok(Block { bytes, index })
+    }
+
     /// The same block. It shares the bytes and the fences.
     pub fn copy(&self) -> Result<Block, AllocError>
         ensures { IfOk result (λ copy. copy ≡ self.now) }
@@ -142,8 +156,7 @@ pub fn decode_with_hints(
 {
     know_bytes(&bytes);
     let index = index_block(alloc, bytes.as_slice(), front, about)?;
-    let index = Arc::new(alloc, index)?;
-    Ok(Block { bytes, index })
+    Ok(Block::with_index(alloc, bytes, index)?)
 }
 
 /// The block that the bytes encode, all of them. Shares the bytes.

@@ -38,6 +38,14 @@ impl Fences {
         })
     }
 
+    /// Takes all fences away.
+    pub fn clear(&mut self)
+        ensures { (self.new.prefixes.items ≡ []) × (self.new.places.items ≡ []) }
+    {
+        self.prefixes.clear();
+        self.places.clear();
+    }
+
     /// Adds a fence at the end, for an entry of this key that begins at the place. A refusal changes nothing.
     pub fn push(&mut self, key: &[u8], place: u32) -> Result<(), AllocError>
         ensures front { self.new.front ≡ self.old.front }

@@ -1,15 +1,17 @@
 //! Reading the bytes of a block once: whether they are one, how many entries it has, where the last one begins, and fences.
 
-ghost use Rattle.std.specs.Prelude.{◌≡◌, ◌+◌, ◌++◌, ◌∷◌, [], List, Ok, IfOk, IfErr, OnOk, length};
+ghost use Rattle.std.specs.Prelude.{◌≡◌, ◌+◌, ◌-◌, ◌≤◌, ◌++◌, ◌∷◌, [], List, Ok, IfOk, IfErr, OnOk, length, take, drop};
+ghost use Rattle.std.specs.Option.{option_map};
 ghost use Rattle.std.specs.Ordering.{is_lt};
 ghost use Rattle.lsm_key.specs.declared.entry.Entry.{Entry};
 ghost use Rattle.lsm_key.specs.Order.{place_cmp};
 ghost use Rattle.lsm_key.specs.Reading.{Fails, Reads};
 ghost use Rattle.lsm_key.specs.Visible.{lent_entry};
 ghost use Rattle.lsm_block.specs.Blocks.{entries};
-ghost use Rattle.lsm_block.specs.BlockReading.{next_at, read_block};
+ghost use Rattle.lsm_block.specs.BlockReading.{entries_at, last_of, next_at, read_block};
 ghost use Rattle.lsm_block.specs.Fences.{AreFences};
-ghost use Rattle.lsm_block.specs.Indexed.{IsIndexed, IsLastKey};
+ghost use Rattle.lsm_block.specs.Indexed.{AreIndexed, IsIndexed, IsLastKey, IsReadTo, entries_before};
+ghost use Rattle.lsm_block.specs.Spans.{IsSpan};
 
 use crate::fault::{BlockError, BlockFault};
 use crate::fences::Fences;
@@ -28,6 +30,17 @@ pub(crate) struct Indexed {
     pub(crate) fences: Fences,
     pub(crate) count: usize,
     pub(crate) last: usize,
+}
+
+impl Indexed {
+    /// Of what was found nothing is kept: no entry is found yet.
+    pub(crate) fn forget(&mut self)
+        ensures { AreIndexed [] self.new }
+    {
+        self.fences.clear();
+        self.count = 0;
+        self.last = 0;
+    }
 }
 
 // Whether an entry comes after this key at this sequence.
@@ -68,6 +81,94 @@ fn add_fence(fences: &mut Fences, count: usize, key: &[u8], place: usize) -> Res
     }
 }
 
+/// No entry found yet. Room is reserved for as many fences as `about` entries have, if `len` bytes can hold them.
+pub(crate) fn no_index(
+    alloc: Global,
+    front: Bytes,
+    about: usize,
+    len: usize,
+) -> Result<Indexed, AllocError>
+    ensures { IfOk result (λ found. AreIndexed [] found) }
+{
+    let room = about.min(len / ENTRY_OVERHEAD) / FENCE_SPACING + 1;
+    let fences = Fences::with_capacity(alloc, front, room)?;
+    Ok(Indexed {
+        fences,
+        count: 0,
+        last: 0,
+    })
+}
+
+// Reads the entries from `begin` to the end of the bytes. The last one before them is of this key and sequence.
+fn walk_on<'a>(
+    found: &mut Indexed,
+    bytes: &'a [u8],
+    begin: usize,
+    last_key: &'a [u8],
+    last_seq: Seq,
+) -> Result<(), BlockError>
+    requires known { IsReadTo bytes.now begin found.old }
+    requires last { IsLastKey (entries_before bytes.now begin) last_key.now last_seq }
+    ensures ok { OnOk result ((es : List Entry) × (entries_at (length (drop begin bytes.now) + 1) (entries_before bytes.now begin) (drop begin bytes.now) ≡ Ok es) × IsSpan bytes.now es × IsIndexed es found.new) }
+    ensures err { IfErr result (λ e. Fails e (entries_at (length (drop begin bytes.now) + 1) (entries_before bytes.now begin) (drop begin bytes.now))) }
+{
+    know_slice(bytes);
+    let mut rest = &bytes[begin..];
+    let mut key = last_key;
+    let mut seq = last_seq;
+    loop {
+        let place = bytes.len() - rest.len();
+        let (entry, after) = match next_in(key, seq, rest) {
+            Ok(found) => found,
+            Err(fault) => return Err(Refused::Fault(fault)),
+        };
+        add_fence(&mut found.fences, found.count, entry.key, place)?;
+        found.count += 1;
+        found.last = place;
+        if after.is_empty() {
+            return Ok(());
+        }
+        key = entry.key;
+        seq = entry.seq;
+        rest = after;
+    }
+}
+
+/// The last entry that was found in the bytes, which end behind it. Allocates nothing.
+pub(crate) fn last_in<'a>(bytes: &'a [u8], found: &Indexed) -> Option<EntryRef<'a>>
+    requires { (es : List Entry) × IsSpan bytes.now es × AreIndexed es found.now }
+    ensures { (es : List Entry) → IsSpan bytes.now es → AreIndexed es found.now → option_map lent_entry result ≡ last_of es }
+{
+    if found.count == 0 {
+        return None;
+    }
+    match entry_in(&bytes[found.last..]) {
+        Ok((entry, _)) => Some(entry),
+        // A span has no fault.
+        Err(_) => None,
+    }
+}
+
+/// Reads the entries from `begin` to `end`, after those that were found before `begin`. After a refusal what was found is
+/// of no use.
+pub(crate) fn index_more(
+    found: &mut Indexed,
+    bytes: &[u8],
+    begin: usize,
+    end: usize,
+) -> Result<(), BlockError>
+    requires known { IsReadTo bytes.now begin found.old }
+    requires order { begin ≤ end }
+    requires within { end ≤ length bytes.now }
+    ensures ok { OnOk result ((es : List Entry) × (entries_at (end - begin + 1) (entries_before bytes.now begin) (take (end - begin) (drop begin bytes.now)) ≡ Ok es) × IsSpan (take end bytes.now) es × IsIndexed es found.new) }
+    ensures err { IfErr result (λ e. Fails e (entries_at (end - begin + 1) (entries_before bytes.now begin) (take (end - begin) (drop begin bytes.now)))) }
+{
+    match last_in(&bytes[..begin], found) {
+        Some(last) => walk_on(found, &bytes[..end], begin, last.key, last.seq),
+        None => walk_on(found, &bytes[..end], begin, &[], Seq::new(0)),
+    }
+}
+
 /// The index of the block that the bytes encode, all of them. Room is reserved for as many fences as `about` entries have, if the bytes
 /// can hold them.
 pub(crate) fn index_block(
@@ -79,31 +180,9 @@ pub(crate) fn index_block(
     ensures ok { IfOk result (λ found. (es : List Entry) × (read_block bytes.now ≡ Ok es) × IsIndexed es found) }
     ensures err { IfErr result (λ e. Fails e (read_block bytes.now)) }
 {
-    know_slice(bytes);
-    let room = about.min(bytes.len() / ENTRY_OVERHEAD) / FENCE_SPACING + 1;
-    let mut fences = Fences::with_capacity(alloc, front, room)?;
-    let mut rest = bytes;
-    let mut key: &[u8] = &[];
-    let mut seq = Seq::new(0);
-    let mut count = 0;
-    loop {
-        let place = bytes.len() - rest.len();
-        let (entry, after) = match next_in(key, seq, rest) {
-            Ok(found) => found,
-            Err(fault) => return Err(Refused::Fault(fault)),
-        };
-        add_fence(&mut fences, count, entry.key, place)?;
-        count += 1;
-        if after.is_empty() {
-            let last = place;
-            return Ok(Indexed {
-                fences,
-                count,
-                last,
-            });
-        }
-        key = entry.key;
-        seq = entry.seq;
-        rest = after;
+    let mut found = no_index(alloc, front, about, bytes.len())?;
+    match index_more(&mut found, bytes, 0, bytes.len()) {
+        Ok(()) => Ok(found),
+        Err(fault) => Err(fault),
     }
 }

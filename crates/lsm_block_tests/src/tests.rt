@@ -1,7 +1,7 @@
 //! A block of keys that are easily mistaken for one another, each with some versions, beside the list of these keys.
 
 use bytes::{BufMut, Bytes, BytesMut};
-use lsm_block::{Block, decode_block, decode_with_hints, seek_in};
+use lsm_block::{Block, BlocksReader, decode_block, decode_with_hints, seek_in};
 use lsm_key::{Refused, Seq};
 use std::alloc::Global;
 use std::test::Fail;
@@ -155,5 +155,53 @@ fn a_copy_has_all_entries(rt: HostRuntime) -> Result<(), Fail> {
     let entries = copy.entries(rt.alloc())?;
     assert!(rt; (entries.len(), copy.count()) == (42, 42));
     assert!(rt; entries.first() == Some(&copy.first()?) && entries.last() == Some(&copy.last()?));
+    Ok(())
+}
+
+// Reads the next block, of so many bytes.
+fn read_next(reader: &mut BlocksReader, len: usize) -> Result<(), Fail> {
+    if len > reader.left() {
+        Err("too few bytes")?;
+    }
+    match reader.read(len) {
+        Ok(()) => Ok(()),
+        Err(Refused::OutOfMemory) => Err("out of memory")?,
+        Err(Refused::Fault(_)) => Err("no block")?,
+    }
+}
+
+// The length of the last key that was read, and its sequence.
+fn last_read(reader: &BlocksReader) -> Option<(usize, u64)> {
+    match reader.last() {
+        Some(last) => Some((last.key.len(), last.seq.number())),
+        None => None,
+    }
+}
+
+// The blocks that were read, as one.
+fn finished(alloc: Global, reader: BlocksReader) -> Result<Block, Fail> {
+    if reader.count() == 0 || reader.left() > 0 {
+        Err("a block is left")?;
+    }
+    Ok(reader.finish(alloc)?)
+}
+
+#[test]
+fn blocks_in_a_row_are_read_as_one(rt: HostRuntime) -> Result<(), Fail> {
+    let front = Bytes::from_static(b"user:");
+    let mut reader = BlocksReader::new(rt.alloc(), bytes_of(rt.alloc())?, front, 42)?;
+    // The first key has one byte: its versions take 16, 15 and 16.
+    for len in [16, 15 + 16] {
+        read_next(&mut reader, len)?;
+    }
+    assert_eq!(rt; reader.count(), 3);
+    assert!(rt; last_read(&reader) == Some((1, 2)));
+    let left = reader.left();
+    read_next(&mut reader, left)?;
+    assert_eq!(rt; reader.count(), 42);
+    let block = finished(rt.alloc(), reader)?;
+    for key in KEYS {
+        assert!(rt; seen(&block, key, Seq::new(9)) == Some(9), "{key:?}");
+    }
     Ok(())
 }

@@ -8,16 +8,11 @@ use Rattle.lsm_key.specs.Sets.{IsIn}
 use Rattle.lsm_key.proofs.Lists.{any_from}
 use Rattle.lsm_key.proofs.Membership.{IsIn-at}
 use Rattle.lsm_claim.specs.declared.job.Want.{Want}
+use Rattle.lsm_table.proofs.TableCuts.{same_first, same_rest}
 use Rattle.lsm_edit.specs.declared.file.FileMeta.{FileMeta}
 use Rattle.lsm_pick.specs.Rule.{inputs_of}
 
 -- ---- the inputs, by the numbers that are left
-
-tails : {X : Type 0} (x y : X) (xs ys : List X) → x ∷ xs ≡ y ∷ ys → xs ≡ ys
-tails x y xs ys e = cc
-
-heads : {X : Type 0} (x y : X) (xs ys : List X) → x ∷ xs ≡ y ∷ ys → x ≡ y
-heads x y xs ys e = cc
 
 module _ (want : Want) (next : ℕ) (f : FileMeta) (rest : List FileMeta) (left : drop next want.files ≡ map (λ (g : FileMeta). g.number) (inputs_of (f ∷ rest) want)) where
   pub input_is_next : next < length want.files → get_or want.files next 0 ≡ f.number
@@ -28,7 +23,7 @@ module _ (want : Want) (next : ℕ) (f : FileMeta) (rest : List FileMeta) (left 
       let first : inputs_of (f ∷ rest) want ≡ f ∷ inputs_of rest want = ap (λ (b : Bool). cond b (f ∷ inputs_of rest want) (inputs_of rest want)) taken in
       let both : get_or want.files next 0 ∷ drop (next + 1) want.files ≡ f.number ∷ map (λ (g : FileMeta). g.number) (inputs_of rest want) =
       sym (drop_more want.files next 0 lt) ∙ left ∙ ap (map (λ (g : FileMeta). g.number)) first in
-      (first, tails (get_or want.files next 0) f.number (drop (next + 1) want.files) (map (λ (g : FileMeta). g.number) (inputs_of rest want)) both)
+      (first, same_rest (get_or want.files next 0) f.number (drop (next + 1) want.files) (map (λ (g : FileMeta). g.number) (inputs_of rest want)) both)
 
   skipped : (b : Bool) → list_any (nat_eq f.number) want.files ≡ b → ((next < length want.files) × (get_or want.files next 0 ≡ f.number) → ⊥) → inputs_of (f ∷ rest) want ≡ inputs_of rest want
   skipped false e none = ap (λ (b : Bool). cond b (f ∷ inputs_of rest want) (inputs_of rest want)) e
@@ -37,7 +32,7 @@ module _ (want : Want) (next : ℕ) (f : FileMeta) (rest : List FileMeta) (left 
       let one : drop next want.files ≡ f.number ∷ map (λ (g : FileMeta). g.number) (inputs_of rest want) = left ∙ ap (map (λ (g : FileMeta). g.number)) first in
       let long : length (drop next want.files) ≡ suc (length (map (λ (g : FileMeta). g.number) (inputs_of rest want))) = ap (λ (ns : List ℕ). length ns) one in
       let lt : next < length want.files = omega (arith, length-drop next want.files) in
-      absurd (none (lt, heads (get_or want.files next 0) f.number (drop (next + 1) want.files) (map (λ (g : FileMeta). g.number) (inputs_of rest want)) (sym (drop_more want.files next 0 lt) ∙ one)))
+      absurd (none (lt, same_first (get_or want.files next 0) f.number (drop (next + 1) want.files) (map (λ (g : FileMeta). g.number) (inputs_of rest want)) (sym (drop_more want.files next 0 lt) ∙ one)))
 
   pub input_is_not_next : ((next < length want.files) × (get_or want.files next 0 ≡ f.number) → ⊥) → inputs_of (f ∷ rest) want ≡ inputs_of rest want
   input_is_not_next none = skipped (list_any (nat_eq f.number) want.files) refl none

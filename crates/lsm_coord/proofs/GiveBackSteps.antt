@@ -113,6 +113,7 @@ gives_back_keeps c id job sound held =
         of_want = claimed.of_want;
       };
       snapshots = sound.snapshots;
+      block = sound.block;
       deeper = sound.deeper;
     }
 

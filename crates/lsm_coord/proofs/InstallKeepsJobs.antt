@@ -41,7 +41,7 @@ install_keeps old new claim made number files book served version all_legal b ho
     let new_is = done_is old live ts new install in
     let edit = install_edit_of old.served.version live.want ts in
     let legal = all_legal live found.0 in
-    let installs = installs_of old.served live.want made.tables install.text ts legal outputs (done_spelled old live ts new install) (done_applies old live ts new install) in
+    let installs = installs_of old.limits.block old.served live.want made.tables install.text ts legal outputs (done_spelled old live ts new install) (done_applies old live ts new install) in
     let tables : merge.tables ≡ ts = tables_one made.tables merge.tables ts merge.opened outputs.tables in
     let kept = subst (λ (us : List Opened). HoldsKept merge.inputs job.points job.deeper (entries_of us)) tables merge.kept in
     let none_added = kept_adds_no_entry old.served.places live.want ts merge.inputs job.points job.deeper (inputs_by_want old.served live.want job merge.inputs served (job_of_live old claim.id live job book b.1 holds_merge.1 holds_merge.2) merge.are) kept in
@@ -65,5 +65,6 @@ install_keeps old new claim made number files book served version all_legal b ho
     subst (λ (c : CoordValue). IsSound c other) (sym new_is) (record {
       claimed = record { live = own; member = stays; named = sound.claimed.named; of_want = of_want.0 };
       snapshots = λ x m. elim (sound.snapshots x m) [ inl point ↦ inl point | inr by ↦ inr (written x.at by) ];
+      block = sound.block;
       deeper = of_want.1 none_added sound.deeper;
     })

@@ -66,7 +66,7 @@ unheld_after b id h = ap (λ (held : Bool). cond held (with_ending ending.Instal
 pub with_book : (c : CoordValue) (b : BookValue) → b ≡ c.book → record c { book = b } ≡ c
 with_book c b e = ap (λ (x : BookValue). record c { book = x }) e
 
-pub became_done : (old : CoordValue) (claim live : LiveJob) (made : JobResult) (number : ℕ) (files : List ℕ) (new : VersionSetValue) → IsLive old claim.id live → PutsOutputs (version_set old) live made (record { number = number; files = files }) new
+pub became_done : (old : CoordValue) (claim live : LiveJob) (made : JobResult) (number : ℕ) (files : List ℕ) (new : VersionSetValue) → IsLive old claim.id live → PutsOutputs old.limits.block (version_set old) live made (record { number = number; files = files }) new
     → Became old claim made (became.Done number files)
     (record old { served = new.served; edits = new.edits; retired = new.retired; floor = new.floor; book = after_settling old.book claim.id ending.Installed; kept = new.kept; failures = new.failures })
 became_done old claim live made number files new h p =
@@ -125,9 +125,9 @@ module _ (old : CoordValue) (live : LiveJob) (ts : List Opened) (new : CoordValu
 -- ---- what an install keeps
 
 -- outputs of a live job make an install
-pub installs_of : (s : ServedValue) (want : Want) (texts : List (List ℕ)) (text : List ℕ) (ts : List Opened) → IsLegal s.version.files want → AreOutputTables want.hull texts ts
+pub installs_of : (block : ℕ) (s : ServedValue) (want : Want) (texts : List (List ℕ)) (text : List ℕ) (ts : List Opened) → IsLegal s.version.files want → AreOutputTables block want.hull texts ts
     → IsSpelledEdit text (install_edit_of s.version want ts) → apply_fault s.version (install_edit_of s.version want ts) ≡ None → Installs s want (install_edit_of s.version want ts) ts
-installs_of s want texts text ts legal outputs spelled applies = record {
+installs_of block s want texts text ts legal outputs spelled applies = record {
   sound = spelled.sound;
   applies = applies;
   removed = refl;
@@ -152,16 +152,16 @@ stays_apart b id live j is held here named m =
 pub held_by : (b : BookValue) (live : LiveJob) (id : JobId) → find (λ j. same_job_id j.id id) b.live ≡ Some live → holds b id ≡ true
 held_by b live id h = let r = found_some (λ j. same_job_id j.id id) b.live live h in any_from (λ j. same_job_id j.id id) b.live live r.0 r.1
 
-pub after_install : (active : List Entry) (frozen : Option Frozen) (last : ℕ) (old new : VersionSetValue) (book : BookValue) (id : JobId) (live : LiveJob) (made : JobResult) (number : ℕ) (files : List ℕ) (snapshots : List Snapshot)
-    → IsCoord active frozen last old.served book snapshots → IsBook book → IsServed old.served → IsVersion old.served.version → find (λ j. same_job_id j.id id) book.live ≡ Some live → PutsOutputs old live made (record { number = number; files = files }) new
+pub after_install : (block : ℕ) (active : List Entry) (frozen : Option Frozen) (last : ℕ) (old new : VersionSetValue) (book : BookValue) (id : JobId) (live : LiveJob) (made : JobResult) (number : ℕ) (files : List ℕ) (snapshots : List Snapshot)
+    → IsCoord active frozen last old.served book snapshots → IsBook book → IsServed old.served → IsVersion old.served.version → find (λ j. same_job_id j.id id) book.live ≡ Some live → PutsOutputs block old live made (record { number = number; files = files }) new
     → IsCoord active frozen last new.served (after_settling book id ending.Installed) snapshots
-after_install active frozen last old new book id live made number files snapshots is book_is served_is version_is h p =
+after_install block active frozen last old new book id live made number files snapshots is book_is served_is version_is h p =
     let served = old.served in
     let e = install_edit_of served.version live.want p.tables in
     let r = found_some (λ j. same_job_id j.id id) book.live live h in
     let spelled : IsSpelledEdit (spelling p.edit) e = subst (IsSpelledEdit (spelling p.edit)) p.edit_is (record { sound = p.valid; spelled = refl }) in
     let applies : apply_fault served.version e ≡ None = subst (λ (x : Edit). apply_fault served.version x ≡ None) p.edit_is p.applies in
-    let installs = installs_of served live.want made.tables (spelling p.edit) p.tables (is.legal live r.0) p.accepted.outputs spelled applies in
+    let installs = installs_of block served live.want made.tables (spelling p.edit) p.tables (is.legal live r.0) p.accepted.outputs spelled applies in
     let new_is : new ≡ record (after_logging old e p.tables) { failures = new.failures } = p.new_is ∙ ap (λ (x : Edit). record (after_logging old x p.tables) { failures = new.failures }) p.edit_is in
     subst (λ (v : VersionSetValue). IsCoord active frozen last v.served (after_settling book id ending.Installed) snapshots) (sym new_is) (record {
       recent = is.recent;

@@ -47,10 +47,10 @@ pub has_numbers : (v : VersionValue) (ts : List Opened) → number_fault v (leng
 has_numbers v ts none = elim (fault_is v (length ts)) [ inl fits ↦ record { number = fits.1.0; next_file = fits.1.1 } | inr lacks ↦ let no = sym none ∙ lacks.0 in absurd cc ]
 
 -- a fault: there are none
-pub lacks_numbers : (v : VersionValue) (live : LiveJob) (made : JobResult) (ts : List Opened) (why : InstallError) → made.job ≡ live.id → AreOutputTables live.want.hull made.tables ts → number_fault v (length ts) ≡ Some why → Rejects v live made why
-lacks_numbers v live made ts why named outputs some = elim (fault_is v (length ts)) [
+pub lacks_numbers : (block : ℕ) (v : VersionValue) (live : LiveJob) (made : JobResult) (ts : List Opened) (why : InstallError) → made.job ≡ live.id → AreOutputTables block live.want.hull made.tables ts → number_fault v (length ts) ≡ Some why → Rejects block v live made why
+lacks_numbers block v live made ts why named outputs some = elim (fault_is v (length ts)) [
   | inl fits ↦ let no = sym some ∙ fits.0 in absurd cc
-  | inr lacks ↦ subst (Rejects v live made) (ap (λ (o : Option InstallError). unwrap_or o NumbersExhausted) (sym lacks.0 ∙ some)) (named, ts, outputs, λ has. lacks.1 (has.number, has.next_file))
+  | inr lacks ↦ subst (Rejects block v live made) (ap (λ (o : Option InstallError). unwrap_or o NumbersExhausted) (sym lacks.0 ∙ some)) (named, ts, outputs, λ has. lacks.1 (has.number, has.next_file))
 ]
 
 leaves : (why : InstallError) (s : State) (message : ℕ) → Leaves s (say.Deliver message) (refusal_of (error_of why)) s
@@ -61,7 +61,7 @@ leaves OutOfMemory s message = refl
 leaves Device s message = refl
 
 module _ (old : CoordValue) (s : State) (h : Shows old s) (live : LiveJob) (made : JobResult) where
-  cannot_number : Rejects old.served.version live made NumbersExhausted → CannotNumber s
+  cannot_number : Rejects old.limits.block old.served.version live made NumbersExhausted → CannotNumber s
   cannot_number x =
       let few = tables_length made.tables x.1 x.2.tables in
       elim (one_is_over (old.served.version.number + 1) (old.served.version.next_file + length x.1) MAX_NUMBER (λ fits. x.3 (record { number = fits.0; next_file = fits.1 }))) [
@@ -69,7 +69,7 @@ module _ (old : CoordValue) (s : State) (h : Shows old s) (live : LiveJob) (made
         | inr over ↦ inr (length x.1, rw few x.2.few, subst (λ (n : ℕ). MAX_NUMBER < n + length x.1) (sym h.tables.next_file) over)
       ]
 
-  is_allowed : (message : ℕ) (why : InstallError) → Rejects old.served.version live made why → IsAllowed s (say.Deliver message) (refusal_of (error_of why))
+  is_allowed : (message : ℕ) (why : InstallError) → Rejects old.limits.block old.served.version live made why → IsAllowed s (say.Deliver message) (refusal_of (error_of why))
   is_allowed message WrongJob x = inr (refl, h.up)
   is_allowed message BadResult x = inr (refl, h.up)
   is_allowed message NumbersExhausted x = inr (refl, (h.up, cannot_number x))
@@ -107,6 +107,6 @@ put_left NumbersExhausted c v left = ap (with_versions c) left
 put_left OutOfMemory c v left = stored_left c v left.0 left.1
 put_left Device c v left = let more = left.1 in (stored_left c v left.0 (omega (arith, more)), left.1)
 
-pub kept_steps : (old new : CoordValue) (live : LiveJob) (made : JobResult) (why : InstallError) → Rejects old.served.version live made why → LeavesRejected why old new
+pub kept_steps : (old new : CoordValue) (live : LiveJob) (made : JobResult) (why : InstallError) → Rejects old.limits.block old.served.version live made why → LeavesRejected why old new
     → (message : ℕ) → Follows old (say.Deliver message) (say.Refused (refusal_of (error_of why))) new
 kept_steps old new live made why x left message s h = (s, (is_allowed old s h live made message why x, leaves why s message), stored_shows old new (rejected_stored why old new left) s h)

@@ -270,7 +270,7 @@ install_steps old new claim made number files book served version all_legal all_
     let spelled = done_spelled old live ts new install in
     let legal = all_legal live found.0 in
     let orderly = all_orderly live found.0 in
-    let installs = installs_of old.served live.want made.tables install.text ts legal accepted.outputs spelled (done_applies old live ts new install) in
+    let installs = installs_of old.limits.block old.served live.want made.tables install.text ts legal accepted.outputs spelled (done_applies old live ts new install) in
     let tables : merge.tables ≡ ts = tables_one made.tables merge.tables ts merge.opened accepted.outputs.tables in
     let kept = subst (λ (us : List Opened). HoldsKept merge.inputs job.points job.deeper (entries_of us)) tables merge.kept in
     let are = inputs_by_want old.served live.want job merge.inputs served of_want merge.are in

@@ -22,11 +22,11 @@ use Rattle.lsm_coord.specs.Contract.Calls.{AddsTable, after_snapshot, after_rele
 use Rattle.lsm_coord.specs.Contract.Sound.{IsSound, KeepsSound}
 
 -- a call that leaves the tables, the book and the snapshots
-pub same_keeps : (old new : CoordValue) → new.served ≡ old.served → new.book ≡ old.book → new.snapshots ≡ old.snapshots → KeepsSound old new
-same_keeps old new served book snapshots job sound held =
+pub same_keeps : (old new : CoordValue) → new.limits ≡ old.limits → new.served ≡ old.served → new.book ≡ old.book → new.snapshots ≡ old.snapshots → KeepsSound old new
+same_keeps old new limits served book snapshots job sound held =
     subst (λ (x : CoordValue). IsSound x job)
-    (λ i. record new { served = sym served i; book = sym book i; snapshots = sym snapshots i })
-    (record { claimed = sound.claimed; snapshots = sound.snapshots; deeper = sound.deeper })
+    (λ i. record new { limits = sym limits i; served = sym served i; book = sym book i; snapshots = sym snapshots i })
+    (record { claimed = sound.claimed; block = sound.block; snapshots = sound.snapshots; deeper = sound.deeper })
 
 pub nothing_keeps : (old new : CoordValue) → new ≡ old → KeepsSound old new
 nothing_keeps old new same job sound held = subst (λ (x : CoordValue). IsSound x job) (sym same) sound
@@ -55,6 +55,7 @@ flush_keeps old new file table is number level all adds job sound held =
               absurd (omega arith)
         ])
       ];
+      block = sound.block;
       deeper = knows_flushed old.served end file is level fresh want legal job claimed.of_want table sound.deeper;
     })
 
@@ -74,6 +75,7 @@ snapshot_keeps c s h job sound held = record {
         let at : x.at ≡ c.last = ap (λ (y : Snapshot). y.at) (IsIn-one x _ new) in
         omega arith)
   ];
+  block = sound.block;
   deeper = sound.deeper;
 }
   where
@@ -88,5 +90,6 @@ pub release_keeps : (c : CoordValue) (id : SnapId) → KeepsSound c (after_relea
 release_keeps c id job sound held = record {
   claimed = sound.claimed;
   snapshots = λ x live. sound.snapshots x (IsIn-filter (λ other. not (same_snapshot_id other.id id)) x c.snapshots live).0;
+  block = sound.block;
   deeper = sound.deeper;
 }

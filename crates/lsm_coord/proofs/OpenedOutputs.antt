@@ -7,7 +7,7 @@ use Rattle.lsm_key.specs.Order.{key_lt}
 use Rattle.lsm_key.specs.Sets.{IsIn}
 use Rattle.lsm_key.proofs.Membership.{IsIn-append_cases, IsIn-append_right}
 use Rattle.lsm_claim.specs.declared.hull.Hull.{Hull}
-use Rattle.lsm_table.specs.Tables.{IsTable, Opened, largest_key, smallest_key}
+use Rattle.lsm_table.specs.Tables.{IsTable, Opened, largest_key, smallest_key, target_of}
 use Rattle.lsm_table.proofs.TableContents.{table_ends, table_one}
 use Rattle.lsm_coord.specs.Contract.Installing.{AreAscending, AreOutputTables, DecodeTo, IsTableBefore, comes_next, is_table_inside}
 use Rattle.lsm_coord.proofs.KeyIntervals.{below_trans, below_upto}
@@ -133,35 +133,40 @@ after_all hull (v ∷ vs) t (Some l) e each pairs next =
     )
 
 -- of outputs each comes next
-pub next_of : (hull : Hull) (texts : List (List ℕ)) (ts us vs : List Opened) (t : Opened) → AreOutputTables hull texts ts → ts ≡ us ++ t ∷ vs → (last : Option Opened) → slice_get us (length us - 1) ≡ last → comes_next hull last t ≡ true
-next_of hull texts ts us vs t is parts None e = is.inside t (subst (IsIn t) (sym parts) (IsIn-append_right t us (t ∷ vs) (inl refl)))
-next_of hull texts ts us vs t is parts (Some l) e =
+pub next_of : (block : ℕ) (hull : Hull) (texts : List (List ℕ)) (ts us vs : List Opened) (t : Opened) → AreOutputTables block hull texts ts → ts ≡ us ++ t ∷ vs → (last : Option Opened) → slice_get us (length us - 1) ≡ last → comes_next hull last t ≡ true
+next_of block hull texts ts us vs t is parts None e = is.inside t (subst (IsIn t) (sym parts) (IsIn-append_right t us (t ∷ vs) (inl refl)))
+next_of block hull texts ts us vs t is parts (Some l) e =
     and_from (is_table_inside hull t) (key_lt (largest_key l.entries) (smallest_key t.entries))
     (is.inside t (subst (IsIn t) (sym parts) (IsIn-append_right t us (t ∷ vs) (inl refl))))
     (ascending_cross us (t ∷ vs) (subst AreAscending parts is.ascending) l t (last_in us (length us - 1) l e) (inl refl))
 
 -- ---- what has been opened
 
-pub record AreOpened (hull : Hull) (texts : List (List ℕ)) (ts : List Opened) : Type 0 where
+pub record AreOpened (block : ℕ) (hull : Hull) (texts : List (List ℕ)) (ts : List Opened) : Type 0 where
   pub tables : DecodeTo texts ts
+  pub cut : (t : Opened) → IsIn t ts → target_of t.bytes ≡ block
   pub inside : (t : Opened) → IsIn t ts → is_table_inside hull t ≡ true
   pub ascending : AreAscending ts
 
-pub opened_none : (hull : Hull) (texts : List (List ℕ)) → AreOpened hull (take 0 texts) []
-opened_none hull texts = record { tables = tt; inside = λ t m. absurd m; ascending = tt }
+pub opened_none : (block : ℕ) (hull : Hull) (texts : List (List ℕ)) → AreOpened block hull (take 0 texts) []
+opened_none block hull texts = record { tables = tt; cut = λ t m. absurd m; inside = λ t m. absurd m; ascending = tt }
 
-module _ (hull : Hull) (texts : List (List ℕ)) (ts : List Opened) (i : ℕ) (text : List ℕ) (lt : i < length texts) (at : text ≡ get_or texts i text) (so_far : AreOpened hull (take i texts) ts) where
+module _ (block : ℕ) (hull : Hull) (texts : List (List ℕ)) (ts : List Opened) (i : ℕ) (text : List ℕ) (lt : i < length texts) (at : text ≡ get_or texts i text) (so_far : AreOpened block hull (take i texts) ts) where
   front_is : take (i + 1) texts ≡ take i texts ++ text ∷ []
   front_is = take_more texts i text lt ∙ ap (λ (x : List ℕ). take i texts ++ x ∷ []) (sym at)
 
   whole_is : texts ≡ take i texts ++ text ∷ drop (i + 1) texts
   whole_is = sym (take-append-drop i texts) ∙ ap (λ (xs : List (List ℕ)). take i texts ++ xs) (drop_more texts i text lt ∙ ap (λ (x : List ℕ). x ∷ drop (i + 1) texts) (sym at))
 
-  pub opened_more : (t : Opened) → t.bytes ≡ text → IsTable text t.entries → comes_next hull (slice_get ts (length ts - 1)) t ≡ true → AreOpened hull (take (i + 1) texts) (ts ++ t ∷ [])
-  opened_more t bytes is next =
+  pub opened_more : (t : Opened) → t.bytes ≡ text → IsTable text t.entries → target_of text ≡ block → comes_next hull (slice_get ts (length ts - 1)) t ≡ true → AreOpened block hull (take (i + 1) texts) (ts ++ t ∷ [])
+  opened_more t bytes is own next =
       let after = after_all hull ts t (slice_get ts (length ts - 1)) refl (tables_each (take i texts) ts so_far.tables) so_far.ascending next in
       record {
         tables = subst (λ (xs : List (List ℕ)). DecodeTo xs (ts ++ t ∷ [])) (sym front_is) (tables_push (take i texts) ts text t so_far.tables bytes is);
+        cut = λ u m. elim (IsIn-append_cases u ts (t ∷ []) m) [
+          | inl a ↦ so_far.cut u a
+          | inr b ↦ elim b [ inl e ↦ ap (λ (w : Opened). target_of w.bytes) e ∙ ap target_of bytes ∙ own | inr none ↦ absurd none ]
+        ];
         inside = λ u m. elim (IsIn-append_cases u ts (t ∷ []) m) [
           | inl a ↦ so_far.inside u a
           | inr b ↦ elim b [ inl e ↦ subst (λ (w : Opened). is_table_inside hull w ≡ true) (sym e) after.0 | inr none ↦ absurd none ]
@@ -169,20 +174,23 @@ module _ (hull : Hull) (texts : List (List ℕ)) (ts : List Opened) (i : ℕ) (t
         ascending = ascending_push ts t so_far.ascending after.1;
       }
 
-  parted : (us : List Opened) → AreOutputTables hull texts us → Split (take i texts) text us
+  parted : (us : List Opened) → AreOutputTables block hull texts us → Split (take i texts) text us
   parted us is = split_at (take i texts) (drop (i + 1) texts) text us (subst (λ (xs : List (List ℕ)). DecodeTo xs us) whole_is is.tables)
 
-  -- where a text is no table, there are no outputs
-  pub none_opens : ((t : Opened) → IsTable text t.entries → ⊥) → (us : List Opened) → AreOutputTables hull texts us → ⊥
-  none_opens never us is = let s = parted us is in never s.here s.is
+  here_in : (us : List Opened) (is : AreOutputTables block hull texts us) → IsIn (parted us is).here us
+  here_in us is = let s = parted us is in subst (IsIn s.here) (sym s.parts) (IsIn-append_right s.here s.before (s.here ∷ s.after) (inl refl))
+
+  -- where a text is no table of the block target, there are no outputs
+  pub none_opens : ((t : Opened) → IsTable text t.entries → target_of text ≡ block → ⊥) → (us : List Opened) → AreOutputTables block hull texts us → ⊥
+  none_opens never us is = let s = parted us is in never s.here s.is (ap target_of (sym s.bytes) ∙ is.cut s.here (here_in us is))
 
   -- nor where a table does not come next
-  pub none_next : (t : Opened) → t.bytes ≡ text → IsTable text t.entries → comes_next hull (slice_get ts (length ts - 1)) t ≡ false → (us : List Opened) → AreOutputTables hull texts us → ⊥
+  pub none_next : (t : Opened) → t.bytes ≡ text → IsTable text t.entries → comes_next hull (slice_get ts (length ts - 1)) t ≡ false → (us : List Opened) → AreOutputTables block hull texts us → ⊥
   none_next t bytes opens next us is =
       let s = parted us is in
       let same_bytes : (s.here).bytes ≡ t.bytes = s.bytes ∙ sym bytes in
       let same_entries : (s.here).entries ≡ t.entries = table_one text (s.here).entries t.entries s.is opens in
       let same : s.here ≡ t = λ j. record { bytes = same_bytes j; entries = same_entries j } in
       let front : s.before ≡ ts = tables_one (take i texts) s.before ts s.front_are so_far.tables in
-      let here = next_of hull texts us s.before s.after s.here is s.parts (slice_get s.before (length s.before - 1)) refl in
+      let here = next_of block hull texts us s.before s.after s.here is s.parts (slice_get s.before (length s.before - 1)) refl in
       true≢false (sym here ∙ ap (λ (xs : List Opened). comes_next hull (slice_get xs (length xs - 1)) s.here) front ∙ ap (comes_next hull (slice_get ts (length ts - 1))) same ∙ next)

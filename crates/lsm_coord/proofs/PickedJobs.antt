@@ -24,6 +24,7 @@ use Rattle.lsm_edit.specs.declared.served.Placed.{Placed}
 use Rattle.lsm_edit.specs.Served.{IsServed, ServedValue, is_covered}
 use Rattle.lsm_edit.specs.Version.{VersionValue, IsVersion, FileNumbersRise}
 use Rattle.lsm_edit.proofs.KeysOutOfRange.{key_covered}
+use Rattle.lsm_table.specs.Tables.{IsTarget}
 use Rattle.lsm_msg.specs.declared.job.JobParts.{JobParts}
 use Rattle.lsm_key.specs.declared.range.KeyRange.{KeyRange}
 use Rattle.lsm_msg.specs.Jobs.{IsJob}
@@ -140,8 +141,8 @@ deeper_are v want is few = record {
 
 -- ---- the job
 
-pub within_rules : (c : CoordValue) (want : Want) (job : JobParts) → IsVersion c.served.version → 1 ≤ c.served.version.epoch → c.book.epoch ≡ c.served.version.epoch → MayClaim c want → IsJobFor c want job → length job.points ≤ MAX_POINTS → IsJob job
-within_rules c want job is opened epoch may of few =
+pub within_rules : (c : CoordValue) (want : Want) (job : JobParts) → IsVersion c.served.version → 1 ≤ c.served.version.epoch → c.book.epoch ≡ c.served.version.epoch → IsTarget c.limits.block → MayClaim c want → IsJobFor c want job → length job.points ≤ MAX_POINTS → IsJob job
+within_rules c want job is opened epoch target may of few =
     let v : VersionValue = c.served.version in
     let limits = and_parts (nat_le (length (inputs_of v.files want)) MAX_INPUTS) _ may.next.taken.within in
     let others = and_parts (nat_le (sum_by (λ f. f.bytes) (inputs_of v.files want)) MAX_INPUT_BYTES) _ limits.1 in
@@ -149,8 +150,8 @@ within_rules c want job is opened epoch may of few =
     record {
       id = subst IsJobId (sym of.id) (let most : v.epoch ≤ MAX_NUMBER = is.epoch in record { some_epoch = omega arith; epoch = omega arith; some_number = omega arith; number = omega arith });
       level = subst (λ (l : ℕ). l ≤ MAX_JOB_LEVEL) (sym of.level) may.orderly.level;
-      some_block = subst (λ (b : ℕ). 1 ≤ b) (sym of.block) (omega arith);
-      most_block = subst (λ (b : ℕ). b ≤ MAX_TABLE_BYTES) (sym of.block) (omega arith);
+      some_block = subst (λ (b : ℕ). 1 ≤ b) (sym of.block) target.0;
+      most_block = subst (λ (b : ℕ). b ≤ MAX_TABLE_BYTES) (sym of.block) target.1;
       points = record { few = few; rising = of.points.rising };
       inputs = rw (of.inputs, of.level) (inputs_are v want is may.legal (leb-true (length (inputs_of v.files want)) MAX_INPUTS limits.0));
       deeper = rw of.deeper (deeper_are v want is (leb-true (length (filter (is_deeper want) v.files)) MAX_DEEPER others.1));
@@ -201,6 +202,7 @@ picked_sound old new claim job is version picked =
         };
       };
       snapshots = λ x live. inl ((of.points.all x.at).1 (IsIn-map (λ (y : Snapshot). y.at) x old.snapshots live));
+      block = of.block;
       deeper = deeper_known old.served want job is version may.legal of.level of.inputs of.deeper;
     })
 
@@ -216,6 +218,7 @@ claim_keeps c want job sound held =
         of_want = claimed_before.of_want;
       };
       snapshots = sound.snapshots;
+      block = sound.block;
       deeper = sound.deeper;
     }
 

@@ -24,7 +24,7 @@ stored_shows old new may s h = subst (λ (c : CoordValue). Shows c s) (sym may.r
 pub stored_keeps : (old new : CoordValue) → MayHaveStored old new → KeepsSound old new
 stored_keeps old new may =
     let is = may.rest in
-    same_keeps old new (ap (λ (c : CoordValue). c.served) is) (ap (λ (c : CoordValue). c.book) is) (ap (λ (c : CoordValue). c.snapshots) is)
+    same_keeps old new (ap (λ (c : CoordValue). c.limits) is) (ap (λ (c : CoordValue). c.served) is) (ap (λ (c : CoordValue). c.book) is) (ap (λ (c : CoordValue). c.snapshots) is)
 
 -- nothing was stored
 pub nothing_stored : (c : CoordValue) → MayHaveStored c c

@@ -29,9 +29,13 @@ pub fn open_as_recorded(
     ensures some { IfOk result (λ o. IfSome o (λ t. (t.bytes ≡ bytes.now) × IsAsRecorded file.now t)) }
     ensures none { IfOk result (λ o. IfNone o ((t : Opened) → t.bytes ≡ bytes.now → IsAsRecorded file.now t → ⊥)) }
 {
-    match Table::open(alloc, bytes.clone()?) {
-        Ok(table) if is_as_recorded(file, &table) => Ok(Some(table)),
-        Ok(_) | Err(Refused::Fault(_)) => Ok(None),
-        Err(Refused::OutOfMemory) => Err(AllocError),
+    let table = match Table::open(alloc, bytes.clone()?) {
+        Ok(table) => table,
+        Err(Refused::Fault(_)) => return Ok(None),
+        Err(Refused::OutOfMemory) => return Err(AllocError),
+    };
+    if !is_as_recorded(file, &table) {
+        return Ok(None);
     }
+    Ok(Some(table))
 }

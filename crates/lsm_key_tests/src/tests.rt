@@ -92,17 +92,22 @@ fn a_vector_becomes_a_batch(rt: HostRuntime) -> Result<(), Fail> {
 }
 
 #[test]
-fn limits_have_four_borders(rt: HostRuntime) {
-    for (l0, base, within) in [
-        (1, 1, true),
-        (1000, 1_000_000_000_000, true),
-        (0, 1, false),
-        (1, 0, false),
-        (1001, 1, false),
-        (1, 1_000_000_000_001, false),
+fn limits_have_six_borders(rt: HostRuntime) {
+    for (l0, base, block, within) in [
+        (1, 1, 1, true),
+        (1000, 1_000_000_000_000, 16_777_216, true),
+        (0, 1, 1, false),
+        (1, 0, 1, false),
+        (1, 1, 0, false),
+        (1001, 1, 1, false),
+        (1, 1_000_000_000_001, 1, false),
+        (1, 1, 16_777_217, false),
     ] {
-        let found = Limits::new(l0, base).is_some();
-        assert!(rt; found == within, "{l0} files, {base} bytes");
+        let found = Limits::new(l0, base, block).is_some();
+        assert!(rt;
+            found == within,
+            "{l0} files, {base} bytes, blocks of {block}"
+        );
     }
 }
 

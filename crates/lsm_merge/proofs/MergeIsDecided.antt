@@ -18,6 +18,8 @@ use Rattle.lsm_key.proofs.LatestOfList.{has_key-is}
 use Rattle.lsm_block.specs.BlockReading.{last_of}
 use Rattle.lsm_table.specs.Tables.{largest_key, key_of_entry}
 use Rattle.lsm_table.proofs.TableContents.{largest_in}
+use Rattle.lsm_table.proofs.TableLaws.{some_blocks}
+use Rattle.lsm_table.proofs.TableSizes.{one_encoding}
 use Rattle.lsm_block.proofs.EntriesGrow.{last_at}
 use Rattle.lsm_merge.specs.declared.cut.TheConstants.{OUTPUT_TARGET}
 use Rattle.lsm_merge.specs.Outputs.{weight_of, before_last_key, AreCut, EncodeEntries}
@@ -123,15 +125,11 @@ in_some (es ∷ lists) f m = elim (IsIn-append_cases f es (all_entries lists) m)
   | inr b ↦ let r = in_some lists f b in (suc r.0, omega (arith, r.1), r.2)
 ]
 
-some_later : (later : List (List Entry)) → 0 < length (all_entries later) → 0 < length later
-some_later [] some = absurd (omega (arith, some))
-some_later (es ∷ later) some = omega arith
-
 first_of : (es : List Entry) (later : List (List Entry)) → AreCut (es ∷ later) → IsFirstOutput es (all_entries later)
 first_of es later cut = record {
   some = cut.some 0 [] (omega arith);
   late = cut.late 0 [] (omega arith);
-  full = λ some. cut.full 0 1 [] (omega arith) (let more = some_later later some in omega (arith, more));
+  full = λ some. cut.full 0 1 [] (omega arith) (let more = some_blocks later some in omega (arith, more));
   apart = λ e f m n. let r = in_some later f n in cut.apart 0 (suc r.0) [] (omega arith) (omega (arith, r.1)) e f m r.2;
 }
 
@@ -159,19 +157,19 @@ one_cut (xs ∷ one) (ys ∷ other) a b e = by (one_cut one other (rest_of xs on
 
 -- ---- and encoded
 
-one_spelling : (one other : List (List ℕ)) (lists : List (List Entry)) → EncodeEntries one lists → EncodeEntries other lists → one ≡ other
-one_spelling [] [] [] a b = refl
-one_spelling [] (y ∷ other) [] a b = absurd b
-one_spelling (x ∷ one) other [] a b = absurd a
-one_spelling [] other (es ∷ lists) a b = absurd a
-one_spelling (x ∷ one) [] (es ∷ lists) a b = absurd b
-one_spelling (x ∷ one) (y ∷ other) (es ∷ lists) a b =
-    let bytes : x ≡ y = a.0.spelled ∙ sym b.0.spelled in
-    ap (λ (z : List ℕ). z ∷ one) bytes ∙ ap (λ (zs : List (List ℕ)). y ∷ zs) (one_spelling one other lists a.1 b.1)
+one_spelling : (target : ℕ) (one other : List (List ℕ)) (lists : List (List Entry)) → EncodeEntries target one lists → EncodeEntries target other lists → one ≡ other
+one_spelling target [] [] [] a b = refl
+one_spelling target [] (y ∷ other) [] a b = absurd b
+one_spelling target (x ∷ one) other [] a b = absurd a
+one_spelling target [] other (es ∷ lists) a b = absurd a
+one_spelling target (x ∷ one) [] (es ∷ lists) a b = absurd b
+one_spelling target (x ∷ one) (y ∷ other) (es ∷ lists) a b =
+    let bytes : x ≡ y = one_encoding x y es a.0 b.0 (a.1 ∙ sym b.1) in
+    ap (λ (z : List ℕ). z ∷ one) bytes ∙ ap (λ (zs : List (List ℕ)). y ∷ zs) (one_spelling target one other lists a.2 b.2)
 
 pub one_outcome : AMergeHasOneOutcome
 one_outcome tables job one other a b =
     let members : SameMembers (all_entries a.entries) (all_entries b.entries) = λ e. (λ m. (b.kept e).1 ((a.kept e).0 m), λ m. (a.kept e).1 ((b.kept e).0 m)) in
     let entries : all_entries a.entries ≡ all_entries b.entries = one_list (all_entries a.entries) (all_entries b.entries) (ascending_falls (all_entries a.entries) a.ascending) (ascending_falls (all_entries b.entries) b.ascending) members in
     let lists : a.entries ≡ b.entries = one_cut a.entries b.entries a.cut b.cut entries in
-    one_spelling one other b.entries (subst (EncodeEntries one) lists a.spelled) b.spelled
+    one_spelling job.block one other b.entries (subst (EncodeEntries job.block one) lists a.spelled) b.spelled

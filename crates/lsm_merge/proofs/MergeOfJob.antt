@@ -62,7 +62,7 @@ module _ (tables : List Opened) (job : JobParts) (merged : List Entry) (recorded
         let points = is.points.few in
         omega (arith, count, few, points)
 
-    pub is_merge : (outputs : List (List ℕ)) → IsSplitInto (kept_list job.points job.deeper None merged) outputs → IsMerge tables job outputs
+    pub is_merge : (outputs : List (List ℕ)) → IsSplitInto job.block (kept_list job.points job.deeper None merged) outputs → IsMerge tables job outputs
     is_merge outputs made =
         let kept : List Entry = kept_list job.points job.deeper None merged in
         let falls : Falls merged = ascending_falls merged up in

@@ -8,7 +8,7 @@ use Rattle.lsm_key.specs.declared.entry.Entry.{Entry}
 use Rattle.lsm_key.specs.Places.{all_entries}
 use Rattle.lsm_key.specs.Sets.{IsIn}
 use Rattle.lsm_key.proofs.Membership.{IsIn-append_left, IsIn-append_right}
-use Rattle.lsm_table.specs.Tables.{IsTable}
+use Rattle.lsm_table.specs.Tables.{IsTable, target_of}
 use Rattle.lsm_merge.specs.declared.cut.TheConstants.{OUTPUT_TARGET}
 use Rattle.lsm_merge.specs.Outputs.{weight_of, before_last_key, HasLowerKeys, AreCut, EncodeEntries}
 use Rattle.lsm_merge.specs.Cutting.{IsFirstOutput, IsSplitInto}
@@ -28,33 +28,33 @@ cut_push (xs ∷ lists) es rest h one =
     let same : all_entries lists ++ (es ++ rest) ≡ all_entries (lists ++ es ∷ []) ++ rest = sym (append_assoc (all_entries lists) es rest) ∙ ap (λ (ys : List Entry). ys ++ rest) (sym (all_push lists es)) in
     (subst (IsFirstOutput xs) same h.0, cut_push lists es rest h.1 one)
 
-tables_push : (outputs : List (List ℕ)) (lists : List (List Entry)) (bytes : List ℕ) (es : List Entry) → EncodeEntries outputs lists → IsTable bytes es → EncodeEntries (outputs ++ bytes ∷ []) (lists ++ es ∷ [])
-tables_push [] [] bytes es h one = (one, tt)
-tables_push [] (xs ∷ lists) bytes es h one = absurd h
-tables_push (b ∷ outputs) [] bytes es h one = absurd h
-tables_push (b ∷ outputs) (xs ∷ lists) bytes es h one = (h.0, tables_push outputs lists bytes es h.1 one)
+tables_push : (target : ℕ) (outputs : List (List ℕ)) (lists : List (List Entry)) (bytes : List ℕ) (es : List Entry) → EncodeEntries target outputs lists → IsTable bytes es → target_of bytes ≡ target → EncodeEntries target (outputs ++ bytes ∷ []) (lists ++ es ∷ [])
+tables_push target [] [] bytes es h one of = (one, of, tt)
+tables_push target [] (xs ∷ lists) bytes es h one of = absurd h
+tables_push target (b ∷ outputs) [] bytes es h one of = absurd h
+tables_push target (b ∷ outputs) (xs ∷ lists) bytes es h one of = (h.0, h.1, tables_push target outputs lists bytes es h.2 one of)
 
 -- ---- the loop: what was made of the entries before a place
 
-pub record IsMade (entries : List Entry) (start : ℕ) (outputs : List (List ℕ)) : Type 0 where
+pub record IsMade (target : ℕ) (entries : List Entry) (start : ℕ) (outputs : List (List ℕ)) : Type 0 where
   pub lists : List (List Entry)
-  pub spelled : EncodeEntries outputs lists
+  pub spelled : EncodeEntries target outputs lists
   pub all : all_entries lists ≡ take start entries
   pub cut : CutSoFar lists (drop start entries)
 
-pub made_none : (entries : List Entry) → IsMade entries 0 []
-made_none entries = record { lists = []; spelled = tt; all = refl; cut = tt }
+pub made_none : (target : ℕ) (entries : List Entry) → IsMade target entries 0 []
+made_none target entries = record { lists = []; spelled = tt; all = refl; cut = tt }
 
-pub made_more : (entries : List Entry) (start count : ℕ) (rest : List Entry) (outputs : List (List ℕ)) (bytes : List ℕ) → rest ≡ drop start entries → IsMade entries start outputs
-    → IsFirstOutput (take count rest) (drop count rest) → IsTable bytes (take count rest) → IsMade entries (start + count) (outputs ++ bytes ∷ [])
-made_more entries start count rest outputs bytes rest_is made one is =
+pub made_more : (target : ℕ) (entries : List Entry) (start count : ℕ) (rest : List Entry) (outputs : List (List ℕ)) (bytes : List ℕ) → rest ≡ drop start entries → IsMade target entries start outputs
+    → IsFirstOutput (take count rest) (drop count rest) → IsTable bytes (take count rest) → target_of bytes ≡ target → IsMade target entries (start + count) (outputs ++ bytes ∷ [])
+made_more target entries start count rest outputs bytes rest_is made one is of =
     let out : List Entry = take count rest in
     let later : drop count rest ≡ drop (start + count) entries = ap (drop count) rest_is ∙ drop-drop count start entries in
     let parts : drop start entries ≡ out ++ drop count rest = sym rest_is ∙ sym (take-append-drop count rest) in
     let front : take start entries ++ out ≡ take (start + count) entries = ap (λ (xs : List Entry). take start entries ++ take count xs) rest_is ∙ sym (take-add start count entries) in
     record {
       lists = made.lists ++ out ∷ [];
-      spelled = tables_push outputs made.lists bytes out made.spelled is;
+      spelled = tables_push target outputs made.lists bytes out made.spelled is of;
       all = all_push made.lists out ∙ ap (λ (xs : List Entry). xs ++ out) made.all ∙ front;
       cut = subst (CutSoFar (made.lists ++ out ∷ [])) later (cut_push made.lists out (drop count rest) (subst (CutSoFar made.lists) parts made.cut) one);
     }
@@ -81,8 +81,8 @@ all_cut (es ∷ lists) h =
       apart = AllPairs-cons HasLowerKeys es lists (λ k d lt e f m n. h.0.apart e f m (IsIn-append_left f (all_entries lists) [] (in_all lists k d f lt n))) rest.apart;
     }
 
-pub made_all : (entries : List Entry) (start : ℕ) (outputs : List (List ℕ)) → length entries ≤ start → IsMade entries start outputs → IsSplitInto entries outputs
-made_all entries start outputs past made = record {
+pub made_all : (target : ℕ) (entries : List Entry) (start : ℕ) (outputs : List (List ℕ)) → length entries ≤ start → IsMade target entries start outputs → IsSplitInto target entries outputs
+made_all target entries start outputs past made = record {
   lists = made.lists;
   spelled = made.spelled;
   all = made.all ∙ take_all start entries past;

@@ -15,7 +15,7 @@ use Rattle.lsm_key.specs.Visible.{has_key}
 use Rattle.lsm_key.proofs.AscendingEntries.{IsIn-filter, ascending_falls, falls_ascend}
 use Rattle.lsm_key.proofs.Membership.{IsIn-at, IsIn-append_left, IsIn-append_right}
 use Rattle.lsm_block.specs.Blocks.{AreEntries, HasSequence}
-use Rattle.lsm_table.specs.Tables.{table, largest_key}
+use Rattle.lsm_table.specs.Tables.{table_of, largest_key}
 use Rattle.lsm_block.proofs.EntriesGrow.{each_in}
 use Rattle.lsm_table.proofs.TableWeights.{table_weighs}
 use Rattle.lsm_merge.specs.declared.cut.TheConstants.{OUTPUT_TARGET}
@@ -58,21 +58,21 @@ module _ (front part rest : List Entry) where
       omega (arith, whole, a, b, c, own)
 
 -- entries that may be an output: their table is within its limit
-pub output_fits : (es : List Entry) → 0 < length es → AreEntries es → AreFew es → weight_of (before_last_key es) < OUTPUT_TARGET → length (table es) ≤ MAX_TABLE_BYTES
-output_fits es some sound few late =
+pub output_fits : (target : ℕ) (es : List Entry) → 0 < length es → AreEntries es → AreFew es → weight_of (before_last_key es) < OUTPUT_TARGET → length (table_of target es) ≤ MAX_TABLE_BYTES
+output_fits target es some sound few late =
     let k : List ℕ = largest_key es in
     let both : weight_of (filter (has_key k) es) + weight_of (before_last_key es) ≡ weight_of es = sum_by-filter_both (has_key k) (λ e. not (has_key k e)) (λ e. refl) entry_weight es in
     let light : All (λ e. entry_weight e ≤ 66574) (filter (has_key k) es) = λ i d lt. entry_most (get_or (filter (has_key k) es) i d) (each_in IsEntry es (get_or (filter (has_key k) es) i d) sound.each (IsIn-filter (has_key k) (get_or (filter (has_key k) es) i d) es (IsIn-at (filter (has_key k) es) i d lt)).0) in
     let own : weight_of (filter (has_key k) es) ≤ length (filter (has_key k) es) * 66574 = sum_by-le entry_weight 66574 (filter (has_key k) es) light in
     let most = few k in
-    let size = table_weighs es some in
+    let size = table_weighs target es some in
     omega (arith, both, own, most, late, size)
 
 -- the same of an output that is cut from the front of what is left
-pub cut_fits : (entries : List Entry) (start count : ℕ) (rest : List Entry) → rest ≡ drop start entries → AreEntries entries → AreFew entries → IsFirstOutput (take count rest) (drop count rest) → length (table (take count rest)) ≤ MAX_TABLE_BYTES
-cut_fits entries start count rest rest_is sound few one =
+pub cut_fits : (target : ℕ) (entries : List Entry) (start count : ℕ) (rest : List Entry) → rest ≡ drop start entries → AreEntries entries → AreFew entries → IsFirstOutput (take count rest) (drop count rest) → length (table_of target (take count rest)) ≤ MAX_TABLE_BYTES
+cut_fits target entries start count rest rest_is sound few one =
     let front : List Entry = take start entries in
     let out : List Entry = take count rest in
     let later : List Entry = drop count rest in
     let whole : front ++ (out ++ later) ≡ entries = ap (λ (xs : List Entry). front ++ xs) (take-append-drop count rest ∙ rest_is) ∙ take-append-drop start entries in
-    output_fits out one.some (part_sound front out later (subst AreEntries (sym whole) sound)) (part_few front out later (subst AreFew (sym whole) few)) one.late
+    output_fits target out one.some (part_sound front out later (subst AreEntries (sym whole) sound)) (part_few front out later (subst AreFew (sym whole) few)) one.late

@@ -25,9 +25,9 @@ pub record IsFirstOutput (output later : List Entry) : Type 0 where
   pub full : 0 < length later → OUTPUT_TARGET ≤ weight_of output
   pub apart : HasLowerKeys output later
 
--- the outputs are tables that have these entries between them, cut as a merge does
-pub record IsSplitInto (entries : List Entry) (outputs : List (List ℕ)) : Type 0 where
+-- the outputs are tables of this block target that have these entries between them, cut as a merge does
+pub record IsSplitInto (target : ℕ) (entries : List Entry) (outputs : List (List ℕ)) : Type 0 where
   pub lists : List (List Entry)
-  pub spelled : EncodeEntries outputs lists
+  pub spelled : EncodeEntries target outputs lists
   pub all : all_entries lists ≡ entries
   pub cut : AreCut lists

@@ -6,7 +6,7 @@ use Rattle.lsm_key.specs.Order.{IsAscending, key_lt}
 use Rattle.lsm_key.specs.Places.{all_entries}
 use Rattle.lsm_key.specs.Sets.{IsIn}
 use Rattle.lsm_key.specs.Visible.{has_key}
-use Rattle.lsm_table.specs.Tables.{Opened, IsTable, largest_key}
+use Rattle.lsm_table.specs.Tables.{Opened, IsTable, largest_key, target_of}
 use Rattle.lsm_msg.specs.declared.job.JobParts.{JobParts}
 use Rattle.lsm_msg.specs.Merge.{HoldsKept}
 use Rattle.lsm_merge.specs.declared.cut.TheConstants.{OUTPUT_TARGET}
@@ -30,17 +30,17 @@ pub record AreCut (outputs : List (List Entry)) : Type 0 where
   pub full : AllPairs (λ entries later. OUTPUT_TARGET ≤ weight_of entries) outputs  -- each but the last weighs enough
   pub apart : AllPairs HasLowerKeys outputs  -- no key is in two
 
--- the outputs are the tables of these entries, one by one
-abbrev pub EncodeEntries : List (List ℕ) → List (List Entry) → Type 0
-EncodeEntries [] [] = Unit {0}
-EncodeEntries (bytes ∷ more) (entries ∷ later) = IsTable bytes entries × EncodeEntries more later
-EncodeEntries [] (entries ∷ later) = ⊥
-EncodeEntries (bytes ∷ more) [] = ⊥
+-- the outputs are the tables of these entries, one by one, with their blocks cut at the target
+abbrev pub EncodeEntries : ℕ → List (List ℕ) → List (List Entry) → Type 0
+EncodeEntries target [] [] = Unit {0}
+EncodeEntries target (bytes ∷ more) (entries ∷ later) = IsTable bytes entries × (target_of bytes ≡ target) × EncodeEntries target more later
+EncodeEntries target [] (entries ∷ later) = ⊥
+EncodeEntries target (bytes ∷ more) [] = ⊥
 
--- the outputs of a merge: what is kept of the inputs, in order, cut into tables
+-- the outputs of a merge: what is kept of the inputs, in order, cut into tables of the job's block target
 pub record IsMerge (tables : List Opened) (job : JobParts) (outputs : List (List ℕ)) : Type 0 where
   pub entries : List (List Entry)
-  pub spelled : EncodeEntries outputs entries
+  pub spelled : EncodeEntries job.block outputs entries
   pub kept : HoldsKept (all_entries (lists_of tables)) job.points job.deeper (all_entries entries)
   pub ascending : IsAscending (all_entries entries)
   pub cut : AreCut entries

@@ -4,6 +4,7 @@ ghost use Rattle.std.specs.Prelude.{◌≡◌, ◌<◌, ◌≤◌, ℕ, length, 
 ghost use Rattle.lsm_key.specs.Entries.{IsEntry};
 ghost use Rattle.lsm_key.specs.Limits.{entry_weight};
 ghost use Rattle.lsm_block.specs.Blocks.{AreEntries};
+ghost use Rattle.lsm_table.specs.Tables.{IsTarget};
 ghost use Rattle.lsm_merge.specs.Cutting.{AreFew, IsSplitInto, IsFirstOutput, IsKeyEnd};
 ghost use Rattle.lsm_merge.specs.Outputs.{weight_of};
 
@@ -16,18 +17,23 @@ use std::alloc::{AllocError, Global};
 /// level, and each of them small compared to what a later merge may take. In bytes, as the entries take in a block.
 pub const OUTPUT_TARGET: usize = 2_000_000;
 
-// The tables of entries in order. No key has many entries.
-pub(crate) fn outputs_of(alloc: Global, entries: &[Entry]) -> Result<Vec<Bytes>, AllocError>
+// The tables of entries in order, their blocks cut at the target. No key has many entries.
+pub(crate) fn outputs_of(
+    alloc: Global,
+    target: u32,
+    entries: &[Entry],
+) -> Result<Vec<Bytes>, AllocError>
+    requires target { IsTarget target }
     requires sound { AreEntries entries.now }
     requires few { AreFew entries.now }
-    ensures { IfOk result (λ outputs. IsSplitInto entries.now outputs.items) }
+    ensures { IfOk result (λ outputs. IsSplitInto target entries.now outputs.items) }
 {
     let mut outputs = Vec::new(alloc);
     let mut start = 0;
     while start < entries.len() {
         let rest = &entries[start..];
         let count = output_end(rest);
-        let output = encode_table(alloc, &rest[..count])?;
+        let output = encode_table(alloc, target, &rest[..count])?;
         outputs.push(output)?;
         start += count;
     }

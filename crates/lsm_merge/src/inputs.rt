@@ -78,7 +78,7 @@ pub(crate) fn have_same_entry(tables: &[Table]) -> bool
 fn shares_entry(table: &Table, later: &[Table]) -> bool
     ensures { result ≡ list_any (λ e. list_any (λ t. has_place e.ikey t.entries) later.now) table.now.entries }
 {
-    let mut rest = table.block().bytes();
+    let mut rest = table.span();
     while !rest.is_empty() {
         let (entry, after) = match entry_in(rest) {
             Ok(found) => found,

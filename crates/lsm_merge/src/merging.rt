@@ -31,7 +31,7 @@ pub fn merge(alloc: Global, tables: &[Table], job: &Job) -> Result<Vec<Bytes>, M
     let kept = kept_of(alloc, &merged, job)?;
     // Its memory serves the outputs.
     drop(merged);
-    let outputs = outputs_of(alloc, &kept)?;
+    let outputs = outputs_of(alloc, job.block(), &kept)?;
     Ok(outputs)
 }
 

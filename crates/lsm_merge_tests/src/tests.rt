@@ -10,7 +10,7 @@ ghost use Rattle.lsm_key.specs.Entries.{IsEntry};
 use bytes::Bytes;
 use lsm_claim::JobId;
 use lsm_edit::FileMeta;
-use lsm_key::{Entry, InternalKey, Items, KeyRange, Kind, Seq};
+use lsm_key::{DEFAULT_BLOCK, Entry, InternalKey, Items, KeyRange, Kind, Seq};
 use lsm_merge::{MergeError, merge};
 use lsm_msg::{Job, JobParts};
 use lsm_table::{BuildError, Table, TableBuilder};
@@ -81,7 +81,7 @@ fn finished(builder: TableBuilder) -> Result<Table, Fail> {
 
 /// The table of entries in order.
 fn table_of(alloc: Global, rows: &[Row]) -> Result<Table, Fail> {
-    let mut builder = TableBuilder::new(alloc);
+    let mut builder = TableBuilder::new(alloc, DEFAULT_BLOCK);
     for row in rows {
         add_row(alloc, &mut builder, *row)?;
     }
@@ -126,7 +126,7 @@ fn job_of(
             number: 1,
         },
         level: 0,
-        block: 16_777_216,
+        block: DEFAULT_BLOCK,
         points: seqs,
         inputs: Items::from_vec(files),
         deeper: ranges,

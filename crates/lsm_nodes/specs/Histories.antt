@@ -129,7 +129,7 @@ AreSoundJobs history c = (job : JobParts) → IsPickedIn history job → holds c
 
 -- a coordinator over nothing: what a ledger names until a program picks its own
 abbrev pub no_coord : CoordValue
-no_coord = opened_coord (record { l0 = 1; base = 1; l0_some = lit≤ tt; l0_most = lit≤ tt; base_some = lit≤ tt; base_most = lit≤ tt }) (record { served = first_served; edits = []; retired = []; floor = 0; kept = empty; failures = 0 })
+no_coord = opened_coord (record { l0 = 1; base = 1; block = 1; l0_some = lit≤ tt; l0_most = lit≤ tt; base_some = lit≤ tt; base_most = lit≤ tt; block_some = lit≤ tt; block_most = lit≤ tt }) (record { served = first_served; edits = []; retired = []; floor = 0; kept = empty; failures = 0 })
 
 pub record SharedValue : Type 0 where
   pub coord : CoordValue

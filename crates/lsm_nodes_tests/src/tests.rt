@@ -10,7 +10,7 @@ mod returns;
 use bytes::Bytes;
 use lsm_coord::Coord;
 use lsm_edit::Served;
-use lsm_key::{Batch, DEFAULT_BASE, FileNumber, Items, Limits, Op};
+use lsm_key::{Batch, DEFAULT_BASE, DEFAULT_BLOCK, FileNumber, Items, Limits, Op};
 use lsm_merge::merge;
 use lsm_msg::{Body, Job, JobResult, Message, NodeIndex};
 use lsm_nodes::{CloseError, Hub, Link, PARTS, Start, Tally, Witness, dispatch};
@@ -275,7 +275,7 @@ fn counted<
 
 // The same of a new store.
 fn counted_anew<R: Threads + Wait + Sync>(rt: &R, alloc: Global) -> Option<Counts> {
-    let limits = Limits::new(2, DEFAULT_BASE)?;
+    let limits = Limits::new(2, DEFAULT_BASE, DEFAULT_BLOCK)?;
     let Ok(coord) = Coord::open(alloc, MemoryVault::new(alloc), limits) else {
         return None;
     };

@@ -5,7 +5,7 @@ mod growing;
 use growing::{File, add, opened, with_files};
 use lsm_claim::{ClaimBook, Ending, Want};
 use lsm_edit::Served;
-use lsm_key::{DEFAULT_BASE, Limits};
+use lsm_key::{DEFAULT_BASE, DEFAULT_BLOCK, Limits};
 use lsm_pick::{PickError, pick};
 use std::alloc::Global;
 use std::test::Fail;
@@ -57,7 +57,7 @@ const TEXTS: [(PickError, &str); 2] = [
 ];
 
 fn limits_of(l0: u64, base: u64) -> Result<Limits, Fail> {
-    Ok(Limits::new(l0, base).ok_or("no limits")?)
+    Ok(Limits::new(l0, base, DEFAULT_BLOCK).ok_or("no limits")?)
 }
 
 // Whether it is picked as wanted.

@@ -2,11 +2,11 @@
 
 ghost use Rattle.std.specs.Prelude.{◌≡◌, ◌↔◌, IfSome, IsSome, unwrap_or};
 ghost use Rattle.lsm_key.specs.Limits.{AreLimits};
-ghost use Rattle.lsm_key.specs.declared.limits.TheConstants.{DEFAULT_L0, DEFAULT_BASE};
+ghost use Rattle.lsm_key.specs.declared.limits.TheConstants.{DEFAULT_L0, DEFAULT_BASE, DEFAULT_BLOCK};
 
 use clap::error::ErrorKind;
 use clap::{Arg, ArgMatches, Command, Error, value_parser};
-use lsm_key::{DEFAULT_BASE, DEFAULT_L0, Limits};
+use lsm_key::{DEFAULT_BASE, DEFAULT_BLOCK, DEFAULT_L0, Limits};
 use std::alloc::{AllocError, Global};
 
 // The texts of the defaults are tested with the rest of the help: a text can't be made of a constant.
@@ -14,6 +14,9 @@ const L0_HELP: &str = "Level 0 is due from this many files on, 1 to 1000 [defaul
 
 const BASE_HELP: &str =
     "Level 1 is due past this many bytes, 1 to 1000000000000; each deeper level holds ten times as many [default: 10485760]";
+
+const BLOCK_HELP: &str =
+    "A block of a table is closed once it has this many bytes, 1 to 16777216 [default: 4096]";
 
 /// What a command line asks for.
 #[derive(Drop)]
@@ -60,12 +63,22 @@ fn base<'a>(alloc: Global) -> Arg<'a> {
         .value_parser(value_parser!(u64).range(1..=1_000_000_000_000))
 }
 
+/// The bytes from which on a block of a table is closed.
+fn block<'a>(alloc: Global) -> Arg<'a> {
+    Arg::new(alloc, "block")
+        .long("block")
+        .value_name("N")
+        .help(BLOCK_HELP)
+        .value_parser(value_parser!(u64).range(1..=16_777_216))
+}
+
 /// `run`, with its options.
 fn run<'a>(alloc: Global) -> Result<Command<'a>, AllocError> {
     Command::new(alloc, "run")
         .about("Run a script from standard input and print a line for each reply")
         .arg(l0(alloc))?
-        .arg(base(alloc))
+        .arg(base(alloc))?
+        .arg(block(alloc))
 }
 
 /// `draw`, with its options.
@@ -73,7 +86,8 @@ fn draw<'a>(alloc: Global) -> Result<Command<'a>, AllocError> {
     Command::new(alloc, "draw")
         .about("Run a script from standard input and draw its events and messages as SVG")
         .arg(l0(alloc))?
-        .arg(base(alloc))
+        .arg(base(alloc))?
+        .arg(block(alloc))
 }
 
 /// `explore`, with its options.
@@ -127,17 +141,29 @@ fn command<'a>(alloc: Global) -> Result<Command<'a>, AllocError> {
 }
 
 /// The limits of these numbers, each its default if it is not given, or `None` if one is outside its range.
-fn limits_from(l0: Option<u64>, base: Option<u64>) -> Option<Limits>
-    ensures within { IsSome result ↔ AreLimits (unwrap_or l0 DEFAULT_L0) (unwrap_or base DEFAULT_BASE) }
+fn limits_from(l0: Option<u64>, base: Option<u64>, block: Option<u64>) -> Option<Limits>
+    ensures within { IsSome result ↔ AreLimits (unwrap_or l0 DEFAULT_L0) (unwrap_or base DEFAULT_BASE) (unwrap_or block DEFAULT_BLOCK) }
     ensures l0 { IfSome result (λ limits. limits.l0 ≡ unwrap_or l0 DEFAULT_L0) }
     ensures base { IfSome result (λ limits. limits.base ≡ unwrap_or base DEFAULT_BASE) }
+    ensures block { IfSome result (λ limits. limits.block ≡ unwrap_or block DEFAULT_BLOCK) }
 {
-    Limits::new(l0.unwrap_or(DEFAULT_L0), base.unwrap_or(DEFAULT_BASE))
+    match u32::try_from(block.unwrap_or(u64::from(DEFAULT_BLOCK))) {
+        Ok(block) => Limits::new(
+            l0.unwrap_or(DEFAULT_L0),
+            base.unwrap_or(DEFAULT_BASE),
+            block,
+        ),
+        Err(_) => None,
+    }
 }
 
 /// The limits that the options of a subcommand ask for.
 fn limits_in(options: &ArgMatches<'_>) -> Option<Limits> {
-    limits_from(options.get_one("l0"), options.get_one("base"))
+    limits_from(
+        options.get_one("l0"),
+        options.get_one("base"),
+        options.get_one("block"),
+    )
 }
 
 /// What the options of `explore` ask for.
@@ -145,7 +171,7 @@ fn exploration_in(options: &ArgMatches<'_>) -> Option<Exploration> {
     let l0 = options.get_one("l0").unwrap_or(EXPLORED_L0);
     Some(Exploration {
         events: options.get_one("events")?,
-        limits: limits_from(Some(l0), None)?,
+        limits: limits_from(Some(l0), None, None)?,
         threads: options.get_one("threads"),
         seed: options.get_one("seed").unwrap_or(1),
     })

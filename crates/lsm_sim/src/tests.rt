@@ -78,7 +78,7 @@ impl Write for Full {
 
 /// Runs a script. Proof hint: a test that runs needs none of its promises.
 fn run<R: Read, W: Write>(alloc: Global, reader: &mut R, writer: &mut W) -> Result<(), RunError> {
-    match Limits::new(4, 10_485_760) {
+    match Limits::new(4, 10_485_760, 4096) {
         Some(limits) => run_script(alloc, reader, writer, limits),
         None => Ok(()),
     }

@@ -63,9 +63,9 @@ module _ (old mid new : CoordValue) (claim : LiveJob) (job : JobParts) (ver : Is
     -- ---- why it is kept back
 
     module _ (live : LiveJob) (one : live ≡ claim) where
-      refused_by : (why : InstallError) → Rejects mid.served.version live made why → CompactionRefuses old (error_of why)
+      refused_by : (why : InstallError) → Rejects mid.limits.block mid.served.version live made why → CompactionRefuses old (error_of why)
       refused_by WrongJob x = absurd (x (same_job ∙ named old mid claim job ver is book picked ∙ ap (λ (l : LiveJob). l.id) (sym one)))
-      refused_by BadResult x = absurd (x.1 (opened_as made.tables m.entries, subst (λ (l : LiveJob). AreOutputTables l.want.hull made.tables (opened_as made.tables m.entries)) (sym one) (made_outputs old mid claim job ver is book picked made m)))
+      refused_by BadResult x = absurd (x.1 (opened_as made.tables m.entries, subst (λ (l : LiveJob). AreOutputTables mid.limits.block l.want.hull made.tables (opened_as made.tables m.entries)) (sym one) (made_outputs old mid claim job ver is book picked made m)))
       refused_by NumbersExhausted x = inr (record {
         claim = claim;
         job = job;
@@ -74,7 +74,7 @@ module _ (old mid new : CoordValue) (claim : LiveJob) (job : JobParts) (ver : Is
         made = made;
         merged = made_of_inputs old mid claim job ver is book picked made m;
         tables = x.1;
-        outputs = subst (λ (l : LiveJob). AreOutputTables l.want.hull made.tables x.1) one x.2;
+        outputs = subst (λ (l : LiveJob). AreOutputTables mid.limits.block l.want.hull made.tables x.1) one x.2;
         lacks = λ has. x.3 (subst (λ (s : ServedValue). HasNumbers s.version x.1) (sym (served_is old mid claim job ver is book picked)) has);
       })
       refused_by OutOfMemory x = wants_memory old picked.want picked.may

@@ -157,8 +157,8 @@ module _ (old mid : CoordValue) (claim : LiveJob) (job : JobParts) (ver : IsVers
     pub made_of_inputs : HoldsMergeOf mid.served job made
     made_of_inputs = holds_merge mid.served mid_ver mid_is job inputs_of_version made m
 
-    pub made_outputs : AreOutputTables claim.want.hull made.tables (opened_as made.tables m.entries)
-    made_outputs = outputs_are mid.served mid_ver mid_is claim.want legal job takes made.tables m (omega (arith, inputs_few))
+    pub made_outputs : AreOutputTables mid.limits.block claim.want.hull made.tables (opened_as made.tables m.entries)
+    made_outputs = outputs_are mid.served mid_ver mid_is claim.want legal job takes made.tables m mid.limits.block (picked.job_is.block ∙ sym (ap (λ (c : CoordValue). c.limits.block) picked.new_is)) (omega (arith, inputs_few))
 
   -- ---- what is given back, after the vault may have got outputs
 

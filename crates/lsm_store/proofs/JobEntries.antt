@@ -1,5 +1,5 @@
 -- The entries of a job's tables are those of its inputs, no two tables have one, and they are few.
-use Rattle.std.proofs.Common.{◌≡◌, ℕ, ◌+◌, ◌*◌, ◌≤◌, List, [], ◌∷◌, ◌++◌, length, refl, sym, ap, subst, ◌∙◌, arith, inl, inr, length-append}
+use Rattle.std.proofs.Common.{◌≡◌, ◌+◌, ◌*◌, ◌≤◌, List, [], ◌∷◌, ◌++◌, length, refl, sym, ap, subst, ◌∙◌, arith, inl, inr, length-append}
 use Rattle.std.specs.Prelude.{sum_by}
 use Rattle.std.proofs.lemmas.List.Sums.{sum_by-cons}
 use Rattle.lsm_key.specs.declared.entry.Entry.{Entry}
@@ -8,7 +8,8 @@ use Rattle.lsm_key.specs.Places.{AreOrdered, all_entries}
 use Rattle.lsm_key.specs.Sets.{IsIn}
 use Rattle.lsm_key.proofs.Membership.{IsIn-append_left, IsIn-append_right, IsIn-append_cases}
 use Rattle.lsm_block.specs.Blocks.{entries}
-use Rattle.lsm_table.specs.Tables.{Opened, header, index, table}
+use Rattle.lsm_table.specs.Tables.{Opened}
+use Rattle.lsm_table.proofs.TableSizes.{entries_within}
 use Rattle.lsm_table.proofs.TableWeights.{entries_weigh}
 use Rattle.lsm_edit.specs.declared.file.FileMeta.{FileMeta}
 use Rattle.lsm_edit.specs.declared.served.Placed.{Placed}
@@ -92,9 +93,7 @@ module _ (s : ServedValue) (ver : IsVersion s.version) (is : IsServed s) where
   few_inputs (f ∷ files) all =
       let p = first f files all in
       let es = p.0.table.entries in
-      let is_table = (is.recorded p.0 p.1).table in
       let total : length (input_entries s.places (f ∷ files)) ≡ length es + length (input_entries s.places files) = ap (λ (lists : List (List Entry)). length (all_entries lists)) p.3 ∙ length-append es (input_entries s.places files) in
-      let size : f.bytes ≡ length (table es) = ap (λ (g : FileMeta). g.bytes) p.2 ∙ (is.recorded p.0 p.1).bytes ∙ ap (λ (bytes : List ℕ). length bytes) is_table.spelled in
-      let parts : length (table es) ≡ length (header (length es)) + length (index es ++ entries es) = length-append (header (length es)) (index es ++ entries es) in
-      let more : length (index es ++ entries es) ≡ length (index es) + length (entries es) = length-append (index es) (entries es) in
-      omega (arith, total, size, parts, more, entries_weigh es, overheads es, few_inputs files (λ g n. all g (inr n)), sum_by-cons (λ (g : FileMeta). g.bytes) f files)
+      let size : f.bytes ≡ length p.0.table.bytes = ap (λ (g : FileMeta). g.bytes) p.2 ∙ (is.recorded p.0 p.1).bytes in
+      let within : length (entries es) ≤ length p.0.table.bytes = entries_within p.0.table.bytes es (is.recorded p.0 p.1).table in
+      omega (arith, total, size, within, entries_weigh es, overheads es, few_inputs files (λ g n. all g (inr n)), sum_by-cons (λ (g : FileMeta). g.bytes) f files)

@@ -11,7 +11,7 @@ use Rattle.lsm_key.proofs.AscendingEntries.{Falls, ascending_falls}
 use Rattle.lsm_key.proofs.Membership.{IsIn-append_left, IsIn-append_right, IsIn-map, IsIn-place}
 use Rattle.lsm_claim.specs.declared.job.Want.{Want}
 use Rattle.lsm_claim.specs.Conflicts.{covers}
-use Rattle.lsm_table.specs.Tables.{Opened, largest_key, smallest_key}
+use Rattle.lsm_table.specs.Tables.{Opened, largest_key, smallest_key, target_of}
 use Rattle.lsm_table.proofs.TableContents.{largest_in, smallest_in}
 use Rattle.lsm_edit.specs.declared.file.FileMeta.{FileMeta}
 use Rattle.lsm_edit.specs.Served.{IsServed, ServedValue}
@@ -48,27 +48,36 @@ opened_as [] lists = []
 opened_as (text ∷ texts) [] = []
 opened_as (text ∷ texts) (es ∷ lists) = record { bytes = text; entries = es } ∷ opened_as texts lists
 
-pub opened_tables : (texts : List (List ℕ)) (lists : List (List Entry)) → merge.EncodeEntries texts lists → DecodeTo texts (opened_as texts lists)
-opened_tables [] [] h = tt
-opened_tables [] (es ∷ lists) h = absurd h
-opened_tables (text ∷ texts) [] h = absurd h
-opened_tables (text ∷ texts) (es ∷ lists) h = (refl, h.0, opened_tables texts lists h.1)
+pub opened_tables : (target : ℕ) (texts : List (List ℕ)) (lists : List (List Entry)) → merge.EncodeEntries target texts lists → DecodeTo texts (opened_as texts lists)
+opened_tables target [] [] h = tt
+opened_tables target [] (es ∷ lists) h = absurd h
+opened_tables target (text ∷ texts) [] h = absurd h
+opened_tables target (text ∷ texts) (es ∷ lists) h = (refl, h.0, opened_tables target texts lists h.2)
 
-pub opened_entries : (texts : List (List ℕ)) (lists : List (List Entry)) → merge.EncodeEntries texts lists → lists_of (opened_as texts lists) ≡ lists
-opened_entries [] [] h = refl
-opened_entries [] (es ∷ lists) h = absurd h
-opened_entries (text ∷ texts) [] h = absurd h
-opened_entries (text ∷ texts) (es ∷ lists) h = ap (λ (ls : List (List Entry)). es ∷ ls) (opened_entries texts lists h.1)
+-- each is of the block target
+opened_cut : (target : ℕ) (texts : List (List ℕ)) (lists : List (List Entry)) → merge.EncodeEntries target texts lists → (t : Opened) → IsIn t (opened_as texts lists) → target_of t.bytes ≡ target
+opened_cut target [] lists h t m = absurd m
+opened_cut target (text ∷ texts) [] h t m = absurd m
+opened_cut target (text ∷ texts) (es ∷ lists) h t m = elim m [
+  | inl same ↦ ap (λ (u : Opened). target_of u.bytes) same ∙ h.1
+  | inr later ↦ opened_cut target texts lists h.2 t later
+]
 
-as_many : (texts : List (List ℕ)) (lists : List (List Entry)) → merge.EncodeEntries texts lists → length texts ≡ length lists
-as_many [] [] h = refl
-as_many [] (es ∷ lists) h = absurd h
-as_many (text ∷ texts) [] h = absurd h
-as_many (text ∷ texts) (es ∷ lists) h = let rest = as_many texts lists h.1 in omega (arith, rest)
+pub opened_entries : (target : ℕ) (texts : List (List ℕ)) (lists : List (List Entry)) → merge.EncodeEntries target texts lists → lists_of (opened_as texts lists) ≡ lists
+opened_entries target [] [] h = refl
+opened_entries target [] (es ∷ lists) h = absurd h
+opened_entries target (text ∷ texts) [] h = absurd h
+opened_entries target (text ∷ texts) (es ∷ lists) h = ap (λ (ls : List (List Entry)). es ∷ ls) (opened_entries target texts lists h.2)
+
+as_many : (target : ℕ) (texts : List (List ℕ)) (lists : List (List Entry)) → merge.EncodeEntries target texts lists → length texts ≡ length lists
+as_many target [] [] h = refl
+as_many target [] (es ∷ lists) h = absurd h
+as_many target (text ∷ texts) [] h = absurd h
+as_many target (text ∷ texts) (es ∷ lists) h = let rest = as_many target texts lists h.2 in omega (arith, rest)
 
 -- the entries of one are those of an output
-opened_in : (texts : List (List ℕ)) (lists : List (List Entry)) → merge.EncodeEntries texts lists → (t : Opened) → IsIn t (opened_as texts lists) → IsIn t.entries lists
-opened_in texts lists h t m = subst (λ (ls : List (List Entry)). IsIn t.entries ls) (opened_entries texts lists h) (IsIn-map (λ (u : Opened). u.entries) t (opened_as texts lists) m)
+opened_in : (target : ℕ) (texts : List (List ℕ)) (lists : List (List Entry)) → merge.EncodeEntries target texts lists → (t : Opened) → IsIn t (opened_as texts lists) → IsIn t.entries lists
+opened_in target texts lists h t m = subst (λ (ls : List (List Entry)). IsIn t.entries ls) (opened_entries target texts lists h) (IsIn-map (λ (u : Opened). u.entries) t (opened_as texts lists) m)
 
 in_all : (lists : List (List Entry)) (es : List Entry) (e : Entry) → IsIn es lists → IsIn e es → IsIn e (all_entries lists)
 in_all [] es e m n = absurd m
@@ -79,18 +88,18 @@ in_all (fs ∷ lists) es e m n = elim m [
 
 -- ---- one after another
 
-pub opened_ascending : (texts : List (List ℕ)) (lists : List (List Entry)) → merge.EncodeEntries texts lists → ((es : List Entry) → IsIn es lists → 0 < length es) → AllPairs HasLowerKeys lists → AreAscending (opened_as texts lists)
-opened_ascending [] [] h some lower = tt
-opened_ascending [] (es ∷ lists) h some lower = absurd h
-opened_ascending (text ∷ texts) [] h some lower = absurd h
-opened_ascending (text ∷ texts) (es ∷ lists) h some lower = (
+pub opened_ascending : (target : ℕ) (texts : List (List ℕ)) (lists : List (List Entry)) → merge.EncodeEntries target texts lists → ((es : List Entry) → IsIn es lists → 0 < length es) → AllPairs HasLowerKeys lists → AreAscending (opened_as texts lists)
+opened_ascending target [] [] h some lower = tt
+opened_ascending target [] (es ∷ lists) h some lower = absurd h
+opened_ascending target (text ∷ texts) [] h some lower = absurd h
+opened_ascending target (text ∷ texts) (es ∷ lists) h some lower = (
   λ u m.
-      let there = opened_in texts lists h.1 u m in
+      let there = opened_in target texts lists h.2 u m in
       let last = largest_in es (some es (inl refl)) in
       let first = smallest_in u.entries (some u.entries (inr there)) in
       let before : key_lt last.0.ikey.key first.0.ikey.key ≡ true = with_first HasLowerKeys es lists lower u.entries there last.0 first.0 last.1 first.1 in
       sym (λ i. key_lt (last.2 i) (first.2 i)) ∙ before,
-  opened_ascending texts lists h.1 (λ fs m. some fs (inr m)) (of_rest HasLowerKeys es lists lower),
+  opened_ascending target texts lists h.2 (λ fs m. some fs (inr m)) (of_rest HasLowerKeys es lists lower),
 )
 
 -- ---- how many there are
@@ -146,7 +155,7 @@ module _ (s : ServedValue) (ver : IsVersion s.version) (is : IsServed s) (want :
 
   inside : (t : Opened) → IsIn t (opened_as texts m.entries) → is_table_inside want.hull t ≡ true
   inside t n =
-      let there = opened_in texts m.entries m.spelled t n in
+      let there = opened_in job.block texts m.entries m.spelled t n in
       let first = smallest_in t.entries (some t.entries there) in
       let last = largest_in t.entries (some t.entries there) in
       let low = and_parts (key_le want.hull.lo first.0.ikey.key) (key_le first.0.ikey.key want.hull.hi) (in_hull first.0 (in_all m.entries t.entries first.0 there first.1)) in
@@ -154,16 +163,17 @@ module _ (s : ServedValue) (ver : IsVersion s.version) (is : IsServed s) (want :
       and_from (key_le want.hull.lo (smallest_key t.entries)) (key_le (largest_key t.entries) want.hull.hi)
       (subst (λ (k : List ℕ). key_le want.hull.lo k ≡ true) first.2 low.0) (subst (λ (k : List ℕ). key_le k want.hull.hi ≡ true) last.2 high.1)
 
-  pub outputs_are : sum_by (λ f. f.bytes) job.inputs ≤ 2 ^ 34 → AreOutputTables want.hull texts (opened_as texts m.entries)
-  outputs_are most = record {
+  pub outputs_are : (block : ℕ) → job.block ≡ block → sum_by (λ f. f.bytes) job.inputs ≤ 2 ^ 34 → AreOutputTables block want.hull texts (opened_as texts m.entries)
+  outputs_are block target most = record {
     few =
-        let texts_are = as_many texts m.entries m.spelled in
+        let texts_are = as_many job.block texts m.entries m.spelled in
         let lists = fewer_lists m.entries some in
         let kept = fewer (all_entries m.entries) (input_entries s.places job.inputs) (ascending_falls (all_entries m.entries) m.ascending) kept_in in
         let inputs = few_inputs s ver is job.inputs own in
         let bound : length texts ≤ 1227133514 = omega (arith, texts_are, lists, kept, inputs, most) in
         omega (arith, bound);
-    tables = opened_tables texts m.entries m.spelled;
+    tables = opened_tables job.block texts m.entries m.spelled;
+    cut = λ t n. opened_cut job.block texts m.entries m.spelled t n ∙ target;
     inside = inside;
-    ascending = opened_ascending texts m.entries m.spelled some m.cut.apart;
+    ascending = opened_ascending job.block texts m.entries m.spelled some m.cut.apart;
   }

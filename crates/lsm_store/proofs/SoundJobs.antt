@@ -30,8 +30,8 @@ holds_merge s ver is job own made m = record {
   inputs = input_entries s.places job.inputs;
   are = λ e. (λ n. from_input s ver is job.inputs own e n, λ p. in_inputs s ver is job.inputs own p.0 e p.1 p.2 p.3);
   tables = opened_as made.tables m.entries;
-  opened = opened_tables made.tables m.entries m.spelled;
-  kept = subst (λ (lists : List (List Entry)). HoldsKept (input_entries s.places job.inputs) job.points job.deeper (all_entries lists)) (sym (opened_entries made.tables m.entries m.spelled)) m.kept;
+  opened = opened_tables job.block made.tables m.entries m.spelled;
+  kept = subst (λ (lists : List (List Entry)). HoldsKept (input_entries s.places job.inputs) job.points job.deeper (all_entries lists)) (sym (opened_entries job.block made.tables m.entries m.spelled)) m.kept;
 }
 
 -- the inputs of a job have at most 16 GiB
@@ -51,8 +51,8 @@ module _ (c : CoordValue) (fit : IsFit c) (job : JobParts) (is_job : IsJob job) 
     made_of_inputs = holds_merge c.served fit.version fit.served job inputs_served made m
 
     -- the outputs may be those of its claim
-    pub made_outputs : (live : LiveJob) → IsLive c job.id live → HasOutputs live.want.hull made.tables
+    pub made_outputs : (live : LiveJob) → IsLive c job.id live → HasOutputs c.limits.block live.want.hull made.tables
     made_outputs live is_live =
         let found = live_is c job.id live is_live in
         let of_want = job_of_live c job.id live job fit.book is_live refl sound in
-        (opened_as made.tables m.entries, outputs_are c.served fit.version fit.served live.want (fit.legal live found.0) job of_want.inputs made.tables m (inputs_bytes job is_job))
+        (opened_as made.tables m.entries, outputs_are c.served fit.version fit.served live.want (fit.legal live found.0) job of_want.inputs made.tables m c.limits.block sound.block (inputs_bytes job is_job))

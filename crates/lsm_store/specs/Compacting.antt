@@ -56,7 +56,7 @@ pub record KeptBack (c : CoordValue) (claim : LiveJob) (made : JobResult) (e : C
   pub is_live : IsLive c claim.id live
   pub why : InstallError
   pub told : e ≡ error_of why
-  pub rejects : Rejects c.served.version live made why
+  pub rejects : Rejects c.limits.block c.served.version live made why
 
 -- the claim is given back; the vault may have outputs, and its device may have failed
 abbrev pub GivesBack : CoordValue → JobId → CoordValue → Type 0
@@ -96,7 +96,7 @@ pub record LacksNumbers (c : CoordValue) : Type 0 where
   pub made : JobResult
   pub merged : HoldsMergeOf claimed.served job made
   pub tables : List Opened
-  pub outputs : AreOutputTables claim.want.hull made.tables tables
+  pub outputs : AreOutputTables claimed.limits.block claim.want.hull made.tables tables
   pub lacks : HasNumbers c.served.version tables → ⊥
 
 -- why there is no compaction: what a pick refuses, the numbers of its outputs, or the device after a pick

@@ -4,7 +4,7 @@ use bytes::Bytes;
 use lsm_claim::Claim;
 use lsm_coord::{Coord, CoordError, Desk, Seat, SnapId};
 use lsm_edit::FileMeta;
-use lsm_key::{Batch, FileNumber, Limits, Op, VersionNumber};
+use lsm_key::{Batch, DEFAULT_BLOCK, FileNumber, Limits, Op, VersionNumber};
 use lsm_msg::NodeIndex;
 use lsm_store::{compact_once, result_of};
 use lsm_vault::MemoryVault;
@@ -133,7 +133,7 @@ fn number_of(coord: &Coord<MemoryVault>) -> u64 {
 
 /// A new store with limits of `files` files for level 0 and `base` bytes for level 1.
 fn store_due(alloc: Global, files: u64, base: u64) -> Result<Coord<MemoryVault>, Fail> {
-    let limits = Limits::new(files, base).ok_or("no limits")?;
+    let limits = Limits::new(files, base, DEFAULT_BLOCK).ok_or("no limits")?;
     match Coord::open(alloc, MemoryVault::new(alloc), limits) {
         Ok(coord) => Ok(coord),
         Err((why, _vault)) => Err(why)?,

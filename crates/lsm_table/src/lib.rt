@@ -8,14 +8,17 @@
 
 mod building;
 mod fault;
+mod index;
 mod laws;
+mod measuring;
 mod reading;
 mod table;
+mod writing;
 
 pub use building::{BuildError, TableBuilder, encode_table};
 pub use fault::{TableError, TableFault};
 pub use laws::{
-    a_memtable_fits_into_a_table, a_table_has_one_meaning, a_table_is_little_more_than_its_entries,
+    a_memtable_fits_into_a_table, a_table_has_one_encoding, a_table_has_one_meaning,
+    a_table_is_little_more_than_its_entries, entries_are_cut_in_one_way,
 };
-pub use reading::BLOCK_TARGET;
 pub use table::Table;

@@ -12,7 +12,7 @@ use fill::{fill, reason_of};
 use follow::follow;
 use lsm_coord::{Coord, ShownVersion};
 use lsm_edit::Served;
-use lsm_key::{DEFAULT_BASE, Limits, VersionNumber};
+use lsm_key::{DEFAULT_BASE, DEFAULT_BLOCK, Limits, VersionNumber};
 use lsm_nodes::{Hub, PARTS, Start, Witness};
 use lsm_readers::{LogName, NewLog};
 use lsm_vault::{MemoryVault, Vault};
@@ -52,7 +52,7 @@ pub fn run_threads<R: Threads + Wait + Sync>(
     rt: &R,
     alloc: Global,
 ) -> Result<ThreadsReport, ThreadsError> {
-    let Some(limits) = Limits::new(2, DEFAULT_BASE) else {
+    let Some(limits) = Limits::new(2, DEFAULT_BASE, DEFAULT_BLOCK) else {
         return Err(ThreadsError::ReadFault);
     };
     let Ok(coord) = Coord::open(alloc, MemoryVault::new(alloc), limits) else {

@@ -19,6 +19,9 @@ use lsm_vault::MemoryVault;
 use std::alloc::Global;
 use std::io;
 
+/// The block target of the tables: one block, as in all figures so far. In bytes.
+pub(crate) const BLOCK: u32 = 16_777_216;
+
 /// The number of levels.
 const LEVELS: usize = NUM_LEVELS as usize;
 
@@ -32,11 +35,12 @@ pub(crate) struct Store {
 }
 
 impl Store {
-    /// A new store, with the default limits.
+    /// A new store, with the default limits but for the block target.
     pub(crate) fn new(bench: Bench) -> Result<Store, TimingError> {
         let limits = Limits {
             l0: DEFAULT_L0,
             base: DEFAULT_BASE,
+            block: BLOCK,
         };
         let coord = opened(bench.alloc(), limits)?;
         Ok(Store {

@@ -9,7 +9,7 @@ use crate::batches::batch_of;
 use crate::bench::Bench;
 use crate::error::{EXHAUSTED, NO_PICK, TimingError};
 use crate::figure::{Figure, with_number};
-use crate::fill::Store;
+use crate::fill::{BLOCK, Store};
 use bytes::Bytes;
 use lsm_claim::ClaimBook;
 use lsm_edit::{Edit, EditKind, FileMeta, Served};
@@ -25,7 +25,11 @@ const PICKS: u64 = 20;
 const LEVEL: u8 = 1;
 
 /// Level 1 is due above one byte.
-const TIGHT: Limits = Limits { l0: 1, base: 1 };
+const TIGHT: Limits = Limits {
+    l0: 1,
+    base: 1,
+    block: BLOCK,
+};
 
 /// Times picks from a version with `files` files in level 1, which needs compaction, with no job running.
 pub(crate) fn time_picks(bench: Bench, files: u64) -> Result<(), TimingError> {

@@ -12,6 +12,7 @@ mod writer;
 
 use crate::bench::Bench;
 use crate::error::{NO_CLOSE, TimingError};
+use crate::fill::BLOCK;
 use course::Course;
 use dispatchers::{dispatch_both, merged};
 use follower::follow_and_read;
@@ -49,6 +50,7 @@ pub(crate) fn time_threads<R: Threads + Wait + Sync>(
     let limits = Limits {
         l0: DEFAULT_L0,
         base: DEFAULT_BASE,
+        block: BLOCK,
     };
     let coord = match Coord::open(alloc, MemoryVault::new(alloc), limits) {
         Ok(coord) => coord,

@@ -23,7 +23,7 @@ const INSTALL: &[u8] =
 
 // That table.
 const OF_A: &[u8] =
-    b"LSMT\x01\x01\0\0\0\0\0\0\x01\0\0\0\x01\0\0\0\x10\0\x01a\0\0\0\0\0\0\x01\x01\0\x01a\0\0\0\0\0\0\x01\x01\0\0\0\x011";
+    b"LSMT\x01\0\0\x10\0\0\0\0\x01\0\0\0\x01\0\0\0\x10\0\x01a\0\0\0\0\0\0\x01\x01\0\x01a\0\0\0\0\0\0\x01\x01\0\0\0\x011";
 
 // A vault with these edits, with table 1, and with a table that no file has, which lets this many calls pass.
 fn vault_of(

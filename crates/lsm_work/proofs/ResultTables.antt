@@ -9,7 +9,7 @@ use Rattle.lsm_merge.specs.Outputs.{EncodeEntries}
 bytes_of_table : (bytes : List ℕ) (es : List Entry) → IsTable bytes es → AreTableBytes bytes
 bytes_of_table bytes es is = (let long = ap (λ (ns : List ℕ). length ns) is.spelled in omega (arith, long), is.small)
 
-pub tables_may_be_sent : (outputs : List (List ℕ)) (entries : List (List Entry)) → EncodeEntries outputs entries → All AreTableBytes outputs
-tables_may_be_sent [] entries h = λ k d lt. absurd (omega (arith, lt))
-tables_may_be_sent (bytes ∷ outputs) [] h = absurd h
-tables_may_be_sent (bytes ∷ outputs) (es ∷ entries) h = All-cons AreTableBytes bytes outputs (bytes_of_table bytes es h.0) (tables_may_be_sent outputs entries h.1)
+pub tables_may_be_sent : (target : ℕ) (outputs : List (List ℕ)) (entries : List (List Entry)) → EncodeEntries target outputs entries → All AreTableBytes outputs
+tables_may_be_sent target [] entries h = λ k d lt. absurd (omega (arith, lt))
+tables_may_be_sent target (bytes ∷ outputs) [] h = absurd h
+tables_may_be_sent target (bytes ∷ outputs) (es ∷ entries) h = All-cons AreTableBytes bytes outputs (bytes_of_table bytes es h.0) (tables_may_be_sent target outputs entries h.2)

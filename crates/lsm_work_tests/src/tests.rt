@@ -6,7 +6,7 @@ ghost use Rattle.lsm_key.specs.Entries.{IsEntry};
 use bytes::Bytes;
 use lsm_claim::JobId;
 use lsm_edit::FileMeta;
-use lsm_key::{Entry, FileNumber, InternalKey, Items, Kind, Seq};
+use lsm_key::{DEFAULT_BLOCK, Entry, FileNumber, InternalKey, Items, Kind, Seq};
 use lsm_msg::{Body, Job, JobParts, Message, Node, NodeIndex};
 use lsm_table::{BuildError, Table, TableBuilder};
 use lsm_work::{WorkChange, Worker};
@@ -89,7 +89,7 @@ fn add(builder: &mut TableBuilder, entry: Entry) -> Result<(), BuildError>
 }
 
 fn table_of(alloc: Global, file: u32) -> Result<Table, Fail> {
-    let mut builder = TableBuilder::new(alloc);
+    let mut builder = TableBuilder::new(alloc, DEFAULT_BLOCK);
     add(&mut builder, entry_of(alloc, file)?)?;
     Ok(builder.finish_open()?)
 }
@@ -103,7 +103,7 @@ fn job_of(alloc: Global, epoch: u64, number: u64, inputs: [u32; 2]) -> Result<Jo
     let parts = JobParts {
         id: JobId { epoch, number },
         level: 0,
-        block: 16_777_216,
+        block: DEFAULT_BLOCK,
         points: Items::new(alloc),
         inputs: Items::from_vec(files),
         deeper: Items::new(alloc),

@@ -73,7 +73,7 @@ outputs_one level number (t ∷ ts) p q mp mq same = elim mp [
 
 -- ---- the files
 
-module _ (h : History) (c new : CoordValue) (live : LiveJob) (made : JobResult) (ts : List Opened) (accepted : IsAcceptable c.served.version live made ts) (done : IsInstallDone c live ts new) (fit : IsFit c) (fit_new : IsFit new) (is : AreFiles h c) where
+module _ (h : History) (c new : CoordValue) (live : LiveJob) (made : JobResult) (ts : List Opened) (accepted : IsAcceptable c.limits.block c.served.version live made ts) (done : IsInstallDone c live ts new) (fit : IsFit c) (fit_new : IsFit new) (is : AreFiles h c) where
   abbrev outputs : List Placed
   outputs = outputs_at (live.want.level + 1) c.served.version.next_file ts
 

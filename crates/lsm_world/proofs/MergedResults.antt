@@ -48,5 +48,5 @@ module _ (h : History) (n : NodesValue) (is : IsHistory h n) (fit : IsFit n.core
   result_holds = (job, sym known.2, sound, made_of_inputs n.core fit job is_job sound made merged)
 
   -- and it may be installed for that claim
-  pub result_fits : (live : LiveJob) → IsLive n.core made.job live → HasOutputs live.want.hull made.tables
+  pub result_fits : (live : LiveJob) → IsLive n.core made.job live → HasOutputs n.core.limits.block live.want.hull made.tables
   result_fits live is_live = made_outputs n.core fit job is_job sound made merged live (subst (λ (id : JobId). IsLive n.core id live) known.2 is_live)

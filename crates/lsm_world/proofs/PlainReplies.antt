@@ -71,7 +71,7 @@ pick_plain c e refuses = absurd refuses
 
 -- A result of the claim's own job, whose texts are tables that the job may have as outputs, is refused for want of numbers or
 -- memory, or since the device failed.
-pub kept_plain : (c : CoordValue) (claim live : LiveJob) (made : JobResult) (e : InstallError) → IsLive c claim.id live → claim.id ≡ made.job → HasOutputs live.want.hull made.tables → Rejects c.served.version live made e → IsPlain (reply.Refused (why.Coord (error_of e)))
+pub kept_plain : (c : CoordValue) (claim live : LiveJob) (made : JobResult) (e : InstallError) → IsLive c claim.id live → claim.id ≡ made.job → HasOutputs c.limits.block live.want.hull made.tables → Rejects c.limits.block c.served.version live made e → IsPlain (reply.Refused (why.Coord (error_of e)))
 kept_plain c claim live made kept.WrongJob found same outputs rejects = absurd (rejects (sym same ∙ sym (live_is c claim.id live found).1))
 kept_plain c claim live made kept.BadResult found same outputs rejects = absurd (rejects.1 outputs)
 kept_plain c claim live made kept.NumbersExhausted found same outputs rejects = tt

@@ -3,7 +3,7 @@ use Rattle.std.proofs.Common.{◌≡◌, ℕ, List, [], ◌∷◌, Option, None,
 use Rattle.std.specs.Option.{option_map}
 use Rattle.std.proofs.lemmas.Option.{same_Some}
 use Rattle.lsm_key.proofs.Membership.{IsIn-one}
-use Rattle.lsm_table.specs.Tables.{IsTable}
+use Rattle.lsm_table.specs.Tables.{IsTable, target_of}
 use Rattle.lsm_edit.specs.declared.served.Placed.{Placed}
 use Rattle.lsm_msg.specs.declared.message.Body.{Body}
 use Rattle.lsm_msg.specs.declared.message.Body.TheVariants as body
@@ -31,7 +31,7 @@ use Rattle.lsm_world.proofs.StoredMessages.{nodes_send}
 -- ---- answers
 
 table_may_be_sent : (p : Placed) → IsTable p.table.bytes p.table.entries → AreTableBytes p.table.bytes
-table_may_be_sent p is = tables_may_be_sent (p.table.bytes ∷ []) (p.table.entries ∷ []) (is, tt) 0 [] (omega arith)
+table_may_be_sent p is = tables_may_be_sent (target_of p.table.bytes) (p.table.bytes ∷ []) (p.table.entries ∷ []) (is, refl, tt) 0 [] (omega arith)
 
 module _ (h : History) (old : NodesValue) (asked m : Message) (is : IsHistory h old) (fit : IsFit old.core) (sound : IsMessage asked) where
   body_may_be_sent : (n : ℕ) (o : Option (List ℕ)) → IsFileNumber n → IsKnown h (table_body n o) → IsBody (table_body n o)

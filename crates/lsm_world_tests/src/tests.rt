@@ -7,7 +7,7 @@ mod schedules;
 use bytes::Bytes;
 use lsm_coord::{ScanRange, SnapId};
 use lsm_edit::FileMeta;
-use lsm_key::{FileNumber, Items, Limits, Op, VersionNumber};
+use lsm_key::{DEFAULT_BLOCK, FileNumber, Items, Limits, Op, VersionNumber};
 use lsm_msg::NodeIndex;
 use lsm_vault::{FusedVault, MemoryVault, Vault};
 use lsm_versions::OpenError;
@@ -213,7 +213,7 @@ fn see(
     base: u64,
     schedules: &[&[Turn]],
 ) -> Result<(), Fail> {
-    let limits = Limits::new(files, base).ok_or("no limits")?;
+    let limits = Limits::new(files, base, DEFAULT_BLOCK).ok_or("no limits")?;
     let mut world = new_world(alloc, limits)?;
     let seen = play(rt, alloc, &mut world, schedules);
     let _vault = world.close();
@@ -296,7 +296,7 @@ fn a_claim_that_is_given_up_after_a_restart(rt: HostRuntime) -> Result<(), Fail>
 
 /// The same over a vault of which the call after so many fails.
 fn see_fail(rt: &impl Abort, alloc: Global, calls: u64, schedule: &[Turn]) -> Result<(), Fail> {
-    let limits = Limits::new(2, BASE).ok_or("no limits")?;
+    let limits = Limits::new(2, BASE, DEFAULT_BLOCK).ok_or("no limits")?;
     let vault = FusedVault::new(MemoryVault::new(alloc), calls);
     let Ok(mut world) = World::new(alloc, vault, limits) else {
         return Err(AllocError.into());
@@ -340,7 +340,7 @@ fn run_in(rt: &impl Abort, alloc: Global, world: &mut World<MemoryVault>) -> Res
 
 #[test]
 fn runs_of_no_event_and_of_one(rt: HostRuntime) -> Result<(), Fail> {
-    let limits = Limits::new(2, BASE).ok_or("no limits")?;
+    let limits = Limits::new(2, BASE, DEFAULT_BLOCK).ok_or("no limits")?;
     let mut world = new_world(rt.alloc(), limits)?;
     let seen = run_in(&rt, rt.alloc(), &mut world);
     let _vault = world.close();

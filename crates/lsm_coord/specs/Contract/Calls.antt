@@ -13,7 +13,7 @@ use Rattle.lsm_key.specs.Writes.{answer}
 use Rattle.lsm_claim.specs.declared.ending.Ending.TheVariants.{Returned}
 use Rattle.lsm_claim.specs.declared.job.JobId.{JobId}
 use Rattle.lsm_claim.specs.Book.{after_settling}
-use Rattle.lsm_table.specs.Tables.{Opened}
+use Rattle.lsm_table.specs.Tables.{Opened, target_of}
 use Rattle.lsm_edit.specs.declared.file.FileMeta.{FileMeta}
 use Rattle.lsm_edit.specs.declared.edit.Edit.{Edit}
 use Rattle.lsm_edit.specs.Edit.{IsSpelledEdit}
@@ -113,9 +113,9 @@ pub record AddsTable (old : CoordValue) (file : FileMeta) (table : Opened) (new 
   }
   pub counted : old.failures ≤ new.failures
 
--- one file more, of a table with exactly the entries of the memtable that was taken
+-- one file more, of a table with exactly the entries of the memtable that was taken, its blocks cut at the store's target
 abbrev pub Adds : CoordValue → CoordValue → Type 0
-Adds old new = (file : FileMeta) × (table : Opened) × (table.entries ≡ (flush_source old).memtable) × AddsTable old file table new
+Adds old new = (file : FileMeta) × (table : Opened) × (table.entries ≡ (flush_source old).memtable) × AddsTable old file table new × (target_of table.bytes ≡ old.limits.block)
 
 -- why nothing is flushed, and what is left: nothing has changed, unless memory ran out or the device failed after the table was put
 abbrev pub FlushRefuses : CoordValue → CoordError → CoordValue → Type 0

@@ -12,7 +12,7 @@ use Rattle.lsm_claim.specs.declared.job.LiveJob.{LiveJob}
 use Rattle.lsm_claim.specs.declared.job.Want.{Want}
 use Rattle.lsm_claim.specs.Jobs.{same_job_id}
 use Rattle.lsm_claim.specs.Book.{after_settling, holds}
-use Rattle.lsm_table.specs.Tables.{Opened, IsTable, smallest_key, largest_key}
+use Rattle.lsm_table.specs.Tables.{Opened, IsTable, smallest_key, largest_key, target_of}
 use Rattle.lsm_edit.specs.declared.file.FileMeta.{FileMeta}
 use Rattle.lsm_edit.specs.declared.edit.Edit.{Edit}
 use Rattle.lsm_edit.specs.Edit.{IsSpelledEdit}
@@ -56,10 +56,11 @@ abbrev pub AreAscending : List Opened → Type 0
 AreAscending [] = Unit {0}
 AreAscending (t ∷ ts) = ((u : Opened) → IsIn u ts → IsTableBefore t u) × AreAscending ts
 
--- what the outputs of a job may be: tables with only keys of its hull, in ascending order
-pub record AreOutputTables (hull : Hull) (texts : List (List ℕ)) (ts : List Opened) : Type 0 where
+-- what the outputs of a job may be: tables of this block target with only keys of its hull, in ascending order
+pub record AreOutputTables (block : ℕ) (hull : Hull) (texts : List (List ℕ)) (ts : List Opened) : Type 0 where
   pub few : length texts < 2 ^ 32
   pub tables : DecodeTo texts ts
+  pub cut : (t : Opened) → IsIn t ts → target_of t.bytes ≡ block
   pub inside : (t : Opened) → IsIn t ts → is_table_inside hull t ≡ true
   pub ascending : AreAscending ts
 
@@ -98,14 +99,14 @@ number_fault v files = if nat_le (v.number + 1) MAX_NUMBER && nat_le (v.next_fil
 -- ---- what is accepted
 
 -- the texts of a result are tables that the job may have as outputs
-abbrev pub HasOutputs : Hull → List (List ℕ) → Type 0
-HasOutputs hull texts = (ts : List Opened) × AreOutputTables hull texts ts
+abbrev pub HasOutputs : ℕ → Hull → List (List ℕ) → Type 0
+HasOutputs block hull texts = (ts : List Opened) × AreOutputTables block hull texts ts
 
--- A result that may be installed for a running job: it is of that job, its texts are tables with only keys of the job's hull, in
--- ascending order, and there are numbers left for the version and the files.
-pub record IsAcceptable (v : VersionValue) (live : LiveJob) (made : JobResult) (ts : List Opened) : Type 0 where
+-- A result that may be installed for a running job: it is of that job, its texts are tables of the store's block target with only
+-- keys of the job's hull, in ascending order, and there are numbers left for the version and the files.
+pub record IsAcceptable (block : ℕ) (v : VersionValue) (live : LiveJob) (made : JobResult) (ts : List Opened) : Type 0 where
   pub same_job : made.job ≡ live.id
-  pub outputs : AreOutputTables live.want.hull made.tables ts
+  pub outputs : AreOutputTables block live.want.hull made.tables ts
   pub numbers : HasNumbers v ts
 
 -- The version after an install: the outputs replace the inputs, one level deeper; the inputs retire; the edit is the last of the
@@ -127,13 +128,13 @@ pub record IsInstallDone (old : CoordValue) (live : LiveJob) (ts : List Opened) 
   pub counted : old.failures ≤ new.failures
 
 -- why a result is rejected: the first reason that holds, unless memory runs out
-abbrev pub Rejects : VersionValue → LiveJob → JobResult → InstallError → Type 0
-Rejects v live made WrongJob = made.job ≡ live.id → ⊥
-Rejects v live made BadResult = (made.job ≡ live.id) × (HasOutputs live.want.hull made.tables → ⊥)
-Rejects v live made NumbersExhausted =
-    (made.job ≡ live.id) × (ts : List Opened) × AreOutputTables live.want.hull made.tables ts × (HasNumbers v ts → ⊥)
-Rejects v live made OutOfMemory = made.job ≡ live.id
-Rejects v live made Device = (ts : List Opened) × IsAcceptable v live made ts
+abbrev pub Rejects : ℕ → VersionValue → LiveJob → JobResult → InstallError → Type 0
+Rejects block v live made WrongJob = made.job ≡ live.id → ⊥
+Rejects block v live made BadResult = (made.job ≡ live.id) × (HasOutputs block live.want.hull made.tables → ⊥)
+Rejects block v live made NumbersExhausted =
+    (made.job ≡ live.id) × (ts : List Opened) × AreOutputTables block live.want.hull made.tables ts × (HasNumbers v ts → ⊥)
+Rejects block v live made OutOfMemory = made.job ≡ live.id
+Rejects block v live made Device = (ts : List Opened) × IsAcceptable block v live made ts
 
 -- what a rejected result leaves: nothing has changed, unless memory ran out or the device failed after an output was put
 abbrev pub LeavesRejected : InstallError → CoordValue → CoordValue → Type 0
@@ -154,12 +155,12 @@ IsLive c id live = find (λ j. same_job_id j.id id) c.book.live ≡ Some live
 abbrev pub Became : CoordValue → LiveJob → JobResult → Install → CoordValue → Type 0
 Became old claim made (became.Done number files) new =
     (live : LiveJob) × IsLive old claim.id live
-    × (ts : List Opened) × IsAcceptable old.served.version live made ts
+    × (ts : List Opened) × IsAcceptable old.limits.block old.served.version live made ts
     × IsInstallDone old live ts new × (number ≡ old.served.version.number + 1) × (files ≡ output_numbers old.served.version live.want ts)
 Became old claim made (became.Stale job epoch) new =
     (holds old.book claim.id ≡ false) × (job ≡ claim.id) × (epoch ≡ old.book.epoch) × (new ≡ old)
 Became old claim made (became.Kept back why) new =
-    (live : LiveJob) × IsLive old claim.id live × (back ≡ claim) × Rejects old.served.version live made why × LeavesRejected why old new
+    (live : LiveJob) × IsLive old claim.id live × (back ≡ claim) × Rejects old.limits.block old.served.version live made why × LeavesRejected why old new
 
 -- the result was installed
 abbrev pub IsDone : Install → Type 0

@@ -1,7 +1,7 @@
 -- What a pick returns, and the job that it hands out (LevelDB, version_set.cc: PickCompaction, SetupOtherInputs; RocksDB wiki, Remote Compaction: the input of a compaction service).
 use Rattle.std.specs.Prelude.{◌≡◌, ℕ, ◌+◌, ◌-◌, ◌<◌, ◌≤◌, Bool, ◌&&◌, List, Option, None, Some, AllPairs, filter, flat_map, length, map, nat_eq}
 use Rattle.std.specs.List.{range_with_len}
-use Rattle.lsm_key.specs.declared.limits.TheConstants.{MAX_NUMBER, MAX_TABLE_BYTES, MAX_LIVE_CLAIMS, MAX_JOB_LEVEL}
+use Rattle.lsm_key.specs.declared.limits.TheConstants.{MAX_NUMBER, MAX_LIVE_CLAIMS, MAX_JOB_LEVEL}
 use Rattle.lsm_key.specs.Sets.{SameMembers}
 use Rattle.lsm_claim.specs.declared.hull.Hull.{Hull}
 use Rattle.lsm_claim.specs.declared.job.LiveJob.{LiveJob}
@@ -44,7 +44,7 @@ range_of f = record { lo = f.smallest; hi = f.largest }
 pub record IsJobFor (c : CoordValue) (want : Want) (job : JobParts) : Type 0 where
   pub id : job.id ≡ (next_job c.book want).id
   pub level : job.level ≡ want.level
-  pub block : job.block ≡ MAX_TABLE_BYTES
+  pub block : job.block ≡ c.limits.block
   pub points : ArePointsOf c.snapshots job.points
   pub inputs : job.inputs ≡ inputs_of c.served.version.files want
   pub deeper : job.deeper ≡ map range_of (deeper_files c.served.version.files want)

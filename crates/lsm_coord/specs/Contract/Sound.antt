@@ -25,10 +25,12 @@ abbrev pub AreWrittenBy : ServedValue → JobParts → ℕ → Type 0
 AreWrittenBy served job at =
     (p : Placed) → IsIn p served.places → IsIn p.meta job.inputs → (e : Entry) → IsIn e p.table.entries → e.ikey.seq ≤ at
 
--- The result of the job may be installed: its claim is live and names exactly the job's input files; every live snapshot is one of
--- the job's, or was taken after all input entries were written; the job lists every deeper range that may hold an input key.
+-- The result of the job may be installed: its claim is live and names exactly the job's input files; its outputs are of the store's
+-- block target; every live snapshot is one of the job's, or was taken after all input entries were written; the job lists every
+-- deeper range that may hold an input key.
 pub record IsSound (c : CoordValue) (job : JobParts) : Type 0 where
   pub claimed : HasClaim c.served.version.files c.book job
+  pub block : job.block ≡ c.limits.block
   pub snapshots : (x : Snapshot) → IsIn x c.snapshots → IsIn x.at job.points ⊎ AreWrittenBy c.served job x.at
   pub deeper : KnowsDeeper c.served.places job
 

@@ -12,7 +12,7 @@ use Rattle.lsm_coord.specs.declared.frozen.Frozen.{Frozen}
 use Rattle.lsm_coord.specs.declared.snapshot.Snapshot.{Snapshot}
 
 pub record CoordValue : Type 0 where
-  pub limits : Limits  -- when its levels are due
+  pub limits : Limits  -- when its levels are due, and its block target
   pub active : List Entry  -- the entries of the active memtable
   pub frozen : Option Frozen
   pub served : ServedValue  -- the current version with its tables

@@ -18,9 +18,9 @@ use Rattle.lsm_coord.specs.declared.coord.install.Put.{Put}
 use Rattle.lsm_coord.specs.Contract.Installing.{IsAcceptable, install_edit_of, output_numbers}
 
 -- the result is acceptable, the edit of its install is logged and applied, and the version's number and its new files are reported
-pub record PutsOutputs (old : VersionSetValue) (live : LiveJob) (made : JobResult) (put : Put) (new : VersionSetValue) : Type 0 where
+pub record PutsOutputs (block : ℕ) (old : VersionSetValue) (live : LiveJob) (made : JobResult) (put : Put) (new : VersionSetValue) : Type 0 where
   pub tables : List Opened
-  pub accepted : IsAcceptable old.served.version live made tables
+  pub accepted : IsAcceptable block old.served.version live made tables
   pub edit : Edit
   pub edit_is : edit ≡ install_edit_of old.served.version live.want tables
   pub valid : IsEdit edit

@@ -16,7 +16,7 @@ use super::Coord;
 use crate::CoordError;
 use crate::job::{deeper_of, inputs_of, points_of};
 use lsm_claim::{Claim, Ending, JobId, Settled, Want};
-use lsm_key::{Items, MAX_LIVE_CLAIMS, MAX_NUMBER, MAX_TABLE_BYTES};
+use lsm_key::{Items, MAX_LIVE_CLAIMS, MAX_NUMBER};
 use lsm_msg::{Job, JobParts};
 use lsm_pick::{PickError, pick};
 use lsm_vault::Vault;
@@ -79,7 +79,7 @@ impl<V: Vault> Coord<V> {
         let parts = JobParts {
             id,
             level: want.level,
-            block: MAX_TABLE_BYTES as u32,
+            block: self.limits.block,
             points: Items::from_vec(points),
             inputs: Items::from_vec(inputs),
             deeper: Items::from_vec(deeper),

@@ -52,7 +52,7 @@ impl<V: Vault> Coord<V> {
         let file = self.versions.version().next_file();
         let seq = self.flush_end();
         let entries = self.flushable().entries()?;
-        let table = Table::from_entries(self.alloc, entries.as_slice())?;
+        let table = Table::from_entries(self.alloc, self.limits.block, entries.as_slice())?;
         let meta = FileMeta::of_table(file, 0, &table)?;
         self.add_table(meta, table, seq)?;
         Ok(Flushed {

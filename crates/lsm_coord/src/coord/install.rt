@@ -104,7 +104,7 @@ impl<V: Vault> Coord<V> {
     /// fails, nothing changes, but that the vault may have outputs, and the claim is handed back: its job is still live, and
     /// it still has to be settled.
     ///
-    /// Of the outputs' contents it tests only the keys: that they are what a merge keeps of the inputs is the worker's
+    /// Of the outputs' contents it tests only the keys and the block target: that they are what a merge keeps of the inputs is the worker's
     /// responsibility. The inputs' tables stay in memory, and are served, until `Coord::trim` raises the floor past the
     /// last version that lists them.
     pub fn install(&mut self, claim: Claim, made: &JobResult) -> Install
@@ -123,7 +123,13 @@ impl<V: Vault> Coord<V> {
                 self.book.settle(claim, Ending::Installed);
                 Install::Stale(id, epoch)
             }
-            Some(job) => match put_outputs(self.alloc, &mut self.versions, job, made) {
+            Some(job) => match put_outputs(
+                self.alloc,
+                &mut self.versions,
+                self.limits.block,
+                job,
+                made,
+            ) {
                 Ok(put) => {
                     self.book.settle(claim, Ending::Installed);
                     Install::Done(put.number, put.files)
@@ -145,21 +151,22 @@ fn job_named(jobs: &[LiveJob], id: JobId) -> Option<&LiveJob>
 fn put_outputs<V: Vault>(
     alloc: Global,
     versions: &mut VersionSet<V>,
+    block: u32,
     job: &LiveJob,
     made: &JobResult,
 ) -> Result<Put, InstallError>
     requires epoch { 1 ≤ versions.old.served.version.epoch }
     requires legal { IsLegal versions.old.served.version.files job.now.want }
     requires orderly { IsJobWant job.now.want }
-    ensures ok { IfOk result (λ put. PutsOutputs versions.old job.now made.now put versions.new) }
+    ensures ok { IfOk result (λ put. PutsOutputs block versions.old job.now made.now put versions.new) }
     ensures left { IfErr result (λ e. PutLeaves e versions.old versions.new) }
-    ensures why { IfErr result (Rejects versions.old.served.version job.now made.now) }
+    ensures why { IfErr result (Rejects block versions.old.served.version job.now made.now) }
 {
     let want = &job.want;
     if !are_same(made.job, job.id) {
         return Err(InstallError::WrongJob);
     }
-    let tables = open_outputs(alloc, &want.hull, made.tables.as_slice())?;
+    let tables = open_outputs(alloc, block, &want.hull, made.tables.as_slice())?;
     let version = versions.version();
     match number_fault(version, tables.len()) {
         Some(why) => return Err(why),

@@ -4,7 +4,7 @@ ghost use Rattle.std.specs.Prelude.{◌≡◌, ◌≤◌, ◌⊎◌, ◌+◌, If
 ghost use Rattle.std.specs.Option.{option_copied};
 ghost use Rattle.lsm_key.specs.declared.limits.TheConstants.{MAX_LEVEL, MAX_NUMBER};
 ghost use Rattle.lsm_key.specs.Order.{key_lt};
-ghost use Rattle.lsm_table.specs.Tables.{IsTable, Opened, largest_key, smallest_key};
+ghost use Rattle.lsm_table.specs.Tables.{IsTable, Opened, largest_key, smallest_key, target_of};
 ghost use Rattle.lsm_coord.specs.declared.coord.install.InstallError.TheVariants as why;
 ghost use Rattle.lsm_coord.specs.Contract.Installing.{AreOutputTables, comes_next, is_table_inside, record_of, records};
 
@@ -19,21 +19,22 @@ use std::alloc::{AllocError, Global};
 /// The most tables that a result may have, so that an edit can count them.
 const MAX_RESULT_TABLES: usize = u32::MAX as usize;
 
-/// The tables of a result, opened: each has only keys of the hull, after those of the one before it.
+/// The tables of a result, opened: each is of the block target, and has only keys of the hull, after those of the one before it.
 pub(crate) fn open_outputs(
     alloc: Global,
+    block: u32,
     hull: &Hull,
     texts: &[Bytes],
 ) -> Result<Vec<Table>, InstallError>
-    ensures ok { IfOk result (λ tables. AreOutputTables hull.now texts.now tables.items) }
-    ensures bad { IfErr result (λ e. (e ≡ why.OutOfMemory) ⊎ ((e ≡ why.BadResult) × ((ts : List Opened) → AreOutputTables hull.now texts.now ts → ⊥))) }
+    ensures ok { IfOk result (λ tables. AreOutputTables block hull.now texts.now tables.items) }
+    ensures bad { IfErr result (λ e. (e ≡ why.OutOfMemory) ⊎ ((e ≡ why.BadResult) × ((ts : List Opened) → AreOutputTables block hull.now texts.now ts → ⊥))) }
 {
     if texts.len() > MAX_RESULT_TABLES {
         return Err(InstallError::BadResult);
     }
     let mut tables = Vec::with_capacity(alloc, texts.len())?;
     for text in texts {
-        let table = open_output(alloc, text)?;
+        let table = open_output(alloc, block, text)?;
         if !comes_next(hull, tables.last(), &table) {
             return Err(InstallError::BadResult);
         }
@@ -42,14 +43,15 @@ pub(crate) fn open_outputs(
     Ok(tables)
 }
 
-// The table of an output.
-fn open_output(alloc: Global, text: &Bytes) -> Result<Table, InstallError>
-    ensures ok { IfOk result (λ table. (table.bytes ≡ text.now) × IsTable text.now table.entries) }
-    ensures bad { IfErr result (λ e. (e ≡ why.OutOfMemory) ⊎ ((e ≡ why.BadResult) × ((t : Opened) → IsTable text.now t.entries → ⊥))) }
+// The table of an output, which must be of the block target.
+fn open_output(alloc: Global, block: u32, text: &Bytes) -> Result<Table, InstallError>
+    ensures ok { IfOk result (λ table. (table.bytes ≡ text.now) × IsTable text.now table.entries × (target_of text.now ≡ block)) }
+    ensures bad { IfErr result (λ e. (e ≡ why.OutOfMemory) ⊎ ((e ≡ why.BadResult) × ((t : Opened) → IsTable text.now t.entries → target_of text.now ≡ block → ⊥))) }
 {
     let copy = text.clone()?;
     match Table::open(alloc, copy) {
-        Ok(table) => Ok(table),
+        Ok(table) if table.block() == block => Ok(table),
+        Ok(_) => Err(InstallError::BadResult),
         Err(Refused::OutOfMemory) => Err(InstallError::OutOfMemory),
         Err(Refused::Fault(_)) => Err(InstallError::BadResult),
     }

@@ -45,7 +45,7 @@ fn is_job_of(job: &Job, claim: &Claim) -> bool {
     job.id() == claim.id()
         && job.id().epoch == 1
         && job.level() == 0
-        && job.block() == 16_777_216
+        && job.block() == 4096
         && job.deeper().is_empty()
         && are_numbered(job.inputs(), claim.inputs())
 }

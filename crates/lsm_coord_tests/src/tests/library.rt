@@ -2,14 +2,14 @@
 
 use bytes::Bytes;
 use lsm_coord::Coord;
-use lsm_key::{Batch, DEFAULT_BASE, DEFAULT_L0, Limits, Op};
+use lsm_key::{Batch, DEFAULT_BASE, DEFAULT_BLOCK, DEFAULT_L0, Limits, Op};
 use lsm_vault::MemoryVault;
 use std::test::Fail;
 
 #[test]
 fn a_store_as_a_library(rt: HostRuntime) -> Result<(), Fail> {
     let alloc = rt.alloc();
-    let limits = Limits::new(DEFAULT_L0, DEFAULT_BASE).unwrap();
+    let limits = Limits::new(DEFAULT_L0, DEFAULT_BASE, DEFAULT_BLOCK).unwrap();
     let vault = MemoryVault::new(alloc);
     let mut store = Coord::open(alloc, vault, limits).map_err(|(why, _vault)| why)?;
 

@@ -7,7 +7,7 @@ use super::jobs::{first_of, gave_back, held, installed, picked, result_of};
 use bytes::Bytes;
 use lsm_claim::{ClaimBook, Settled};
 use lsm_coord::{Coord, CoordError, Desk, InstallError, Seat, SnapId};
-use lsm_key::{Batch, Limits, Op, VersionNumber};
+use lsm_key::{Batch, DEFAULT_BLOCK, Limits, Op, VersionNumber};
 use lsm_msg::NodeIndex;
 use lsm_vault::{FusedVault, MemoryVault};
 use lsm_versions::OpenError;
@@ -204,7 +204,7 @@ fn closed(seat: &mut TestSeat, desk: &mut Desk) -> Made {
 }
 
 fn restarted(alloc: Global, seat: &mut TestSeat) -> Made {
-    let Some(limits) = Limits::new(1, 1) else {
+    let Some(limits) = Limits::new(1, 1, DEFAULT_BLOCK) else {
         return Made::Other;
     };
     // It stands there while the seat is restarted.
@@ -295,7 +295,7 @@ fn see_each(
 
 /// A new store with this limit of level 0, in files, whose vault lets this many calls pass before its device fails.
 fn opened(alloc: Global, due: u64, calls: u64) -> Result<Store, Fail> {
-    let limits = Limits::new(due, 10_485_760).ok_or("no limits")?;
+    let limits = Limits::new(due, 10_485_760, DEFAULT_BLOCK).ok_or("no limits")?;
     let vault = FusedVault::new(MemoryVault::new(alloc), calls);
     match Coord::open(alloc, vault, limits) {
         Ok(coord) => Ok(coord),

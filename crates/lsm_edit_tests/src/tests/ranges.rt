@@ -26,7 +26,7 @@ const FILE: [u8; 23] = [
 
 // A table of two puts of no value, whose keys and sequences are to be filled in.
 const TABLE: &[u8] =
-    b"LSMT\x01\x01\0\0\0\0\0\0\x02\0\0\0\x01\0\0\0\x1e\0\x01?\0\0\0\0\0\0?\x01\0\x01?\0\0\0\0\0\0?\x01\0\0\0\0\0\x01?\0\0\0\0\0\0?\x01\0\0\0\0";
+    b"LSMT\x01\0\0\x10\0\0\0\0\x02\0\0\0\x01\0\0\0\x1e\0\x01?\0\0\0\0\0\0?\x01\0\x01?\0\0\0\0\0\0?\x01\0\0\0\0\0\x01?\0\0\0\0\0\0?\x01\0\0\0\0";
 
 // Each file's number, which is its entries' sequence, its level and its keys.
 const FILES: [(u8, u8, [u8; 2]); 7] = [

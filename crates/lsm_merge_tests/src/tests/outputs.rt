@@ -5,7 +5,7 @@ ghost use Rattle.lsm_key.specs.Entries.{IsEntry};
 
 use super::{Row, add, deletion, files_of, finished, job_of, outputs_of, put, rows_in, table_of};
 use bytes::Bytes;
-use lsm_key::{Entry, InternalKey, Kind, MAX_VALUE_BYTES, Seq};
+use lsm_key::{DEFAULT_BLOCK, Entry, InternalKey, Kind, MAX_VALUE_BYTES, Seq};
 use lsm_merge::OUTPUT_TARGET;
 use lsm_table::{Table, TableBuilder};
 use std::alloc::Global;
@@ -112,7 +112,7 @@ fn add_heavy(
 /// than `OUTPUT_TARGET`.
 fn heavy_table(alloc: Global) -> Result<Table, Fail> {
     let value = heavy_value(alloc)?;
-    let mut builder = TableBuilder::new(alloc);
+    let mut builder = TableBuilder::new(alloc, DEFAULT_BLOCK);
     for key in b'A'..b'`' {
         add_heavy(&mut builder, alloc, key, 1, &value)?;
     }

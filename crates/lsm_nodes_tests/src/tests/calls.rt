@@ -5,7 +5,7 @@ ghost use Rattle.std.specs.Prelude.{◌≡◌, ◌<◌, []};
 use bytes::Bytes;
 use lsm_coord::{Coord, ShownVersion};
 use lsm_edit::Served;
-use lsm_key::{Batch, DEFAULT_BASE, Limits, Op, Seq};
+use lsm_key::{Batch, DEFAULT_BASE, DEFAULT_BLOCK, Limits, Op, Seq};
 use lsm_nodes::{Hub, PARTS, Start, Tally, Witness};
 use lsm_vault::{MemoryVault, Vault};
 use std::alloc::Global;
@@ -69,7 +69,7 @@ fn seen_anew<R: Threads + Wait + Sync>(
     rt: &R,
     alloc: Global,
 ) -> Option<(Option<Bytes>, ShownVersion)> {
-    let limits = Limits::new(2, DEFAULT_BASE)?;
+    let limits = Limits::new(2, DEFAULT_BASE, DEFAULT_BLOCK)?;
     let Ok(coord) = Coord::open(alloc, MemoryVault::new(alloc), limits) else {
         return None;
     };

@@ -6,7 +6,7 @@ use super::fill;
 use lsm_claim::{Claim, Settled};
 use lsm_coord::{Coord, Seat};
 use lsm_edit::Served;
-use lsm_key::{DEFAULT_BASE, Limits};
+use lsm_key::{DEFAULT_BASE, DEFAULT_BLOCK, Limits};
 use lsm_nodes::{Hub, PARTS, Start, Witness};
 use lsm_vault::{MemoryVault, Vault};
 use std::alloc::Global;
@@ -88,7 +88,7 @@ fn outlives<V: Vault + Drop, J: Start, N: Witness + Drop, R: Wait>(
 
 // The same of a new store.
 fn outlives_anew<R: Wait>(rt: &R, alloc: Global) -> Option<Settled> {
-    let limits = Limits::new(2, DEFAULT_BASE)?;
+    let limits = Limits::new(2, DEFAULT_BASE, DEFAULT_BLOCK)?;
     let Ok(coord) = Coord::open(alloc, MemoryVault::new(alloc), limits) else {
         return None;
     };

@@ -5,7 +5,7 @@ ghost use Rattle.std.specs.Prelude.{◌≡◌, ◌+◌, ◌<◌, ◌≤◌, ◌^
 use super::{Meeting, fill, one_round, tables_of};
 use lsm_coord::Coord;
 use lsm_edit::Served;
-use lsm_key::{DEFAULT_BASE, Limits, VersionNumber};
+use lsm_key::{DEFAULT_BASE, DEFAULT_BLOCK, Limits, VersionNumber};
 use lsm_nodes::{Hub, PARTS, Start, Tally, Witness};
 use lsm_vault::{MemoryVault, Vault};
 use std::alloc::Global;
@@ -106,7 +106,7 @@ fn closes<V: Vault + Drop, J: Start, N: Witness + Drop, R: Wait>(
 
 // The same of a new store, if it can be opened.
 fn closes_anew<R: Wait>(rt: &R, alloc: Global) -> Option<bool> {
-    let limits = Limits::new(2, DEFAULT_BASE)?;
+    let limits = Limits::new(2, DEFAULT_BASE, DEFAULT_BLOCK)?;
     let Ok(coord) = Coord::open(alloc, MemoryVault::new(alloc), limits) else {
         return None;
     };

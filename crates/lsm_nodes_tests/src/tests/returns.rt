@@ -6,7 +6,7 @@ use super::fill;
 use lsm_claim::JobId;
 use lsm_coord::Coord;
 use lsm_edit::Served;
-use lsm_key::{DEFAULT_BASE, Items, Limits};
+use lsm_key::{DEFAULT_BASE, DEFAULT_BLOCK, Items, Limits};
 use lsm_msg::{Job, JobResult};
 use lsm_nodes::{Hub, Link, PARTS, Start, Witness, dispatch};
 use lsm_vault::{MemoryVault, Vault};
@@ -84,7 +84,7 @@ fn round<V: Vault + Drop, J: Start, N: Witness + Drop, R: Wait>(
 
 // The same of a new store.
 fn round_anew<R: Wait>(rt: &R, alloc: Global, brings_another: bool) -> Option<RoundCounts> {
-    let limits = Limits::new(2, DEFAULT_BASE)?;
+    let limits = Limits::new(2, DEFAULT_BASE, DEFAULT_BLOCK)?;
     let Ok(coord) = Coord::open(alloc, MemoryVault::new(alloc), limits) else {
         return None;
     };

@@ -8,7 +8,7 @@ ghost use Rattle.lsm_edit.specs.Served.{AreAsRecorded};
 
 use bytes::Bytes;
 use lsm_edit::{Edit, EditKind, FileMeta, Served, Version};
-use lsm_key::{Entry, InternalKey, Items, Kind, MAX_KEY_BYTES, MAX_NUMBER, Seq};
+use lsm_key::{DEFAULT_BLOCK, Entry, InternalKey, Items, Kind, MAX_KEY_BYTES, MAX_NUMBER, Seq};
 use lsm_table::{Table, TableBuilder};
 use std::alloc::Global;
 use std::test::Fail;
@@ -70,7 +70,7 @@ fn put_of(alloc: Global, key: &[u8]) -> Result<Entry, Fail>
 }
 
 fn table_of(alloc: Global, lo: &[u8], hi: &[u8]) -> Result<Table, Fail> {
-    let mut builder = TableBuilder::new(alloc);
+    let mut builder = TableBuilder::new(alloc, DEFAULT_BLOCK);
     builder.add(put_of(alloc, lo)?)?;
     if lo != hi {
         builder.add(put_of(alloc, hi)?)?;

@@ -4,7 +4,7 @@
 use super::schedules::{Does, MERGED, PICKED, REFUSED, TWO, TWO_JOBS, Turn};
 use super::{BASE, event_of, is_told, step};
 use lsm_coord::CoordError;
-use lsm_key::Limits;
+use lsm_key::{DEFAULT_BLOCK, Limits};
 use lsm_vault::{FusedVault, MemoryVault, Vault};
 use lsm_versions::OpenError;
 use lsm_world::{Refusal, Reply, World};
@@ -69,7 +69,7 @@ fn play(
 
 /// Whether a call failed in these schedules, if it is the one after so many.
 fn fails(rt: &impl Abort, alloc: Global, calls: u64, schedules: &[&[Turn]]) -> Result<bool, Fail> {
-    let limits = Limits::new(2, BASE).ok_or("no limits")?;
+    let limits = Limits::new(2, BASE, DEFAULT_BLOCK).ok_or("no limits")?;
     let mut world = new_world(alloc, limits, calls)?;
     let seen = play(rt, alloc, &mut world, schedules);
     let vault = world.close();

@@ -1,38 +1,17 @@
-use Rattle.std.proofs.Common.{length, sym, refl, ◌∙◌, ◌++◌, ◌∷◌, []}
-use Rattle.std.proofs.lemmas.Bool.{eqb-true, eqb-false}
-use Rattle.lsm_key.specs.Visible.{lent_entry}
-use Rattle.lsm_block.proofs.IndexedSoFar.{walk_starts, walk_fails, walk_shortens, walk_goes_on, walk_ends, counted_more, last_there, place_is}
+use Rattle.std.proofs.Common.{List, Result, sym, subst, ◌∙◌}
+use Rattle.lsm_key.specs.declared.entry.Entry.{Entry}
+use Rattle.lsm_key.specs.Reading.{Fails}
+use Rattle.lsm_block.specs.declared.fault.BlockFault.{BlockFault}
+use Rattle.lsm_block.proofs.ReadBlocks.{read_none, from_front}
 use Rattle.lsm_block.proofs.indexing.index_block.Goals as goal
 
-pub loop-found-init : goal.loop-found-init
-loop-found-init c = ([], walk_starts c.args.bytes.now c.new-seq.result c.in_ok-fences.fences.front c.in_ok-fences.fences.prefixes.items c.in_ok-fences.fences.places.items c.know_slice.ensures c.in_ok-fences.ensures.1 c.in_ok-fences.ensures.2)
+pub index_more-requires-clause-known : goal.index_more-requires-clause-known
+index_more-requires-clause-known c = read_none c.args.bytes.now c.in_ok-found.found c.in_ok-found.ensures
+
+pub returns-in-Ok-clause-ok : goal.returns-in-Ok-clause-ok
+returns-in-Ok-clause-ok c =
+    let read = c.in-Ok.ensures.ok in
+    (read.0, sym (from_front c.args.bytes.now) ∙ read.1, read.3)
 
 pub returns-in-Err-clause-err : goal.returns-in-Err-clause-err
-returns-in-Err-clause-err c =
-    let w = c.loop-found.invariant in
-    walk_fails _ w.0 _ _ _ _ _ _ _ w.1 c.in-Err.fault (c.in-Err.ensures w.0 w.1.last)
-
-pub returns-then-is_empty-clause-ok : goal.returns-then-is_empty-clause-ok
-returns-then-is_empty-clause-ok c =
-    let w = c.loop-found.invariant in
-    let e = lent_entry c.in-Ok.found.0 in
-    let after = c.in-Ok.found.1.now in
-    let read = c.in-Ok.ensures w.0 w.1.last in
-    let fenced = c.in_ok-add_fence.ensures w.0 e w.1.fenced (place_is _ w.0 _ _ _ _ _ _ _ w.1) refl in
-    let none = eqb-true (length after) 0 (sym c.is_empty.ensures ∙ c.if-is_empty.true) in
-    (w.0 ++ e ∷ [], walk_ends _ w.0 _ _ _ _ _ _ _ w.1 e after read _ _ _ fenced none, record { fenced = fenced; counted = counted_more _ w.0 _ _ _ _ _ _ _ w.1 e after read _ _ _ fenced; ends = last_there _ w.0 _ _ _ _ _ _ _ w.1 e after read _ _ _ fenced })
-
-pub loop-found-smaller : goal.loop-found-smaller
-loop-found-smaller c =
-    let w = c.loop-found.invariant in
-    walk_shortens _ w.0 _ _ _ _ _ _ _ w.1 (lent_entry c.in-Ok.found.0) c.in-Ok.found.1.now (c.in-Ok.ensures w.0 w.1.last)
-
-pub loop-found-preserved : goal.loop-found-preserved
-loop-found-preserved c =
-    let w = c.loop-found.invariant in
-    let e = lent_entry c.in-Ok.found.0 in
-    let after = c.in-Ok.found.1.now in
-    let read = c.in-Ok.ensures w.0 w.1.last in
-    let fenced = c.in_ok-add_fence.ensures w.0 e w.1.fenced (place_is _ w.0 _ _ _ _ _ _ _ w.1) refl in
-    let some = eqb-false (length after) 0 (sym c.is_empty.ensures ∙ c.if-is_empty.false) in
-    (w.0 ++ e ∷ [], walk_goes_on _ w.0 _ _ _ _ _ _ _ w.1 e after read _ _ _ fenced some)
+returns-in-Err-clause-err c = subst (λ (r : Result (List Entry) BlockFault). Fails c.in-Err.fault r) (from_front c.args.bytes.now) c.in-Err.ensures.err

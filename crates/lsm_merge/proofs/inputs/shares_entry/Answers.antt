@@ -1,15 +1,13 @@
-use Rattle.std.proofs.Common.{List, ◌||◌, Bool, length, refl, sym, ap, subst, ◌∙◌}
+use Rattle.std.proofs.Common.{◌||◌, Bool, length, refl, sym, ap, ◌∙◌}
 use Rattle.std.specs.List.{list_any}
 use Rattle.std.proofs.lemmas.Bool.{eqb-true, eqb-false}
-use Rattle.lsm_key.specs.declared.entry.Entry.{Entry}
 use Rattle.lsm_key.specs.Visible.{lent_entry}
-use Rattle.lsm_block.specs.Spans.{IsSpan}
 use Rattle.lsm_block.proofs.SpanFronts.{faultless, step, no_more}
 use Rattle.lsm_merge.proofs.InputTests.{in_one}
 use Rattle.lsm_merge.proofs.inputs.shares_entry.Goals as goal
 
 pub loop-rest-init : goal.loop-rest-init
-loop-rest-init c = (c.args.table.now.entries, subst (λ (es : List Entry). IsSpan c.bytes-rest.result.now es) c.block.ensures c.bytes-rest.ensures, refl)
+loop-rest-init c = (c.args.table.now.entries, c.span-rest.ensures, refl)
 
 pub returns-in-Err : goal.returns-in-Err
 returns-in-Err c =

@@ -1,4 +1,4 @@
-use Rattle.std.proofs.Common.{List, None, sym, ap, ◌∙◌, subst}
+use Rattle.std.proofs.Common.{ℕ, List, None, sym, ap, ◌∙◌, subst}
 use Rattle.std.proofs.lemmas.Result.{err_from_is_err_and}
 use Rattle.lsm_key.specs.declared.entry.Entry.{Entry}
 use Rattle.lsm_block.specs.Blocks.{AreEntries}
@@ -55,5 +55,5 @@ returns-clause-ok c =
     let merged = c.in_ok-merged.ensures in
     let kept_is = c.deref-2.ensures.value ∙ c.in_ok-kept.ensures ∙ ap (kept_list job.points job.deeper None) c.deref.ensures.value in
     let outputs = c.in_ok-outputs.outputs.items in
-    let made = subst (λ (es : List Entry). IsSplitInto es outputs) kept_is c.in_ok-outputs.ensures in
+    let made = subst (λ (es : List Entry). IsSplitInto job.block es outputs) kept_is (subst (λ (n : ℕ). IsSplitInto n c.deref-2.result.now outputs) c.block.ensures.value c.in_ok-outputs.ensures) in
     (can_merge tables job c.in_ok-merged.merged.items recorded merged.all merged.order, is_merge tables job c.in_ok-merged.merged.items recorded merged.all merged.order outputs made)

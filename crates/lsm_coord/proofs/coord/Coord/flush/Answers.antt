@@ -1,8 +1,9 @@
 use Rattle.std.proofs.Common.{◌≡◌, ◌<◌, ◌≤◌, None, Some, List, length, sym, ap, subst, ◌∙◌, refl, arith, rules}
-use Rattle.std.specs.Prelude.{sum_by}
+use Rattle.std.specs.Prelude.{nat_le, sum_by}
+use Rattle.std.proofs.lemmas.Bool.{leb-false, or_parts}
 use Rattle.std.specs.Option.{option_map}
 use Rattle.lsm_key.specs.declared.entry.Entry.{Entry}
-use Rattle.lsm_key.specs.declared.limits.TheConstants.{MAX_MEMTABLE_WEIGHT}
+use Rattle.lsm_key.specs.declared.limits.TheConstants.{MAX_MEMTABLE_WEIGHT, MAX_NUMBER}
 use Rattle.lsm_key.specs.Entries.{AreSound}
 use Rattle.lsm_key.specs.Limits.{entry_weight}
 use Rattle.lsm_table.proofs.TableWeights.{light_fits}
@@ -36,7 +37,14 @@ pub from_entries-requires-clause-small : goal.from_entries-requires-clause-small
 from_entries-requires-clause-small g c =
     let es = c.as_slice.result.now in
     let some : 0 < length es = search rules in
-    light_fits es some (subst (λ (entries : List Entry). sum_by entry_weight entries ≤ MAX_MEMTABLE_WEIGHT) (sym (c.as_slice.ensures.value ∙ c.in_ok-entries.ensures.all)) c.in_ok-entries.ensures.sound.light)
+    light_fits c.self.inside.limits.block es some (subst (λ (entries : List Entry). sum_by entry_weight entries ≤ MAX_MEMTABLE_WEIGHT) (sym (c.as_slice.ensures.value ∙ c.in_ok-entries.ensures.all)) c.in_ok-entries.ensures.sound.light)
+
+pub add_table-requires-clause-room : goal.add_table-requires-clause-room
+add_table-requires-clause-room g c =
+    let v = c.args.self.now.served.version in
+    let none : flush_fault c.args.self.now ≡ None = sym c.flush_fault.ensures ∙ c.in-None.is in
+    let free = or_parts (nat_le MAX_NUMBER v.number) (nat_le MAX_NUMBER v.next_file) (flush_free _ _ none).1 in
+    record { number = omega (arith, leb-false MAX_NUMBER v.number free.0); next_file = omega (arith, leb-false MAX_NUMBER v.next_file free.1) }
 
 pub add_table-requires-clause-newer : goal.add_table-requires-clause-newer
 add_table-requires-clause-newer g c =
@@ -53,14 +61,14 @@ returns-clause-step g c = λ s h.
     let number : c.number-number.result ≡ v.served.version.number = c.number-number.ensures.value ∙ ap (λ (x : VersionValue). x.number) c.version.ensures ∙ ap (λ (x : CoordValue). x.served.version.number) c.self.view_is in
     let file : c.next_file-file.result ≡ v.served.version.next_file = c.next_file-file.ensures.value ∙ ap (λ (x : VersionValue). x.next_file) c.version-2.ensures ∙ ap (λ (x : CoordValue). x.served.version.next_file) c.self.view_is in
     let adds : AddsTable v c.in_ok-meta.meta c.in_ok-table.table c.add_table.new.self = c.in_ok-add_table.ensures.ok in
-    let whole : c.in_ok-table.table.entries ≡ (flush_source v).memtable = c.in_ok-table.ensures ∙ c.as_slice.ensures.value ∙ c.in_ok-entries.ensures.all ∙ c.flushable.ensures in
+    let whole : c.in_ok-table.table.entries ≡ (flush_source v).memtable = c.in_ok-table.ensures.0 ∙ c.as_slice.ensures.value ∙ c.in_ok-entries.ensures.all ∙ c.flushable.ensures in
     let spelled = subst (IsSpelledEdit adds.text) adds.edit_is adds.spelled in
     let applies = subst (λ (e : Edit). apply_fault v.served.version e ≡ None) adds.edit_is adds.applies in
     let shows = shows_after v v.frozen s c.in_ok-meta.meta c.in_ok-table.table adds.text h refl whole (c.in_ok-meta.ensures.place.0 ∙ file) c.in_ok-meta.ensures.place.1 spelled applies in
     (after_flush s, (may, (omega (arith, versions, number, c.new.ensures), c.flush_end-seq.ensures ∙ sym (end_of v v.frozen s h refl), c.new-2.ensures ∙ file ∙ sym h.tables.next_file, refl)), subst (λ (x : CoordValue). Shows x (after_flush s)) (sym adds.new_is) (Shows-beside _ _ _ _ (after_flush s) shows))
 
 pub returns-clause-ok : goal.returns-clause-ok
-returns-clause-ok g c = (sym c.flush_fault.ensures ∙ c.in-None.is, (c.in_ok-meta.meta, c.in_ok-table.table, c.in_ok-table.ensures ∙ c.as_slice.ensures.value ∙ c.in_ok-entries.ensures.all ∙ c.flushable.ensures, c.in_ok-add_table.ensures.ok))
+returns-clause-ok g c = (sym c.flush_fault.ensures ∙ c.in-None.is, (c.in_ok-meta.meta, c.in_ok-table.table, c.in_ok-table.ensures.0 ∙ c.as_slice.ensures.value ∙ c.in_ok-entries.ensures.all ∙ c.flushable.ensures, c.in_ok-add_table.ensures.ok, c.in_ok-table.ensures.1 ∙ ap (λ (x : CoordValue). x.limits.block) c.self.view_is))
 
 pub returns-in_err-add_table-clause-step : goal.returns-in_err-add_table-clause-step
 returns-in_err-add_table-clause-step g c = λ s h.

@@ -33,4 +33,4 @@ returns-clause-step g c =
     (record s { frozen = Some (last_seq s) }, (may, (sym h.last, refl)), Shows-froze _ s h free.0))
 
 pub returns-clause-sound : goal.returns-clause-sound
-returns-clause-sound g c = rw (← c.self.view_is) (same_keeps _ _ refl refl refl)
+returns-clause-sound g c = rw (← c.self.view_is) (same_keeps _ _ refl refl refl refl)

@@ -60,7 +60,7 @@ invariant_of-self-in-Ok g c =
     let found = sym c.job_named.ensures ∙ ap option_copied c.in-Some.is in
     let live = (λ i. find (λ (j : LiveJob). same_job_id j.id (sym c.id-id.ensures i)) (sym c.live.ensures.all i)) ∙ found in
     rw c.settle-in-Ok.ensures.book
-    (after_install m.active m.frozen m.newest m.versions c.put_outputs.new.versions m.book c.args.claim.id c.in-Some.job.now c.args.made.now c.in-Ok.put.number c.in-Ok.put.files m.live.items
+    (after_install m.limits.block m.active m.frozen m.newest m.versions c.put_outputs.new.versions m.book c.args.claim.id c.in-Some.job.now c.args.made.now c.in-Ok.put.number c.in-Ok.put.files m.live.items
     c.self.invariant c.live.ensures.sound served version live c.in-Ok.ensures.ok)
 
 pub returns-in-Ok-clause-became : goal.returns-in-Ok-clause-became

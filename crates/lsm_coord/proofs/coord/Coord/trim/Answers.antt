@@ -33,10 +33,10 @@ returns-clause-step g c =
     (after_trim s c.args.to, (may, (floor ∙ ap (λ (n : ℕ). max n c.args.to) (sym h.floor), refl)), Shows-beside _ _ _ _ (after_trim s c.args.to) (Shows-trimmed _ s c.args.to h)))
 
 pub returns-clause-sound : goal.returns-clause-sound
-returns-clause-sound g c = rw (c.in_ok-removed.ensures.rest, ← c.self.view_is) (same_keeps _ _ refl refl refl)
+returns-clause-sound g c = rw (c.in_ok-removed.ensures.rest, ← c.self.view_is) (same_keeps _ _ refl refl refl refl)
 
 pub returns-in_err-removed-clause-sound : goal.returns-in_err-removed-clause-sound
-returns-in_err-removed-clause-sound g c = rw (c.in_err-removed.ensures.rest, ← c.self.view_is) (same_keeps _ _ refl refl refl)
+returns-in_err-removed-clause-sound g c = rw (c.in_err-removed.ensures.rest, ← c.self.view_is) (same_keeps _ _ refl refl refl refl)
 
 pub returns-in_err-removed-clause-step : goal.returns-in_err-removed-clause-step
 returns-in_err-removed-clause-step g c =

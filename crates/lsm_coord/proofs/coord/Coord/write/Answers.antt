@@ -49,4 +49,4 @@ returns-clause-step g c =
     (record s { writes = s.writes ++ ops }, (may, (first, end, refl)), Shows-written _ c.apply.new.self s ops perm h))
 
 pub returns-clause-sound : goal.returns-clause-sound
-returns-clause-sound g c = rw (← c.self.view_is) (same_keeps _ _ refl refl refl)
+returns-clause-sound g c = rw (← c.self.view_is) (same_keeps _ _ refl refl refl refl)

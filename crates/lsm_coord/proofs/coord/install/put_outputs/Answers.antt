@@ -43,7 +43,7 @@ returns-clause-ok g c =
       tables = ts;
       accepted = record {
         same_job = (c.are_same.ensures).0 c.if-not-are_same.false;
-        outputs = subst (λ (texts : List (List ℕ)). AreOutputTables want.hull texts ts) c.as_slice.ensures c.in_ok-tables.ensures.ok;
+        outputs = subst (λ (texts : List (List ℕ)). AreOutputTables c.args.block want.hull texts ts) c.as_slice.ensures c.in_ok-tables.ensures.ok;
         numbers = has_numbers s.version ts ((λ i. number_fault (sym c.version-version.ensures i) (sym len i)) ∙ sym c.number_fault.ensures ∙ c.in-None.is);
       };
       edit = c.in_ok-edit.edit;
@@ -60,6 +60,6 @@ pub returns-in-Some-clause-why : goal.returns-in-Some-clause-why
 returns-in-Some-clause-why g c =
     let ts = c.in_ok-tables.tables.items in
     let len : c.len.result ≡ length ts = grind (arith, common_steps) in
-    let outputs : AreOutputTables c.args.job.now.want.hull c.args.made.now.tables ts = subst (λ (texts : List (List ℕ)). AreOutputTables c.args.job.now.want.hull texts ts) c.as_slice.ensures c.in_ok-tables.ensures.ok in
+    let outputs : AreOutputTables c.args.block c.args.job.now.want.hull c.args.made.now.tables ts = subst (λ (texts : List (List ℕ)). AreOutputTables c.args.block c.args.job.now.want.hull texts ts) c.as_slice.ensures c.in_ok-tables.ensures.ok in
     let some : number_fault c.args.versions.now.served.version (length ts) ≡ Some c.in-Some.why = (λ i. number_fault (sym c.version-version.ensures i) (sym len i)) ∙ sym c.number_fault.ensures ∙ c.in-Some.is in
-    lacks_numbers c.args.versions.now.served.version c.args.job.now c.args.made.now ts c.in-Some.why ((c.are_same.ensures).0 c.if-not-are_same.false) outputs some
+    lacks_numbers c.args.block c.args.versions.now.served.version c.args.job.now c.args.made.now ts c.in-Some.why ((c.are_same.ensures).0 c.if-not-are_same.false) outputs some

@@ -4,8 +4,17 @@ use Rattle.lsm_edit.specs.declared.served.Placed.{Placed}
 use Rattle.lsm_edit.specs.Served.{AreLacking, IsAsRecorded, ServedValue}
 use Rattle.lsm_follow.specs.Followers.{FollowerValue, PendingValue}
 use Rattle.lsm_follow.specs.Pending.{IsFollower, StandsAt}
+use Rattle.lsm_follow.proofs.ReceivedTables.{is_of, missing_rises}
 use Rattle.lsm_follow.proofs.TableSteps.{last_comes}
 use Rattle.lsm_follow.proofs.follower.Follower.finish.Goals as goal
+
+pub receive-requires-clause-rising : goal.receive-requires-clause-rising
+receive-requires-clause-rising c =
+    let s = c.args.self.now in
+    let to : PendingValue = c.in-Some.pending in
+    let seen : s.pending ≡ Some to = sym (c.in-Some.ensures.value ∙ ap (λ (x : FollowerValue). x.pending) c.self.view_is) in
+    let pending = is_of s (subst IsFollower c.self.view_is c.self.invariant) to seen in
+    missing_rises s.served.version to pending.has pending.version
 
 pub rebase-requires-clause-lacking : goal.rebase-requires-clause-lacking
 rebase-requires-clause-lacking c =

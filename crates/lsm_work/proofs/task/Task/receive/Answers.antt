@@ -86,7 +86,7 @@ pub returns-in-Ok-clause-sound : goal.returns-in-Ok-clause-sound
 returns-in-Ok-clause-sound c =
     let of = found c.args.self.now c.args.number c.in-Some.place c.args.bytes.now c.in-Some.file.now c.in_ok-table.field-0 c.in-Some-2.table c.in-Some.ensures.missing c.in-Some.ensures.place c.in_ok-table.ensures.some c.in-Some-2.is in
     let made = c.in-Ok.ensures.ok c.in-Some.file.now of.stands in
-    let may = c.result_message.ensures.sound (tables_may_be_sent c.in-Ok.outputs.items made.1.entries made.1.spelled) in
+    let may = c.result_message.ensures.sound (tables_may_be_sent _ c.in-Ok.outputs.items made.1.entries made.1.spelled) in
     let message = c.result_message.result in
     let one : c.push.new.self.items ≡ message ∷ [] = c.push.ensures.items ∙ ap (λ r. cond (is_ok r) (c.in_ok-sent.sent.items ++ message ∷ []) c.in_ok-sent.sent.items) c.unwrap.ensures ∙ ap (λ (ms : List Message). ms ++ message ∷ []) c.in_ok-sent.ensures.items in
     subst (λ (ms : List Message). All IsMessage ms) (sym one) (All-one IsMessage message may)

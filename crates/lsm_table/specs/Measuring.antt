@@ -1,0 +1,33 @@
+-- What is known of the blocks that entries are cut into while they still come.
+use Rattle.std.specs.Prelude.{◌≡◌, ℕ, ◌+◌, ◌<◌, ◌≤◌, List, [], ◌∷◌, ◌++◌, length}
+use Rattle.std.specs.List.{flat_map}
+use Rattle.lsm_key.specs.declared.entry.Entry.{Entry}
+use Rattle.lsm_block.specs.Blocks.{entries}
+use Rattle.lsm_block.specs.BlockReading.{last_of}
+use Rattle.lsm_table.specs.declared.measuring.Measure.{Measure}
+use Rattle.lsm_table.specs.Cuts.{cut_after}
+use Rattle.lsm_table.specs.Tables.{index, key_of_entry}
+
+-- the entries are cut into these blocks and a last one, which may take more
+pub record IsCutInto (target : ℕ) (es : List Entry) (closed : List (List Entry)) (last : List Entry) : Type 0 where
+  pub cut : cut_after target [] es ≡ closed ++ last ∷ []
+  pub ends : last_of last ≡ last_of es
+
+-- the parts of a measure are no more than its whole
+pub record IsLight (m : Measure) : Type 0 where
+  pub closed : m.closed ≤ m.index
+  pub index : m.index + m.last ≤ m.weight
+  pub key : m.last_key ≤ m.last
+  pub some : 0 < m.last → 14 + m.last_key ≤ m.last
+
+-- the measure of these entries
+pub record IsMeasured (target : ℕ) (es : List Entry) (m : Measure) : Type 0 where
+  pub closed : List (List Entry)
+  pub last : List Entry
+  pub parts : IsCutInto target es closed last
+  pub counted : m.closed ≡ length closed
+  pub indexed : m.index ≡ length (flat_map index closed)
+  pub sized : m.last ≡ length (entries last)
+  pub keyed : m.last_key ≡ length (key_of_entry (last_of es))
+  pub weighed : m.weight ≡ length (entries es)
+  pub light : IsLight m

@@ -1,0 +1,111 @@
+//! Measuring the table of entries that come one at a time: how many blocks and how many bytes it has.
+
+ghost use Rattle.std.specs.Prelude.{◌≡◌, ◌+◌, ◌*◌, ◌<◌, ◌≤◌, ◌++◌, [], ◌∷◌, ℕ, List, length};
+ghost use Rattle.std.specs.List.{AllByRecursion};
+ghost use Rattle.lsm_key.specs.declared.entry.Entry.{Entry};
+ghost use Rattle.lsm_key.specs.Entries.{IsEntry};
+ghost use Rattle.lsm_key.specs.Limits.{entry_weight};
+ghost use Rattle.lsm_block.specs.Blocks.{entries};
+ghost use Rattle.lsm_table.specs.Measuring.{IsLight, IsMeasured};
+ghost use Rattle.lsm_table.specs.Tables.{table_of};
+
+use lsm_key::{ENTRY_OVERHEAD, Entry, MAX_TABLE_BYTES};
+
+// The bytes of a header.
+const HEADER_BYTES: usize = 17;
+
+// The bytes of a block in the index, other than its last key.
+const INDEX_OVERHEAD: usize = 14;
+
+/// What entries measure, cut into blocks at a target: the blocks that are closed, the last one, and all entries.
+#[derive(Clone, Copy)]
+pub(crate) struct Measure {
+    /// How many blocks are closed: an entry came when they had as many bytes as the target.
+    pub(crate) closed: u32,
+    /// The bytes of those blocks in the index.
+    pub(crate) index: usize,
+    /// The bytes of the last block.
+    pub(crate) last: usize,
+    /// The bytes of the key of the last entry.
+    pub(crate) last_key: usize,
+    /// The bytes of all entries.
+    pub(crate) weight: usize,
+}
+
+impl Measure {
+    /// Of no entries.
+    pub(crate) fn new() -> Measure
+        ensures { (target : ℕ) → IsMeasured target [] result }
+    {
+        Measure {
+            closed: 0,
+            index: 0,
+            last: 0,
+            last_key: 0,
+            weight: 0,
+        }
+    }
+
+    /// With one more entry, which begins a block if the last one has as many bytes as the target.
+    pub(crate) fn grown(&self, target: u32, e: &Entry) -> Measure
+        requires entry { IsEntry e.now }
+        requires target { 1 ≤ target }
+        requires light { IsLight self.now }
+        requires small { self.now.weight ≤ MAX_TABLE_BYTES }
+        ensures measured { (es : List Entry) → IsMeasured target es self.now → IsMeasured target (es ++ e.now ∷ []) result }
+        ensures small { result.weight ≤ 2 * MAX_TABLE_BYTES }
+    {
+        let len = entry_len(e);
+        let last_key = e.ikey.key.len();
+        let weight = self.weight + len;
+        if self.last < target as usize {
+            Measure {
+                closed: self.closed,
+                index: self.index,
+                last: self.last + len,
+                last_key,
+                weight,
+            }
+        } else {
+            Measure {
+                closed: self.closed + 1,
+                index: self.index + (INDEX_OVERHEAD + self.last_key),
+                last: len,
+                last_key,
+                weight,
+            }
+        }
+    }
+
+    /// The bytes of the table of the entries.
+    pub(crate) fn table_len(&self) -> usize
+        requires light { IsLight self.now }
+        requires small { self.now.weight ≤ 2 * MAX_TABLE_BYTES }
+        ensures { (target : ℕ) (es : List Entry) → 1 ≤ target → 0 < length es → IsMeasured target es self.now → result ≡ length (table_of target es) }
+    {
+        HEADER_BYTES + self.index + (INDEX_OVERHEAD + self.last_key) + self.weight
+    }
+}
+
+/// The bytes of an entry in its block.
+pub(crate) fn entry_len(e: &Entry) -> usize
+    requires { IsEntry e.now }
+    ensures value { result ≡ entry_weight e.now }
+    ensures small { result ≤ MAX_TABLE_BYTES }
+{
+    ENTRY_OVERHEAD + e.ikey.key.len() + e.value.len()
+}
+
+/// What entries measure together.
+pub(crate) fn measured(target: u32, es: &[Entry]) -> Measure
+    requires target { 1 ≤ target }
+    requires each { AllByRecursion IsEntry es.now }
+    requires small { length (entries es.now) ≤ MAX_TABLE_BYTES }
+    ensures { IsMeasured target es.now result }
+{
+    let mut measure = Measure::new();
+    for e in es {
+        measure = measure.grown(target, e);
+    }
+    measure
+}
