@@ -2,14 +2,14 @@
 use Rattle.std.proofs.Common.{◌≡◌, ℕ, ◌<◌, List, [], ◌∷◌, ◌++◌, length, drop, Some, Ok, sym, ap, subst, ◌∙◌, arith}
 use Rattle.std.specs.Prelude.{slice_get}
 use Rattle.std.specs.List.{slice_range}
-use Rattle.std.proofs.lemmas.List.{take_rest}
+use Rattle.std.proofs.lemmas.List.{take_rest, take_all}
 use Rattle.lsm_key.specs.declared.entry.Entry.{Entry}
 use Rattle.lsm_key.proofs.FieldLaws.{IsBytes}
 use Rattle.lsm_block.specs.declared.indexing.Indexed.{Indexed}
 use Rattle.lsm_block.specs.Blocks.{entries, IsBlock}
 use Rattle.lsm_block.specs.BlockReading.{last_of, entry_at, read_block}
 use Rattle.lsm_block.specs.Fences.{AreFences}
-use Rattle.lsm_block.specs.Indexed.{IsIndexed, IsIndexedBlock, IsLastAt, block_entries, entries_read}
+use Rattle.lsm_block.specs.Indexed.{IsIndexedBlock, IsLastAt, IsReadTo, block_entries}
 use Rattle.lsm_block.specs.Spans.{IsSpan}
 use Rattle.lsm_block.proofs.BlockRuns.{as_long, block_again, block_one, block_takes}
 use Rattle.lsm_block.proofs.EntriesGrow.{last_added}
@@ -22,16 +22,15 @@ span_one bytes [] fs span is = absurd (omega (arith, is.some, as_long fs, ap len
 span_one bytes (x ∷ es) fs span is = block_one bytes (x ∷ es) fs (record { some = omega arith; sound = span.sound; spelled = span.spelled }) (block_again bytes fs is)
 
 -- what a walk found of the bytes
-pub indexed_block : (bytes : List ℕ) (found : Indexed) → IsBytes bytes → (es : List Entry) → read_block bytes ≡ Ok es → IsIndexed es found → IsIndexedBlock bytes found
-indexed_block bytes found fits es read is =
-    let same : es ≡ block_entries bytes = sym (ap entries_read read) in
+pub indexed_block : (bytes : List ℕ) (found : Indexed) → IsBytes bytes → read_block bytes ≡ Ok (block_entries bytes) → IsReadTo bytes (length bytes) found → IsIndexedBlock bytes found
+indexed_block bytes found fits read is =
     record {
-      read = read ∙ ap (λ (zs : List Entry). Ok zs) same;
-      block = subst (IsBlock bytes) same (block_takes bytes es fits read);
-      index = subst (λ (zs : List Entry). IsIndexed zs found) same is;
+      read = read;
+      block = block_takes bytes (block_entries bytes) fits read;
+      index = rw (← ap block_entries (take_all (length bytes) bytes (omega arith))) is.index;
     }
 
-span_of : (bytes : List ℕ) (es : List Entry) → IsBlock bytes es → IsSpan bytes es
+pub span_of : (bytes : List ℕ) (es : List Entry) → IsBlock bytes es → IsSpan bytes es
 span_of bytes es is = record { sound = is.sound; spelled = is.spelled }
 
 pub first_read : (bytes : List ℕ) (es : List Entry) (e : Entry) (after : List ℕ) → IsBlock bytes es → entry_at bytes ≡ Ok (e, after) → slice_get es 0 ≡ Some e

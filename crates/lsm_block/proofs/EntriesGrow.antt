@@ -16,6 +16,11 @@ use Rattle.lsm_block.specs.BlockReading.{may_follow, last_of}
 pub no_entries : AreEntries []
 no_entries = record { each = tt; sequences = tt; ascending = λ i d lt. absurd (omega (arith, lt)) }
 
+-- entries that have bytes are some
+pub has_some : (es : List Entry) → 0 < length (entries es) → 0 < length es
+has_some [] lt = absurd (omega (arith, lt))
+has_some (x ∷ es) lt = omega arith
+
 pub last_at : (x : Entry) (es : List Entry) (d : Entry) → last_of (x ∷ es) ≡ Some (get_or (x ∷ es) (length es) d)
 last_at x es d = (let k : length (x ∷ es) - 1 ≡ length es = omega arith in rw k (slice_get-get_or (x ∷ es) (length es) d (omega arith)))
 

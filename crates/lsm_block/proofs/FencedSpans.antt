@@ -49,7 +49,7 @@ not_seen e key at less true h =
     let own : is_lt (slice_cmp nat_cmp key key) ≡ true = subst (λ (k : List ℕ). is_lt (slice_cmp nat_cmp k key) ≡ true) same less in
     let bad : false ≡ true = sym (ap is_lt (tied_itself nat_list_cmp_total key)) ∙ own in absurd cc
 
-front_hides_nothing : (front : List Entry) (first : Entry) (more : List Entry) (key : List ℕ) (at : ℕ) → IsAscending (front ++ first ∷ more) → key_lt first.ikey.key key ≡ true → visible (front ++ first ∷ more) key at ≡ visible (first ∷ more) key at
+pub front_hides_nothing : (front : List Entry) (first : Entry) (more : List Entry) (key : List ℕ) (at : ℕ) → IsAscending (front ++ first ∷ more) → key_lt first.ikey.key key ≡ true → visible (front ++ first ∷ more) key at ≡ visible (first ∷ more) key at
 front_hides_nothing [] first more key at up less = refl
 front_hides_nothing (e ∷ front) first more key at up less =
     let whole : List Entry = (e ∷ front) ++ first ∷ more in

@@ -11,3 +11,4 @@ pub mod SpanRanges
 pub mod RangeFilters
 pub mod RangeLoops
 pub mod BlocksInTurn
+pub mod HandleParts

@@ -1,7 +1,7 @@
 -- What a reader of blocks has read: the first bytes, as a span.
-use Rattle.std.proofs.Common.{◌≡◌, ℕ, zero, suc, ◌+◌, ◌-◌, ◌<◌, ◌≤◌, List, [], ◌∷◌, length, take, drop, Some, None, Ok, Err, refl, sym, ap, subst, ◌∙◌, arith}
+use Rattle.std.proofs.Common.{◌≡◌, ℕ, zero, suc, ◌+◌, ◌-◌, ◌<◌, ◌≤◌, List, [], ◌∷◌, ◌++◌, length, take, drop, Some, None, Result, Ok, Err, refl, sym, ap, subst, ◌∙◌, arith}
 use Rattle.std.specs.List.{slice_range}
-use Rattle.std.proofs.lemmas.List.{take_rest, take_all, take-take, drop_at, length-append, length-drop, length-take, length-take-le}
+use Rattle.std.proofs.lemmas.List.{take_rest, take_all, take-append-drop, take-take, drop_at, length-append, length-drop, length-take, length-take-le}
 use Rattle.std.proofs.Math.Seq.{take-add}
 use Rattle.std.proofs.lemmas.List.Concat.{flat_map-append}
 use Rattle.lsm_key.specs.declared.entry.Entry.{Entry}
@@ -11,7 +11,7 @@ use Rattle.lsm_block.specs.declared.fault.BlockFault.{BlockFault}
 use Rattle.lsm_block.specs.declared.indexing.Indexed.{Indexed}
 use Rattle.lsm_block.specs.Blocks.{entry, entries, IsBlock}
 use Rattle.lsm_block.specs.BlockReading.{last_of, entry_at, next_at, entries_at, read_block}
-use Rattle.lsm_block.specs.Indexed.{AreIndexed, IsIndexed, IsIndexedBlock, IsLastKey, IsReadTo, block_entries, entries_read, entries_before}
+use Rattle.lsm_block.specs.Indexed.{AreIndexed, IsIndexedBlock, IsLastKey, IsReadTo, block_entries, entries_read, entries_before}
 use Rattle.lsm_block.specs.Spans.{IsSpan}
 use Rattle.lsm_block.proofs.EntriesGrow.{no_entries}
 use Rattle.lsm_block.proofs.BlockRuns.{as_long, block_again}
@@ -77,25 +77,15 @@ read_all bytes read found is more none =
     let same : block_entries bytes ≡ es = all_entries bytes read none in
     let whole : take read bytes ≡ bytes = take_all read bytes (omega (arith, length-drop read bytes, ap length none)) in
     let block : IsBlock bytes es = block_of bytes es more (subst (λ (b : List ℕ). IsSpan b es) whole is.span) in
-    let index : IsIndexed es found = record { fenced = is.index.fenced; counted = is.index.counted; ends = is.index.ends more } in
     record {
       read = block_again bytes es block ∙ ap (λ (zs : List Entry). Ok zs) (sym same);
       block = subst (IsBlock bytes) (sym same) block;
-      index = subst (λ (zs : List Entry). IsIndexed zs found) (sym same) index;
+      index = subst (λ (zs : List Entry). AreIndexed zs found) (sym same) is.index;
     }
 
 -- ---- more is read
 
--- the bytes up to an end behind those that were read
-pub cut_behind : (bytes : List ℕ) (begin end : ℕ) (found : Indexed) → begin ≤ end → end ≤ length bytes → IsReadTo bytes begin found → IsReadTo (take end bytes) begin found
-cut_behind bytes begin end found le within is =
-    let same : take begin (take end bytes) ≡ take begin bytes = take-take begin end bytes le in
-    record {
-      within = omega (arith, le, within, length-take end bytes);
-      span = rw same is.span;
-      index = rw same is.index;
-    }
-
+-- the bytes up to an end
 pub same_before : (bytes : List ℕ) (begin end : ℕ) → begin ≤ end → entries_before (take end bytes) begin ≡ entries_before bytes begin
 same_before bytes begin end le = ap block_entries (take-take begin end bytes le)
 
@@ -106,20 +96,25 @@ same_after bytes begin end le within =
     ∙ ap (drop begin) (take-add begin (end - begin) bytes)
     ∙ drop_at (take begin bytes) (take (end - begin) (drop begin bytes)) begin (length-take-le begin bytes (omega (arith, le, within)))
 
-some_indexed : (es : List Entry) (found : Indexed) → IsIndexed es found → 0 < length es
-some_indexed es found is = omega (arith, ap length is.ends.parts, length-append is.ends.before (is.ends.last ∷ []))
+-- what was read of the bytes up to an end was read of all bytes
+pub read_behind : (bytes : List ℕ) (end : ℕ) (found : Indexed) → end ≤ length bytes → IsReadTo (take end bytes) (length (take end bytes)) found → IsReadTo bytes end found
+read_behind bytes end found within is =
+    let same : take (length (take end bytes)) (take end bytes) ≡ take end bytes = take_all (length (take end bytes)) (take end bytes) (omega arith) in
+    record {
+      within = within;
+      span = rw (← same) is.span;
+      index = rw (← same) is.index;
+    }
 
--- what a walk to an end found
-module _ (bytes : List ℕ) (end : ℕ) (es : List Entry) (found : Indexed) (span : IsSpan (take end bytes) es) (is : IsIndexed es found) where
-  pub more_entries : entries_before bytes end ≡ es
-  more_entries = entries_of (take end bytes) es (some_indexed es found is) span
-
-  pub read_more : end ≤ length bytes → IsReadTo bytes end found
-  read_more within = record {
-    within = within;
-    span = rw more_entries span;
-    index = rw more_entries (record { fenced = is.fenced; counted = is.counted; ends = λ some. is.ends });
-  }
+-- what a walk over all bytes found
+pub walked_all : (given : Result (List Entry) BlockFault) (bytes : List ℕ) (es : List Entry) (found : Indexed) → 0 < length es → given ≡ Ok es → IsSpan bytes es → AreIndexed es found
+    → (given ≡ Ok (entries_before bytes (length bytes))) × IsReadTo bytes (length bytes) found
+walked_all given bytes es found some read span is =
+    let whole : take (length bytes) bytes ≡ bytes = take_all (length bytes) bytes (omega arith) in
+    let same : entries_before bytes (length bytes) ≡ es = ap block_entries whole ∙ entries_of bytes es some span in (
+      read ∙ ap (λ (zs : List Entry). Ok zs) (sym same),
+      record { within = omega arith; span = rw (same, whole) span; index = rw same is },
+    )
 
 -- the last entry's key and sequence
 pub key_of_last : (es : List Entry) (e : Entry) → Some e ≡ last_of es → IsLastKey es e.ikey.key e.ikey.seq
@@ -146,19 +141,27 @@ cut_same bytes begin end le within =
     ∙ ap (λ (es : List Entry). entries_at (end - begin + 1) es (drop begin (take end bytes))) (same_before bytes begin end le)
     ∙ ap (λ (b : List ℕ). entries_at (end - begin + 1) (entries_before bytes begin) b) (same_after bytes begin end le within)
 
--- what reading gives of the next bytes, and what is read then
-pub read_on : (bytes slice : List ℕ) (read len : ℕ) (found : Indexed) → slice ≡ bytes → read ≤ length bytes → len ≤ length (drop read bytes)
-    → (es : List Entry) × (entries_at (read + len - read + 1) (entries_before slice read) (take (read + len - read) (drop read slice)) ≡ Ok es) × IsSpan (take (read + len) slice) es × IsIndexed es found
-    → IsReadTo bytes (read + len) found × (entries_at (len + 1) (entries_before bytes read) (take len (drop read bytes)) ≡ Ok (entries_before bytes (read + len)))
-read_on bytes slice read len found is within some is_read =
-    let es = is_read.0 in
+-- so is what it found
+pub cut_read : (bytes : List ℕ) (begin end : ℕ) (found : Indexed) → begin ≤ end → end ≤ length bytes
+    → (entries_at (length (drop begin (take end bytes)) + 1) (entries_before (take end bytes) begin) (drop begin (take end bytes)) ≡ Ok (entries_before (take end bytes) (length (take end bytes)))) × IsReadTo (take end bytes) (length (take end bytes)) found
+    → (entries_at (end - begin + 1) (entries_before bytes begin) (take (end - begin) (drop begin bytes)) ≡ Ok (entries_before bytes end)) × IsReadTo bytes end found
+cut_read bytes begin end found le within is = (
+  sym (cut_same bytes begin end le within) ∙ is.0 ∙ ap (λ (b : List ℕ). Ok (block_entries b)) (take_all (length (take end bytes)) (take end bytes) (omega arith)),
+  read_behind bytes end found within is.1,
+)
+
+-- what reading gives of the next bytes
+pub read_on : (bytes slice : List ℕ) (read len : ℕ) (found : Indexed) → slice ≡ bytes
+    → (entries_at (read + len - read + 1) (entries_before slice read) (take (read + len - read) (drop read slice)) ≡ Ok (entries_before slice (read + len))) × IsReadTo slice (read + len) found
+    → (entries_at (len + 1) (entries_before bytes read) (take len (drop read bytes)) ≡ Ok (entries_before bytes (read + len))) × IsReadTo bytes (read + len) found
+read_on bytes slice read len found is given =
     let n : read + len - read ≡ len = omega arith in
-    let span : IsSpan (take (read + len) bytes) es = subst (λ (b : List ℕ). IsSpan (take (read + len) b) es) is is_read.2 in
-    let given : entries_at (read + len - read + 1) (entries_before bytes read) (take (read + len - read) (drop read bytes)) ≡ Ok es = ap (λ (b : List ℕ). entries_at (read + len - read + 1) (entries_before b read) (take (read + len - read) (drop read b))) (sym is) ∙ is_read.1 in
-    let short : entries_at (len + 1) (entries_before bytes read) (take len (drop read bytes)) ≡ Ok es = ap (λ (i : ℕ). entries_at (i + 1) (entries_before bytes read) (take i (drop read bytes))) (sym n) ∙ given in (
-      read_more bytes (read + len) es found span is_read.3 (omega (arith, within, some, length-drop read bytes)),
-      short ∙ ap (λ (zs : List Entry). Ok zs) (sym (more_entries bytes (read + len) es found span is_read.3)),
-    )
+    let all = subst (λ (b : List ℕ). (entries_at (read + len - read + 1) (entries_before b read) (take (read + len - read) (drop read b)) ≡ Ok (entries_before b (read + len))) × IsReadTo b (read + len) found) is given in
+    (ap (λ (i : ℕ). entries_at (i + 1) (entries_before bytes read) (take i (drop read bytes))) (sym n) ∙ all.0, all.1)
+
+-- after a refusal nothing is read, and all bytes are left
+pub all_left : (bytes : List ℕ) (read : ℕ) (found : Indexed) → IsReadTo bytes read found → drop 0 bytes ≡ entries (entries_before bytes read) ++ drop read bytes
+all_left bytes read found is = sym (take-append-drop read bytes) ∙ ap (λ (b : List ℕ). b ++ drop read bytes) is.span.spelled
 
 pub fails_on : (bytes slice : List ℕ) (read len : ℕ) (e : Refused BlockFault) → slice ≡ bytes
     → Fails e (entries_at (read + len - read + 1) (entries_before slice read) (take (read + len - read) (drop read slice)))

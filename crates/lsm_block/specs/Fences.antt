@@ -21,3 +21,7 @@ pub record AreFences (front : List ℕ) (es : List Entry) (prefixes places : Lis
 -- a walk for the key may begin at the front of the span, and at a fence whose prefix is less than the key's
 abbrev pub MayBegin : List ℕ → List ℕ → List ℕ → List ℕ → ℕ → Type 0
 MayBegin front prefixes places key begin = (begin ≡ 0) ⊎ ((i : ℕ) × (i < length prefixes) × (begin ≡ slice_index places i) × (slice_index prefixes i < prefix_of front key))
+
+-- a walk for the key may end at the end of the span, and at a fence whose prefix is greater than the key's
+abbrev pub MayEnd : List ℕ → List ℕ → List ℕ → List ℕ → ℕ → ℕ → Type 0
+MayEnd front prefixes places key len end = (end ≡ len) ⊎ ((i : ℕ) × (i < length prefixes) × (end ≡ slice_index places i) × (prefix_of front key < slice_index prefixes i))

@@ -19,13 +19,7 @@ pub record IsLastAt (es : List Entry) (place : ℕ) : Type 0 where
   pub parts : es ≡ before ++ last ∷ []
   pub begins : place ≡ length (entries before)
 
--- fences of the entries, their count, and where the last one begins
-pub record IsIndexed (es : List Entry) (found : Indexed) : Type 0 where
-  pub fenced : AreFences found.fences.front es found.fences.prefixes.items found.fences.places.items
-  pub counted : found.count ≡ length es
-  pub ends : IsLastAt es found.last
-
--- the same of entries that may be none
+-- fences of the entries, which may be none, their count, and where the last one begins
 pub record AreIndexed (es : List Entry) (found : Indexed) : Type 0 where
   pub fenced : AreFences found.fences.front es found.fences.prefixes.items found.fences.places.items
   pub counted : found.count ≡ length es
@@ -44,7 +38,7 @@ block_entries bytes = entries_read (read_block bytes)
 pub record IsIndexedBlock (bytes : List ℕ) (found : Indexed) : Type 0 where
   pub read : read_block bytes ≡ Ok (block_entries bytes)
   pub block : IsBlock bytes (block_entries bytes)
-  pub index : IsIndexed (block_entries bytes) found
+  pub index : AreIndexed (block_entries bytes) found
 
 -- the entries of the first so many bytes
 abbrev pub entries_before : List ℕ → ℕ → List Entry

@@ -8,11 +8,13 @@ ghost use Rattle.lsm_key.specs.Order.{is_between, key_le};
 ghost use Rattle.lsm_key.specs.Reading.{Gives};
 ghost use Rattle.lsm_block.specs.Blocks.{IsBlock};
 ghost use Rattle.lsm_block.specs.BlockReading.{read_block, last_of, may_follow};
+ghost use Rattle.lsm_block.specs.Handles.{IsAt, IsHandle, IsHandleFor};
 ghost use Rattle.lsm_block.specs.Indexed.{IsIndexedBlock, block_entries};
 ghost use Rattle.lsm_block.specs.Spans.{IsSpan};
 
 use crate::fault::BlockError;
 use crate::fences::{Fences, get_in};
+use crate::handle::{BlockHandle, handle_in};
 use crate::indexing::{Indexed, index_block};
 use crate::ranges::{entries_between, entries_in, key_after_in};
 use crate::reading::read_entry;
@@ -70,6 +72,30 @@ impl Block {
     {
         let fences: &Fences = &self.index.fences;
         get_in(self.bytes.as_slice(), fences, key, at)
+    }
+
+    /// The handle of the entries among which a look-up of the key ends, at most some tens of them but for versions of one key.
+    /// Allocates nothing.
+    pub fn handle(&self, key: &[u8]) -> BlockHandle
+        ensures { IsHandleFor self.now key.now result }
+    {
+        handle_in(self.bytes.as_slice(), &self.index.fences, key)
+    }
+
+    /// The entries of a handle, as a block of their own. Shares the bytes.
+    pub fn part(&self, alloc: Global, handle: BlockHandle) -> Result<Block, AllocError>
+        requires { IsHandle self.now handle }
+        ensures { IfOk result (IsAt self.now handle) }
+    {
+        // Proof hint: the end is no more than this, which is a length.
+        let _most = self.bytes.len();
+        let end = handle.offset + handle.size;
+        let bytes = self.bytes.slice(handle.offset..end)?;
+        match decode_with_hints(alloc, bytes, Bytes::new(), 0) {
+            Ok(part) => Ok(part),
+            // Memory ran out: whole entries of a block have no fault.
+            Err(_) => Err(AllocError),
+        }
     }
 
     /// The entries whose key is at or after `lo` and before `hi`, in order. Shares the bytes.

@@ -5,7 +5,7 @@ ghost use Rattle.std.specs.Option.{option_map};
 ghost use Rattle.lsm_key.specs.declared.entry.Entry.{Entry};
 ghost use Rattle.lsm_key.specs.Visible.{visible, lent_entry};
 ghost use Rattle.lsm_block.specs.Spans.{IsSpan, IsSomeSpan};
-ghost use Rattle.lsm_block.specs.Fences.{AreFences, MayBegin};
+ghost use Rattle.lsm_block.specs.Fences.{AreFences, MayBegin, MayEnd};
 
 use crate::walk::seek_in;
 use bytes::Bytes;
@@ -38,9 +38,10 @@ impl Fences {
         })
     }
 
-    /// Takes all fences away.
+    /// Takes all fences away. The front stays.
     pub fn clear(&mut self)
-        ensures { (self.new.prefixes.items ≡ []) × (self.new.places.items ≡ []) }
+        ensures none { (self.new.prefixes.items ≡ []) × (self.new.places.items ≡ []) }
+        ensures front { self.new.front ≡ self.old.front }
     {
         self.prefixes.clear();
         self.places.clear();
@@ -78,6 +79,29 @@ pub(crate) fn begin_of(fences: &Fences, key: &[u8]) -> u32
         places[count - 1]
     } else {
         0
+    }
+}
+
+// Where a walk for the key may end: at the first fence, as far as a search finds it, whose prefix is greater than the key's, or
+// at the end of the bytes, which are so many.
+pub(crate) fn end_of(fences: &Fences, key: &[u8], len: usize) -> usize
+    ensures { MayEnd fences.now.front fences.now.prefixes.items fences.now.places.items key.now len result }
+{
+    let Fences {
+        front,
+        prefixes,
+        places,
+    } = fences;
+    let prefix = prefix_of(front.as_slice(), key);
+    let count = prefixes.partition_point(|other| *other <= prefix);
+    if count >= prefixes.len() || count >= places.len() {
+        return len;
+    }
+    // The search is trusted for speed alone: what it found is tested again.
+    if prefix < prefixes[count] {
+        places[count] as usize
+    } else {
+        len
     }
 }
 

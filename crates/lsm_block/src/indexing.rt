@@ -10,7 +10,7 @@ ghost use Rattle.lsm_key.specs.Visible.{lent_entry};
 ghost use Rattle.lsm_block.specs.Blocks.{entries};
 ghost use Rattle.lsm_block.specs.BlockReading.{entries_at, last_of, next_at, read_block};
 ghost use Rattle.lsm_block.specs.Fences.{AreFences};
-ghost use Rattle.lsm_block.specs.Indexed.{AreIndexed, IsIndexed, IsLastKey, IsReadTo, entries_before};
+ghost use Rattle.lsm_block.specs.Indexed.{AreIndexed, IsLastKey, IsReadTo, block_entries, entries_before};
 ghost use Rattle.lsm_block.specs.Spans.{IsSpan};
 
 use crate::fault::{BlockError, BlockFault};
@@ -109,7 +109,7 @@ fn walk_on<'a>(
 ) -> Result<(), BlockError>
     requires known { IsReadTo bytes.now begin found.old }
     requires last { IsLastKey (entries_before bytes.now begin) last_key.now last_seq }
-    ensures ok { OnOk result ((es : List Entry) × (entries_at (length (drop begin bytes.now) + 1) (entries_before bytes.now begin) (drop begin bytes.now) ≡ Ok es) × IsSpan bytes.now es × IsIndexed es found.new) }
+    ensures ok { OnOk result ((entries_at (length (drop begin bytes.now) + 1) (entries_before bytes.now begin) (drop begin bytes.now) ≡ Ok (entries_before bytes.now (length bytes.now))) × IsReadTo bytes.now (length bytes.now) found.new) }
     ensures err { IfErr result (λ e. Fails e (entries_at (length (drop begin bytes.now) + 1) (entries_before bytes.now begin) (drop begin bytes.now))) }
 {
     know_slice(bytes);
@@ -160,7 +160,7 @@ pub(crate) fn index_more(
     requires known { IsReadTo bytes.now begin found.old }
     requires order { begin ≤ end }
     requires within { end ≤ length bytes.now }
-    ensures ok { OnOk result ((es : List Entry) × (entries_at (end - begin + 1) (entries_before bytes.now begin) (take (end - begin) (drop begin bytes.now)) ≡ Ok es) × IsSpan (take end bytes.now) es × IsIndexed es found.new) }
+    ensures ok { OnOk result ((entries_at (end - begin + 1) (entries_before bytes.now begin) (take (end - begin) (drop begin bytes.now)) ≡ Ok (entries_before bytes.now end)) × IsReadTo bytes.now end found.new) }
     ensures err { IfErr result (λ e. Fails e (entries_at (end - begin + 1) (entries_before bytes.now begin) (take (end - begin) (drop begin bytes.now)))) }
 {
     match last_in(&bytes[..begin], found) {
@@ -177,7 +177,7 @@ pub(crate) fn index_block(
     front: Bytes,
     about: usize,
 ) -> Result<Indexed, BlockError>
-    ensures ok { IfOk result (λ found. (es : List Entry) × (read_block bytes.now ≡ Ok es) × IsIndexed es found) }
+    ensures ok { IfOk result (λ found. (read_block bytes.now ≡ Ok (block_entries bytes.now)) × IsReadTo bytes.now (length bytes.now) found) }
     ensures err { IfErr result (λ e. Fails e (read_block bytes.now)) }
 {
     let mut found = no_index(alloc, front, about, bytes.len())?;

@@ -9,6 +9,7 @@
 mod block;
 mod fault;
 mod fences;
+mod handle;
 mod indexing;
 mod lent;
 mod ranges;
@@ -19,6 +20,7 @@ mod writing;
 
 pub use block::{Block, decode_block, decode_with_hints, may_come};
 pub use fault::{BlockError, BlockFault};
+pub use handle::BlockHandle;
 pub use lent::entry_in;
 pub use reader::BlocksReader;
 pub use walk::seek_in;

@@ -1,11 +1,12 @@
 //! Reading blocks that follow one another without a gap, in one order.
 
-ghost use Rattle.std.specs.Prelude.{◌≡◌, ◌+◌, ◌≤◌, ◌<◌, [], Ok, IfOk, IfErr, OnOk, length, take, drop};
+ghost use Rattle.std.specs.Prelude.{◌≡◌, ◌+◌, ◌≤◌, ◌<◌, ◌++◌, [], Ok, IfOk, IfErr, OnOk, OnErr, length, take, drop};
 ghost use Rattle.std.specs.Option.{option_map};
 ghost use Rattle.lsm_key.specs.Reading.{Fails};
 ghost use Rattle.lsm_key.specs.Visible.{lent_entry};
+ghost use Rattle.lsm_block.specs.Blocks.{entries};
 ghost use Rattle.lsm_block.specs.BlockReading.{entries_at, last_of};
-ghost use Rattle.lsm_block.specs.Reader.{BlocksRead};
+ghost use Rattle.lsm_block.specs.Reader.{ReaderValue};
 
 use crate::block::Block;
 use crate::fault::BlockError;
@@ -26,9 +27,9 @@ pub struct BlocksReader {
 impl Model for BlocksReader {
     ghost use Rattle.std.specs.Prelude.{drop};
     ghost use Rattle.lsm_block.specs.Indexed.{IsReadTo, entries_before};
-    ghost use Rattle.lsm_block.specs.Reader.{BlocksRead};
+    ghost use Rattle.lsm_block.specs.Reader.{ReaderValue};
 
-    ghost Value = { BlocksRead };
+    ghost Value = { ReaderValue };
 
     ghost view = { λ r. record { entries = entries_before r.bytes r.read; rest = drop r.read r.bytes } };
 
@@ -55,11 +56,12 @@ impl BlocksReader {
     }
 
     /// Reads the next block, which has `len` bytes, and whose entries must come after those of the blocks before it. After a
-    /// refusal the reader is of no use any more.
+    /// refusal it has read no block: it is as it was when it was new.
     pub fn read(&mut self, len: usize) -> Result<(), BlockError>
         requires { len ≤ length self.old.rest }
         ensures ok { OnOk result ((entries_at (len + 1) self.old.entries (take len self.old.rest) ≡ Ok self.new.entries) × (self.new.rest ≡ drop len self.old.rest)) }
         ensures err { IfErr result (λ e. Fails e (entries_at (len + 1) self.old.entries (take len self.old.rest))) }
+        ensures none { OnErr result ((self.new.entries ≡ []) × (self.new.rest ≡ entries self.old.entries ++ self.old.rest)) }
     {
         // Proof hint: the end is no more than this, which is a length.
         let _most = self.bytes.len();
@@ -70,7 +72,7 @@ impl BlocksReader {
                 Ok(())
             }
             Err(fault) => {
-                // What was found is not that of the bytes read: nothing is read from now on.
+                // What was found is not that of the bytes read: nothing of it is kept.
                 self.index.forget();
                 self.read = 0;
                 Err(fault)

@@ -3,7 +3,7 @@
 use bytes::{BufMut, Bytes, BytesMut};
 use lsm_block::{Block, BlocksReader, decode_block, decode_with_hints, seek_in};
 use lsm_key::{Refused, Seq};
-use std::alloc::Global;
+use std::alloc::{AllocError, Global};
 use std::test::Fail;
 
 // Keys in order: of 1, 7, 8 and 9 bytes, with the least and the greatest byte, some of them beginnings of others.
@@ -95,6 +95,32 @@ fn a_seek_finds_the_newest_up_to_a_sequence(rt: HostRuntime) -> Result<(), Fail>
                     seen_by_walk(&block, key, Seq::new(at)) == newest(at),
                     "{key:?} at {at}"
                 );
+            }
+        }
+    }
+    Ok(())
+}
+
+// The sequence that a look-up finds in the part of the block that is the key's.
+fn seen_in_part(
+    alloc: Global,
+    block: &Block,
+    key: &[u8],
+    at: Seq,
+) -> Result<Option<u64>, AllocError> {
+    let part = block.part(alloc, block.handle(key))?;
+    Ok(seen(&part, key, at))
+}
+
+#[test]
+fn a_part_shows_of_its_key_what_the_block_shows(rt: HostRuntime) -> Result<(), Fail> {
+    for front in [b"".as_slice(), b"user:", b"zzz"] {
+        let block = block_of(rt.alloc(), front)?;
+        assert!(rt; block.handle(b"\x00").size < block.bytes().len());
+        for key in KEYS {
+            for at in 0..11 {
+                let found = seen_in_part(rt.alloc(), &block, key, Seq::new(at))?;
+                assert!(rt; found == seen(&block, key, Seq::new(at)), "{key:?} at {at}");
             }
         }
     }

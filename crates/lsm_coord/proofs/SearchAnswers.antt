@@ -1,6 +1,7 @@
 -- A search of the memtables and then of the tables gives what the list of writes gives.
-use Rattle.std.proofs.Common.{◌≡◌, ℕ, List, ◌∷◌, Option, None, Some, is_some, ap, ◌∙◌, inl, inr, sym, subst}
-use Rattle.std.specs.Prelude.{if◌then◌else◌}
+use Rattle.std.proofs.Common.{◌≡◌, ℕ, List, ◌∷◌, Option, None, Some, Result, Ok, Err, is_some, ap, ◌∙◌, inl, inr, sym, subst}
+use Rattle.std.specs.Prelude.{IfOk, IfErr, IsSome, if◌then◌else◌}
+use Rattle.std.specs.declared.alloc.AllocError.{AllocError}
 use Rattle.std.specs.Option.{option_and_then}
 use Rattle.lsm_key.specs.declared.entry.Entry.{Entry}
 use Rattle.lsm_key.specs.Sets.{IsIn}
@@ -54,3 +55,20 @@ module _ (c : CoordValue) (p : ℕ) (key : List ℕ) (point : calls.IsPoint c p)
       ap (λ (o : Option Entry). option_and_then entry_value (if is_some o then o else first_visible (tables_of c.served.places) key p)) (sym empty)
       ∙ ap (λ (o : Option Entry). option_and_then entry_value (if is_some o then o else first_visible (frozen_entries c.frozen ∷ tables_of c.served.places) key p)) (sym none)
       ∙ found_right c p key point s h
+
+-- ---- what is copied of it
+
+module _ (c : CoordValue) (p : ℕ) (key : List ℕ) (v : Option (List ℕ)) (r : Result (Option (List ℕ)) AllocError) (answers : calls.Answers c p key v) where
+  pub answered : IfOk r (λ value. value ≡ v) → IfOk r (calls.Answers c p key)
+  answered ok = by r ok
+    where
+      by : (r : Result (Option (List ℕ)) AllocError) → IfOk r (λ value. value ≡ v) → IfOk r (calls.Answers c p key)
+      by (Ok value) same = λ s h. same ∙ answers s h
+      by (Err e) same = tt
+
+  pub has_value : IfErr r (λ _. IsSome v) → IfErr r (λ _. calls.HasValue c p key)
+  has_value refused = by r refused
+    where
+      by : (r : Result (Option (List ℕ)) AllocError) → IfErr r (λ _. IsSome v) → IfErr r (λ _. calls.HasValue c p key)
+      by (Ok value) some = tt
+      by (Err e) some = λ s h. subst IsSome (answers s h) some

@@ -18,7 +18,7 @@ use Rattle.lsm_table.proofs.TableContents.{table_ascending, table_range}
 use Rattle.lsm_edit.specs.declared.file.FileMeta.{FileMeta}
 use Rattle.lsm_edit.specs.declared.served.Placed.{Placed}
 use Rattle.lsm_edit.specs.Served.{IsAsRecorded, AllRecorded, AreInSearchOrder, tables_of, comes_left}
-use Rattle.lsm_edit.proofs.SearchOrder.{Before, upper, newer, lesser, before_of, above_le, turned}
+use Rattle.lsm_edit.proofs.SearchOrder.{Before, upper, newer, lesser, before_of, above_le, level_rises, turned}
 use Rattle.lsm_edit.proofs.LevelSearch.{Left, above, beside, left_of, not_left, and-second, whole_of, level_up}
 use Rattle.lsm_edit.proofs.RangeEntries.{within, within-cons, all_entries-append}
 
@@ -98,11 +98,6 @@ level_in_order lo hi level ps deeper rec up =
 
 -- ---- one level after another
 
-pub level_le : (f g : FileMeta) → Before f g → f.level ≤ g.level
-level_le f g (upper lt) = omega arith
-level_le f g (newer e z n) = omega arith
-level_le f g (lesser e n k) = omega arith
-
 not_of : (level n : ℕ) → (n ≡ level → ⊥) → eqb n level ≡ false
 not_of level n h = by (eqb n level) refl
   where
@@ -119,7 +114,7 @@ next_level level (p ∷ ps) up =
     let rest : all ≡ over ++ here = next_level level ps up.1 in
     elim (cases_order p.meta.level level) [
       | inl same ↦
-          let none : over ≡ [] = filter-none (is_over level) ps (λ q m. let le = level_le p.meta q.meta (before_of p.meta q.meta (up.0 q m)) in le-ltb q.meta.level level (omega (arith, le, same))) in
+          let none : over ≡ [] = filter-none (is_over level) ps (λ q m. let le = level_rises p.meta q.meta (before_of p.meta q.meta (up.0 q m)) in le-ltb q.meta.level level (omega (arith, le, same))) in
           let x : ltb p.meta.level (level + 1) ≡ true = lt-ltb p.meta.level (level + 1) (omega (arith, same)) in
           let y : ltb p.meta.level level ≡ false = le-ltb p.meta.level level (omega (arith, same)) in
           let z : eqb p.meta.level level ≡ true = eq-eqb p.meta.level level same in

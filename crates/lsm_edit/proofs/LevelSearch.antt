@@ -1,24 +1,25 @@
--- A search of one level: all of its files but one miss the key.
+-- The places of files in search order, and which of them stand left of a key.
 use Rattle.std.proofs.Common.{◌≡◌, ℕ, zero, suc, ◌+◌, ◌<◌, ◌≤◌, Bool, true, false, not, cond, ◌&&◌, List, [], ◌∷◌, length, get_or, Option, None, Some, is_some, refl, sym, ap, subst, ◌∙◌, arith, inl, inr, eqb, ltb}
 use Rattle.std.specs.List.{AllWithin}
 use Rattle.std.proofs.lemmas.Bool.{lt-ltb, ltb-true, ltb-false, eq-eqb, eqb-true, cases_order, cases_lt, or_cases, or_parts, and_parts, not-false, not-true}
 use Rattle.std.proofs.lemmas.List.{get_or_default}
-use Rattle.std.specs.Option.{option_map, IfSome, IfNone}
 use Rattle.lsm_key.specs.declared.entry.Entry.{Entry}
-use Rattle.lsm_key.specs.declared.entry.EntryRef.{EntryRef}
 use Rattle.lsm_key.specs.Sets.{IsIn}
 use Rattle.lsm_key.specs.Order.{key_le}
-use Rattle.lsm_key.specs.Visible.{visible, lent_entry}
+use Rattle.lsm_key.specs.Visible.{visible}
 use Rattle.lsm_key.specs.Places.{first_visible}
-use Rattle.lsm_key.proofs.Membership.{IsIn-at, IsIn-place}
+use Rattle.lsm_key.proofs.Membership.{IsIn-at}
 use Rattle.lsm_table.specs.Tables.{Opened}
 use Rattle.lsm_table.proofs.TableContents.{table_ends}
 use Rattle.lsm_edit.specs.declared.file.FileMeta.{FileMeta}
 use Rattle.lsm_edit.specs.declared.served.Placed.{Placed}
-use Rattle.lsm_edit.specs.Served.{IsAsRecorded, AllRecorded, AreInSearchOrder, is_before, is_covered, tables_of, comes_left, ShowsNone, UpperShowNone}
+use Rattle.lsm_edit.specs.Served.{IsAsRecorded, AllRecorded, AreInSearchOrder, is_before, tables_of, comes_left}
 use Rattle.lsm_edit.proofs.AdvancedPlaces.{or-left, or-right, and-both}
-use Rattle.lsm_edit.proofs.KeysOutOfRange.{missed}
 use Rattle.lsm_edit.proofs.SearchOrder.{Before, upper, newer, lesser, before_of, above_trans, above_le}
+
+-- a table has no visible entry of the key
+abbrev pub ShowsNone : List ℕ → ℕ → Placed → Type 0
+ShowsNone key at p = visible p.table.entries key at ≡ None
 
 -- ---- places by their positions
 
@@ -94,88 +95,12 @@ module _ (ps : List Placed) (level : ℕ) (key : List ℕ) (some : 1 ≤ level) 
     ]
   ]
 
-  -- ---- what the level shows
-
-  covered-largest : (f : FileMeta) → key_le key f.largest ≡ false → is_covered f key ≡ false
-  covered-largest f h = by (key_le f.smallest key)
-    where
-      by : (b : Bool) → (b && key_le key f.largest) ≡ false
-      by true = h
-      by false = refl
-
-  module _ (at : ℕ) (done : UpperShowNone ps level key at) where
-    left_shows : (p : Placed) → IsIn p ps → Left level key p.meta → ShowsNone key at p
-    left_shows p m (above lt) = done p m lt
-    left_shows p m (beside e k) = missed p.meta p.table key at (rec p m) (covered-largest p.meta k)
-
-    pub left_none : (i : ℕ) → i ≤ length ps → AllWithin (λ y. comes_left level key y ≡ true) ps 0 i → AllWithin (ShowsNone key at) ps 0 i
-    left_none i le left k d low lt = left_shows (get_or ps k d) (IsIn-at ps k d (omega (arith, lt, le))) (left_of level key (get_or ps k d) (left k d low lt))
-
-    -- no file of the level is left
-    pub past_end : AllWithin (λ y. comes_left level key y ≡ true) ps 0 (length ps) → UpperShowNone ps (level + 1) key at
-    past_end left p m lt =
-        let i = IsIn-place p ps m in
-        let shows = left_none (length ps) (omega arith) left i.0 p (omega arith) i.1 in
-        subst (ShowsNone key at) i.2 shows
-
-    right_shows : (p q : Placed) → IsIn q ps → comes_left level key p ≡ false → Before p.meta q.meta → q.meta.level ≡ level → ShowsNone key at q
-    right_shows p q m out (upper lt) e = let low = (not_left level key p out).0 in absurd (omega arith)
-    right_shows p q m out (newer d z n) e = absurd (omega arith)
-    right_shows p q m out (lesser d n k) e =
-        let le : key_le key p.meta.largest ≡ true = (not_left level key p out).1 (d ∙ e) in
-        missed q.meta q.table key at (rec q m) (ap (λ (b : Bool). b && key_le key q.meta.largest) (above_le q.meta.smallest p.meta.largest key k le))
-
-    -- the file at the place shows nothing, or is of another level
-    pub past_place : (i : ℕ) (p : Placed) → i < length ps → p ≡ get_or ps i p → AllWithin (λ y. comes_left level key y ≡ true) ps 0 i → comes_left level key p ≡ false → (p.meta.level ≡ level → ShowsNone key at p) → UpperShowNone ps (level + 1) key at
-    past_place i p within is left out own q m lt = elim (cases_lt q.meta.level level) [
-      | inl less ↦ done q m less
-      | inr ge ↦
-          let e : q.meta.level ≡ level = omega (arith, lt, ge) in
-          let j = IsIn-place q ps m in
-          elim (cases_order j.0 i) [
-            | inl same ↦
-                let one : p ≡ q = is ∙ get_or_default ps i p q within ∙ ap (λ (k : ℕ). get_or ps k q) (sym same) ∙ j.2 in
-                subst (ShowsNone key at) one (own (ap (λ (x : Placed). x.meta.level) one ∙ e))
-            | inr o ↦ elim o [
-              | inl before ↦ subst (ShowsNone key at) j.2 (left_none i (omega (arith, within)) left j.0 q (omega arith) before)
-              | inr after ↦
-                  let first : is_before (get_or ps i q).meta (get_or ps j.0 q).meta ≡ true = ordered_at ps up i j.0 q after j.1 in
-                  let there : get_or ps i q ≡ p = sym (is ∙ get_or_default ps i p q within) in
-                  let order : is_before p.meta q.meta ≡ true = ap (λ (x : Placed). is_before x.meta q.meta) (sym there) ∙ ap (λ (x : Placed). is_before (get_or ps i q).meta x.meta) (sym j.2) ∙ first in
-                  right_shows p q m out (before_of p.meta q.meta order) e
-            ]
-          ]
-    ]
-
 -- ---- level 0
 
 pub level_up : (f g : FileMeta) → Before f g → 0 < f.level → 0 < g.level
 level_up f g (upper lt) h = omega arith
 level_up f g (newer e z n) h = omega arith
 level_up f g (lesser e n k) h = omega arith
-
--- every file of level 0 stands before the first of a deeper level
-pub zero_done : (ps : List Placed) (key : List ℕ) (at i : ℕ) (p : Placed) → AreInSearchOrder ps → i < length ps → p ≡ get_or ps i p → 0 < p.meta.level → AllWithin (ShowsNone key at) ps 0 i → UpperShowNone ps 1 key at
-zero_done ps key at i p up within is deep none q m lt =
-    let j = IsIn-place q ps m in
-    let there : p ≡ get_or ps i q = is ∙ get_or_default ps i p q within in
-    elim (cases_order j.0 i) [
-      | inl same ↦
-          let one : p ≡ q = there ∙ ap (λ (k : ℕ). get_or ps k q) (sym same) ∙ j.2 in
-          let bad : p.meta.level ≡ q.meta.level = ap (λ (x : Placed). x.meta.level) one in
-          absurd (omega (arith, bad, deep, lt))
-      | inr o ↦ elim o [
-        | inl before ↦ subst (ShowsNone key at) j.2 (none j.0 q (omega arith) before)
-        | inr after ↦
-            let first : is_before (get_or ps i q).meta (get_or ps j.0 q).meta ≡ true = ordered_at ps up i j.0 q after j.1 in
-            let order : is_before p.meta q.meta ≡ true = ap (λ (x : Placed). is_before x.meta q.meta) there ∙ ap (λ (x : Placed). is_before (get_or ps i q).meta x.meta) (sym j.2) ∙ first in
-            let bad = level_up p.meta q.meta (before_of p.meta q.meta order) deep in
-            absurd (omega (arith, bad, lt))
-      ]
-    ]
-
-pub all_done : (ps : List Placed) (key : List ℕ) (at level : ℕ) → AllWithin (ShowsNone key at) ps 0 (length ps) → UpperShowNone ps level key at
-all_done ps key at level none q m lt = let j = IsIn-place q ps m in subst (ShowsNone key at) j.2 (none j.0 q (omega arith) j.1)
 
 -- one more place, which shows nothing
 pub one_more : (ps : List Placed) (key : List ℕ) (at i : ℕ) (p : Placed) → i < length ps → p ≡ get_or ps i p → ShowsNone key at p → AllWithin (ShowsNone key at) ps 0 i → AllWithin (ShowsNone key at) ps 0 (i + 1)
@@ -185,13 +110,3 @@ one_more ps key at i p within is own none k d low lt = elim (cases_lt k i) [
       let same : k ≡ i = omega (arith, lt, ge) in
       subst (ShowsNone key at) (is ∙ get_or_default ps i p d within ∙ ap (λ (n : ℕ). get_or ps n d) (sym same)) own
 ]
-
--- ---- what a table showed
-
-pub found_by : (r : Option EntryRef) (v first : Option Entry) → option_map lent_entry r ≡ v → ((e : Entry) → v ≡ Some e → first ≡ Some e) → IfSome r (λ entry. first ≡ Some (lent_entry entry))
-found_by None v first h k = tt
-found_by (Some entry) v first h k = k (lent_entry entry) (sym h)
-
-pub none_by : (r : Option EntryRef) (v : Option Entry) (P : Type 0) → option_map lent_entry r ≡ v → (v ≡ None → P) → IfNone r P
-none_by None v P h k = k (sym h)
-none_by (Some entry) v P h k = tt

@@ -16,6 +16,7 @@ pub mod PlacesInOrder
 pub mod RangeEntries
 pub mod LevelRanges
 pub mod LevelSearch
+pub mod CoveredFiles
 pub mod ServedAfterEdit
 pub mod ServedPlaces
 pub mod SameFiles

@@ -1,5 +1,5 @@
 -- The order of a search: it is strict, and of two files of a version one comes first.
-use Rattle.std.proofs.Common.{◌≡◌, ℕ, ◌<◌, Bool, true, false, not, cond, ◌&&◌, List, refl, sym, ap, subst, ◌∙◌, arith, inl, inr, ◌⊎◌, eqb, ltb}
+use Rattle.std.proofs.Common.{◌≡◌, ℕ, ◌<◌, ◌≤◌, Bool, true, false, not, cond, ◌&&◌, List, refl, sym, ap, subst, ◌∙◌, arith, inl, inr, ◌⊎◌, eqb, ltb}
 use Rattle.std.specs.declared.cmp.Ordering.{Ordering}
 use Rattle.std.specs.declared.cmp.Ordering.TheVariants.{Less, Equal, Greater}
 use Rattle.std.specs.Ordering.{nat_cmp, is_gt, ordering_reverse}
@@ -48,6 +48,11 @@ pub data Before (f g : FileMeta) : Type 0 where
   upper : f.level < g.level → Before f g
   newer : f.level ≡ g.level → f.level ≡ 0 → g.number < f.number → Before f g
   lesser : f.level ≡ g.level → (f.level ≡ 0 → ⊥) → key_le g.smallest f.largest ≡ false → Before f g
+
+pub level_rises : (f g : FileMeta) → Before f g → f.level ≤ g.level
+level_rises f g (upper lt) = omega (arith, lt)
+level_rises f g (newer e z n) = omega (arith, e)
+level_rises f g (lesser e n k) = omega (arith, e)
 
 cond_true : (c a b : Bool) → cond c a b ≡ true → ((c ≡ true) × (a ≡ true)) ⊎ ((c ≡ false) × (b ≡ true))
 cond_true true a b h = inl (refl, h)

@@ -5,6 +5,7 @@ pub mod Base
 pub mod Edits
 pub mod Laws
 pub mod Served
+pub mod Search
 pub mod Reading
 pub mod Prepared
 pub mod Next

@@ -1,11 +1,10 @@
 -- A version with its tables, in the order of a search (LevelDB, implementation notes: level 0; version_set.cc, Version::Get).
-use Rattle.std.specs.Prelude.{◌≡◌, ℕ, ◌<◌, Bool, true, not, ◌&&◌, ◌||◌, List, [], ◌∷◌, Option, None, Some, length, map, filter, nat_eq, nat_lt, if◌then◌else◌}
+use Rattle.std.specs.Prelude.{◌≡◌, ℕ, Bool, true, not, ◌&&◌, ◌||◌, List, [], ◌∷◌, Option, None, Some, length, map, filter, nat_eq, nat_lt, if◌then◌else◌}
 use Rattle.std.specs.List.{list_any}
 use Rattle.lsm_key.specs.declared.entry.Entry.{Entry}
 use Rattle.lsm_key.specs.Sets.{IsIn, SameMembers}
 use Rattle.lsm_key.specs.Order.{key_le}
 use Rattle.lsm_key.specs.KeyRanges.{in_closed_range}
-use Rattle.lsm_key.specs.Visible.{visible}
 use Rattle.lsm_table.specs.Tables.{Opened, IsTable, smallest_key, largest_key}
 use Rattle.lsm_edit.specs.declared.file.FileMeta.{FileMeta}
 use Rattle.lsm_edit.specs.declared.edit.Edit.{Edit}
@@ -103,14 +102,6 @@ tables_of ps = map (λ p. p.table.entries) ps
 -- the key is in the file's range
 abbrev pub is_covered : FileMeta → List ℕ → Bool
 is_covered f key = in_closed_range f.smallest f.largest key
-
--- a table has no visible entry of the key
-abbrev pub ShowsNone : List ℕ → ℕ → Placed → Type 0
-ShowsNone key at p = visible p.table.entries key at ≡ None
-
--- no table of the levels above this one has a visible entry of the key
-abbrev pub UpperShowNone : List Placed → ℕ → List ℕ → ℕ → Type 0
-UpperShowNone ps level key at = (p : Placed) → IsIn p ps → p.meta.level < level → ShowsNone key at p
 
 -- the file is of an upper level, or of this one with all its keys below the key
 abbrev pub comes_left : ℕ → List ℕ → Placed → Bool

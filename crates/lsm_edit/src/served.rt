@@ -3,6 +3,7 @@
 mod prepared;
 mod range;
 mod rebase;
+mod search;
 
 ghost use Rattle.std.specs.Prelude.{◌≡◌, ◌+◌, ◌<◌, ◌≤◌, ◌++◌, ◌∷◌, length, take, drop, vec_capacity, true, false, not, filter, OnOk, OnErr, IfOk, IfErr, IfSome, IfNone, None};
 ghost use Rattle.std.specs.List.Sorted.{IsPartitionPoint};
@@ -15,7 +16,7 @@ ghost use Rattle.lsm_key.specs.Places.{AreOrdered, all_entries, first_visible};
 ghost use Rattle.lsm_edit.specs.Edit.{IsEdit};
 ghost use Rattle.lsm_edit.specs.Reading.{value_in};
 ghost use Rattle.lsm_edit.specs.Version.{apply_fault};
-ghost use Rattle.lsm_edit.specs.Served.{AllRecorded, AreAsRecorded, AreInSearchOrder, UpperShowNone, comes_left, IsAsRecorded, is_before, is_covered, placed_of, put_in_order, put_all, in_order, tables_of};
+ghost use Rattle.lsm_edit.specs.Served.{AllRecorded, AreAsRecorded, AreInSearchOrder, comes_left, is_before, placed_of, put_in_order, put_all, in_order, tables_of};
 
 use crate::version::copies_of;
 use crate::{ApplyError, Edit, FileMeta, Version};
@@ -23,6 +24,7 @@ use lsm_key::{EntryRef, Kind, MAX_LEVEL, Seq, VersionNumber};
 use lsm_table::Table;
 pub use prepared::Prepared;
 pub use rebase::Room;
+use search::first_in;
 use std::alloc::{AllocError, Global};
 use std::marker::Model;
 
@@ -300,66 +302,6 @@ fn goes_first(file: &FileMeta, other: &FileMeta) -> bool
     }
 }
 
-// The match in the first source that has one: level 0 is searched file by file, and of each deeper level at most one
-// table.
-fn first_in<'a>(places: &'a [Placed], key: &[u8], at: Seq) -> Option<EntryRef<'a>>
-    requires recorded { AllRecorded places.now }
-    requires ordered { AreInSearchOrder places.now }
-    requires levels { (p : Placed) → IsIn p places.now → p.meta.level ≤ MAX_LEVEL }
-    ensures { option_map lent_entry result ≡ first_visible (tables_of places.now) key.now at }
-{
-    match in_level_zero(places, key, at) {
-        Some(entry) => return Some(entry),
-        None => {}
-    }
-    for level in 1..MAX_LEVEL + 1 {
-        match in_level(places, level, key, at) {
-            Some(entry) => return Some(entry),
-            None => {}
-        }
-    }
-    None
-}
-
-// The match in the first file of level 0 that has one.
-fn in_level_zero<'a>(places: &'a [Placed], key: &[u8], at: Seq) -> Option<EntryRef<'a>>
-    requires recorded { AllRecorded places.now }
-    requires ordered { AreInSearchOrder places.now }
-    ensures found { IfSome result (λ entry. first_visible (tables_of places.now) key.now at ≡ Some (lent_entry entry)) }
-    ensures none { IfNone result (UpperShowNone places.now 1 key.now at) }
-{
-    for placed in places {
-        if placed.meta.level > 0 {
-            return None;
-        }
-        match shown_by(placed, key, at) {
-            Some(entry) => return Some(entry),
-            None => {}
-        }
-    }
-    None
-}
-
-// The match in the one file of a deeper level that may have the key.
-fn in_level<'a>(places: &'a [Placed], level: u8, key: &[u8], at: Seq) -> Option<EntryRef<'a>>
-    requires recorded { AllRecorded places.now }
-    requires ordered { AreInSearchOrder places.now }
-    requires deeper { 1 ≤ level }
-    requires done { UpperShowNone places.now level key.now at }
-    ensures found { IfSome result (λ entry. first_visible (tables_of places.now) key.now at ≡ Some (lent_entry entry)) }
-    ensures none { IfNone result (UpperShowNone places.now (level + 1) key.now at) }
-{
-    let place = place_in(places, level, key);
-    if place >= places.len() {
-        return None;
-    }
-    let placed = &places[place];
-    if placed.meta.level != level {
-        return None;
-    }
-    shown_by(placed, key, at)
-}
-
 // The index of the first file at or after the key in a level, or after the level.
 fn place_in(places: &[Placed], level: u8, key: &[u8]) -> usize
     requires recorded { AllRecorded places.now }
@@ -379,22 +321,4 @@ fn stands_left(placed: &Placed, level: u8, key: &[u8]) -> bool
         return placed.meta.level < level;
     }
     key.cmp(placed.meta.largest.as_slice()).is_gt()
-}
-
-// The match in a table, which is not searched if the key is outside its range.
-fn shown_by<'a>(placed: &'a Placed, key: &[u8], at: Seq) -> Option<EntryRef<'a>>
-    requires { IsAsRecorded placed.now.meta placed.now.table }
-    ensures { option_map lent_entry result ≡ visible placed.now.table.entries key.now at }
-{
-    if !covers(&placed.meta, key) {
-        return None;
-    }
-    placed.table.get(key, at)
-}
-
-// Whether the key is in the file's range.
-fn covers(meta: &FileMeta, key: &[u8]) -> bool
-    ensures { result ≡ is_covered meta.now key.now }
-{
-    meta.range().contains(key)
 }

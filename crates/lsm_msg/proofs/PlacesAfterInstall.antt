@@ -18,11 +18,11 @@ use Rattle.lsm_edit.specs.declared.served.Placed.{Placed}
 use Rattle.lsm_edit.specs.Version.{IsVersion, has_number, files_after, files_without}
 use Rattle.lsm_edit.specs.Served.{ServedValue, IsServed, AreAsRecorded, is_covered, placed_of, places_without, put_all, tables_of}
 use Rattle.lsm_edit.proofs.ServedAfterEdit.{put_all-members, served_after}
-use Rattle.lsm_edit.proofs.LevelRanges.{in_tables, level_le}
+use Rattle.lsm_edit.proofs.LevelRanges.{in_tables}
 use Rattle.lsm_edit.proofs.ServedPlaces.{AreNewer, covered, newer_places, no_shared, ordered_from, tables_in}
 use Rattle.lsm_edit.proofs.PlacesInOrder.{placed_meta, placed_recorded}
 use Rattle.lsm_edit.proofs.KeysOutOfRange.{key_covered}
-use Rattle.lsm_edit.proofs.SearchOrder.{Before, upper, newer, lesser}
+use Rattle.lsm_edit.proofs.SearchOrder.{Before, upper, newer, lesser, level_rises}
 use Rattle.lsm_edit.proofs.VersionLaws.{fresh_added, stays}
 use Rattle.lsm_msg.specs.Legal.{IsLegal}
 use Rattle.lsm_msg.specs.Installs.{AddNoEntry, Installs, entries_of}
@@ -138,7 +138,7 @@ module _ (s : ServedValue) (want : Want) (edit : Edit) (tables : List Opened) (v
     before_output : (p q : Placed) → IsIn p s.places → (IsIn p.meta.number want.files → ⊥) → IsIn q added → IsIn e p.table.entries → IsIn f q.table.entries → Before p.meta q.meta → f.ikey.seq < e.ikey.seq
     before_output p q mp out mq me mf b =
         let source = none f (placed_entry edit.added tables q f mq mf) in
-        let at : p.meta.level ≤ want.level + 1 = subst (λ (n : ℕ). p.meta.level ≤ n) (output_level q mq) (level_le p.meta q.meta b) in
+        let at : p.meta.level ≤ want.level + 1 = subst (λ (n : ℕ). p.meta.level ≤ n) (output_level q mq) (level_rises p.meta q.meta b) in
         let first = stays_before s want ver is legal p source.0 mp out source.1 source.2 e.ikey.key (covered s ver is p mp e me) (covers_e source.0 (covered s ver is source.0 source.1 f source.3)) at in
         new p source.0 mp source.1 first e f me source.3 same
 

@@ -13,7 +13,7 @@ use Rattle.lsm_table.specs.declared.measuring.Measure.{Measure}
 use Rattle.lsm_table.specs.Cuts.{cut_after, cut_of}
 use Rattle.lsm_table.specs.Measuring.{IsCutInto, IsMeasured}
 use Rattle.lsm_table.specs.Tables.{index, key_of_entry, table_of}
-use Rattle.lsm_block.proofs.EntriesGrow.{last_at, last_added}
+use Rattle.lsm_block.proofs.EntriesGrow.{has_some, last_at, last_added}
 use Rattle.lsm_table.proofs.TableCuts.{cut_all, after_more}
 use Rattle.lsm_table.proofs.TableSizes.{weight_more, table_size}
 use Rattle.lsm_table.proofs.TableWeights.{index_size}
@@ -64,10 +64,6 @@ index_keyed (x ∷ xs) some =
     let is = last_at x xs x in
     index_size (x ∷ xs) (get_or (x ∷ xs) (length xs) x) is ∙ ap (λ (o : Option Entry). 14 + length (key_of_entry o)) (sym is)
 
-sized_some : (last : List Entry) → 0 < length (entries last) → 0 < length last
-sized_some [] some = absurd (omega (arith, some))
-sized_some (x ∷ xs) some = omega arith
-
 as_some : (target : ℕ) (es : List Entry) (closed : List (List Entry)) (last : List Entry) → 0 < length es → IsCutInto target es closed last → 0 < length last
 as_some target [] closed last some parts = absurd (omega (arith, some))
 as_some target (x ∷ es) closed last some parts = last_some last (get_or (x ∷ es) (length es) x) (parts.ends ∙ last_at x es x)
@@ -113,7 +109,7 @@ module _ (target : ℕ) (es : List Entry) (e : Entry) (m : Measure) (len k : ℕ
   measured_full low full =
       let one : length (entries (e ∷ [])) ≡ 14 + length e.ikey.key + length e.value = weight_more [] e in
       let ends = is.light.some (omega (arith, low, full)) in
-      let key : length (index is.last) ≡ 14 + m.last_key = index_keyed is.last (sized_some is.last (omega (arith, low, full, is.sized))) ∙ ap (λ (o : Option Entry). 14 + length (key_of_entry o)) is.parts.ends ∙ omega (arith, is.keyed) in
+      let key : length (index is.last) ≡ 14 + m.last_key = index_keyed is.last (has_some is.last (omega (arith, low, full, is.sized))) ∙ ap (λ (o : Option Entry). 14 + length (key_of_entry o)) is.parts.ends ∙ omega (arith, is.keyed) in
       let grown : length (flat_map index (is.closed ++ is.last ∷ [])) ≡ length (flat_map index is.closed) + length (index is.last) = ap length (index_added is.closed is.last) ∙ length-append (flat_map index is.closed) (index is.last) in
       record {
         closed = is.closed ++ is.last ∷ [];

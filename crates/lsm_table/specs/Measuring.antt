@@ -1,4 +1,4 @@
--- What is known of the blocks that entries are cut into while they still come.
+-- What is known of the blocks that entries are cut into while they still come (LevelDB, table/block_builder.h, CurrentSizeEstimate: the size that a block will have).
 use Rattle.std.specs.Prelude.{◌≡◌, ℕ, ◌+◌, ◌<◌, ◌≤◌, List, [], ◌∷◌, ◌++◌, length}
 use Rattle.std.specs.List.{flat_map}
 use Rattle.lsm_key.specs.declared.entry.Entry.{Entry}
@@ -13,8 +13,8 @@ pub record IsCutInto (target : ℕ) (es : List Entry) (closed : List (List Entry
   pub cut : cut_after target [] es ≡ closed ++ last ∷ []
   pub ends : last_of last ≡ last_of es
 
--- the parts of a measure are no more than its whole
-pub record IsLight (m : Measure) : Type 0 where
+-- what is counted and the parts of a measure are no more than the weight of its entries
+pub record IsWithinWeight (m : Measure) : Type 0 where
   pub closed : m.closed ≤ m.index
   pub index : m.index + m.last ≤ m.weight
   pub key : m.last_key ≤ m.last
@@ -30,4 +30,4 @@ pub record IsMeasured (target : ℕ) (es : List Entry) (m : Measure) : Type 0 wh
   pub sized : m.last ≡ length (entries last)
   pub keyed : m.last_key ≡ length (key_of_entry (last_of es))
   pub weighed : m.weight ≡ length (entries es)
-  pub light : IsLight m
+  pub light : IsWithinWeight m

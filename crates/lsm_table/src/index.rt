@@ -1,7 +1,7 @@
 //! Reading a table's index: the length of each block, and its last internal key.
 
 ghost use Rattle.lsm_key.specs.Reading.{Reads};
-ghost use Rattle.lsm_table.specs.Index.{told};
+ghost use Rattle.lsm_table.specs.Index.{index_entry};
 ghost use Rattle.lsm_table.specs.TableReading.{index_at, sum_at};
 
 use crate::fault::TableFault;
@@ -28,7 +28,7 @@ pub(crate) struct IndexSum<'a> {
 /// What the index tells of the next block, and the bytes after that.
 #[tactic(auto, unfolding(crate::specs::TableReading::index_at))]
 pub(crate) fn index_in<'a>(bytes: &'a [u8]) -> Result<(IndexEntry<'a>, &'a [u8]), TableFault>
-    ensures { Reads (λ x. (told x.0, x.1.now)) result (index_at bytes.now) }
+    ensures { Reads (λ x. (index_entry x.0, x.1.now)) result (index_at bytes.now) }
 {
     let (len, rest) = u32_in(bytes, TableFault::Truncated)?;
     if len == 0 {

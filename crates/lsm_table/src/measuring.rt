@@ -6,7 +6,7 @@ ghost use Rattle.lsm_key.specs.declared.entry.Entry.{Entry};
 ghost use Rattle.lsm_key.specs.Entries.{IsEntry};
 ghost use Rattle.lsm_key.specs.Limits.{entry_weight};
 ghost use Rattle.lsm_block.specs.Blocks.{entries};
-ghost use Rattle.lsm_table.specs.Measuring.{IsLight, IsMeasured};
+ghost use Rattle.lsm_table.specs.Measuring.{IsWithinWeight, IsMeasured};
 ghost use Rattle.lsm_table.specs.Tables.{table_of};
 
 use lsm_key::{ENTRY_OVERHEAD, Entry, MAX_TABLE_BYTES};
@@ -50,7 +50,7 @@ impl Measure {
     pub(crate) fn grown(&self, target: u32, e: &Entry) -> Measure
         requires entry { IsEntry e.now }
         requires target { 1 ≤ target }
-        requires light { IsLight self.now }
+        requires light { IsWithinWeight self.now }
         requires small { self.now.weight ≤ MAX_TABLE_BYTES }
         ensures measured { (es : List Entry) → IsMeasured target es self.now → IsMeasured target (es ++ e.now ∷ []) result }
         ensures small { result.weight ≤ 2 * MAX_TABLE_BYTES }
@@ -79,7 +79,7 @@ impl Measure {
 
     /// The bytes of the table of the entries.
     pub(crate) fn table_len(&self) -> usize
-        requires light { IsLight self.now }
+        requires light { IsWithinWeight self.now }
         requires small { self.now.weight ≤ 2 * MAX_TABLE_BYTES }
         ensures { (target : ℕ) (es : List Entry) → 1 ≤ target → 0 < length es → IsMeasured target es self.now → result ≡ length (table_of target es) }
     {

@@ -10,7 +10,8 @@ use bytes::Bytes;
 use lsm_claim::Claim;
 use lsm_coord::{Coord, CoordError, Install};
 use lsm_key::{
-    Batch, DEFAULT_BASE, DEFAULT_L0, FileNumber, Items, Limits, NUM_LEVELS, VersionNumber,
+    Batch, DEFAULT_BASE, DEFAULT_BLOCK, DEFAULT_L0, FileNumber, Items, Limits, NUM_LEVELS,
+    VersionNumber,
 };
 use lsm_msg::{Body, Job, JobResult, Message, Node, NodeIndex};
 use lsm_store::result_of;
@@ -18,9 +19,6 @@ use lsm_table::Table;
 use lsm_vault::MemoryVault;
 use std::alloc::Global;
 use std::io;
-
-/// The block target of the tables: one block, as in all figures so far. In bytes.
-pub(crate) const BLOCK: u32 = 16_777_216;
 
 /// The number of levels.
 const LEVELS: usize = NUM_LEVELS as usize;
@@ -35,12 +33,12 @@ pub(crate) struct Store {
 }
 
 impl Store {
-    /// A new store, with the default limits but for the block target.
+    /// A new store, with the default limits.
     pub(crate) fn new(bench: Bench) -> Result<Store, TimingError> {
         let limits = Limits {
             l0: DEFAULT_L0,
             base: DEFAULT_BASE,
-            block: BLOCK,
+            block: DEFAULT_BLOCK,
         };
         let coord = opened(bench.alloc(), limits)?;
         Ok(Store {

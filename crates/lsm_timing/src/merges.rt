@@ -3,13 +3,13 @@
 use crate::bench::Bench;
 use crate::error::{NO_JOB, TimingError};
 use crate::figure::{Figure, with_bytes};
-use crate::fill::{BLOCK, Store};
+use crate::fill::Store;
 use crate::keys::mix;
 use crate::tables::{entries_in, opened, sorted_indices, tables_of};
 use bytes::Bytes;
 use lsm_claim::JobId;
 use lsm_edit::FileMeta;
-use lsm_key::{Items, MAX_INPUTS};
+use lsm_key::{DEFAULT_BLOCK, Items, MAX_INPUTS};
 use lsm_merge::merge;
 use lsm_msg::{Job, JobParts};
 use lsm_table::Table;
@@ -94,7 +94,7 @@ fn job_of(alloc: Global, tables: &[Table], lower: usize) -> Result<Job, TimingEr
             number: 1,
         },
         level: UPPER,
-        block: BLOCK,
+        block: DEFAULT_BLOCK,
         points: Items::new(alloc),
         inputs,
         deeper: Items::new(alloc),

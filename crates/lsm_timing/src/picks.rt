@@ -9,11 +9,11 @@ use crate::batches::batch_of;
 use crate::bench::Bench;
 use crate::error::{EXHAUSTED, NO_PICK, TimingError};
 use crate::figure::{Figure, with_number};
-use crate::fill::{BLOCK, Store};
+use crate::fill::Store;
 use bytes::Bytes;
 use lsm_claim::ClaimBook;
 use lsm_edit::{Edit, EditKind, FileMeta, Served};
-use lsm_key::{Batch, Items, Limits, MAX_NUMBER, Seq};
+use lsm_key::{Batch, DEFAULT_BLOCK, Items, Limits, MAX_NUMBER, Seq};
 use lsm_pick::pick;
 use lsm_table::Table;
 use std::alloc::{AllocError, Global};
@@ -28,7 +28,7 @@ const LEVEL: u8 = 1;
 const TIGHT: Limits = Limits {
     l0: 1,
     base: 1,
-    block: BLOCK,
+    block: DEFAULT_BLOCK,
 };
 
 /// Times picks from a version with `files` files in level 1, which needs compaction, with no job running.

@@ -12,13 +12,12 @@ mod writer;
 
 use crate::bench::Bench;
 use crate::error::{NO_CLOSE, TimingError};
-use crate::fill::BLOCK;
 use course::Course;
 use dispatchers::{dispatch_both, merged};
 use follower::follow_and_read;
 use lsm_coord::Coord;
 use lsm_edit::Served;
-use lsm_key::{DEFAULT_BASE, DEFAULT_L0, Limits};
+use lsm_key::{DEFAULT_BASE, DEFAULT_BLOCK, DEFAULT_L0, Limits};
 use lsm_nodes::{Hub, PARTS, Start, Tally, Witness};
 use lsm_readers::{FollowerReader, LogName, NewLog, Publisher};
 use lsm_vault::{MemoryVault, Vault};
@@ -50,7 +49,7 @@ pub(crate) fn time_threads<R: Threads + Wait + Sync>(
     let limits = Limits {
         l0: DEFAULT_L0,
         base: DEFAULT_BASE,
-        block: BLOCK,
+        block: DEFAULT_BLOCK,
     };
     let coord = match Coord::open(alloc, MemoryVault::new(alloc), limits) {
         Ok(coord) => coord,

@@ -12,3 +12,4 @@ pub mod RemovedTables
 pub mod ReplayedEdits
 pub mod RecoveredTables
 pub mod Epochs
+pub mod CachedReads

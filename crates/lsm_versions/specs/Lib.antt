@@ -3,3 +3,4 @@ pub mod Retention
 pub mod Kept
 pub mod Manifest
 pub mod Opening
+pub mod Cached

@@ -3,9 +3,11 @@
 //! It promises that its manifest, the list of the edits that made the current version, always replays to it, that the
 //! retired files that it keeps are exactly those that a version from the floor on lists and the current one lacks, and
 //! that its vault has the tables of all of them. It is opened over what a vault has, or refused with the first reason.
-//! It stands on the vault, the edits, the tables and the keys.
+//! A read through its cache of blocks finds what its tables have.
+//! It stands on the vault, the edits, the cache, the tables and the keys.
 #![tactic(auto)]
 
+mod cached;
 mod error;
 mod opening;
 mod putting;

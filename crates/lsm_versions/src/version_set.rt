@@ -4,11 +4,13 @@
 ghost use Rattle.std.specs.Prelude.{◌≡◌, ◌+◌, ◌<◌, ◌≤◌, List, [], None, Some, IfErr, IfOk, IfSome, OnOk, OnErr, slice_get};
 ghost use Rattle.std.specs.Option.{option_copied};
 ghost use Rattle.lsm_key.specs.declared.entry.Entry.{Entry};
+ghost use Rattle.lsm_key.specs.Places.{first_visible};
 ghost use Rattle.lsm_table.specs.Tables.{IsTable};
 ghost use Rattle.lsm_edit.specs.Edit.{IsEdit};
-ghost use Rattle.lsm_edit.specs.Served.{AreAsRecorded, IsServed};
+ghost use Rattle.lsm_edit.specs.Served.{AreAsRecorded, IsServed, tables_of};
 ghost use Rattle.lsm_edit.specs.Version.{IsVersion, apply_fault};
 ghost use Rattle.lsm_vault.specs.Failures.{CountsFailures};
+ghost use Rattle.lsm_versions.specs.Cached.{CopiesValue};
 ghost use Rattle.lsm_versions.specs.Manifest.{IsVersionSet, MayHavePut, after_logging, after_trimming, read_edits};
 ghost use Rattle.lsm_versions.specs.Kept.{StaysApart};
 ghost use Rattle.lsm_versions.specs.Opening.{CountsRefusal, EpochRefused, IsNextEpoch, MayHaveDropped, MayHaveLost, OpenRefuses, Opens, is_live, is_live_file, obsolete_tables, without_obsolete};
@@ -16,13 +18,15 @@ ghost use Rattle.lsm_versions.specs.declared.error.OpenError.TheVariants.{Number
 ghost use Rattle.lsm_versions.specs.Retention.{bytes_at};
 
 use crate::OpenError;
+use crate::cached::{new_cache, value_through};
 use crate::opening::{edit_of, recover};
 use crate::putting::{remove_obsolete, store};
 use crate::recent::{edits_below, let_go, push_recent};
 use crate::retired::{Retired, put_retired, retired_by, retired_bytes};
 use bytes::Bytes;
+use lsm_cache::BlockCache;
 use lsm_edit::{Edit, Served, Version, encode_edit};
-use lsm_key::{FileNumber, MAX_NUMBER, VersionNumber};
+use lsm_key::{FileNumber, MAX_NUMBER, Seq, VersionNumber};
 use lsm_table::Table;
 use lsm_vault::{Vault, VaultError};
 use std::alloc::{AllocError, Global};
@@ -30,7 +34,8 @@ use std::marker::Model;
 
 /// The current version with its tables; the vault, whose edits are the manifest; and the retired files, by number. The manifest
 /// always replays to the current version, the retired files are those that some version from the floor on lists and the current
-/// one lacks, and the vault has the tables of all of them. The recent edits are those of the manifest from the floor on.
+/// one lacks, and the vault has the tables of all of them. The recent edits are those of the manifest from the floor on. The cache
+/// holds blocks of the current version's tables alone.
 #[derive(Drop)]
 pub struct VersionSet<V: Vault> {
     alloc: Global,
@@ -40,11 +45,13 @@ pub struct VersionSet<V: Vault> {
     retired: Vec<Retired>,
     // They share the bytes that were appended to the vault.
     recent: Vec<Bytes>,
+    cache: BlockCache,
 }
 
 impl<V: Vault> Model for VersionSet<V> {
     ghost use Rattle.std.specs.Coded.{codes};
     ghost use Rattle.std.specs.Prelude.{◌≡◌};
+    ghost use Rattle.lsm_versions.specs.Cached.{HoldsAll};
     ghost use Rattle.lsm_versions.specs.Kept.{kept_code};
     ghost use Rattle.lsm_versions.specs.Manifest.{IsVersionSet, VersionSetValue, edits_from};
 
@@ -54,7 +61,7 @@ impl<V: Vault> Model for VersionSet<V> {
 
     ghost view = { λ v. record { served = v.current; edits = V.edits v.vault; retired = v.retired.items; floor = v.floor; kept = V.tables v.vault; failures = V.failures v.vault } };
 
-    ghost invariant = { λ v. IsVersionSet (record { served = v.current; edits = V.edits v.vault; retired = v.retired.items; floor = v.floor; kept = V.tables v.vault; failures = V.failures v.vault }) × (v.recent.items ≡ edits_from v.floor (V.edits v.vault)) };
+    ghost invariant = { λ v. IsVersionSet (record { served = v.current; edits = V.edits v.vault; retired = v.retired.items; floor = v.floor; kept = V.tables v.vault; failures = V.failures v.vault }) × (v.recent.items ≡ edits_from v.floor (V.edits v.vault)) × HoldsAll v.current.places v.cache };
 }
 
 impl<V: Vault> VersionSet<V> {
@@ -70,6 +77,10 @@ impl<V: Vault> VersionSet<V> {
         ensures counted { IfErr result (λ e. CountsRefusal e.0 (V.failures vault) (V.failures e.1)) }
     {
         let mut vault = vault;
+        let cache = match new_cache(alloc) {
+            Ok(cache) => cache,
+            Err(_) => return Err((OpenError::OutOfMemory, vault)),
+        };
         let (current, recent) = match recover(alloc, &mut vault) {
             Ok(recovered) => recovered,
             Err(why) => return Err((why, vault)),
@@ -82,6 +93,7 @@ impl<V: Vault> VersionSet<V> {
             floor,
             retired: Vec::new(alloc),
             recent,
+            cache,
         };
         match versions.begin_epoch() {
             Ok(()) => Ok(versions),
@@ -150,6 +162,15 @@ impl<V: Vault> VersionSet<V> {
         ensures { result ≡ self.now.floor }
     {
         self.floor
+    }
+
+    /// A copy of the value that a read of the key at the sequence finds in the current version's tables: none, if no table has an
+    /// entry of it that is seen, or the first one that has one has a deletion. It is read through the cache. An error is the copy's.
+    pub fn value(&mut self, key: &[u8], at: Seq) -> Result<Option<Bytes>, AllocError>
+        ensures copied { CopiesValue (first_visible (tables_of self.old.served.places) key.now at) result }
+        ensures same { self.new ≡ self.old }
+    {
+        value_through(&self.current, &mut self.cache, self.alloc, key, at)
     }
 
     /// The bytes of a file that the current version lists or that is retired. They are a table's.
@@ -221,6 +242,8 @@ impl<V: Vault> VersionSet<V> {
             bytes,
         )?;
         self.current.take_up(prepared);
+        // Its blocks were those of the version before.
+        self.cache.clear();
         put_retired(&mut self.retired, retiring);
         push_recent(&mut self.recent, recent);
         Ok(())
@@ -239,6 +262,7 @@ impl<V: Vault> VersionSet<V> {
             floor: _,
             retired: _,
             recent: _,
+            cache: _,
         } = self;
         vault
     }

@@ -23,7 +23,7 @@ use Rattle.lsm_edit.proofs.PlacesInOrder.{as_many}
 use Rattle.lsm_msg.specs.declared.job.JobParts.{JobParts}
 use Rattle.lsm_msg.specs.Jobs.{IsJob}
 use Rattle.lsm_work.specs.Workers.{TaskValue, new_task, is_among, numbers_of, missing, received_tables, with_input, IsComplete}
-use Rattle.lsm_work.specs.Held.{files_of, task_of, AreHeld, IsSpot, StandsAt}
+use Rattle.lsm_work.specs.Held.{files_of, task_of, AreHeld, IsSpot, BelongsAt}
 
 -- ---- files with their tables
 
@@ -216,7 +216,7 @@ empty_is : (xs : List FileMeta) → length xs ≤ 0 → xs ≡ []
 empty_is [] h = refl
 empty_is (x ∷ xs) h = absurd (omega (arith, h))
 
-module _ (job : JobParts) (ns : List ℕ) (ts : List Opened) (held : AreHeld job ns ts) (p : Placed) (place : ℕ) (at : StandsAt (task_of job ns ts) p place) where
+module _ (job : JobParts) (ns : List ℕ) (ts : List Opened) (held : AreHeld job ns ts) (p : Placed) (place : ℕ) (at : BelongsAt (task_of job ns ts) p place) where
   abbrev pub own_files : List FileMeta
   own_files = files_of ns job.inputs
 
@@ -341,7 +341,7 @@ among_found ns n r up within position = searched (λ (x : ℕ). x) n (λ x. nat_
 pub file_found : (files : List FileMeta) (n : ℕ) (r : Result ℕ ℕ) → FileNumbersRise files → IsSearchInRange r (length files) → IsBinarySearchResult (λ f. nat_cmp f.number n) files r → is_ok r ≡ list_any (λ f. nat_eq f.number n) files
 file_found files n r up within position = searched (λ (f : FileMeta). f.number) n (λ f. nat_eq f.number n) (λ f e. eq-eqb f.number n e) (λ f differ. false_from_ne_true (nat_eq f.number n) (λ h. differ (eqb-true f.number n h))) files r (files_rise files up) within position
 
-module _ (job : JobParts) (ns : List ℕ) (ts : List Opened) (held : AreHeld job ns ts) (p : Placed) (place : ℕ) (at : StandsAt (task_of job ns ts) p place) where
+module _ (job : JobParts) (ns : List ℕ) (ts : List Opened) (held : AreHeld job ns ts) (p : Placed) (place : ℕ) (at : BelongsAt (task_of job ns ts) p place) where
   pub place_within : place ≤ length ns
   place_within = let within = at.spot.within in let same = ap (λ (ms : List ℕ). length ms) (numbers_held job ns ts held) in omega (arith, within, same)
 

@@ -6,14 +6,14 @@ use Rattle.lsm_edit.specs.declared.file.FileMeta.{FileMeta}
 use Rattle.lsm_edit.specs.declared.served.Placed.{Placed}
 use Rattle.lsm_edit.specs.Served.{IsAsRecorded, AreAsRecorded, IsAwaited}
 use Rattle.lsm_msg.specs.declared.job.JobParts.{JobParts}
-use Rattle.lsm_work.specs.Held.{AreHeld, IsSpot, StandsAt, task_of}
+use Rattle.lsm_work.specs.Held.{AreHeld, IsSpot, BelongsAt, task_of}
 use Rattle.lsm_work.specs.Workers.{IsComplete, TaskValue, missing, numbers_of, received_tables, with_input}
 use Rattle.lsm_work.proofs.HeldInputs.{missing_count, one_less, complete_more, recorded_all}
 
 -- a table that was asked for, with its file and its place
 pub record IsFound (t : TaskValue) (n : ℕ) (text : List ℕ) (p : Placed) (place : ℕ) : Type 0 where
   pub awaited : IsAwaited (missing t) n text p
-  pub stands : StandsAt t p place
+  pub stands : BelongsAt t p place
 
 pub found : (t : TaskValue) (n place : ℕ) (text : List ℕ) (f : FileMeta) (o : Option Opened) (u : Opened) → IsIn f (missing t) × (f.number ≡ n) → IsSpot (numbers_of t.received) n place → IfSome o (λ v. (v.bytes ≡ text) × IsAsRecorded f v) → o ≡ Some u
     → IsFound t n text (record { meta = f; table = u }) place
@@ -25,9 +25,9 @@ found t n place text f o u own spot some is =
     }
 
 -- a task as it is held, and as it is seen
-module _ (job : JobParts) (ns : List ℕ) (ts : List Opened) (held : AreHeld job ns ts) (t : TaskValue) (seen : task_of job ns ts ≡ t) (p : Placed) (place : ℕ) (at : StandsAt t p place) where
-  inner : StandsAt (task_of job ns ts) p place
-  inner = subst (λ (u : TaskValue). StandsAt u p place) (sym seen) at
+module _ (job : JobParts) (ns : List ℕ) (ts : List Opened) (held : AreHeld job ns ts) (t : TaskValue) (seen : task_of job ns ts ≡ t) (p : Placed) (place : ℕ) (at : BelongsAt t p place) where
+  inner : BelongsAt (task_of job ns ts) p place
+  inner = subst (λ (u : TaskValue). BelongsAt u p place) (sym seen) at
 
   less : length (missing (with_input p t)) + 1 ≡ length (missing t)
   less = subst (λ (u : TaskValue). length (missing (with_input p u)) + 1 ≡ length (missing u)) seen (one_less job ns ts held p place inner)

@@ -41,7 +41,7 @@ pub record IsSpot (numbers : List ℕ) (number place : ℕ) : Type 0 where
   pub parted : IsPartitionPoint (λ n. n < number) (λ n. number < n) numbers place
 
 -- a missing input with its table, and its place among those that have come
-pub record StandsAt (t : TaskValue) (p : Placed) (place : ℕ) : Type 0 where
+pub record BelongsAt (t : TaskValue) (p : Placed) (place : ℕ) : Type 0 where
   pub input : IsIn p.meta (missing t)
   pub recorded : IsAsRecorded p.meta p.table
   pub spot : IsSpot (numbers_of t.received) p.meta.number place

@@ -45,7 +45,7 @@ impl Task {
     ghost use Rattle.lsm_msg.specs.declared.node.Node.TheVariants.{Worker};
     ghost use Rattle.lsm_msg.specs.Messages.{AreTableBytes, IsMessage, fetches, to_coordinator};
     ghost use Rattle.lsm_work.specs.Workers.{TakesTable, is_among, missing, new_task, numbers_of, received_tables, with_input};
-    ghost use Rattle.lsm_work.specs.Held.{IsSpot, StandsAt, left_after};
+    ghost use Rattle.lsm_work.specs.Held.{IsSpot, BelongsAt, left_after};
 
     /// The task of a job of which no input has come.
     pub(crate) fn new(alloc: Global, job: &Job) -> Result<Task, AllocError>
@@ -157,8 +157,8 @@ impl Task {
 
     // Keeps the table of a missing input. Allocates nothing.
     fn put(&mut self, place: usize, number: u64, table: Table)
-        requires { (f : FileMeta) × (f.number ≡ number) × StandsAt self.old (record { meta = f; table = table }) place }
-        ensures { (f : FileMeta) → f.number ≡ number → StandsAt self.old (record { meta = f; table = table }) place → self.new ≡ with_input (record { meta = f; table = table }) self.old }
+        requires { (f : FileMeta) × (f.number ≡ number) × BelongsAt self.old (record { meta = f; table = table }) place }
+        ensures { (f : FileMeta) → f.number ≡ number → BelongsAt self.old (record { meta = f; table = table }) place → self.new ≡ with_input (record { meta = f; table = table }) self.old }
     {
         self.numbers.insert(place, number).unwrap();
         self.tables.insert(place, table).unwrap();
@@ -172,9 +172,9 @@ impl Task {
         place: usize,
         table: Table,
     ) -> Result<Vec<Bytes>, MergeError>
-        requires { (f : FileMeta) × StandsAt self.old (record { meta = f; table = table }) place }
-        ensures ok { (f : FileMeta) → StandsAt self.old (record { meta = f; table = table }) place → IfOk result (λ outputs. CanMerge (received_tables (with_input (record { meta = f; table = table }) self.old)) self.old.job × IsMerge (received_tables (with_input (record { meta = f; table = table }) self.old)) self.old.job outputs.items) }
-        ensures refused { (f : FileMeta) → StandsAt self.old (record { meta = f; table = table }) place → IfErr result (IsRefused (received_tables (with_input (record { meta = f; table = table }) self.old)) self.old.job) }
+        requires { (f : FileMeta) × BelongsAt self.old (record { meta = f; table = table }) place }
+        ensures ok { (f : FileMeta) → BelongsAt self.old (record { meta = f; table = table }) place → IfOk result (λ outputs. CanMerge (received_tables (with_input (record { meta = f; table = table }) self.old)) self.old.job × IsMerge (received_tables (with_input (record { meta = f; table = table }) self.old)) self.old.job outputs.items) }
+        ensures refused { (f : FileMeta) → BelongsAt self.old (record { meta = f; table = table }) place → IfErr result (IsRefused (received_tables (with_input (record { meta = f; table = table }) self.old)) self.old.job) }
         ensures unchanged { self.new ≡ self.old }
     {
         self.tables.insert(place, table).unwrap();

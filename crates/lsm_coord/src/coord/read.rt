@@ -1,8 +1,8 @@
 //! Reads of the store.
 
-ghost use Rattle.std.specs.Prelude.{◌≡◌, None, Some, IfOk, IfErr, IsSome};
-ghost use Rattle.std.specs.Option.{option_map, option_and_then};
-ghost use Rattle.lsm_key.specs.Visible.{visible, entry_value, lent_entry};
+ghost use Rattle.std.specs.Prelude.{◌≡◌, None, Some, IfOk, IfErr};
+ghost use Rattle.std.specs.Option.{option_map};
+ghost use Rattle.lsm_key.specs.Visible.{visible, lent_entry};
 ghost use Rattle.lsm_coord.specs.Model.State.{snapshot_at};
 ghost use Rattle.lsm_coord.specs.Model.Event.{Get, Show, Coordinator};
 ghost use Rattle.lsm_coord.specs.Contract.Shows.{Follows};
@@ -15,10 +15,11 @@ use super::Coord;
 use crate::CoordError;
 use crate::snapshot::SnapId;
 use bytes::Bytes;
+use lsm_cache::copy_value;
 use lsm_edit::{Listing, Served};
-use lsm_key::{EntryRef, Kind, Seq};
+use lsm_key::{EntryRef, Seq};
 use lsm_vault::Vault;
-use std::alloc::{AllocError, Global};
+use std::alloc::AllocError;
 
 impl<V: Vault> Coord<V> {
     /// The value of a key, latest or at a live snapshot, as a copy.
@@ -56,30 +57,20 @@ impl<V: Vault> Coord<V> {
         None
     }
 
-    // A copy of what a read of the key finds.
-    fn value_of(&self, key: &[u8], point: Seq) -> Result<Option<Bytes>, AllocError>
-        requires { IsPoint self.now point }
-        ensures ok { IfOk result (Answers self.now point key.now) }
-        ensures refused { IfErr result (λ _. HasValue self.now point key.now) }
-    {
-        match self.found(key, point) {
-            None => Ok(None),
-            Some(entry) => value_in(self.alloc, entry),
-        }
-    }
-
-    // The newest entry of the key.
-    fn found(&self, key: &[u8], point: Seq) -> Option<EntryRef<'_>>
-        requires { IsPoint self.now point }
-        ensures { Answers self.now point key.now (option_and_then entry_value (option_map lent_entry result)) }
+    // A copy of what a read of the key finds: in the memtables, or else through the cache of the tables' blocks.
+    fn value_of(&mut self, key: &[u8], point: Seq) -> Result<Option<Bytes>, AllocError>
+        requires { IsPoint self.old point }
+        ensures ok { IfOk result (Answers self.old point key.now) }
+        ensures refused { IfErr result (λ _. HasValue self.old point key.now) }
+        ensures same { self.new ≡ self.old }
     {
         match self.active.get(key, point) {
-            Some(entry) => return Some(entry),
+            Some(entry) => return copy_value(self.alloc, entry),
             None => {}
         }
         match self.frozen_entry(key, point) {
-            Some(entry) => Some(entry),
-            None => self.versions.served().get_at(key, point),
+            Some(entry) => copy_value(self.alloc, entry),
+            None => self.versions.value(key, point),
         }
     }
 
@@ -112,16 +103,5 @@ impl<V: Vault> Coord<V> {
         ensures { result.now ≡ self.now.served }
     {
         self.versions.served()
-    }
-}
-
-// What a read returns that finds the entry.
-fn value_in(alloc: Global, entry: EntryRef<'_>) -> Result<Option<Bytes>, AllocError>
-    ensures ok { IfOk result (λ value. value ≡ entry_value (lent_entry entry.entry)) }
-    ensures refused { IfErr result (λ _. IsSome (entry_value (lent_entry entry.entry))) }
-{
-    match entry.kind {
-        Kind::Put => Ok(Some(Bytes::copy_from_slice(alloc, entry.value)?)),
-        Kind::Delete => Ok(None),
     }
 }

@@ -4,4 +4,5 @@ use Rattle.lsm_block.proofs.block.decode_with_hints.Goals as goal
 pub with_index-requires : goal.with_index-requires
 with_index-requires c =
     let found = c.in_ok-index.ensures.ok in
-    indexed_block c.args.bytes c.in_ok-index.index c.know_bytes.ensures found.0 (rw (← c.as_slice.ensures) found.1) found.2
+    let is = c.as_slice.ensures in
+    indexed_block c.args.bytes c.in_ok-index.index c.know_bytes.ensures (rw (← is) found.0) (rw (← is) found.1)

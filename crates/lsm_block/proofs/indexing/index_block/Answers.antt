@@ -1,7 +1,9 @@
-use Rattle.std.proofs.Common.{List, Result, sym, subst, ◌∙◌}
+use Rattle.std.proofs.Common.{List, Ok, Result, length, sym, subst, ap, ◌∙◌, arith}
+use Rattle.std.proofs.lemmas.List.{take_all}
 use Rattle.lsm_key.specs.declared.entry.Entry.{Entry}
 use Rattle.lsm_key.specs.Reading.{Fails}
 use Rattle.lsm_block.specs.declared.fault.BlockFault.{BlockFault}
+use Rattle.lsm_block.specs.Indexed.{block_entries}
 use Rattle.lsm_block.proofs.ReadBlocks.{read_none, from_front}
 use Rattle.lsm_block.proofs.indexing.index_block.Goals as goal
 
@@ -10,8 +12,9 @@ index_more-requires-clause-known c = read_none c.args.bytes.now c.in_ok-found.fo
 
 pub returns-in-Ok-clause-ok : goal.returns-in-Ok-clause-ok
 returns-in-Ok-clause-ok c =
+    let bytes = c.args.bytes.now in
     let read = c.in-Ok.ensures.ok in
-    (read.0, sym (from_front c.args.bytes.now) ∙ read.1, read.3)
+    (sym (from_front bytes) ∙ read.0 ∙ ap (λ b. Ok (block_entries b)) (take_all (length bytes) bytes (omega arith)), read.1)
 
 pub returns-in-Err-clause-err : goal.returns-in-Err-clause-err
 returns-in-Err-clause-err c = subst (λ (r : Result (List Entry) BlockFault). Fails c.in-Err.fault r) (from_front c.args.bytes.now) c.in-Err.ensures.err

@@ -1,9 +1,10 @@
-use Rattle.std.proofs.Common.{length, sym, refl, ◌∙◌, ◌++◌, ◌∷◌, []}
+use Rattle.std.proofs.Common.{length, sym, refl, ◌∙◌, ◌++◌, ◌∷◌, [], arith}
 use Rattle.std.proofs.lemmas.Bool.{eqb-true, eqb-false}
-use Rattle.std.proofs.lemmas.List.{take_rest}
+use Rattle.std.proofs.lemmas.List.{take_rest, length-append}
 use Rattle.lsm_key.specs.Visible.{lent_entry}
 use Rattle.lsm_block.specs.Indexed.{entries_before}
 use Rattle.lsm_block.proofs.IndexedSoFar.{walk_starts, walk_fails, walk_shortens, walk_goes_on, walk_ends, counted_more, last_there, place_is}
+use Rattle.lsm_block.proofs.ReadBlocks.{walked_all}
 use Rattle.lsm_block.proofs.indexing.walk_on.Goals as goal
 
 pub loop-found-init : goal.loop-found-init
@@ -25,7 +26,9 @@ returns-then-is_empty-clause-ok c =
     let fenced = c.in_ok-add_fence.ensures w.0 e w.1.fenced (place_is _ _ w.0 _ _ _ _ _ _ _ w.1) refl in
     let none = eqb-true (length after) 0 (sym c.is_empty.ensures ∙ c.if-is_empty.true) in
     let ends = walk_ends _ _ w.0 _ _ _ _ _ _ _ w.1 e after read _ _ _ fenced none in
-    (w.0 ++ e ∷ [], ends.0, ends.1, record { fenced = fenced; counted = counted_more _ _ w.0 _ _ _ _ _ _ _ w.1 e after read _ _ _ fenced; ends = last_there _ _ w.0 _ _ _ _ _ _ _ w.1 e after read _ _ _ fenced })
+    let counted = counted_more _ _ w.0 _ _ _ _ _ _ _ w.1 e after read _ _ _ fenced in
+    let last = last_there _ _ w.0 _ _ _ _ _ _ _ w.1 e after read _ _ _ fenced in
+    walked_all _ c.args.bytes.now (w.0 ++ e ∷ []) _ (omega (arith, length-append w.0 (e ∷ []))) ends.0 ends.1 (record { fenced = fenced; counted = counted; ends = λ some. last })
 
 pub loop-found-smaller : goal.loop-found-smaller
 loop-found-smaller c =

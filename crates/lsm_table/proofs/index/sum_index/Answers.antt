@@ -1,5 +1,5 @@
 use Rattle.std.proofs.Common.{◌≡◌, ◌∙◌, ℕ, ◌+◌, ◌-◌, sym, ap, arith}
-use Rattle.lsm_table.specs.Index.{told}
+use Rattle.lsm_table.specs.Index.{index_entry}
 use Rattle.lsm_table.specs.TableReading.{sum_at}
 use Rattle.lsm_table.proofs.ReadingLoops.{sum_none, sum_more, sum_fails}
 use Rattle.lsm_table.proofs.index.sum_index.Goals as goal
@@ -15,7 +15,7 @@ loop-left-preserved c =
     let fits = c.from-total.type_inv in (
       omega (arith, i.0),
       omega (arith, i.0, i.1, some, fits),
-      i.2 ∙ sum_more c.loop-left.left c.loop-left.total c.loop-left.rest.now (told c.in-Ok.found.0) c.in-Ok.found.1.now some c.in-Ok.ensures
+      i.2 ∙ sum_more c.loop-left.left c.loop-left.total c.loop-left.rest.now (index_entry c.in-Ok.found.0) c.in-Ok.found.1.now some c.in-Ok.ensures
           ∙ ap (λ (n : ℕ). sum_at (c.loop-left.left - 1) (c.loop-left.total + n) c.in-Ok.found.1.now) (sym c.from-total.ensures),
     )
 

@@ -4,7 +4,7 @@ use Rattle.std.proofs.lemmas.Result.{err_from_is_err_and}
 use Rattle.lsm_key.specs.declared.entry.Entry.{Entry}
 use Rattle.lsm_key.specs.Reading.{Fails}
 use Rattle.lsm_table.specs.declared.fault.TableFault.{TableFault}
-use Rattle.lsm_table.specs.Index.{told}
+use Rattle.lsm_table.specs.Index.{index_entry}
 use Rattle.lsm_table.specs.TableReading.{blocks_at, sum_at}
 use Rattle.lsm_table.proofs.ReadingLoops.{sum_more, blocks_none, blocks_more, index_fails, block_fails, next_within, none_left}
 use Rattle.lsm_table.proofs.reading.read_blocks.Goals as goal
@@ -17,26 +17,26 @@ returns-in-Err-clause-err c =
 pub read_block-requires : goal.read_block-requires
 read_block-requires c =
     let i = c.loop-left.invariant.0 in
-    next_within c.loop-left.left i.0 c.loop-left.rest.now (told c.in-Ok.found.0) c.in-Ok.found.1.now i.2 i.1 (length c.loop-left.reader.rest) c.loop-left-test.true c.in-Ok.ensures i.3 i.4
+    next_within c.loop-left.left i.0 c.loop-left.rest.now (index_entry c.in-Ok.found.0) c.in-Ok.found.1.now i.2 i.1 (length c.loop-left.reader.rest) c.loop-left-test.true c.in-Ok.ensures i.3 i.4
 
 pub returns-in_err-read_block-clause-err : goal.returns-in_err-read_block-clause-err
 returns-in_err-read_block-clause-err c =
     let r = c.loop-left.reader in
     let p = err_from_is_err_and c.from_residual.result c.from_residual.ensures.1 in
     rw (p.1, p.2) (subst (λ (read : Result (List Entry) TableFault). Fails c.in_err-read_block.field-0.0 read) (sym c.loop-left.invariant.1)
-    (block_fails c.args.target c.loop-left.left c.loop-left.rest.now r.entries r.rest (told c.in-Ok.found.0) c.in-Ok.found.1.now c.in_err-read_block.field-0.0 c.loop-left-test.true c.in-Ok.ensures c.in_err-read_block.ensures.err))
+    (block_fails c.args.target c.loop-left.left c.loop-left.rest.now r.entries r.rest (index_entry c.in-Ok.found.0) c.in-Ok.found.1.now c.in_err-read_block.field-0.0 c.loop-left-test.true c.in-Ok.ensures c.in_err-read_block.ensures.err))
 
 pub loop-left-preserved : goal.loop-left-preserved
 loop-left-preserved c =
     let i = c.loop-left.invariant.0 in
     let r = c.loop-left.reader in
     let len = c.in-Ok.found.0.len in
-    let within = next_within c.loop-left.left i.0 c.loop-left.rest.now (told c.in-Ok.found.0) c.in-Ok.found.1.now i.2 i.1 (length r.rest) c.loop-left-test.true c.in-Ok.ensures i.3 i.4 in
+    let within = next_within c.loop-left.left i.0 c.loop-left.rest.now (index_entry c.in-Ok.found.0) c.in-Ok.found.1.now i.2 i.1 (length r.rest) c.loop-left-test.true c.in-Ok.ensures i.3 i.4 in
     let ok = c.in_ok-read_block.ensures.ok in
     let long : length c.read_block.new.reader.rest ≡ length r.rest - len = ap (λ (bytes : List ℕ). length bytes) ok.1 ∙ length-drop len r.rest in (
-      (i.0 + len, i.1, i.2, sym (sum_more c.loop-left.left i.0 c.loop-left.rest.now (told c.in-Ok.found.0) c.in-Ok.found.1.now c.loop-left-test.true c.in-Ok.ensures) ∙ i.3, omega (arith, i.4, long, within)),
+      (i.0 + len, i.1, i.2, sym (sum_more c.loop-left.left i.0 c.loop-left.rest.now (index_entry c.in-Ok.found.0) c.in-Ok.found.1.now c.loop-left-test.true c.in-Ok.ensures) ∙ i.3, omega (arith, i.4, long, within)),
       c.loop-left.invariant.1
-          ∙ blocks_more c.args.target c.loop-left.left c.loop-left.rest.now r.entries r.rest (told c.in-Ok.found.0) c.in-Ok.found.1.now c.read_block.new.reader.entries c.loop-left-test.true c.in-Ok.ensures ok.0
+          ∙ blocks_more c.args.target c.loop-left.left c.loop-left.rest.now r.entries r.rest (index_entry c.in-Ok.found.0) c.in-Ok.found.1.now c.read_block.new.reader.entries c.loop-left-test.true c.in-Ok.ensures ok.0
           ∙ ap (λ (bytes : List ℕ). blocks_at c.args.target (c.loop-left.left - 1) c.in-Ok.found.1.now c.read_block.new.reader.entries bytes) (sym ok.1),
     )
 

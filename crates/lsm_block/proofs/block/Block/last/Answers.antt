@@ -7,4 +7,4 @@ use Rattle.lsm_block.proofs.block.Block.last.Goals as goal
 pub returns-in-Ok : goal.returns-in-Ok
 returns-in-Ok c =
     let bytes = c.self.inside.bytes in
-    rw (← c.self.view_is) (last_read bytes (block_entries bytes) c.deref.result.now.last c.in-Ok.entry _ c.self.invariant.block (rw c.deref.ensures c.self.invariant.index.ends) (ap entry_at (sym c.in_ok-rest.ensures.ok) ∙ c.in-Ok.ensures))
+    rw (← c.self.view_is) (last_read bytes (block_entries bytes) c.deref.result.now.last c.in-Ok.entry _ c.self.invariant.block (rw c.deref.ensures (c.self.invariant.index.ends c.self.invariant.block.some)) (ap entry_at (sym c.in_ok-rest.ensures.ok) ∙ c.in-Ok.ensures))

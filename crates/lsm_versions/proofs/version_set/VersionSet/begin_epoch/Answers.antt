@@ -21,6 +21,7 @@ invariant_of-self g c =
     let up = c.self-2.invariant.0.retired.low in (
       raised_set _ c.new-floor.result c.self-2.invariant.0 (ap (λ (v : VersionSetValue). v.retired) c.self-2.view_is ∙ none) at,
       c.let_go.ensures ∙ raised (g.V.Vault.edits m.vault) m.current.version m.floor m.recent.items c.self-2.invariant.0.folds c.self-2.invariant.1 c.new-floor.result (omega (arith, at, up)),
+      c.self-2.invariant.2,
     )
 
 pub let_go-requires-clause-within : goal.let_go-requires-clause-within

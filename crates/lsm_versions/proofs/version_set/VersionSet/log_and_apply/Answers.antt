@@ -7,6 +7,7 @@ use Rattle.lsm_edit.specs.Version.{IsVersion, apply_fault}
 use Rattle.lsm_versions.specs.Kept.{StaysApart, StaysBelow, put_tables}
 use Rattle.lsm_versions.specs.Manifest.{IsVersionSet, MayHavePut, VersionSetValue, after_logging, edits_from}
 use Rattle.lsm_versions.specs.Retention.{put_each, retired_after, retired_by}
+use Rattle.lsm_versions.proofs.CachedReads.{none_held}
 use Rattle.lsm_versions.proofs.KeptTables.{apart_below}
 use Rattle.lsm_versions.proofs.LoggedEdits.{logged_set, rising_set, still_set}
 use Rattle.lsm_versions.proofs.RecentEdits.{pushed}
@@ -28,7 +29,7 @@ invariant_of-self-in_err-store g c =
     let sound = subst (λ (w : VersionSetValue). IsServed w.served × IsVersion w.served.version) (sym c.self.view_is) c.served.ensures.sound in
     let others = subst (λ (fs : List FileMeta). StaysApart fs v.kept kept) c.as_slice.ensures c.in_err-store.ensures.others in
     let still = still_set v e c.self.invariant.0 sound c.requires.sound applies kept failures (apart_below v.served.version e v.kept kept applies others) in
-    rw (c.in_err-store.ensures.err, c.in_ok-reserve.ensures.items, c.in_ok-reserve-2.ensures.items) (still, c.self.invariant.1)
+    rw (c.in_err-store.ensures.err, c.in_ok-reserve.ensures.items, c.in_ok-reserve-2.ensures.items) (still, c.self.invariant.1, c.self.invariant.2)
 
 pub returns-in_err-store-clause-err : goal.returns-in_err-store-clause-err
 returns-in_err-store-clause-err g c =
@@ -93,6 +94,7 @@ invariant_of-self-2 g c =
     let shared : c.in_ok-recent.recent ≡ c.in_ok-bytes.bytes = search rules in (
       subst IsVersionSet (sym (logged g c)) (logged_set v e c.self.invariant.0 sound c.requires.sound applies c.args.tables.items (g.V.Vault.failures c.store.new.vault)),
       c.push_recent.ensures ∙ (λ i. c.in_ok-reserve-2.ensures.items i ++ shared i ∷ []) ∙ pushed v.edits v.served.version v.floor m.recent.items c.self.invariant.0.folds c.self.invariant.1 c.in_ok-bytes.bytes c.self.invariant.0.retired.low ∙ ap (edits_from m.floor) (sym c.in_ok-store.ensures.edits),
+      none_held c.take_up.new.self.places c.clear.new.self c.clear.ensures.none,
     )
 
 pub returns-clause-ok : goal.returns-clause-ok

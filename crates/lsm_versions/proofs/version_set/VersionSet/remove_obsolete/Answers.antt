@@ -24,4 +24,5 @@ invariant_of-self g c =
         kept = kept_needed m.current.places m.current.version.files m.retired.items old new (λ p n. (served.listed p.meta).0 (IsIn-map (λ (x : Placed). x.meta) p m.current.places n)) lost is.kept;
       },
       c.self.invariant.1,
+      c.self.invariant.2,
     )

@@ -34,6 +34,7 @@ invariant_of-self g c =
         kept = kept_trimmed m.current m.retired.items (max m.floor c.args.to) (g.V.Vault.tables m.vault) c.self.invariant.0.kept;
       }),
       c.let_go.ensures ∙ recent.raised (g.V.Vault.edits m.vault) m.current.version m.floor m.recent.items c.self.invariant.0.folds c.self.invariant.1 c.max-floor.result (omega (arith, top)),
+      c.self.invariant.2,
     )
 
 pub let_go-requires-clause-within : goal.let_go-requires-clause-within

@@ -1,0 +1,2 @@
+-- The definitions of the block cache.
+pub mod Cached
