@@ -3,7 +3,7 @@
 ghost use Rattle.std.specs.Prelude.{◌≡◌, ℕ, List, IfOk, length};
 ghost use Rattle.std.specs.NonZero.{non_zero_usize_get};
 ghost use Rattle.lsm_key.specs.declared.entry.Entry.{Entry};
-ghost use Rattle.lsm_block.specs.Handles.{IsAt};
+ghost use Rattle.lsm_block.specs.Handles.{IsPartAt};
 ghost use Rattle.lsm_cache.specs.Cached.{HoldsBlocks, HoldsNone};
 
 use lru::LruCache;
@@ -57,7 +57,7 @@ impl BlockCache {
 
     // Holds the block under its place, if memory serves.
     pub(crate) fn put(&mut self, place: BlockPlace, block: Block)
-        ensures { (number : ℕ) (es : List Entry) → HoldsBlocks number es self.old → (place.file ≡ number → IsAt es place.handle block) → HoldsBlocks number es self.new }
+        ensures { (number : ℕ) (es : List Entry) → HoldsBlocks number es self.old → (place.file ≡ number → IsPartAt es place.handle block) → HoldsBlocks number es self.new }
     {
         let _ = self.blocks.put(place, block);
     }

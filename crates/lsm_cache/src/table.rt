@@ -1,10 +1,9 @@
 //! A table of a file, looked up through a cache of blocks.
 
-ghost use Rattle.std.specs.Prelude.{◌≡◌, ℕ, List, IfOk};
+ghost use Rattle.std.specs.Prelude.{◌≡◌, IfOk, IfErr, IsSome};
 ghost use Rattle.std.specs.Option.{option_map};
-ghost use Rattle.lsm_key.specs.declared.entry.Entry.{Entry};
 ghost use Rattle.lsm_key.specs.Visible.{visible, lent_entry};
-ghost use Rattle.lsm_cache.specs.Cached.{HoldsBlocks};
+ghost use Rattle.lsm_cache.specs.Cached.{HoldsBlocks, KeepsBlocks};
 
 use crate::cache::{BlockCache, BlockPlace};
 use crate::copies::copy_entry;
@@ -39,7 +38,7 @@ impl<'a> CachedTable<'a> {
 
     /// Sees to it that the cache holds the block in which a look-up of the key ends, if a look-up asks for it and memory serves.
     pub fn load(&self, cache: &mut BlockCache, alloc: Global, key: &[u8])
-        ensures { (number : ℕ) (es : List Entry) → HoldsBlocks number es cache.old → (number ≡ self.now.number → es ≡ self.now.table.now.entries) → HoldsBlocks number es cache.new }
+        ensures { KeepsBlocks self.now.number self.now.table.now.entries cache.old cache.new }
     {
         if !self.is_long() {
             return;
@@ -88,7 +87,8 @@ impl<'a> CachedTable<'a> {
     ) -> Result<Option<Entry>, AllocError>
         requires { HoldsBlocks self.now.number self.now.table.now.entries cache.old }
         ensures found { IfOk result (λ e. e ≡ visible self.now.table.now.entries key.now at) }
-        ensures held { (number : ℕ) (es : List Entry) → HoldsBlocks number es cache.old → (number ≡ self.now.number → es ≡ self.now.table.now.entries) → HoldsBlocks number es cache.new }
+        ensures refused { IfErr result (λ _. IsSome (visible self.now.table.now.entries key.now at)) }
+        ensures held { KeepsBlocks self.now.number self.now.table.now.entries cache.old cache.new }
     {
         self.load(cache, alloc, key);
         match self.seek(cache, key, at) {

@@ -33,27 +33,31 @@ found_right c p key point s h =
     ))
     ∙ reads c.active frozen (stored_entries c.served) s h.memtables stored_in p key (point_is c s p h point)
 
--- ---- where the search ends
+-- ---- where the search ends, as the value that is searched sees it
 
-module _ (c : CoordValue) (p : ℕ) (key : List ℕ) (point : calls.IsPoint c p) (s : State) (h : Shows c s) where
+module _ (v c : CoordValue) (is : v ≡ c) (p : ℕ) (key : List ℕ) (point : calls.IsPoint c p) where
+  active : {o : Option Entry} → o ≡ visible v.active key p → o ≡ visible c.active key p
+  active seen = seen ∙ ap (λ (x : CoordValue). visible x.active key p) is
+
   -- in the active memtable
-  pub searched_first : (e : Entry) → visible c.active key p ≡ Some e → entry_value e ≡ answer s.writes p key
-  searched_first e found =
-      ap (λ (o : Option Entry). option_and_then entry_value (if is_some o then o else first_visible (frozen_entries c.frozen ∷ tables_of c.served.places) key p)) (sym found)
+  pub searched_first : (e : Entry) → Some e ≡ visible v.active key p → calls.Answers c p key (entry_value e)
+  searched_first e found s h =
+      ap (λ (o : Option Entry). option_and_then entry_value (if is_some o then o else first_visible (frozen_entries c.frozen ∷ tables_of c.served.places) key p)) (active found)
       ∙ found_right c p key point s h
 
   -- in the frozen one
-  pub searched_second : (e : Entry) → visible c.active key p ≡ None → visible (frozen_entries c.frozen) key p ≡ Some e → entry_value e ≡ answer s.writes p key
-  searched_second e none found =
-      ap (λ (o : Option Entry). option_and_then entry_value (if is_some o then o else first_visible (tables_of c.served.places) key p)) (sym found)
-      ∙ ap (λ (o : Option Entry). option_and_then entry_value (if is_some o then o else first_visible (frozen_entries c.frozen ∷ tables_of c.served.places) key p)) (sym none)
+  pub searched_second : (e : Entry) → None ≡ visible v.active key p → Some e ≡ visible (frozen_entries c.frozen) key p → calls.Answers c p key (entry_value e)
+  searched_second e none found s h =
+      ap (λ (o : Option Entry). option_and_then entry_value (if is_some o then o else first_visible (tables_of c.served.places) key p)) found
+      ∙ ap (λ (o : Option Entry). option_and_then entry_value (if is_some o then o else first_visible (frozen_entries c.frozen ∷ tables_of c.served.places) key p)) (active none)
       ∙ found_right c p key point s h
 
   -- in the tables
-  pub searched_last : visible c.active key p ≡ None → visible (frozen_entries c.frozen) key p ≡ None → option_and_then entry_value (first_visible (tables_of c.served.places) key p) ≡ answer s.writes p key
-  searched_last none empty =
-      ap (λ (o : Option Entry). option_and_then entry_value (if is_some o then o else first_visible (tables_of c.served.places) key p)) (sym empty)
-      ∙ ap (λ (o : Option Entry). option_and_then entry_value (if is_some o then o else first_visible (frozen_entries c.frozen ∷ tables_of c.served.places) key p)) (sym none)
+  pub searched_last : None ≡ visible v.active key p → None ≡ visible (frozen_entries c.frozen) key p → calls.Answers c p key (option_and_then entry_value (first_visible (tables_of v.served.places) key p))
+  searched_last none empty s h =
+      ap (λ (x : CoordValue). option_and_then entry_value (first_visible (tables_of x.served.places) key p)) is
+      ∙ ap (λ (o : Option Entry). option_and_then entry_value (if is_some o then o else first_visible (tables_of c.served.places) key p)) empty
+      ∙ ap (λ (o : Option Entry). option_and_then entry_value (if is_some o then o else first_visible (frozen_entries c.frozen ∷ tables_of c.served.places) key p)) (active none)
       ∙ found_right c p key point s h
 
 -- ---- what is copied of it

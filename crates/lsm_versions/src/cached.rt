@@ -1,11 +1,11 @@
 //! Reads of a version through a cache of decoded blocks.
 
-ghost use Rattle.std.specs.Prelude.{◌≡◌, ℕ, List, None, Some, IfOk, IfNone, IfSome};
+ghost use Rattle.std.specs.Prelude.{◌≡◌, None, Some, IfOk, IfNone, IfSome};
 ghost use Rattle.lsm_key.specs.declared.entry.Entry.{Entry};
 ghost use Rattle.lsm_key.specs.Places.{first_visible};
 ghost use Rattle.lsm_key.specs.Visible.{visible};
 ghost use Rattle.lsm_edit.specs.Served.{tables_of};
-ghost use Rattle.lsm_cache.specs.Cached.{HoldsBlocks, HoldsNone};
+ghost use Rattle.lsm_cache.specs.Cached.{HoldsBlocks, HoldsNone, KeepsBlocks};
 ghost use Rattle.lsm_versions.specs.Cached.{CopiesValue, HoldsAll};
 
 use bytes::Bytes;
@@ -69,7 +69,7 @@ fn value_in(
     requires { HoldsBlocks table.now.number table.now.table.now.entries cache.old }
     ensures none { IfNone result (visible table.now.table.now.entries key.now at ≡ None) }
     ensures some { IfSome result (λ copied. (e : Entry) × (visible table.now.table.now.entries key.now at ≡ Some e) × CopiesValue (Some e) copied) }
-    ensures held { (number : ℕ) (es : List Entry) → HoldsBlocks number es cache.old → (number ≡ table.now.number → es ≡ table.now.table.now.entries) → HoldsBlocks number es cache.new }
+    ensures held { KeepsBlocks table.now.number table.now.table.now.entries cache.old cache.new }
 {
     table.load(cache, alloc, key);
     match table.seek(cache, key, at) {
