@@ -22,7 +22,7 @@ use Rattle.lsm_key.proofs.LatestOfList.{is_seen-key, newer-none, visible-append}
 use Rattle.lsm_key.proofs.PrefixOrder.{prefix_before}
 use Rattle.lsm_block.specs.Blocks.{entry, entries, value, AreEntries, IsBlock}
 use Rattle.lsm_block.specs.Fences.{AreFences, MayBegin, MayEnd}
-use Rattle.lsm_block.specs.Handles.{IsAt, IsHandleFor}
+use Rattle.lsm_block.specs.Handles.{IsPartAt, IsHandleFor}
 use Rattle.lsm_block.specs.Spans.{IsSpan}
 use Rattle.lsm_block.specs.declared.handle.BlockHandle.{BlockHandle}
 use Rattle.lsm_block.proofs.BlockRuns.{entry_some}
@@ -182,7 +182,7 @@ handle_found front bytes prefixes places es k begin end span fits key_is fenced 
 
 -- ---- the bytes of a handle
 
-module _ (bytes : List ℕ) (es : List Entry) (handle : BlockHandle) (part : List Entry) (is : IsBlock bytes es) (at : IsAt es handle part) where
+module _ (bytes : List ℕ) (es : List Entry) (handle : BlockHandle) (part : List Entry) (is : IsBlock bytes es) (at : IsPartAt es handle part) where
   split : bytes ≡ entries at.before ++ (entries part ++ entries at.after)
   split = is.spelled ∙ ap (λ (xs : List Entry). entries xs) at.parts ∙ flat_map-append entry at.before (part ++ at.after) ∙ ap (λ (b : List ℕ). entries at.before ++ b) (flat_map-append entry part at.after)
 
@@ -212,7 +212,7 @@ same_front (x ∷ a) r (y ∷ b) s e len =
     let m = same_front a r b s (ap (drop 1) e) (omega (arith, len, one, other, ap (λ (z : Entry). length (entry z)) same)) in
     (ap (λ (z : Entry). z ∷ a) same ∙ ap (λ (zs : List Entry). y ∷ zs) m.0, m.1)
 
-pub one_part : (es : List Entry) (handle : BlockHandle) (p q : List Entry) → IsAt es handle p → IsAt es handle q → p ≡ q
+pub one_part : (es : List Entry) (handle : BlockHandle) (p q : List Entry) → IsPartAt es handle p → IsPartAt es handle q → p ≡ q
 one_part es handle p q a b =
     let fronts = same_front a.before (p ++ a.after) b.before (q ++ b.after) (sym a.parts ∙ b.parts) (sym a.begins ∙ b.begins) in
     (same_front p a.after q b.after fronts.1 (sym a.sized ∙ b.sized)).0

@@ -12,3 +12,6 @@ pub mod RangeFilters
 pub mod RangeLoops
 pub mod BlocksInTurn
 pub mod HandleParts
+pub mod CursorPlaces
+pub mod LentEntries
+pub mod LentHeads

@@ -1,7 +1,7 @@
 -- What a reader of blocks has read: the first bytes, as a span.
 use Rattle.std.proofs.Common.{◌≡◌, ℕ, zero, suc, ◌+◌, ◌-◌, ◌<◌, ◌≤◌, List, [], ◌∷◌, ◌++◌, length, take, drop, Some, None, Result, Ok, Err, refl, sym, ap, subst, ◌∙◌, arith}
 use Rattle.std.specs.List.{slice_range}
-use Rattle.std.proofs.lemmas.List.{take_rest, take_all, take-append-drop, take-take, drop_at, length-append, length-drop, length-take, length-take-le}
+use Rattle.std.proofs.lemmas.List.{take_rest, take_all, take-append-drop, take-take, drop_at, length-append, length-drop, length-take-le}
 use Rattle.std.proofs.Math.Seq.{take-add}
 use Rattle.std.proofs.lemmas.List.Concat.{flat_map-append}
 use Rattle.lsm_key.specs.declared.entry.Entry.{Entry}

@@ -11,13 +11,13 @@ use Rattle.lsm_block.proofs.BlockFields.{entry_again}
 use Rattle.lsm_block.proofs.BlockRuns.{entry_some}
 use Rattle.lsm_block.proofs.FencedSpans.{sound_rest}
 
-abbrev done : Entry × List ℕ → Result (Entry × List ℕ) BlockFault
+abbrev pub done : Entry × List ℕ → Result (Entry × List ℕ) BlockFault
 done x = Ok x
 
 same_pair : (x y : Entry × List ℕ) → done x ≡ done y → x ≡ y
 same_pair x y e = cc
 
-apart : (x : Entry × List ℕ) (f : BlockFault) → done x ≡ Err f → ⊥
+pub apart : (x : Entry × List ℕ) (f : BlockFault) → done x ≡ Err f → ⊥
 apart x f e = cc
 
 -- the bytes after an entry are the span of the other entries, and fewer

@@ -6,7 +6,7 @@ use Rattle.lsm_block.specs.declared.handle.BlockHandle.{BlockHandle}
 use Rattle.lsm_block.specs.Blocks.{entries}
 
 -- the part begins at the offset, in bytes, and has as many bytes as the size says
-pub record IsAt (es : List Entry) (handle : BlockHandle) (part : List Entry) : Type 0 where
+pub record IsPartAt (es : List Entry) (handle : BlockHandle) (part : List Entry) : Type 0 where
   pub before : List Entry
   pub after : List Entry
   pub parts : es ≡ before ++ (part ++ after)
@@ -17,7 +17,7 @@ pub record IsAt (es : List Entry) (handle : BlockHandle) (part : List Entry) : T
 pub record IsHandle (es : List Entry) (handle : BlockHandle) : Type 0 where
   pub part : List Entry
   pub some : 0 < length part
-  pub at : IsAt es handle part
+  pub at : IsPartAt es handle part
 
 -- and they show of the key what all show
 pub record IsHandleFor (es : List Entry) (key : List ℕ) (handle : BlockHandle) : Type 0 where

@@ -2,6 +2,9 @@ pub mod Blocks
 pub mod BlockReading
 pub mod Spans
 pub mod Fences
+pub mod Given
+pub mod Cursors
+pub mod Lent
 pub mod Handles
 pub mod Indexed
 pub mod Reader

@@ -1,17 +1,18 @@
 //! Blocks: one or more entries in the order of their internal keys, without a gap.
 
-ghost use Rattle.std.specs.Prelude.{◌≡◌, List, IfOk, Ok, Some, filter, length, map, slice_get};
+ghost use Rattle.std.specs.Prelude.{◌≡◌, List, [], IfOk, Ok, Some, filter, length, map, slice_get};
 ghost use Rattle.std.specs.Option.{option_copied, option_map};
 ghost use Rattle.lsm_key.specs.declared.entry.Entry.{Entry};
 ghost use Rattle.lsm_key.specs.Visible.{visible, lent_entry};
 ghost use Rattle.lsm_key.specs.Order.{is_between, key_le};
 ghost use Rattle.lsm_key.specs.Reading.{Gives};
 ghost use Rattle.lsm_block.specs.Blocks.{IsBlock};
-ghost use Rattle.lsm_block.specs.BlockReading.{read_block, last_of, may_follow};
-ghost use Rattle.lsm_block.specs.Handles.{IsAt, IsHandle, IsHandleFor};
+ghost use Rattle.lsm_block.specs.BlockReading.{read_block, last_of};
+ghost use Rattle.lsm_block.specs.Handles.{IsPartAt, IsHandle, IsHandleFor};
 ghost use Rattle.lsm_block.specs.Indexed.{IsIndexedBlock, block_entries};
 ghost use Rattle.lsm_block.specs.Spans.{IsSpan};
 
+use crate::cursor::Cursor;
 use crate::fault::BlockError;
 use crate::fences::{Fences, get_in};
 use crate::handle::{BlockHandle, handle_in};
@@ -19,7 +20,7 @@ use crate::indexing::{Indexed, index_block};
 use crate::ranges::{entries_between, entries_in, key_after_in};
 use crate::reading::read_entry;
 use bytes::Bytes;
-use lsm_key::{Entry, EntryRef, Seq, compare_place, know_bytes};
+use lsm_key::{Entry, EntryRef, Seq, know_bytes};
 use std::alloc::{AllocError, Global};
 use std::marker::Model;
 use std::sync::Arc;
@@ -74,8 +75,15 @@ impl Block {
         get_in(self.bytes.as_slice(), fences, key, at)
     }
 
-    /// The handle of the entries among which a look-up of the key ends, at most some tens of them but for versions of one key.
-    /// Allocates nothing.
+    /// A cursor before its first entry.
+    pub fn cursor(&self) -> Cursor<'_>
+        ensures { (result.given ≡ []) × (result.left ≡ self.now) }
+    {
+        Cursor::new(self)
+    }
+
+    /// The handle of the entries among which a look-up of the key ends: at most some tens of them but for versions of one key, or all
+    /// of them for a key before the first one. Allocates nothing.
     pub fn handle(&self, key: &[u8]) -> BlockHandle
         ensures { IsHandleFor self.now key.now result }
     {
@@ -85,7 +93,7 @@ impl Block {
     /// The entries of a handle, as a block of their own. Shares the bytes.
     pub fn part(&self, alloc: Global, handle: BlockHandle) -> Result<Block, AllocError>
         requires { IsHandle self.now handle }
-        ensures { IfOk result (IsAt self.now handle) }
+        ensures { IfOk result (IsPartAt self.now handle) }
     {
         // Proof hint: the end is no more than this, which is a length.
         let _most = self.bytes.len();
@@ -126,6 +134,13 @@ impl Block {
         self.bytes.as_slice()
     }
 
+    // Its bytes, to be shared.
+    pub(crate) fn shared(&self) -> &Bytes
+        ensures { IsSpan result.now self.now }
+    {
+        &self.bytes
+    }
+
     /// How many entries it has.
     pub fn count(&self) -> usize
         ensures { result ≡ length self.now }
@@ -154,18 +169,6 @@ impl Block {
             Ok(entry) => Ok(entry),
             // Memory ran out: a block has no fault.
             Err(_) => Err(AllocError),
-        }
-    }
-}
-
-/// Whether an entry may come right after these.
-pub fn may_come(before: &[Entry], entry: &Entry) -> bool
-    ensures { result ≡ may_follow (last_of before.now) entry.now }
-{
-    match before.last() {
-        None => true,
-        Some(last) => {
-            compare_place(&last.ikey, entry.ikey.key.as_slice(), entry.ikey.seq).is_lt()
         }
     }
 }

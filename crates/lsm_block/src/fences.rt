@@ -22,7 +22,7 @@ pub struct Fences {
 }
 
 impl Fences {
-    ghost use Rattle.std.specs.Prelude.{◌≡◌, ◌++◌, ◌∷◌, [], IfOk, OnOk, OnErr};
+    ghost use Rattle.std.specs.Prelude.{◌≡◌, ◌<◌, ◌++◌, ◌∷◌, [], IfOk, IfSome, OnOk, OnErr, length, slice_index};
     ghost use Rattle.lsm_key.specs.Prefix.{prefix_of};
 
     /// No fence, with room for `count`.
@@ -58,27 +58,25 @@ impl Fences {
         self.places.push_reserved(place);
         Ok(())
     }
+
+    // The prefix and the place of a fence.
+    fn fence(&self, number: usize) -> Option<(u64, u32)>
+        ensures { IfSome result (λ f. (number < length self.now.prefixes.items) × (slice_index self.now.prefixes.items number ≡ f.0) × (slice_index self.now.places.items number ≡ f.1)) }
+    {
+        Some((*self.prefixes.get(number)?, *self.places.get(number)?))
+    }
 }
 
 // Where a walk for the key may begin: at the last fence, as far as a search finds it, whose prefix is less than the key's.
 pub(crate) fn begin_of(fences: &Fences, key: &[u8]) -> u32
     ensures { MayBegin fences.now.front fences.now.prefixes.items fences.now.places.items key.now result }
 {
-    let Fences {
-        front,
-        prefixes,
-        places,
-    } = fences;
-    let prefix = prefix_of(front.as_slice(), key);
-    let count = prefixes.partition_point(|other| *other < prefix);
-    if count == 0 || count > prefixes.len() || count > places.len() {
-        return 0;
-    }
+    let prefix = prefix_of(fences.front.as_slice(), key);
+    let count = fences.prefixes.partition_point(|other| *other < prefix);
     // The search is trusted for speed alone: what it found is tested again.
-    if prefixes[count - 1] < prefix {
-        places[count - 1]
-    } else {
-        0
+    match fences.fence(count.wrapping_sub(1)) {
+        Some((other, place)) if other < prefix => place,
+        _ => 0,
     }
 }
 
@@ -87,21 +85,12 @@ pub(crate) fn begin_of(fences: &Fences, key: &[u8]) -> u32
 pub(crate) fn end_of(fences: &Fences, key: &[u8], len: usize) -> usize
     ensures { MayEnd fences.now.front fences.now.prefixes.items fences.now.places.items key.now len result }
 {
-    let Fences {
-        front,
-        prefixes,
-        places,
-    } = fences;
-    let prefix = prefix_of(front.as_slice(), key);
-    let count = prefixes.partition_point(|other| *other <= prefix);
-    if count >= prefixes.len() || count >= places.len() {
-        return len;
-    }
+    let prefix = prefix_of(fences.front.as_slice(), key);
+    let count = fences.prefixes.partition_point(|other| *other <= prefix);
     // The search is trusted for speed alone: what it found is tested again.
-    if prefix < prefixes[count] {
-        places[count] as usize
-    } else {
-        len
+    match fences.fence(count) {
+        Some((other, place)) if prefix < other => place as usize,
+        _ => len,
     }
 }
 

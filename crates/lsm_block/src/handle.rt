@@ -26,7 +26,7 @@ pub(crate) fn handle_in(bytes: &[u8], fences: &Fences, key: &[u8]) -> BlockHandl
     let begin = begin_of(fences, key) as usize;
     let end = end_of(fences, key, bytes.len());
     if begin >= end {
-        // Never reached, since fences are in order: all entries are right too.
+        // A key before the first fence: all entries are right too.
         return BlockHandle {
             offset: 0,
             size: bytes.len(),

@@ -1,8 +1,8 @@
 //! A block of keys that are easily mistaken for one another, each with some versions, beside the list of these keys.
 
 use bytes::{BufMut, Bytes, BytesMut};
-use lsm_block::{Block, BlocksReader, decode_block, decode_with_hints, seek_in};
-use lsm_key::{Refused, Seq};
+use lsm_block::{Block, BlocksReader, Cursor, decode_block, decode_with_hints, seek_in};
+use lsm_key::{Entry, Refused, Seq};
 use std::alloc::{AllocError, Global};
 use std::test::Fail;
 
@@ -79,6 +79,30 @@ fn seen_by_walk(block: &Block, key: &[u8], at: Seq) -> Option<u64> {
         Some(entry) => Some(entry.seq.number()),
         None => None,
     }
+}
+
+fn sequence_of(entry: &Entry) -> u64 {
+    entry.ikey.seq.number()
+}
+
+// The sequence of the next entry, which is one of its own.
+fn next_sequence(cursor: &mut Cursor<'_>) -> Result<Option<u64>, AllocError> {
+    match cursor.next()? {
+        Some(entry) => Ok(Some(sequence_of(&entry))),
+        None => Ok(None),
+    }
+}
+
+// The sequences of the entries that a cursor gives if it is asked so often.
+fn sequences_in(alloc: Global, block: &Block, calls: usize) -> Result<Vec<u64>, Fail> {
+    let mut seqs = Vec::new(alloc);
+    let mut cursor = block.cursor();
+    for _ in 0..calls {
+        if let Some(seq) = next_sequence(&mut cursor)? {
+            seqs.push(seq)?;
+        }
+    }
+    Ok(seqs)
 }
 
 #[test]
@@ -229,5 +253,15 @@ fn blocks_in_a_row_are_read_as_one(rt: HostRuntime) -> Result<(), Fail> {
     for key in KEYS {
         assert!(rt; seen(&block, key, Seq::new(9)) == Some(9), "{key:?}");
     }
+    Ok(())
+}
+
+#[test]
+fn a_cursor_gives_the_entries_in_turn(rt: HostRuntime) -> Result<(), Fail> {
+    let block = block_of(rt.alloc(), b"")?;
+    let seqs = sequences_in(rt.alloc(), &block, 50)?;
+    drop(block);
+    assert!(rt; seqs.len() == 42);
+    assert!(rt; seqs[..4] == [9, 5, 2, 9]);
     Ok(())
 }

@@ -1,5 +1,5 @@
 -- What the tests of the inputs come to.
-use Rattle.std.proofs.Common.{◌≡◌, ℕ, zero, suc, ◌+◌, ◌<◌, ◌≤◌, Bool, true, false, List, [], ◌∷◌, Some, None, All, eqb, length, get_or, drop, refl, sym, ap, ◌∙◌, subst, inl, inr, arith}
+use Rattle.std.proofs.Common.{◌≡◌, ℕ, zero, suc, ◌+◌, ◌<◌, ◌≤◌, Bool, true, false, List, [], ◌∷◌, Some, None, eqb, length, get_or, drop, refl, sym, ap, ◌∙◌, subst, inl, inr, arith}
 use Rattle.std.specs.Cmp.{both_ways}
 use Rattle.std.specs.List.{list_any}
 use Rattle.std.proofs.lemmas.Bool.{false≢true, cases_lt, eqb-true, eq-eqb}
@@ -59,13 +59,10 @@ pub tables_fall : (ts : List Opened) → AllTables ts → AllFall (lists_of ts)
 tables_fall [] h = tt
 tables_fall (t ∷ ts) h = (ascending_falls t.entries (h t (inl refl)).sound.ascending, tables_fall ts (λ u m. h u (inr m)))
 
-fall_in_order : (lists : List (List Entry)) → AllFall lists → (k : ℕ) (d : List Entry) → k < length lists → IsInOrder (get_or lists k d)
+pub fall_in_order : (lists : List (List Entry)) → AllFall lists → (k : ℕ) (d : List Entry) → k < length lists → IsInOrder (get_or lists k d)
 fall_in_order [] h k d lt = absurd (omega arith)
 fall_in_order (es ∷ lists) h zero d lt = falls_in_order es h.0
 fall_in_order (es ∷ lists) h (suc k) d lt = fall_in_order lists h.1 k d (omega arith)
-
-pub tables_in_order : (ts : List Opened) → AllTables ts → All IsInOrder (lists_of ts)
-tables_in_order ts h = fall_in_order (lists_of ts) (tables_fall ts h)
 
 -- ---- an entry of a key and sequence is the one that is visible there
 

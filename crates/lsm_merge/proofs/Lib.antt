@@ -4,7 +4,11 @@ pub mod SharedEntries
 pub mod InputTests
 pub mod FirstOutput
 pub mod OutputFits
+pub mod OutputSteps
 pub mod OutputCuts
 pub mod MergeOfJob
 pub mod MergeIsDecided
 pub mod DeeperKeys
+pub mod WalkSteps
+pub mod WalkChains
+pub mod MergedWalks

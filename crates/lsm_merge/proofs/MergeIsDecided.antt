@@ -21,7 +21,7 @@ use Rattle.lsm_table.proofs.TableContents.{largest_in}
 use Rattle.lsm_table.proofs.TableLaws.{some_blocks}
 use Rattle.lsm_table.proofs.TableSizes.{one_encoding}
 use Rattle.lsm_block.proofs.EntriesGrow.{last_at}
-use Rattle.lsm_merge.specs.declared.cut.TheConstants.{OUTPUT_TARGET}
+use Rattle.lsm_merge.specs.declared.outputs.TheConstants.{OUTPUT_TARGET}
 use Rattle.lsm_merge.specs.Outputs.{weight_of, before_last_key, AreCut, EncodeEntries}
 use Rattle.lsm_merge.specs.Cutting.{IsFirstOutput}
 use Rattle.lsm_merge.specs.Laws.{AMergeHasOneOutcome}

@@ -1,9 +1,9 @@
 -- The merge of a job, of its parts: the tables, the list of all their entries, what is kept of it, and the outputs.
-use Rattle.std.proofs.Common.{ℕ, List, None, sym, subst, arith}
+use Rattle.std.proofs.Common.{ℕ, List, None, sym, subst}
 use Rattle.std.specs.List.Sorted.{IsPermutation}
 use Rattle.lsm_key.specs.declared.entry.Entry.{Entry}
 use Rattle.lsm_key.specs.Entries.{IsEntry}
-use Rattle.lsm_key.specs.Order.{IsAscending, IsInOrder}
+use Rattle.lsm_key.specs.Order.{IsAscending}
 use Rattle.lsm_key.specs.Places.{all_entries}
 use Rattle.lsm_key.specs.Sets.{IsIn, SameMembers}
 use Rattle.lsm_key.proofs.AscendingEntries.{Falls, ascending_falls, falls_ascend}
@@ -14,22 +14,16 @@ use Rattle.lsm_table.specs.Tables.{Opened}
 use Rattle.lsm_block.proofs.EntriesGrow.{each_in}
 use Rattle.lsm_edit.specs.Served.{AreAsRecorded}
 use Rattle.lsm_msg.specs.declared.job.JobParts.{JobParts}
-use Rattle.lsm_msg.specs.Jobs.{IsJob}
 use Rattle.lsm_msg.specs.Merge.{HoldsKept}
-use Rattle.lsm_merge.specs.Inputs.{CanMerge, HaveSameEntry, lists_of}
+use Rattle.lsm_merge.specs.Inputs.{CanMerge, lists_of}
 use Rattle.lsm_merge.specs.Comparing.{AllTables}
 use Rattle.lsm_merge.specs.Outputs.{IsMerge}
 use Rattle.lsm_merge.specs.Keeping.{kept_list}
-use Rattle.lsm_merge.specs.Cutting.{AreFew, IsSplitInto}
+use Rattle.lsm_merge.specs.Cutting.{IsSplitInto}
 use Rattle.lsm_merge.proofs.KeptInOnePass.{kept_list_holds, kept_list-in, kept_list_falls, kept_stays}
-use Rattle.lsm_merge.proofs.FewVersions.{of_key-filter, few_kept}
-use Rattle.lsm_merge.proofs.SharedEntries.{apart, shared_in}
-use Rattle.lsm_merge.proofs.InputTests.{recorded_tables, tables_fall, lists_in}
+use Rattle.lsm_merge.proofs.SharedEntries.{apart}
+use Rattle.lsm_merge.proofs.InputTests.{recorded_tables, lists_in}
 use Rattle.lsm_merge.proofs.OutputFits.{each_from}
-
--- a list of all entries that is not strictly in order has one of them twice
-pub is_shared : (tables : List Opened) (merged : List Entry) → AllTables tables → IsPermutation (all_entries (lists_of tables)) merged → IsInOrder merged → (IsAscending merged → ⊥) → HaveSameEntry (lists_of tables)
-is_shared tables merged all perm order not_up = shared_in (lists_of tables) merged perm (tables_fall tables all) order not_up
 
 module _ (tables : List Opened) (job : JobParts) (merged : List Entry) (recorded : AreAsRecorded job.inputs tables) (perm : IsPermutation (all_entries (lists_of tables)) merged) where
   module _ (up : IsAscending merged) where
@@ -54,13 +48,6 @@ module _ (tables : List Opened) (job : JobParts) (merged : List Entry) (recorded
           sequences = each_from HasSequence kept (kept_each HasSequence (λ t m e n. each_in HasSequence t.entries e (all t m).sound.sequences n));
           ascending = falls_ascend kept (kept_list_falls job.points job.deeper None merged (ascending_falls merged up));
         }
-
-    pub kept_few : IsJob job → AreFew (kept_list job.points job.deeper None merged)
-    kept_few is k =
-        let count = of_key-filter k (kept_list job.points job.deeper None merged) in
-        let few = few_kept job.points job.deeper k None merged (ascending_falls merged up) in
-        let points = is.points.few in
-        omega (arith, count, few, points)
 
     pub is_merge : (outputs : List (List ℕ)) → IsSplitInto job.block (kept_list job.points job.deeper None merged) outputs → IsMerge tables job outputs
     is_merge outputs made =

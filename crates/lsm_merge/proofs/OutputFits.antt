@@ -1,7 +1,6 @@
 -- A part of entries that may be cut into outputs may be a table.
-use Rattle.std.proofs.Common.{◌≡◌, ℕ, ◌+◌, ◌*◌, ◌<◌, ◌≤◌, not, List, [], ◌∷◌, ◌++◌, All, length, get_or, take, drop, refl, sym, ap, ◌∙◌, subst, inl, inr, arith}
+use Rattle.std.proofs.Common.{◌≡◌, ℕ, ◌+◌, ◌*◌, ◌<◌, ◌≤◌, not, List, [], ◌∷◌, ◌++◌, All, length, get_or, refl, inl, inr, arith}
 use Rattle.std.specs.List.{filter, AllByRecursion}
-use Rattle.std.proofs.lemmas.List.{take-append-drop}
 use Rattle.std.proofs.lemmas.List.Filters.{sum_by-filter_both}
 use Rattle.std.proofs.lemmas.List.Sums.{sum_by-le}
 use Rattle.lsm_key.specs.declared.entry.Entry.{Entry}
@@ -18,9 +17,9 @@ use Rattle.lsm_block.specs.Blocks.{AreEntries, HasSequence}
 use Rattle.lsm_table.specs.Tables.{table_of, largest_key}
 use Rattle.lsm_block.proofs.EntriesGrow.{each_in}
 use Rattle.lsm_table.proofs.TableWeights.{table_weighs}
-use Rattle.lsm_merge.specs.declared.cut.TheConstants.{OUTPUT_TARGET}
+use Rattle.lsm_merge.specs.declared.outputs.TheConstants.{OUTPUT_TARGET}
 use Rattle.lsm_merge.specs.Outputs.{weight_of, before_last_key}
-use Rattle.lsm_merge.specs.Cutting.{AreFew, IsFirstOutput}
+use Rattle.lsm_merge.specs.Cutting.{AreFew}
 use Rattle.lsm_merge.proofs.FewVersions.{of_key-filter, of_key-append}
 use Rattle.lsm_merge.proofs.FirstOutput.{falls_left, falls_right}
 
@@ -67,12 +66,3 @@ output_fits target es some sound few late =
     let most = few k in
     let size = table_weighs target es some in
     omega (arith, both, own, most, late, size)
-
--- the same of an output that is cut from the front of what is left
-pub cut_fits : (target : ℕ) (entries : List Entry) (start count : ℕ) (rest : List Entry) → rest ≡ drop start entries → AreEntries entries → AreFew entries → IsFirstOutput (take count rest) (drop count rest) → length (table_of target (take count rest)) ≤ MAX_TABLE_BYTES
-cut_fits target entries start count rest rest_is sound few one =
-    let front : List Entry = take start entries in
-    let out : List Entry = take count rest in
-    let later : List Entry = drop count rest in
-    let whole : front ++ (out ++ later) ≡ entries = ap (λ (xs : List Entry). front ++ xs) (take-append-drop count rest ∙ rest_is) ∙ take-append-drop start entries in
-    output_fits target out one.some (part_sound front out later (subst AreEntries (sym whole) sound)) (part_few front out later (subst AreFew (sym whole) few)) one.late

@@ -14,7 +14,7 @@ use Rattle.lsm_key.specs.Order.{Precedes, precedes, place_cmp, IsAscending, IsIn
 use Rattle.lsm_key.specs.Places.{all_entries}
 use Rattle.lsm_key.specs.Sets.{IsIn}
 use Rattle.lsm_key.specs.Visible.{has_key}
-use Rattle.lsm_key.proofs.AscendingEntries.{Falls, falls_ascend, ascending_falls, first_in_order, rest_in_order}
+use Rattle.lsm_key.proofs.AscendingEntries.{Falls, ascending_falls, first_in_order, rest_in_order}
 use Rattle.lsm_key.proofs.EntryOrder.{pair_total, keys_equal, newer_first, place_equal}
 use Rattle.lsm_key.proofs.LatestOfList.{has_key-is, has_key-at}
 use Rattle.lsm_merge.specs.Inputs.{HaveSameEntry}
@@ -178,11 +178,3 @@ module _ (lists : List (List Entry)) (merged : List Entry) (perm : IsPermutation
       let o = once t.0 t.1 merged (ascending_falls merged up) in
       let same = sum_by-IsPermutation (one_at t.0 t.1) (all_entries lists) merged perm in
       omega (arith, t.2, o, same)
-
-  pub shared_in : AllFall lists → IsInOrder merged → (IsAscending merged → ⊥) → HaveSameEntry lists
-  shared_in falls order not_up = elim (falls_or_twice merged order) [
-    | inl up ↦ absurd (not_up (falls_ascend merged up))
-    | inr t ↦
-        let same = sum_by-IsPermutation (one_at t.0 t.1) (all_entries lists) merged perm in
-        shared lists falls t.0 t.1 (omega (arith, t.2, same))
-  ]

@@ -1,5 +1,5 @@
 -- Comparing the entries of tables (LevelDB, format.h, InternalKey; the passes of the code).
-use Rattle.std.specs.Prelude.{Bool, ◌&&◌, List, nat_eq}
+use Rattle.std.specs.Prelude.{Bool, ◌&&◌, List, nat_eq, ⊤}
 use Rattle.std.specs.List.{list_any}
 use Rattle.lsm_key.specs.declared.entry.Entry.{Entry}
 use Rattle.lsm_key.specs.declared.entry.InternalKey.{InternalKey}
@@ -18,8 +18,8 @@ AllTables tables = (t : Opened) → IsIn t tables → IsTable t.bytes t.entries
 abbrev pub has_place : InternalKey → List Entry → Bool
 has_place ikey entries = list_any (λ e. has_key ikey.key e && nat_eq e.ikey.seq ikey.seq) entries
 
--- why entries are not merged into one list: the first reason that holds
+-- why the tables of a job are not merged; where memory ran out, they may share an entry all the same
 abbrev pub IsUnmerged : List Opened → MergeError → Type 0
 IsUnmerged tables WrongInputs = ⊥
 IsUnmerged tables SameEntry = HaveSameEntry (lists_of tables)
-IsUnmerged tables OutOfMemory = HaveSameEntry (lists_of tables) → ⊥
+IsUnmerged tables OutOfMemory = ⊤

@@ -3,5 +3,7 @@ pub mod Outputs
 pub mod Comparing
 pub mod Keeping
 pub mod Cutting
+pub mod Walks
+pub mod Filling
 pub mod Laws
 pub mod Reaching

@@ -9,7 +9,7 @@ use Rattle.lsm_key.specs.Visible.{has_key}
 use Rattle.lsm_table.specs.Tables.{Opened, IsTable, largest_key, target_of}
 use Rattle.lsm_msg.specs.declared.job.JobParts.{JobParts}
 use Rattle.lsm_msg.specs.Merge.{HoldsKept}
-use Rattle.lsm_merge.specs.declared.cut.TheConstants.{OUTPUT_TARGET}
+use Rattle.lsm_merge.specs.declared.outputs.TheConstants.{OUTPUT_TARGET}
 use Rattle.lsm_merge.specs.Inputs.{lists_of}
 
 abbrev pub weight_of : List Entry → ℕ

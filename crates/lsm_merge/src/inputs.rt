@@ -1,16 +1,15 @@
 //! Whether tables are the inputs of a job.
 
-ghost use Rattle.std.specs.Prelude.{◌≡◌, ◌↔◌, All, IfOk, IsTrue, map};
-ghost use Rattle.lsm_key.specs.Order.{IsAscending, IsInOrder, precedes};
+ghost use Rattle.std.specs.Prelude.{◌≡◌, ◌↔◌, IfOk, IsTrue, map};
 ghost use Rattle.lsm_key.specs.Visible.{lent_entry};
 ghost use Rattle.lsm_edit.specs.Served.{AreAsRecorded};
 ghost use Rattle.std.specs.List.{list_any};
 ghost use Rattle.lsm_merge.specs.Inputs.{HaveSameEntry, lists_of};
-ghost use Rattle.lsm_merge.specs.Comparing.{AllTables, has_place};
+ghost use Rattle.lsm_merge.specs.Comparing.{has_place};
 
-use lsm_block::entry_in;
+use lsm_block::{Cursor, entry_in};
 use lsm_edit::{FileMeta, is_as_recorded};
-use lsm_key::{Entry, EntryRef, compare_place};
+use lsm_key::EntryRef;
 use lsm_table::Table;
 use std::alloc::{AllocError, Global};
 
@@ -29,36 +28,18 @@ pub(crate) fn are_as_recorded(files: &[FileMeta], tables: &[Table]) -> bool
     true
 }
 
-// Copies of the entries of each table. Shares the bytes.
-pub(crate) fn copies_of(alloc: Global, tables: &[Table]) -> Result<Vec<Vec<Entry>>, AllocError>
-    requires { AllTables tables.now }
-    ensures all { IfOk result (λ lists. map (λ list. list.items) lists.items ≡ lists_of tables.now) }
-    ensures order { IfOk result (λ lists. All IsInOrder (map (λ list. list.items) lists.items)) }
+// A cursor before the first entry of each table.
+pub(crate) fn cursors_of<'a>(
+    alloc: Global,
+    tables: &'a [Table],
+) -> Result<Vec<Cursor<'a>>, AllocError>
+    ensures { IfOk result (λ cursors. map (λ c. c.left) cursors.items ≡ lists_of tables.now) }
 {
-    let mut lists = Vec::with_capacity(alloc, tables.len())?;
+    let mut cursors = Vec::with_capacity(alloc, tables.len())?;
     for table in tables {
-        let list = table.entries(alloc)?;
-        lists.push(list)?;
+        cursors.push(table.cursor())?;
     }
-    Ok(lists)
-}
-
-// Whether each entry is before the next one.
-pub(crate) fn is_ascending(entries: &[Entry]) -> bool
-    ensures { IsTrue result ↔ IsAscending entries.now }
-{
-    for i in 1..entries.len() {
-        if !stands_before(&entries[i - 1], &entries[i]) {
-            return false;
-        }
-    }
-    true
-}
-
-fn stands_before(entry: &Entry, next: &Entry) -> bool
-    ensures { result ≡ precedes entry.now next.now }
-{
-    compare_place(&entry.ikey, next.ikey.key.as_slice(), next.ikey.seq).is_lt()
+    Ok(cursors)
 }
 
 // Whether two of the tables share an entry's key and sequence. Allocates nothing: each entry is looked up in each later

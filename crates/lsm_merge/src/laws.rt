@@ -1,13 +1,23 @@
-//! What the definition of a merge implies, and the weight at which an output is closed as a number. The functions do
+//! What the definitions of a merge and of a walk imply, and the weight at which an output is closed as a number. The functions do
 //! nothing: each is the proof of its contract.
 
 ghost use Rattle.std.specs.Prelude.{◌≡◌};
-ghost use Rattle.lsm_merge.specs.declared.cut.TheConstants.{OUTPUT_TARGET};
-ghost use Rattle.lsm_merge.specs.Laws.{AMergeHasOneOutcome};
+ghost use Rattle.lsm_merge.specs.declared.outputs.TheConstants.{OUTPUT_TARGET};
+ghost use Rattle.lsm_merge.specs.Laws.{AMergeHasOneOutcome, AWalkIsRefusedForASharedEntry, AnEndedWalkGaveWhatIsKept};
 
 /// The outputs of a job's tables are determined, to the byte: every worker produces the same.
 pub fn a_merge_has_one_outcome()
     ensures { AMergeHasOneOutcome }
+{}
+
+/// What a walk gave, up to its end, is what a merge keeps of the entries of its cursors, of which no two share one.
+pub fn an_ended_walk_gave_what_is_kept()
+    ensures { AnEndedWalkGaveWhatIsKept }
+{}
+
+/// A walk is refused only where two of its cursors share an entry.
+pub fn a_walk_is_refused_for_a_shared_entry()
+    ensures { AWalkIsRefusedForASharedEntry }
 {}
 
 /// The limits of a merge are these numbers.

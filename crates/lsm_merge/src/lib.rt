@@ -2,19 +2,25 @@
 //!
 //! It promises that the outputs of a merge hold exactly the entries that some read still needs, in order, and no key in
 //! two outputs; that tables which are not the job's inputs are refused, and so are inputs of which two share an entry's
-//! key and sequence. It stands on `lsm_msg` for jobs and for what a merge keeps, on `lsm_table` for tables, on
-//! `lsm_edit` for the records of files, and on `lsm_key` for entries, their order and the merging of lists.
+//! key and sequence. Entries go from cursors into one open output, one by one and as they lie: no list of them is held. It stands
+//! on `lsm_msg` for jobs and for what a merge keeps, on `lsm_table` for tables and for merging their cursors, on `lsm_block` for
+//! cursors, on `lsm_edit` for the records of files, and on `lsm_key` for entries and their order.
 #![tactic(auto)]
 
-mod cut;
 mod deeper;
 mod error;
 mod inputs;
 mod keep;
 mod laws;
 mod merging;
+mod outputs;
+mod walk;
 
-pub use cut::OUTPUT_TARGET;
 pub use error::MergeError;
-pub use laws::{a_merge_has_one_outcome, merge_limits_are_these};
+pub use laws::{
+    a_merge_has_one_outcome, a_walk_is_refused_for_a_shared_entry, an_ended_walk_gave_what_is_kept,
+    merge_limits_are_these,
+};
 pub use merging::merge;
+pub use outputs::OUTPUT_TARGET;
+pub use walk::Walk;

@@ -1,8 +1,11 @@
-//! Merges of tables whose keys and values have one letter.
+//! Merges, most of tables whose keys and values have one letter.
 
 mod outputs;
 mod plain;
+mod random;
 mod refusals;
+mod slow;
+mod walks;
 
 ghost use Rattle.std.specs.Prelude.{IfOk};
 ghost use Rattle.lsm_key.specs.Entries.{IsEntry};
@@ -120,16 +123,26 @@ fn job_of(
         let hi = Bytes::copy_from_slice(alloc, &[*hi])?;
         ranges.push(KeyRange { lo, hi })?;
     }
+    job_at(DEFAULT_BLOCK, files, seqs, ranges)
+}
+
+/// The job of these inputs at a block target.
+fn job_at(
+    block: u32,
+    files: Vec<FileMeta>,
+    points: Items<Seq>,
+    deeper: Items<KeyRange>,
+) -> Result<Job, Fail> {
     let parts = JobParts {
         id: JobId {
             epoch: 1,
             number: 1,
         },
         level: 0,
-        block: DEFAULT_BLOCK,
-        points: seqs,
+        block,
+        points,
         inputs: Items::from_vec(files),
-        deeper: ranges,
+        deeper,
     };
     Ok(Job::new(parts).ok_or("no job")?)
 }

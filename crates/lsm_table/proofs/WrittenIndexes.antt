@@ -8,20 +8,11 @@ use Rattle.lsm_key.specs.Limits.{entry_weight}
 use Rattle.lsm_block.specs.Blocks.{entries}
 use Rattle.lsm_block.specs.BlockReading.{last_of}
 use Rattle.lsm_table.specs.Cuts.{cut_of}
-use Rattle.lsm_table.specs.Measuring.{IsCutInto}
+use Rattle.lsm_table.specs.Measuring.{IndexSoFar}
 use Rattle.lsm_table.specs.Tables.{end_key, index}
 use Rattle.lsm_block.proofs.EntriesGrow.{last_added}
 use Rattle.lsm_table.proofs.MeasuredTables.{into_none, into_full, into_room, into_is, index_added}
 use Rattle.lsm_table.proofs.TableSizes.{weight_more}
-
--- the blocks before the last one are written after a front, and the last one has so many bytes
-pub record IndexSoFar (target : ℕ) (es : List Entry) (front out : List ℕ) (len : ℕ) : Type 0 where
-  pub closed : List (List Entry)
-  pub last : List Entry
-  pub parts : IsCutInto target es closed last
-  pub written : out ≡ front ++ flat_map index closed
-  pub sized : len ≡ length (entries last)
-  pub light : len ≤ length (entries es)
 
 -- what is written of a block
 abbrev pub end_of : ℕ → Entry → List ℕ
@@ -47,7 +38,7 @@ module _ (target : ℕ) (es : List Entry) (front out : List ℕ) (len : ℕ) (so
       ∙ ap (λ (b : List ℕ). front ++ (flat_map index so_far.closed ++ b)) same
       ∙ ap (λ (b : List ℕ). front ++ b) (sym (index_added so_far.closed so_far.last))
 
-  so_far_room : (e : Entry) (n : ℕ) → n ≡ entry_weight e → len < target → IndexSoFar target (es ++ e ∷ []) front out (len + n)
+  pub so_far_room : (e : Entry) (n : ℕ) → n ≡ entry_weight e → len < target → IndexSoFar target (es ++ e ∷ []) front out (len + n)
   so_far_room e n ns room = record {
     closed = so_far.closed;
     last = so_far.last ++ e ∷ [];
@@ -57,7 +48,7 @@ module _ (target : ℕ) (es : List Entry) (front out : List ℕ) (len : ℕ) (so
     light = omega (arith, ns, so_far.light, weight_more es e);
   }
 
-  so_far_full : (x e : Entry) (new : List ℕ) (n : ℕ) → n ≡ entry_weight e → target ≤ len → last_of es ≡ Some x → new ≡ out ++ end_of len x → IndexSoFar target (es ++ e ∷ []) front new n
+  pub so_far_full : (x e : Entry) (new : List ℕ) (n : ℕ) → n ≡ entry_weight e → target ≤ len → last_of es ≡ Some x → new ≡ out ++ end_of len x → IndexSoFar target (es ++ e ∷ []) front new n
   so_far_full x e new n ns full ends grown = record {
     closed = so_far.closed ++ so_far.last ∷ [];
     last = e ∷ [];
@@ -67,7 +58,7 @@ module _ (target : ℕ) (es : List Entry) (front out : List ℕ) (len : ℕ) (so
     light = omega (arith, ns, weight_more es e);
   }
 
-  so_far_all : (x : Entry) (new : List ℕ) → 1 ≤ target → 0 < length es → last_of es ≡ Some x → new ≡ out ++ end_of len x → new ≡ front ++ flat_map index (cut_of target es)
+  pub so_far_all : (x : Entry) (new : List ℕ) → 1 ≤ target → 0 < length es → last_of es ≡ Some x → new ≡ out ++ end_of len x → new ≡ front ++ flat_map index (cut_of target es)
   so_far_all x new low some ends grown = end_written x new ends grown ∙ ap (λ (bs : List (List Entry)). front ++ flat_map index bs) (sym (into_is target es so_far.closed so_far.last low some so_far.parts))
 
 -- ---- the same by places

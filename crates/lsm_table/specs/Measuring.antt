@@ -31,3 +31,12 @@ pub record IsMeasured (target : ℕ) (es : List Entry) (m : Measure) : Type 0 wh
   pub keyed : m.last_key ≡ length (key_of_entry (last_of es))
   pub weighed : m.weight ≡ length (entries es)
   pub light : IsWithinWeight m
+
+-- the blocks before the last one are written after a front, and the last one has so many bytes
+pub record IndexSoFar (target : ℕ) (es : List Entry) (front out : List ℕ) (len : ℕ) : Type 0 where
+  pub closed : List (List Entry)
+  pub last : List Entry
+  pub parts : IsCutInto target es closed last
+  pub written : out ≡ front ++ flat_map index closed
+  pub sized : len ≡ length (entries last)
+  pub light : len ≤ length (entries es)

@@ -1,9 +1,10 @@
 //! Tables: entries in the order of their internal keys, as bytes that never change.
 //!
 //! It promises that bytes are opened as a table exactly when they are the one encoding of valid entries in order, that
-//! otherwise the first fault is named, that a look-up in a table finds the newest visible entry, and that a builder
-//! makes the table of the entries that it was given. It stands on `lsm_block` for blocks, on `lsm_key` for entries, their
-//! order and the fields of a format, and on `bytes` for shared buffers.
+//! otherwise the first fault is named, that a look-up in a table finds the newest visible entry, that a builder makes the
+//! table of the entries that it was given, and that cursors of several tables are merged in order. It stands on `lsm_block` for
+//! blocks, on `lsm_key` for entries, their order and the fields of a format, on `bytes` for shared buffers, and on `itertools`
+//! for merging.
 #![tactic(auto)]
 
 mod building;
@@ -11,9 +12,11 @@ mod fault;
 mod index;
 mod laws;
 mod measuring;
+mod merging;
 mod reading;
 mod table;
 mod writing;
+mod written;
 
 pub use building::{BuildError, TableBuilder, encode_table};
 pub use fault::{TableError, TableFault};
@@ -21,4 +24,5 @@ pub use laws::{
     a_memtable_fits_into_a_table, a_table_has_one_encoding, a_table_has_one_meaning,
     a_table_is_little_more_than_its_entries, entries_are_cut_in_one_way,
 };
+pub use merging::{EntryOrder, merge_cursors};
 pub use table::Table;

@@ -46,24 +46,25 @@ impl Measure {
         }
     }
 
-    /// With one more entry, which begins a block if the last one has as many bytes as the target.
-    pub(crate) fn grown(&self, target: u32, e: &Entry) -> Measure
-        requires entry { IsEntry e.now }
+    /// With one more entry, which has so many bytes in its key and in its block. It begins a block if the last one has as many bytes as
+    /// the target.
+    pub(crate) fn grown(&self, target: u32, key: usize, len: usize) -> Measure
         requires target { 1 ≤ target }
         requires light { IsWithinWeight self.now }
         requires small { self.now.weight ≤ MAX_TABLE_BYTES }
-        ensures measured { (es : List Entry) → IsMeasured target es self.now → IsMeasured target (es ++ e.now ∷ []) result }
+        requires fits { len ≤ MAX_TABLE_BYTES }
+        ensures measured { (es : List Entry) (e : Entry) → key ≡ length e.ikey.key → len ≡ entry_weight e → IsMeasured target es self.now → IsMeasured target (es ++ e ∷ []) result }
         ensures small { result.weight ≤ 2 * MAX_TABLE_BYTES }
+        ensures room { self.now.last < target → result.last ≡ self.now.last + len }
+        ensures full { target ≤ self.now.last → result.last ≡ len }
     {
-        let len = entry_len(e);
-        let last_key = e.ikey.key.len();
         let weight = self.weight + len;
         if self.last < target as usize {
             Measure {
                 closed: self.closed,
                 index: self.index,
                 last: self.last + len,
-                last_key,
+                last_key: key,
                 weight,
             }
         } else {
@@ -71,7 +72,7 @@ impl Measure {
                 closed: self.closed + 1,
                 index: self.index + (INDEX_OVERHEAD + self.last_key),
                 last: len,
-                last_key,
+                last_key: key,
                 weight,
             }
         }
@@ -105,7 +106,7 @@ pub(crate) fn measured(target: u32, es: &[Entry]) -> Measure
 {
     let mut measure = Measure::new();
     for e in es {
-        measure = measure.grown(target, e);
+        measure = measure.grown(target, e.ikey.key.len(), entry_len(e));
     }
     measure
 }

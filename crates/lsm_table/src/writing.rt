@@ -1,6 +1,6 @@
 //! Writing what stands before the blocks of a table.
 
-ghost use Rattle.std.specs.Prelude.{◌≡◌, ◌<◌, ◌≤◌, ◌++◌, length, OnOk, Some};
+ghost use Rattle.std.specs.Prelude.{◌≡◌, ◌<◌, ◌≤◌, ◌++◌, length, OnErr, OnOk, Some};
 ghost use Rattle.std.specs.Int.{w32, to_be_bytes};
 ghost use Rattle.std.specs.List.{AllByRecursion, flat_map};
 ghost use Rattle.lsm_key.specs.Entries.{IsEntry};
@@ -49,6 +49,17 @@ pub(crate) fn write_index(out: &mut BytesMut, target: u32, es: &[Entry]) -> Resu
         }
     }
     write_end(out, len as u32, &es[es.len() - 1])
+}
+
+/// Appends a block to the index: its length, and the bytes of its last entry's key and trailer. A refusal appends nothing.
+pub(crate) fn write_line(out: &mut BytesMut, len: u32, end: &[u8]) -> Result<(), AllocError>
+    ensures ok { OnOk result (out.new.items ≡ out.old.items ++ (to_be_bytes w32 len ++ end.now)) }
+    ensures err { OnErr result (out.new.items ≡ out.old.items) }
+{
+    out.reserve(4 + end.len())?;
+    out.extend_reserved(&len.to_be_bytes());
+    out.extend_reserved(end);
+    Ok(())
 }
 
 // Appends a block to the index: its length, and its last entry's key and trailer.

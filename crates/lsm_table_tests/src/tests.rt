@@ -1,5 +1,6 @@
 //! Tables as the format's worked examples have them, and each refusal by its name.
 
+mod copying;
 mod damage;
 
 ghost use Rattle.lsm_key.specs.Entries.{IsEntry};

@@ -1,5 +1,5 @@
 use Rattle.std.proofs.Common.{take}
-use Rattle.lsm_table.proofs.WrittenIndexes.{IndexSoFar}
+use Rattle.lsm_table.specs.Measuring.{IndexSoFar}
 use Rattle.lsm_table.proofs.writing.write_index.Given as goal
 
 abbrev pub invariant-loop-i : goal.invariant-loop-i

@@ -1,4 +1,4 @@
-use Rattle.std.proofs.Common.{sym, ◌∙◌}
+use Rattle.std.proofs.Common.{sym}
 use Rattle.std.proofs.lemmas.List.{drop-drop}
 use Rattle.lsm_block.proofs.ReadBlocks.{all_left, none_read, read_none, read_on}
 use Rattle.lsm_block.proofs.reader.BlocksReader.read.Goals as goal

@@ -1,0 +1,228 @@
+//! What is written of a table while its entries come.
+
+ghost use Rattle.std.specs.Prelude.{◌≡◌, ◌+◌, ◌<◌, ◌≤◌, ◌++◌, [], ◌∷◌, List, None, Some, length, IfErr, IfOk, OnErr, OnOk};
+ghost use Rattle.std.specs.Int.{w32, to_be_bytes};
+ghost use Rattle.std.specs.Option.{option_map};
+ghost use Rattle.lsm_key.specs.declared.entry.Entry.{Entry};
+ghost use Rattle.lsm_key.specs.Entries.{IsEntry};
+ghost use Rattle.lsm_key.specs.Visible.{lent_entry};
+ghost use Rattle.lsm_block.specs.Blocks.{entries, entry};
+ghost use Rattle.lsm_block.specs.BlockReading.{may_follow, last_of};
+ghost use Rattle.lsm_table.specs.Building.{IsLastEnd, IsNext, IsWritten, add_fault, finish_fault, BuilderRefuses};
+ghost use Rattle.lsm_table.specs.Tables.{IsTable, IsTarget, end_key, target_of};
+
+use crate::building::BuildError;
+use crate::measuring::{Measure, entry_len};
+use crate::writing::{write_header, write_line};
+use bytes::{BufMut, Bytes, BytesMut};
+use lsm_block::entry_in;
+use lsm_key::{Entry, EntryRef, MAX_TABLE_BYTES, u16_in};
+use std::alloc::{AllocError, Global};
+use std::cmp::Ordering;
+use std::marker::Model;
+
+// The bytes of a key's length and of a trailer.
+const END_OVERHEAD: usize = 10;
+
+/// The entries of a table being built, as its blocks, and the index of those that are closed.
+#[derive(Drop)]
+pub(crate) struct Written {
+    target: u32,
+    /// How many entries there are.
+    count: u32,
+    /// What the index says of the closed blocks.
+    index: BytesMut,
+    /// The blocks, without a gap.
+    blocks: BytesMut,
+    /// Where the last entry begins among them.
+    last: usize,
+    measure: Measure,
+}
+
+impl Model for Written {
+    ghost use Rattle.lsm_block.specs.Indexed.{block_entries};
+    ghost use Rattle.lsm_table.specs.Building.{Draft, IsWritten};
+
+    ghost Value = { Draft };
+
+    ghost view = { λ w. record { target = w.target; entries = block_entries w.blocks.items } };
+
+    ghost invariant = { λ w. IsWritten w.target (block_entries w.blocks.items) w.count w.index.items w.blocks.items w.last w.measure };
+}
+
+impl Written {
+    /// Of no entries, whose blocks are cut at the target, in bytes.
+    pub(crate) fn new(alloc: Global, target: u32) -> Written
+        requires { IsTarget target }
+        ensures { result ≡ record { target = target; entries = [] } }
+    {
+        Written {
+            target,
+            count: 0,
+            index: BytesMut::new(alloc),
+            blocks: BytesMut::new(alloc),
+            last: 0,
+            measure: Measure::new(),
+        }
+    }
+
+    /// Why one more entry is refused, or nothing.
+    pub(crate) fn fault(&self, entry: &Entry) -> Option<BuildError>
+        requires { IsEntry entry.now }
+        ensures { result ≡ add_fault self.now entry.now }
+    {
+        if !self.may_take(entry) {
+            return Some(BuildError::OutOfOrder);
+        }
+        let measure = self
+            .measure
+            .grown(self.target, entry.ikey.key.len(), entry_len(entry));
+        if measure.table_len() > MAX_TABLE_BYTES {
+            return Some(BuildError::TableFull);
+        }
+        None
+    }
+
+    // Whether the entry may come after the last one.
+    fn may_take(&self, entry: &Entry) -> bool
+        ensures { result ≡ may_follow (last_of self.now.entries) entry.now }
+    {
+        match self.last() {
+            None => true,
+            Some(last) => comes_first(&last, entry),
+        }
+    }
+
+    /// Adds the entry of these bytes, which may come after the last one. A refusal changes nothing.
+    pub(crate) fn push(&mut self, bytes: &[u8]) -> Result<(), BuildError>
+        requires { (e : Entry) × IsNext self.old.entries bytes.now e }
+        ensures ok { (e : Entry) → IsNext self.old.entries bytes.now e → OnOk result ((add_fault self.old e ≡ None) × (self.new ≡ record { target = self.old.target; entries = self.old.entries ++ e ∷ [] })) }
+        ensures err { OnErr result (self.new ≡ self.old) }
+        ensures refused { (e : Entry) → IsNext self.old.entries bytes.now e → IfErr result (BuilderRefuses (add_fault self.old e)) }
+    {
+        let measure = self.measure.grown(self.target, key_len(bytes), bytes.len());
+        if measure.table_len() > MAX_TABLE_BYTES {
+            return Err(BuildError::TableFull);
+        }
+        self.blocks.reserve(bytes.len())?;
+        close_full(
+            &mut self.index,
+            self.target,
+            &self.measure,
+            self.blocks.as_slice(),
+            self.last,
+        )?;
+        self.last = self.blocks.len();
+        self.blocks.extend_reserved(bytes);
+        self.count += 1;
+        self.measure = measure;
+        Ok(())
+    }
+
+    /// The last entry. Allocates nothing.
+    pub(crate) fn last(&self) -> Option<EntryRef<'_>>
+        ensures { option_map lent_entry result ≡ last_of self.now.entries }
+    {
+        if self.count == 0 {
+            return None;
+        }
+        match entry_in(&self.blocks.as_slice()[self.last..]) {
+            Ok((entry, _)) => Some(entry),
+            Err(_) => unreachable!(),
+        }
+    }
+
+    /// How many bytes the entries take in blocks.
+    pub(crate) fn weight(&self) -> usize
+        ensures { result ≡ length (entries self.now.entries) }
+    {
+        self.measure.weight
+    }
+
+    /// The bytes of the table of the entries.
+    pub(crate) fn table(&self, alloc: Global) -> Result<Bytes, BuildError>
+        ensures found { IfOk result (λ b. IsTable b self.now.entries × (target_of b ≡ self.now.target)) }
+        ensures refused { IfErr result (BuilderRefuses (finish_fault self.now.entries)) }
+    {
+        if self.count == 0 {
+            return Err(BuildError::EmptyTable);
+        }
+        Ok(self.spelled(alloc)?)
+    }
+
+    // The same of one or more entries.
+    fn spelled(&self, alloc: Global) -> Result<Bytes, AllocError>
+        requires { 0 < length self.now.entries }
+        ensures { IfOk result (λ b. IsTable b self.now.entries × (target_of b ≡ self.now.target)) }
+    {
+        let measure = &self.measure;
+        let mut out = BytesMut::with_capacity(alloc, measure.table_len())?;
+        write_header(&mut out, self.target, self.count, measure.closed + 1)?;
+        out.put_slice(self.index.as_slice())?;
+        let end = end_in(self.blocks.as_slice(), self.last, measure.last_key);
+        write_line(&mut out, measure.last as u32, end)?;
+        out.put_slice(self.blocks.as_slice())?;
+        Ok(out.freeze()?)
+    }
+
+    /// Leaves no entry. Keeps the memory.
+    pub(crate) fn clear(&mut self)
+        ensures { self.new ≡ record { target = self.old.target; entries = [] } }
+    {
+        self.count = 0;
+        self.index.clear();
+        self.blocks.clear();
+        self.last = 0;
+        self.measure = Measure::new();
+    }
+}
+
+// Whether an entry comes before another one.
+fn comes_first(last: &EntryRef<'_>, entry: &Entry) -> bool
+    ensures { result ≡ may_follow (Some (lent_entry last.now)) entry.now }
+{
+    match last.key.cmp(entry.ikey.key.as_slice()) {
+        Ordering::Less => true,
+        Ordering::Greater => false,
+        Ordering::Equal => entry.ikey.seq < last.seq,
+    }
+}
+
+// How many bytes the key of an entry has, of whose bytes they are the first two.
+fn key_len(bytes: &[u8]) -> usize
+    requires { (e : Entry) × IsEntry e × (bytes.now ≡ entry e) }
+    ensures { (e : Entry) → IsEntry e → bytes.now ≡ entry e → result ≡ length e.ikey.key }
+{
+    match u16_in(bytes, BuildError::OutOfMemory) {
+        Ok((len, _)) => len as usize,
+        Err(_) => unreachable!(),
+    }
+}
+
+// The bytes of the key and of the trailer of the last entry, which begins there and whose key has so many.
+fn end_in(blocks: &[u8], last: usize, key: usize) -> &[u8]
+    requires { (es : List Entry) × IsLastEnd es blocks.now last key }
+    ensures { (es : List Entry) → IsLastEnd es blocks.now last key → result.now ≡ end_key (last_of es) }
+{
+    &blocks[last..last + (END_OVERHEAD + key)]
+}
+
+// Appends the last block to the index if it is full. A refusal appends nothing.
+fn close_full(
+    index: &mut BytesMut,
+    target: u32,
+    measure: &Measure,
+    blocks: &[u8],
+    last: usize,
+) -> Result<(), AllocError>
+    requires { (es : List Entry) × IsWritten target es (length es) index.old.items blocks.now last measure.now }
+    ensures room { measure.now.last < target → OnOk result (index.new.items ≡ index.old.items) }
+    ensures full { (es : List Entry) → IsWritten target es (length es) index.old.items blocks.now last measure.now → target ≤ measure.now.last → OnOk result (index.new.items ≡ index.old.items ++ (to_be_bytes w32 measure.now.last ++ end_key (last_of es))) }
+    ensures err { OnErr result (index.new.items ≡ index.old.items) }
+{
+    if measure.last < target as usize {
+        return Ok(());
+    }
+    let end = end_in(blocks, last, measure.last_key);
+    write_line(index, measure.last as u32, end)
+}

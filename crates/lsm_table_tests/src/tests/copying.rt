@@ -1,0 +1,54 @@
+//! Entries that are copied where they lie.
+
+ghost use Rattle.std.specs.Prelude.{◌≡◌, ◌++◌, [], OnOk};
+ghost use Rattle.lsm_key.specs.Order.{IsAscending};
+
+use crate::tests::table_of_two;
+use lsm_block::Cursor;
+use lsm_key::Seq;
+use lsm_table::{BuildError, Table, TableBuilder};
+use std::test::Fail;
+
+// Copies the entries that a cursor has left.
+fn copy_left(builder: &mut TableBuilder, cursor: &mut Cursor<'_>) -> Result<(), BuildError>
+    requires { IsAscending (builder.old.entries ++ cursor.old.left) }
+{
+    while let Some(entry) = Iterator::next(cursor) {
+        builder.add_lent(&entry)?;
+    }
+    Ok(())
+}
+
+// Copies a table. Gives the weight of its entries, the last one's sequence, and whether the copy is byte for byte the same.
+fn copied(
+    builder: &mut TableBuilder,
+    table: &Table,
+) -> Result<(usize, Option<Seq>, bool), BuildError>
+    requires { builder.old.entries ≡ [] }
+    ensures { OnOk result (builder.new.entries ≡ []) }
+{
+    let mut cursor = table.cursor();
+    copy_left(builder, &mut cursor)?;
+    let weight = builder.weight();
+    let last = match builder.last() {
+        None => None,
+        Some(last) => Some(last.seq),
+    };
+    let bytes = builder.take_table()?;
+    Ok((weight, last, bytes.as_slice() == table.bytes().as_slice()))
+}
+
+#[test]
+fn a_builder_copies_a_table_twice(rt: HostRuntime) -> Result<(), Fail> {
+    let table = table_of_two(rt.alloc(), 1)?;
+    let mut builder = TableBuilder::new(rt.alloc(), 1);
+    let first = copied(&mut builder, &table)?;
+    let again = copied(&mut builder, &table)?;
+    let empty = matches!(builder.take_table(), Err(BuildError::EmptyTable));
+    drop(builder);
+    drop(table);
+    assert!(rt; first == (31, Some(Seq::new(1)), true));
+    assert!(rt; again == first);
+    assert!(rt; empty);
+    Ok(())
+}
