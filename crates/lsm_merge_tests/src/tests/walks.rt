@@ -68,11 +68,11 @@ fn a_walk_gives_what_is_kept(rt: HostRuntime) -> Result<(), Fail> {
 
 #[test]
 fn a_shared_entry_is_refused_from_then_on(rt: HostRuntime) -> Result<(), Fail> {
-    let one = [put(b'a', 4, b'x'), put(b'b', 3, b'x')];
+    let one = [put(b'b', 3, b'x'), put(b'c', 2, b'x')];
     let other = [put(b'b', 3, b'y')];
     let three = walked(rt.alloc(), [&one, &other], &[])?;
-    let same = Err(MergeError::SameEntry);
-    assert!(rt; three == [Ok(Some((b'a', 4))), Ok(Some((b'b', 3))), same]);
+    let same = MergeError::SameEntry;
+    assert!(rt; three == [Ok(Some((b'b', 3))), Err(same), Err(same)]);
     Ok(())
 }
 
