@@ -12,6 +12,7 @@ pub mod RangeFilters
 pub mod RangeLoops
 pub mod BlocksInTurn
 pub mod HandleParts
+pub mod EntryParts
 pub mod CursorPlaces
 pub mod LentEntries
 pub mod LentHeads

@@ -1,48 +1,14 @@
 -- The loops over the entries of a range, and over all entries.
-use Rattle.std.proofs.Common.{◌≡◌, ℕ, zero, suc, ◌-◌, Bool, true, cond, List, [], ◌∷◌, ◌++◌, map, length, take, drop, refl, sym, ap, ◌∙◌, append_assoc, arith}
+use Rattle.std.proofs.Common.{◌≡◌, ℕ, ◌-◌, Bool, true, cond, List, [], ◌∷◌, ◌++◌, length, take, drop, refl, sym, ap, ◌∙◌, append_assoc}
 use Rattle.std.proofs.lemmas.List.{append-nil}
-use Rattle.std.specs.Prelude.{slice_get, None, Some}
 use Rattle.std.specs.List.{filter}
 use Rattle.lsm_key.specs.declared.entry.Entry.{Entry}
-use Rattle.lsm_key.specs.Order.{key_le, is_between}
+use Rattle.lsm_key.specs.Order.{is_between}
 use Rattle.lsm_block.specs.Ranges.{is_below, StartsFrom, IsLowerPlace}
 use Rattle.lsm_block.specs.Spans.{IsSpan}
 use Rattle.lsm_block.proofs.FencedSpans.{to_end}
-use Rattle.lsm_block.proofs.RangeFilters.{from_place, between_place, none_left}
+use Rattle.lsm_block.proofs.RangeFilters.{between_place, none_left}
 use Rattle.lsm_block.proofs.SpanRanges.{more_span}
-
-abbrev keys : List Entry → List (List ℕ)
-keys es = map (λ e. e.ikey.key) es
-
--- ---- counting entries down
-
--- the key that is looked for is that of the entry `left` entries on
-pub record Counts (es : List Entry) (lo : List ℕ) (count left : ℕ) (rest : List ℕ) : Type 0 where
-  pub more : List Entry
-  pub span : IsSpan rest more
-  pub same : slice_get (keys more) left ≡ slice_get (keys (filter (λ e. key_le lo e.ikey.key) es)) count
-
-pub counts : (bytes : List ℕ) (es : List Entry) (lo : List ℕ) (place count : ℕ) → IsSpan bytes es → IsLowerPlace es lo place → Counts es lo count count (take (length bytes - place) (drop place bytes))
-counts bytes es lo place count span l = record {
-  more = l.skips.more;
-  span = to_end bytes place l.skips.more (more_span bytes es lo place span l.skips);
-  same = ap (λ (xs : List Entry). slice_get (keys xs) count) (sym (from_place es lo place span.sound l));
-}
-
-module _ (es : List Entry) (lo : List ℕ) (count left : ℕ) (rest : List ℕ) (c : Counts es lo count left rest) where
-  pub none_there : c.more ≡ [] → None ≡ slice_get (keys (filter (λ e. key_le lo e.ikey.key) es)) count
-  none_there is = ap (λ (xs : List Entry). slice_get (keys xs) left) (sym is) ∙ c.same
-
-  module _ (e : Entry) (xs : List Entry) (is : c.more ≡ e ∷ xs) where
-    pub key_there : left ≡ 0 → Some e.ikey.key ≡ slice_get (keys (filter (λ e. key_le lo e.ikey.key) es)) count
-    key_there zero_is = ap (λ (n : ℕ). slice_get (keys (e ∷ xs)) n) (sym zero_is) ∙ ap (λ (ys : List Entry). slice_get (keys ys) left) (sym is) ∙ c.same
-
-    later : (n : ℕ) → (n ≡ 0 → ⊥) → slice_get (keys xs) (n - 1) ≡ slice_get (keys (e ∷ xs)) n
-    later zero some = absurd (some refl)
-    later (suc n) some = ap (λ (i : ℕ). slice_get (keys xs) i) (omega arith)
-
-    pub counts_on : (after : List ℕ) → IsSpan after xs → (left ≡ 0 → ⊥) → Counts es lo count (left - 1) after
-    counts_on after span some = record { more = xs; span = span; same = later left some ∙ ap (λ (ys : List Entry). slice_get (keys ys) left) (sym is) ∙ c.same }
 
 -- ---- gathering the entries of a range
 

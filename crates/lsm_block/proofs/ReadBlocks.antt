@@ -39,6 +39,10 @@ block_of bytes es some span = record { some = some; sound = span.sound; spelled 
 pub entries_of : (bytes : List ℕ) (es : List Entry) → 0 < length es → IsSpan bytes es → block_entries bytes ≡ es
 entries_of bytes es some span = ap entries_read (block_again bytes es (block_of bytes es some span))
 
+pub of_span : (bytes : List ℕ) (es : List Entry) → IsSpan bytes es → block_entries bytes ≡ es
+of_span bytes [] span = ap block_entries span.spelled ∙ none_read
+of_span bytes (e ∷ es) span = entries_of bytes (e ∷ es) (omega arith) span
+
 -- ---- the last entry
 
 module _ (bytes : List ℕ) (es : List Entry) (found : Indexed) (span : IsSpan bytes es) (is : AreIndexed es found) (counts : found.count ≡ 0 → ⊥) where

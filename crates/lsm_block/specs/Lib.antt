@@ -2,7 +2,6 @@ pub mod Blocks
 pub mod BlockReading
 pub mod Spans
 pub mod Fences
-pub mod Given
 pub mod Cursors
 pub mod Lent
 pub mod Handles

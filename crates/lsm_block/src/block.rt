@@ -1,7 +1,7 @@
 //! Blocks: one or more entries in the order of their internal keys, without a gap.
 
-ghost use Rattle.std.specs.Prelude.{◌≡◌, List, [], IfOk, Ok, Some, filter, length, map, slice_get};
-ghost use Rattle.std.specs.Option.{option_copied, option_map};
+ghost use Rattle.std.specs.Prelude.{◌≡◌, List, [], IfOk, Ok, Some, filter, length, slice_get};
+ghost use Rattle.std.specs.Option.{option_map};
 ghost use Rattle.lsm_key.specs.declared.entry.Entry.{Entry};
 ghost use Rattle.lsm_key.specs.Visible.{visible, lent_entry};
 ghost use Rattle.lsm_key.specs.Order.{is_between, key_le};
@@ -17,7 +17,7 @@ use crate::fault::BlockError;
 use crate::fences::{Fences, get_in};
 use crate::handle::{BlockHandle, handle_in};
 use crate::indexing::{Indexed, index_block};
-use crate::ranges::{entries_between, entries_in, key_after_in};
+use crate::ranges::{entries_between, entries_in, lower_in};
 use crate::reading::read_entry;
 use bytes::Bytes;
 use lsm_key::{Entry, EntryRef, Seq, know_bytes};
@@ -75,11 +75,19 @@ impl Block {
         get_in(self.bytes.as_slice(), fences, key, at)
     }
 
-    /// A cursor before its first entry.
+    /// A cursor at its first entry.
     pub fn cursor(&self) -> Cursor<'_>
-        ensures { (result.given ≡ []) × (result.left ≡ self.now) }
+        ensures { result ≡ self.now }
     {
-        Cursor::new(self)
+        Cursor::new(&self.bytes, 0)
+    }
+
+    /// A cursor at the first entry whose key is at or after `lo`. O(log n) for n fences.
+    pub fn cursor_from(&self, lo: &[u8]) -> Cursor<'_>
+        ensures { result ≡ filter (λ e. key_le lo.now e.ikey.key) self.now }
+    {
+        let place = lower_in(self.bytes.as_slice(), &self.index.fences, lo);
+        Cursor::new(&self.bytes, place)
     }
 
     /// The handle of the entries among which a look-up of the key ends: at most some tens of them but for versions of one key, or all
@@ -120,25 +128,11 @@ impl Block {
         entries_in(alloc, &self.bytes, self.index.count)
     }
 
-    /// The key of the entry `count` entries after the first one whose key is at or after `lo`. Allocates nothing.
-    pub fn key_after(&self, lo: &[u8], count: usize) -> Option<&[u8]>
-        ensures { option_copied result ≡ slice_get (map (λ e. e.ikey.key) (filter (λ e. key_le lo.now e.ikey.key) self.now)) count }
-    {
-        key_after_in(self.bytes.as_slice(), &self.index.fences, lo, count)
-    }
-
     /// Its bytes.
     pub fn bytes(&self) -> &[u8]
         ensures { IsSpan result.now self.now }
     {
         self.bytes.as_slice()
-    }
-
-    // Its bytes, to be shared.
-    pub(crate) fn shared(&self) -> &Bytes
-        ensures { IsSpan result.now self.now }
-    {
-        &self.bytes
     }
 
     /// How many entries it has.

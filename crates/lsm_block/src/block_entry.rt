@@ -9,9 +9,8 @@ ghost use Rattle.lsm_block.specs.Blocks.{HasSequence, entry};
 ghost use Rattle.lsm_block.specs.Lent.{IsLentAt, front_entry};
 
 use crate::lent::entry_in;
-use crate::reading::read_entry;
 use bytes::Bytes;
-use lsm_key::{Entry, EntryRef};
+use lsm_key::{Entry, EntryRef, InternalKey};
 use std::alloc::AllocError;
 use std::cmp::Ordering;
 use std::marker::Model;
@@ -52,18 +51,6 @@ impl<'a> BlockEntry<'a> {
         }
     }
 
-    /// The same entry.
-    pub fn copy(&self) -> BlockEntry<'a>
-        ensures { result ≡ self.now }
-    {
-        BlockEntry {
-            block: self.block,
-            place: self.place,
-            end: self.end,
-            prefix: self.prefix,
-        }
-    }
-
     /// The entry, which borrows the bytes.
     pub fn entry(&self) -> EntryRef<'a>
         ensures { lent_entry result ≡ self.now }
@@ -78,12 +65,17 @@ impl<'a> BlockEntry<'a> {
     pub fn shared(&self) -> Result<Entry, AllocError>
         ensures { IfOk result (λ e. e ≡ self.now) }
     {
-        let mut rest = self.block.slice(self.place..self.end)?;
-        match read_entry(&mut rest) {
-            Ok(entry) => Ok(entry),
-            // Memory ran out: the bytes of an entry have no fault.
-            Err(_) => Err(AllocError),
-        }
+        let entry = self.entry();
+        // The key stands behind the two bytes of its length, and the value at the end.
+        let start = self.place + 2;
+        let key = self.block.slice(start..start + entry.key.len())?;
+        let value = self.block.slice(self.end - entry.value.len()..self.end)?;
+        let ikey = InternalKey {
+            key,
+            seq: entry.seq,
+            kind: entry.kind,
+        };
+        Ok(Entry { ikey, value })
     }
 
     /// Whether it comes before another one, by key and sequence.

@@ -1,70 +1,60 @@
 //! Going through the entries of a block, one after the other.
 
-ghost use Rattle.std.specs.Prelude.{◌≡◌, ◌++◌, [], drop, slice_get, take, IfOk, OnOk, OnErr};
+ghost use Rattle.std.specs.Prelude.{◌≡◌, ◌∷◌, [], IfOk, MatchOption, OnErr, length};
+ghost use Rattle.lsm_block.specs.Cursors.{GivesNext, IsPlaceIn, entries_from};
 
-use crate::block::Block;
 use crate::block_entry::BlockEntry;
 use crate::lent::entry_in;
-use crate::reading::read_entry;
+use bytes::Bytes;
 use lsm_key::{Entry, prefix_of};
 use std::alloc::AllocError;
 use std::marker::Model;
 
-/// A place among the entries of a block: those before it have been given, and the others are left. None of them is decoded.
+/// A place among the entries of a block: those from there on are left. None of them is decoded.
 #[derive(Debug, Drop)]
 pub struct Cursor<'a> {
-    block: &'a Block,
-    given: usize,
+    bytes: &'a Bytes,
     place: usize,
 }
 
 impl<'a> Model for Cursor<'a> {
-    ghost use Rattle.std.specs.Prelude.{take, drop};
-    ghost use Rattle.lsm_block.specs.Given.{Given};
-    ghost use Rattle.lsm_block.specs.Cursors.{IsPlaceAfter};
+    ghost use Rattle.std.specs.Prelude.{List};
+    ghost use Rattle.lsm_key.specs.declared.entry.Entry.{Entry};
+    ghost use Rattle.lsm_block.specs.Cursors.{IsPlaceIn, entries_from};
 
-    ghost Value = { Given };
+    ghost Value = { List Entry };
 
-    ghost view = { λ c. record { given = take c.given c.block.now; left = drop c.given c.block.now } };
+    ghost view = { λ c. entries_from c.bytes.now c.place };
 
-    ghost invariant = { λ c. IsPlaceAfter c.block.now c.given c.place };
+    ghost invariant = { λ c. IsPlaceIn c.bytes.now c.place };
 }
 
 impl<'a> Cursor<'a> {
-    /// A cursor before the first entry of the block.
-    pub(crate) fn new(block: &'a Block) -> Cursor<'a>
-        ensures { (result.given ≡ []) × (result.left ≡ block.now) }
+    /// A cursor at a place in the bytes of a block.
+    pub(crate) fn new(bytes: &'a Bytes, place: usize) -> Cursor<'a>
+        requires { IsPlaceIn bytes.now place }
+        ensures { result ≡ entries_from bytes.now place }
     {
-        Cursor {
-            block,
-            given: 0,
-            place: 0,
-        }
+        Cursor { bytes, place }
     }
 
-    /// Gives the next entry, if there is one. It shares the bytes. After an error the cursor is as it was.
+    /// The next entry, if there is one. It shares the bytes. After an error the cursor is as it was.
     pub fn next(&mut self) -> Result<Option<Entry>, AllocError>
-        ensures head { IfOk result (λ e. e ≡ slice_get self.old.left 0) }
-        ensures given { OnOk result (self.new.given ≡ self.old.given ++ take 1 self.old.left) }
-        ensures left { OnOk result (self.new.left ≡ drop 1 self.old.left) }
+        ensures gives { IfOk result (λ e. GivesNext self.old e self.new) }
         ensures err { OnErr result (self.new ≡ self.old) }
     {
-        if self.given >= self.block.count() {
-            return Ok(None);
-        }
-        let bytes = self.block.shared();
-        // Proof hint: the place is no more than this, which is a length.
-        let _most = bytes.len();
-        let mut rest = bytes.slice(self.place..)?;
-        let left = rest.len();
-        match read_entry(&mut rest) {
-            Ok(entry) => {
-                self.given += 1;
-                self.place += left - rest.len();
-                Ok(Some(entry))
+        let bytes = self.bytes;
+        let place = self.place;
+        let found = match Iterator::next(self) {
+            Some(found) => found,
+            None => return Ok(None),
+        };
+        match found.shared() {
+            Ok(entry) => Ok(Some(entry)),
+            Err(refused) => {
+                *self = Cursor { bytes, place };
+                Err(refused)
             }
-            // Memory ran out: the entries of a block have no fault.
-            Err(_) => Err(AllocError),
         }
     }
 }
@@ -77,14 +67,14 @@ impl<'a> Iterator for Cursor<'a> {
 
     ghost next_gives = { GivesNext };
 
-    ghost remaining = { item_count (λ c. c.left) };
+    ghost remaining = { item_count (λ c. c) };
 
-    // Gives the next entry, if there is one, where it lies. Allocates nothing.
+    // The next entry, if there is one, where it lies. Allocates nothing.
     fn next(&mut self) -> Option<BlockEntry<'a>> {
-        if self.given >= self.block.count() {
+        let bytes = self.bytes;
+        if self.place >= bytes.len() {
             return None;
         }
-        let bytes = self.block.shared();
         let rest = &bytes.as_slice()[self.place..];
         let (entry, after) = match entry_in(rest) {
             Ok(found) => found,
@@ -93,7 +83,6 @@ impl<'a> Iterator for Cursor<'a> {
         let prefix = prefix_of(&[], entry.key);
         let place = self.place;
         let end = place + (rest.len() - after.len());
-        self.given += 1;
         self.place = end;
         Some(BlockEntry::new(bytes, place, end, prefix))
     }

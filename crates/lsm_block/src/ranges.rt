@@ -1,9 +1,8 @@
 //! The entries of a range of keys, and all entries, by a walk over the bytes of a span.
 
-ghost use Rattle.std.specs.Prelude.{◌≡◌, ◌≤◌, List, length, map, filter, slice_get, IfOk};
-ghost use Rattle.std.specs.Option.{option_copied};
+ghost use Rattle.std.specs.Prelude.{◌≡◌, ◌≤◌, List, length, filter, IfOk};
 ghost use Rattle.lsm_key.specs.declared.entry.Entry.{Entry};
-ghost use Rattle.lsm_key.specs.Order.{key_le, is_between};
+ghost use Rattle.lsm_key.specs.Order.{is_between};
 ghost use Rattle.lsm_block.specs.Spans.{IsSpan, IsSomeSpan};
 ghost use Rattle.lsm_block.specs.Fences.{AreFences};
 ghost use Rattle.lsm_block.specs.Ranges.{Skips, IsLowerPlace};
@@ -25,9 +24,9 @@ fn fence_below(bytes: &[u8], fences: &Fences, lo: &[u8]) -> usize
     begin_of(fences, lo) as usize
 }
 
-// Where the first entry whose key is not below `lo` begins, in bytes from the beginning of the span: at their end if there is
-// none. Allocates nothing.
-fn lower_in(bytes: &[u8], fences: &Fences, lo: &[u8]) -> usize
+/// Where the first entry whose key is not below `lo` begins, in bytes from the beginning of the span: at their end if there is
+/// none. Allocates nothing.
+pub(crate) fn lower_in(bytes: &[u8], fences: &Fences, lo: &[u8]) -> usize
     requires known { IsSomeSpan bytes.now }
     requires fenced { (es : List Entry) → IsSpan bytes.now es → AreFences fences.now.front es fences.now.prefixes.items fences.now.places.items }
     ensures within { result ≤ length bytes.now }
@@ -46,34 +45,6 @@ fn lower_in(bytes: &[u8], fences: &Fences, lo: &[u8]) -> usize
         rest = after;
     }
     bytes.len() - rest.len()
-}
-
-/// The key of the entry that is `count` entries after the first one whose key is not below `lo`, in a span with fences.
-/// O(log n) for n fences, and a walk from one of them to the entry. Allocates nothing.
-pub fn key_after_in<'a>(
-    bytes: &'a [u8],
-    fences: &Fences,
-    lo: &[u8],
-    count: usize,
-) -> Option<&'a [u8]>
-    requires known { IsSomeSpan bytes.now }
-    requires fenced { (es : List Entry) → IsSpan bytes.now es → AreFences fences.now.front es fences.now.prefixes.items fences.now.places.items }
-    ensures { (es : List Entry) → IsSpan bytes.now es → option_copied result ≡ slice_get (map (λ e. e.ikey.key) (filter (λ e. key_le lo.now e.ikey.key) es)) count }
-{
-    let mut rest = &bytes[lower_in(bytes, fences, lo)..];
-    let mut left = count;
-    while !rest.is_empty() {
-        let (entry, after) = match entry_in(rest) {
-            Ok(found) => found,
-            Err(_) => return None,
-        };
-        if left == 0 {
-            return Some(entry.key);
-        }
-        left -= 1;
-        rest = after;
-    }
-    None
 }
 
 /// The entries whose key is at or after `lo` and before `hi`, in order, in a span with fences. They share its bytes.

@@ -182,18 +182,6 @@ fn a_range_has_the_versions_of_its_keys(rt: HostRuntime) -> Result<(), Fail> {
 }
 
 #[test]
-fn a_key_stands_so_many_entries_after_another(rt: HostRuntime) -> Result<(), Fail> {
-    let block = block_of(rt.alloc(), b"user:")?;
-    for (i, lo) in KEYS.iter().enumerate() {
-        for count in 0..50usize {
-            let want = KEYS.get(i.saturating_add(count / 3)).copied();
-            assert!(rt; block.key_after(lo, count) == want, "{count} after {lo:?}");
-        }
-    }
-    Ok(())
-}
-
-#[test]
 fn a_copy_has_all_entries(rt: HostRuntime) -> Result<(), Fail> {
     let block = match decode_block(rt.alloc(), bytes_of(rt.alloc())?) {
         Ok(block) => block,
@@ -263,5 +251,74 @@ fn a_cursor_gives_the_entries_in_turn(rt: HostRuntime) -> Result<(), Fail> {
     drop(block);
     assert!(rt; seqs.len() == 42);
     assert!(rt; seqs[..4] == [9, 5, 2, 9]);
+    Ok(())
+}
+
+// Where a cursor begins, the key and sequence of each of the entries that it gives first, and how many it gives behind them.
+type Start = (&'static [u8], [(&'static [u8], u64); 3], usize);
+
+const STARTS: [Start; 4] = [
+    // Before all keys.
+    (b"", [(b"\x00", 9), (b"\x00", 5), (b"\x00", 2)], 39),
+    // At a key.
+    (
+        b"user:000",
+        [(b"user:000", 9), (b"user:000", 5), (b"user:000", 2)],
+        18,
+    ),
+    // Between two keys.
+    (
+        b"user:0005",
+        [(b"user:001", 9), (b"user:001", 5), (b"user:001", 2)],
+        9,
+    ),
+    // Behind the beginning of the last key.
+    (
+        b"\xff\xff\xff\xff\xff\xff\xff\xff\x00",
+        [
+            (b"\xff\xff\xff\xff\xff\xff\xff\xff\xff", 9),
+            (b"\xff\xff\xff\xff\xff\xff\xff\xff\xff", 5),
+            (b"\xff\xff\xff\xff\xff\xff\xff\xff\xff", 2),
+        ],
+        0,
+    ),
+];
+
+// Whether the next entry that a cursor gives is of the key and sequence.
+fn gives(cursor: &mut Cursor<'_>, key: &[u8], seq: u64) -> bool {
+    match Iterator::next(cursor) {
+        Some(found) => {
+            let entry = found.entry();
+            entry.key == key && entry.seq.number() == seq
+        }
+        None => false,
+    }
+}
+
+// How many entries a cursor gives.
+fn count_in(cursor: Cursor<'_>) -> usize {
+    let mut count = 0usize;
+    for _ in cursor {
+        count = count.saturating_add(1);
+    }
+    count
+}
+
+#[test]
+fn a_cursor_begins_at_the_first_entry_from_a_key(rt: HostRuntime) -> Result<(), Fail> {
+    let block = block_of(rt.alloc(), b"user:")?;
+    for (lo, first, behind) in STARTS {
+        let mut cursor = block.cursor_from(lo);
+        for (key, seq) in first {
+            assert!(rt;
+                gives(&mut cursor, key, seq),
+                "{key:?} at {seq} from {lo:?}"
+            );
+        }
+        assert!(rt; count_in(cursor) == behind, "{lo:?}");
+    }
+    // After all keys.
+    let past = b"\xff\xff\xff\xff\xff\xff\xff\xff\xff\x00";
+    assert!(rt; count_in(block.cursor_from(past)) == 0);
     Ok(())
 }

@@ -27,7 +27,7 @@ use Rattle.lsm_merge.specs.Filling.{IsFilled, StopsFilling}
 use Rattle.lsm_merge.specs.Inputs.{CanMerge, HaveSameEntry, lists_of}
 use Rattle.lsm_merge.specs.Keeping.{is_needed, kept_list, stays}
 use Rattle.lsm_merge.specs.Outputs.{IsMerge}
-use Rattle.lsm_merge.specs.Walks.{BeginsWalk, IsMerged, Merged, Takes, Took, WalkValue, follows, last_taken}
+use Rattle.lsm_merge.specs.Walks.{BeginsWalk, IsMerged, Merged, GivesInTurn, Took, WalkValue, follows, last_taken}
 use Rattle.lsm_merge.specs.Laws.{AWalkIsRefusedForASharedEntry, AnEndedWalkGaveWhatIsKept}
 use Rattle.lsm_merge.proofs.InputTests.{fall_in_order, recorded_tables, tables_fall}
 use Rattle.lsm_merge.proofs.MergeOfJob.{can_merge, is_merge}
@@ -62,7 +62,7 @@ module _ (lists : List (List Entry)) (start : WalkValue) (begins : BeginsWalk li
       subst (λ (ys : List Entry). IsPermutation ys taken) (joined-all lists) (subst (IsPermutation (joined_lists lists)) none given.1)
 
   -- an entry that does not follow the one before it is shared
-  pub walk_shares : AllFall lists → (taken : List Entry) (e : Entry) (after : Merged) → Takes start.merged (taken ++ e ∷ []) after → follows (last_taken start.before taken) e ≡ false → HaveSameEntry lists
+  pub walk_shares : AllFall lists → (taken : List Entry) (e : Entry) (after : Merged) → GivesInTurn start.merged (taken ++ e ∷ []) after → follows (last_taken start.before taken) e ≡ false → HaveSameEntry lists
   walk_shares fall taken e after takes not =
       let xs : List Entry = taken ++ e ∷ [] in
       let given = begins.all xs false (after, takes, λ h. absurd (false≢true h)) in

@@ -21,7 +21,7 @@ use Rattle.lsm_table.specs.Building.{BuilderRefuses, Draft, add_fault, finish_fa
 use Rattle.lsm_table.specs.Tables.{IsTable, key_of_entry, largest_key, target_of}
 use Rattle.lsm_table.proofs.BuilderDrafts.{fault_none}
 use Rattle.lsm_merge.specs.declared.outputs.TheConstants.{OUTPUT_TARGET}
-use Rattle.lsm_merge.specs.Cutting.{AreFew, AreFirstOutputs, IsFirstOutput, IsSplitInto, IsSplitSoFar, MayCome, closes_before, with_entry}
+use Rattle.lsm_merge.specs.Cutting.{AreFew, AreFirstOutputs, IsFirstOutput, IsSplitInto, IsSplitSoFar, MayCome, closes_before, draft_with}
 use Rattle.lsm_merge.specs.Outputs.{weight_of, before_last_key}
 use Rattle.lsm_merge.proofs.FirstOutput.{falls_across, filter_weight, lower_keys}
 use Rattle.lsm_merge.proofs.KeptInOnePass.{KeyLess, by_key, less-trans}
@@ -160,7 +160,7 @@ module _ (target : ℕ) (entries : List Entry) (closed : List (List ℕ)) (takin
     pub stays_fault : add_fault taking e ≡ None
     stays_fault = fault_none taking.target taking.entries e (follows taking.entries e [] own_sound.ascending) (output_fits taking.target (taking.entries ++ e ∷ []) some_more own_sound own_few late_more)
 
-    pub stays_split : IsSplitSoFar target (entries ++ e ∷ []) closed (with_entry taking e)
+    pub stays_split : IsSplitSoFar target (entries ++ e ∷ []) closed (draft_with taking e)
     stays_split = record {
       lists = split.lists;
       spelled = split.spelled;

@@ -31,8 +31,8 @@ abbrev pub closes_before : List Entry → Entry → Bool
 closes_before output e = nat_le OUTPUT_TARGET (weight_of output) && not (has_key (largest_key output) e)
 
 -- one more entry
-abbrev pub with_entry : Draft → Entry → Draft
-with_entry draft e = record { target = draft.target; entries = draft.entries ++ e ∷ [] }
+abbrev pub draft_with : Draft → Entry → Draft
+draft_with draft e = record { target = draft.target; entries = draft.entries ++ e ∷ [] }
 
 -- an entry may come behind these
 pub record MayCome (entries : List Entry) (e : Entry) : Type 0 where

@@ -8,7 +8,7 @@ use Rattle.lsm_msg.specs.declared.job.JobParts.{JobParts}
 use Rattle.lsm_msg.specs.Merge.{HoldsKept}
 use Rattle.lsm_merge.specs.Inputs.{HaveSameEntry}
 use Rattle.lsm_merge.specs.Outputs.{IsMerge}
-use Rattle.lsm_merge.specs.Walks.{BeginsWalk, IsMerged, Merged, Takes, Took, WalkValue, follows, last_taken}
+use Rattle.lsm_merge.specs.Walks.{BeginsWalk, IsMerged, Merged, GivesInTurn, Took, WalkValue, follows, last_taken}
 
 -- the outputs of a job are determined, to the byte
 abbrev pub AMergeHasOneOutcome : Type 0
@@ -20,4 +20,4 @@ AnEndedWalkGaveWhatIsKept = (lists : List (List Entry)) (start last : WalkValue)
 
 -- where an entry does not come after the one before it, two of the lists share it
 abbrev pub AWalkIsRefusedForASharedEntry : Type 0
-AWalkIsRefusedForASharedEntry = (lists : List (List Entry)) (start : WalkValue) (taken : List Entry) (e : Entry) (after : Merged) → All IsAscending lists → BeginsWalk lists start → Takes start.merged (taken ++ e ∷ []) after → follows (last_taken start.before taken) e ≡ false → HaveSameEntry lists
+AWalkIsRefusedForASharedEntry = (lists : List (List Entry)) (start : WalkValue) (taken : List Entry) (e : Entry) (after : Merged) → All IsAscending lists → BeginsWalk lists start → GivesInTurn start.merged (taken ++ e ∷ []) after → follows (last_taken start.before taken) e ≡ false → HaveSameEntry lists

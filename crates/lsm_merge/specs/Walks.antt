@@ -7,7 +7,6 @@ use Rattle.itertools.specs.KMerge.{MergeGivesAll, MergeInOrder, kmerge_can, kmer
 use Rattle.lsm_key.specs.declared.entry.Entry.{Entry}
 use Rattle.lsm_key.specs.declared.range.KeyRange.{KeyRange}
 use Rattle.lsm_key.specs.Order.{IsInOrder, precedes}
-use Rattle.lsm_block.specs.Given.{Given}
 use Rattle.lsm_block.specs.Cursors.{GivesNext}
 use Rattle.lsm_table.specs.declared.merging.EntryOrder.{EntryOrder}
 use Rattle.lsm_table.specs.Merging.{ByOrder}
@@ -17,11 +16,11 @@ use Rattle.lsm_merge.specs.Keeping.{kept_list}
 
 -- the entries of cursors, merged
 abbrev pub Merged : Type 0
-Merged = KMergeBy Given EntryOrder Global Entry
+Merged = KMergeBy (List Entry) EntryOrder Global Entry
 
 -- the next entries of a merge are these
-abbrev pub Takes : Merged → List Entry → Merged → Type 0
-Takes = Yields (kmerge_steps GivesNext ByOrder)
+abbrev pub GivesInTurn : Merged → List Entry → Merged → Type 0
+GivesInTurn = Yields (kmerge_steps GivesNext ByOrder)
 
 -- nothing is left to merge
 abbrev pub IsMerged : Merged → Type 0
@@ -29,11 +28,11 @@ IsMerged s = (u : Merged) × kmerge_steps GivesNext ByOrder s None u
 
 -- each cursor may be asked
 abbrev pub CanWalk : Merged → Type 0
-CanWalk s = kmerge_can (λ c. ⊤) (item_count (λ (c : Given). c.left)) (λ f. ⊤) s
+CanWalk s = kmerge_can (λ c. ⊤) (item_count (λ (c : List Entry). c)) (λ f. ⊤) s
 
 -- how many entries are left to merge
 abbrev pub left_to_merge : Merged → ℕ
-left_to_merge s = kmerge_size (item_count (λ (c : Given). c.left)) s
+left_to_merge s = kmerge_size (item_count (λ (c : List Entry). c)) s
 
 -- the value of a walk
 pub record WalkValue : Type 0 where
@@ -67,7 +66,7 @@ last_taken before (e ∷ es) = last_taken (Some e) es
 
 -- a walk took these entries, in order, of which it keeps those
 pub record Took (old : WalkValue) (taken kept : List Entry) (new : WalkValue) : Type 0 where
-  pub takes : Takes old.merged taken new.merged
+  pub takes : GivesInTurn old.merged taken new.merged
   pub ordered : AllFollow old.before taken
   pub keeps : kept_list old.points old.deeper old.before taken ≡ kept
   pub before : new.before ≡ last_taken old.before taken
@@ -77,8 +76,8 @@ pub record Took (old : WalkValue) (taken kept : List Entry) (new : WalkValue) : 
 -- a call of `step`, if none was refused before
 abbrev pub Steps : WalkValue → Result (Option Entry) MergeError → WalkValue → Type 0
 Steps old (Ok (Some e)) new = (taken : List Entry) × Took old taken (e ∷ []) new × (new.refused ≡ None)
-Steps old (Ok None) new = (taken : List Entry) × (last : WalkValue) × Took old taken [] last × IsMerged last.merged × (new.refused ≡ None)
-Steps old (Err why) new = (taken : List Entry) × (last : WalkValue) × (e : Entry) × Took old taken [] last × Takes last.merged (e ∷ []) new.merged × (follows last.before e ≡ false) × (why ≡ SameEntry) × (new.refused ≡ Some SameEntry)
+Steps old (Ok None) new = (taken : List Entry) × (last : WalkValue) × Took old taken [] last × IsMerged last.merged × (new.refused ≡ None) × (new.before ≡ last.before) × (new.points ≡ last.points) × (new.deeper ≡ last.deeper)
+Steps old (Err why) new = (taken : List Entry) × (last : WalkValue) × (e : Entry) × Took old taken [] last × GivesInTurn last.merged (e ∷ []) new.merged × (follows last.before e ≡ false) × (why ≡ SameEntry) × (new.refused ≡ Some SameEntry)
 
 -- a call of `step`: what was refused is refused again
 abbrev pub Walks : WalkValue → Result (Option Entry) MergeError → WalkValue → Type 0

@@ -33,7 +33,7 @@ pub(crate) fn cursors_of<'a>(
     alloc: Global,
     tables: &'a [Table],
 ) -> Result<Vec<Cursor<'a>>, AllocError>
-    ensures { IfOk result (λ cursors. map (λ c. c.left) cursors.items ≡ lists_of tables.now) }
+    ensures { IfOk result (λ cursors. cursors.items ≡ lists_of tables.now) }
 {
     let mut cursors = Vec::with_capacity(alloc, tables.len())?;
     for table in tables {

@@ -4,7 +4,7 @@ ghost use Rattle.std.specs.Prelude.{◌≡◌, ℕ, List, [], ◌∷◌, ◌++�
 ghost use Rattle.lsm_key.specs.declared.entry.Entry.{Entry};
 ghost use Rattle.lsm_table.specs.Building.{add_fault};
 ghost use Rattle.lsm_table.specs.Tables.{IsTarget};
-ghost use Rattle.lsm_merge.specs.Cutting.{IsSplitInto, IsSplitSoFar, MayCome, closes_before, with_entry};
+ghost use Rattle.lsm_merge.specs.Cutting.{IsSplitInto, IsSplitSoFar, MayCome, closes_before, draft_with};
 
 use bytes::Bytes;
 use lsm_block::BlockEntry;
@@ -51,7 +51,7 @@ impl Outputs {
     fn make_room(&mut self, entry: &BlockEntry<'_>) -> Result<(), AllocError>
         requires { (target : ℕ) × (entries : List Entry) × IsSplitSoFar target entries self.old.closed.items self.old.taking × MayCome entries entry.now }
         ensures room { OnOk result (add_fault self.new.taking entry.now ≡ None) }
-        ensures split { (target : ℕ) (entries : List Entry) → IsSplitSoFar target entries self.old.closed.items self.old.taking → MayCome entries entry.now → OnOk result (IsSplitSoFar target (entries ++ entry.now ∷ []) self.new.closed.items (with_entry self.new.taking entry.now)) }
+        ensures split { (target : ℕ) (entries : List Entry) → IsSplitSoFar target entries self.old.closed.items self.old.taking → MayCome entries entry.now → OnOk result (IsSplitSoFar target (entries ++ entry.now ∷ []) self.new.closed.items (draft_with self.new.taking entry.now)) }
     {
         if !closes_before(&self.taking, entry) {
             return Ok(());

@@ -51,7 +51,7 @@ impl<'a> Walk<'a> {
         cursors: Vec<Cursor<'a>>,
         job: &'a Job,
     ) -> Result<Walk<'a>, AllocError>
-        ensures begins { IfOk result (λ w. BeginsWalk (map (λ c. c.left) cursors.entry.items) w × (w.points ≡ job.now.points)) }
+        ensures begins { IfOk result (λ w. BeginsWalk cursors.entry.items w × (w.points ≡ job.now.points)) }
         ensures few { IfOk result (λ w. length w.points ≤ MAX_POINTS) }
         ensures deeper { IfOk result (λ w. (key : List ℕ) → is_in_ranges w.deeper key ≡ is_in_ranges job.now.deeper key) }
     {

@@ -11,7 +11,7 @@ use Rattle.lsm_block.specs.BlockReading.{may_follow, last_of}
 use Rattle.lsm_table.specs.declared.building.BuildError.{BuildError}
 use Rattle.lsm_table.specs.declared.building.BuildError.TheVariants.{OutOfMemory, TableFull}
 use Rattle.lsm_table.specs.declared.measuring.Measure.{Measure}
-use Rattle.lsm_table.specs.Building.{BuilderRefuses, IsDraft, IsNext, add_fault}
+use Rattle.lsm_table.specs.Building.{BuilderRefuses, IsDraft, IsNextEntry, add_fault}
 use Rattle.lsm_table.specs.Measuring.{IsMeasured}
 use Rattle.lsm_table.specs.Tables.{table_of}
 use Rattle.lsm_block.proofs.EntriesGrow.{one_more}
@@ -33,7 +33,7 @@ module _ (target : ℕ) (es : List Entry) (m more : Measure) (draft : IsDraft ta
     (keyed : (e : Entry) → IsEntry e → bytes ≡ entry e → k ≡ length e.ikey.key)
     (grown : (es : List Entry) (e : Entry) → k ≡ length e.ikey.key → length bytes ≡ entry_weight e → IsMeasured target es m → IsMeasured target (es ++ e ∷ []) more)
     (sized : (target : ℕ) (es : List Entry) → 1 ≤ target → 0 < length es → IsMeasured target es more → size ≡ length (table_of target es))
-    (e : Entry) (next : IsNext es bytes e)
+    (e : Entry) (next : IsNextEntry es bytes e)
   where
     next_measured : IsMeasured target (es ++ e ∷ []) more
     next_measured = grown es e (keyed e next.sound next.spelled) (next_weighs es bytes e next) draft.measured

@@ -14,7 +14,7 @@ use Rattle.lsm_block.specs.BlockReading.{entry_at, last_of}
 use Rattle.lsm_block.specs.Indexed.{block_entries}
 use Rattle.lsm_block.specs.Spans.{IsSpan}
 use Rattle.lsm_table.specs.declared.measuring.Measure.{Measure}
-use Rattle.lsm_table.specs.Building.{IsDraft, IsLastEnd, IsNext, IsWritten}
+use Rattle.lsm_table.specs.Building.{IsDraft, IsLastEnd, IsNextEntry, IsDraftWritten}
 use Rattle.lsm_table.specs.Cuts.{cut_of}
 use Rattle.lsm_table.specs.Measuring.{IndexSoFar, IsMeasured}
 use Rattle.lsm_table.specs.Tables.{IsTarget, end_key, header, index, key_of_entry, table_of}
@@ -23,23 +23,18 @@ use Rattle.lsm_block.proofs.BlockRuns.{entry_some}
 use Rattle.lsm_block.proofs.BlocksInTurn.{entry_size}
 use Rattle.lsm_block.proofs.EntriesGrow.{has_some, last_added, no_entries}
 use Rattle.lsm_block.proofs.FencedSpans.{rest_span}
-use Rattle.lsm_block.proofs.ReadBlocks.{block_of, entries_of, none_read}
+use Rattle.lsm_block.proofs.ReadBlocks.{block_of, none_read}
 use Rattle.lsm_block.proofs.SpanFronts.{faultless}
 use Rattle.lsm_table.proofs.MeasuredTables.{measured_blocks}
 use Rattle.lsm_table.proofs.TableSizes.{table_size, table_spelled, weight_more}
 use Rattle.lsm_table.proofs.WrittenIndexes.{index_none, so_far_room, so_far_full, so_far_all}
 
--- a span is read as its entries
-pub read_back : (bytes : List ℕ) (es : List Entry) → IsSpan bytes es → block_entries bytes ≡ es
-read_back bytes [] span = ap block_entries span.spelled ∙ none_read
-read_back bytes (x ∷ es) span = entries_of bytes (x ∷ es) (omega arith) span
-
 -- of no entry
-pub written_none : (target : ℕ) (lines blocks : List ℕ) (m : Measure) → IsTarget target → lines ≡ [] → blocks ≡ [] → IsMeasured target [] m → IsWritten target (block_entries blocks) 0 lines blocks 0 m
+pub written_none : (target : ℕ) (lines blocks : List ℕ) (m : Measure) → IsTarget target → lines ≡ [] → blocks ≡ [] → IsMeasured target [] m → IsDraftWritten target (block_entries blocks) 0 lines blocks 0 m
 written_none target lines blocks m ranged no_lines no_blocks is =
     let none : block_entries blocks ≡ [] = ap block_entries no_blocks ∙ none_read in
     let last : m.last ≡ 0 = omega (arith, is.weighed, is.light.index) in
-    subst (λ (es : List Entry). IsWritten target es 0 lines blocks 0 m) (sym none) (record {
+    subst (λ (es : List Entry). IsDraftWritten target es 0 lines blocks 0 m) (sym none) (record {
       draft = record { ranged = ranged; sound = no_entries; measured = is; small = omega (arith, table_size target []) };
       counted = refl;
       indexed = rw (no_lines, last) (index_none target []);
@@ -95,10 +90,10 @@ module _ (es : List Entry) (blocks : List ℕ) (last k : ℕ) (is : IsLastEnd es
 
 -- ---- one more entry
 
-pub next_weighs : (es : List Entry) (bytes : List ℕ) (e : Entry) → IsNext es bytes e → length bytes ≡ entry_weight e
+pub next_weighs : (es : List Entry) (bytes : List ℕ) (e : Entry) → IsNextEntry es bytes e → length bytes ≡ entry_weight e
 next_weighs es bytes e next = ap length next.spelled ∙ entry_size e
 
-module _ (target : ℕ) (es : List Entry) (count : ℕ) (lines blocks : List ℕ) (last : ℕ) (m : Measure) (is : IsWritten target es count lines blocks last m) where
+module _ (target : ℕ) (es : List Entry) (count : ℕ) (lines blocks : List ℕ) (last : ℕ) (m : Measure) (is : IsDraftWritten target es count lines blocks last m) where
   pub written_end : 0 < length es → IsLastEnd es blocks last m.last_key
   written_end some = record { sound = is.draft.sound; spelled = is.spelled; begins = is.ends some; keyed = is.draft.measured.keyed }
 
@@ -107,10 +102,10 @@ module _ (target : ℕ) (es : List Entry) (count : ℕ) (lines blocks : List ℕ
   full_some full = has_some es (omega (arith, is.draft.ranged.0, full, is.indexed.light))
 
   -- the same count of entries, told otherwise
-  pub recounted : IsWritten target es (length es) lines blocks last m
-  recounted = subst (λ (n : ℕ). IsWritten target es n lines blocks last m) is.counted is
+  pub recounted : IsDraftWritten target es (length es) lines blocks last m
+  recounted = subst (λ (n : ℕ). IsDraftWritten target es n lines blocks last m) is.counted is
 
-  module _ (bytes : List ℕ) (e : Entry) (next : IsNext es bytes e) where
+  module _ (bytes : List ℕ) (e : Entry) (next : IsNextEntry es bytes e) where
     lines_grown : (more : Measure) (new : List ℕ) → (m.last < target → new ≡ lines) → (target ≤ m.last → new ≡ lines ++ (to_be_bytes w32 m.last ++ end_key (last_of es))) → (m.last < target → more.last ≡ m.last + length bytes) → (target ≤ m.last → more.last ≡ length bytes)
         → IndexSoFar target (es ++ e ∷ []) [] new more.last
     lines_grown more new same closes wider begun =
@@ -128,7 +123,7 @@ module _ (target : ℕ) (es : List Entry) (count : ℕ) (lines blocks : List ℕ
     blocks_grown grown is_grown = is_grown ∙ (λ i. is.spelled i ++ next.spelled i) ∙ sym (flat_map-append entry es (e ∷ []) ∙ ap (λ (b : List ℕ). entries es ++ b) (append-nil (entry e)))
 
     pub written_more : (more : Measure) (new : List ℕ) → (m.last < target → new ≡ lines) → (target ≤ m.last → new ≡ lines ++ (to_be_bytes w32 m.last ++ end_key (last_of es))) → (m.last < target → more.last ≡ m.last + length bytes) → (target ≤ m.last → more.last ≡ length bytes)
-        → (grown : List ℕ) (place : ℕ) → grown ≡ blocks ++ bytes → place ≡ length blocks → IsDraft target (es ++ e ∷ []) more → IsWritten target (es ++ e ∷ []) (count + 1) new grown place more
+        → (grown : List ℕ) (place : ℕ) → grown ≡ blocks ++ bytes → place ≡ length blocks → IsDraft target (es ++ e ∷ []) more → IsDraftWritten target (es ++ e ∷ []) (count + 1) new grown place more
     written_more more new same closes wider begun grown place is_grown at draft = record {
       draft = draft;
       counted = omega (arith, is.counted, length-append es (e ∷ []));

@@ -8,7 +8,7 @@ ghost use Rattle.lsm_key.specs.Entries.{IsEntry};
 ghost use Rattle.lsm_key.specs.Visible.{lent_entry};
 ghost use Rattle.lsm_block.specs.Blocks.{entries, entry};
 ghost use Rattle.lsm_block.specs.BlockReading.{may_follow, last_of};
-ghost use Rattle.lsm_table.specs.Building.{IsLastEnd, IsNext, IsWritten, add_fault, finish_fault, BuilderRefuses};
+ghost use Rattle.lsm_table.specs.Building.{IsLastEnd, IsNextEntry, IsDraftWritten, add_fault, finish_fault, BuilderRefuses};
 ghost use Rattle.lsm_table.specs.Tables.{IsTable, IsTarget, end_key, target_of};
 
 use crate::building::BuildError;
@@ -41,13 +41,13 @@ pub(crate) struct Written {
 
 impl Model for Written {
     ghost use Rattle.lsm_block.specs.Indexed.{block_entries};
-    ghost use Rattle.lsm_table.specs.Building.{Draft, IsWritten};
+    ghost use Rattle.lsm_table.specs.Building.{Draft, IsDraftWritten};
 
     ghost Value = { Draft };
 
     ghost view = { λ w. record { target = w.target; entries = block_entries w.blocks.items } };
 
-    ghost invariant = { λ w. IsWritten w.target (block_entries w.blocks.items) w.count w.index.items w.blocks.items w.last w.measure };
+    ghost invariant = { λ w. IsDraftWritten w.target (block_entries w.blocks.items) w.count w.index.items w.blocks.items w.last w.measure };
 }
 
 impl Written {
@@ -95,10 +95,10 @@ impl Written {
 
     /// Adds the entry of these bytes, which may come after the last one. A refusal changes nothing.
     pub(crate) fn push(&mut self, bytes: &[u8]) -> Result<(), BuildError>
-        requires { (e : Entry) × IsNext self.old.entries bytes.now e }
-        ensures ok { (e : Entry) → IsNext self.old.entries bytes.now e → OnOk result ((add_fault self.old e ≡ None) × (self.new ≡ record { target = self.old.target; entries = self.old.entries ++ e ∷ [] })) }
+        requires { (e : Entry) × IsNextEntry self.old.entries bytes.now e }
+        ensures ok { (e : Entry) → IsNextEntry self.old.entries bytes.now e → OnOk result ((add_fault self.old e ≡ None) × (self.new ≡ record { target = self.old.target; entries = self.old.entries ++ e ∷ [] })) }
         ensures err { OnErr result (self.new ≡ self.old) }
-        ensures refused { (e : Entry) → IsNext self.old.entries bytes.now e → IfErr result (BuilderRefuses (add_fault self.old e)) }
+        ensures refused { (e : Entry) → IsNextEntry self.old.entries bytes.now e → IfErr result (BuilderRefuses (add_fault self.old e)) }
     {
         let measure = self.measure.grown(self.target, key_len(bytes), bytes.len());
         if measure.table_len() > MAX_TABLE_BYTES {
@@ -215,9 +215,9 @@ fn close_full(
     blocks: &[u8],
     last: usize,
 ) -> Result<(), AllocError>
-    requires { (es : List Entry) × IsWritten target es (length es) index.old.items blocks.now last measure.now }
+    requires { (es : List Entry) × IsDraftWritten target es (length es) index.old.items blocks.now last measure.now }
     ensures room { measure.now.last < target → OnOk result (index.new.items ≡ index.old.items) }
-    ensures full { (es : List Entry) → IsWritten target es (length es) index.old.items blocks.now last measure.now → target ≤ measure.now.last → OnOk result (index.new.items ≡ index.old.items ++ (to_be_bytes w32 measure.now.last ++ end_key (last_of es))) }
+    ensures full { (es : List Entry) → IsDraftWritten target es (length es) index.old.items blocks.now last measure.now → target ≤ measure.now.last → OnOk result (index.new.items ≡ index.old.items ++ (to_be_bytes w32 measure.now.last ++ end_key (last_of es))) }
     ensures err { OnErr result (index.new.items ≡ index.old.items) }
 {
     if measure.last < target as usize {

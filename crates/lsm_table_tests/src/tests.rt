@@ -1,6 +1,7 @@
 //! Tables as the format's worked examples have them, and each refusal by its name.
 
 mod copying;
+mod cursors;
 mod damage;
 
 ghost use Rattle.lsm_key.specs.Entries.{IsEntry};

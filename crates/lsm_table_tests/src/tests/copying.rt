@@ -11,7 +11,7 @@ use std::test::Fail;
 
 // Copies the entries that a cursor has left.
 fn copy_left(builder: &mut TableBuilder, cursor: &mut Cursor<'_>) -> Result<(), BuildError>
-    requires { IsAscending (builder.old.entries ++ cursor.old.left) }
+    requires { IsAscending (builder.old.entries ++ cursor.old) }
 {
     while let Some(entry) = Iterator::next(cursor) {
         builder.add_lent(&entry)?;

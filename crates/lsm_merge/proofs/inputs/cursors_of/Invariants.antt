@@ -1,6 +1,6 @@
-use Rattle.std.proofs.Common.{◌≡◌, map, take}
+use Rattle.std.proofs.Common.{◌≡◌, take}
 use Rattle.lsm_merge.specs.Inputs.{lists_of}
 use Rattle.lsm_merge.proofs.inputs.cursors_of.Given as goal
 
 abbrev pub invariant-loop-table : goal.invariant-loop-table
-invariant-loop-table l = map (λ c. c.left) l.cursors.items ≡ lists_of (take l.table-index l.tables)
+invariant-loop-table l = l.cursors.items ≡ lists_of (take l.table-index l.tables)

@@ -66,7 +66,7 @@ returns-clause-steps c =
     let inv = c.loop-found.invariant in
     let now : WalkValue = seen w.merged (option_map lent_entry w.before) w.points.now w.deeper w.refused in (
       λ why is. absurd (not_refused c.args.self.now.refused why inv.2 is),
-      λ is. (inv.0.0, now, inv.0.1, (c.next.new.self, c.in_default.ensures.steps), inv.1),
+      λ is. (inv.0.0, now, inv.0.1, (c.next.new.self, c.in_default.ensures.steps), inv.1, refl, refl, refl),
     )
 
 pub returns-then-keeps-clause-fewer : goal.returns-then-keeps-clause-fewer

@@ -3,4 +3,4 @@ use Rattle.lsm_key.specs.Order.{IsAscending}
 use Rattle.lsm_table_tests.proofs.tests.copying.copy_left.Given as goal
 
 abbrev pub invariant-loop-entry : goal.invariant-loop-entry
-invariant-loop-entry l = IsAscending (l.builder.entries ++ l.cursor.left)
+invariant-loop-entry l = IsAscending (l.builder.entries ++ l.cursor)
