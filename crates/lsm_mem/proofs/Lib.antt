@@ -4,8 +4,7 @@ pub mod VersionOrder
 pub mod ChainsGrow
 pub mod BatchEntries
 pub mod MemtableTotals
-pub mod EntriesBetween
-pub mod ChainKeys
+pub mod EntriesFrom
 pub mod BucketRanges
 pub mod ChainsApart
 pub mod ChainsOfBuckets

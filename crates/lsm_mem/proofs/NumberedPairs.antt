@@ -41,7 +41,7 @@ module _ {B : Type 0} where
   above_head k [] h p m = absurd m
   above_head k (q ∷ ps) h p m = elim m [ inl e ↦ subst (λ (x : ℕ × B). k < x.0) (sym e) (less k q.0 h.0) | inr n ↦ above_head k ps h.1 p n ]
 
-  head_below : (p : ℕ × B) (ps : List (ℕ × B)) → IsStrictlySortedBy nat_cmp (keys_of (p ∷ ps)) → AreAbove p.0 ps
+  pub head_below : (p : ℕ × B) (ps : List (ℕ × B)) → IsStrictlySortedBy nat_cmp (keys_of (p ∷ ps)) → AreAbove p.0 ps
   head_below p ps up = above_head p.0 ps (sorted_head nat_cmp p.0 (keys_of ps) up)
 
   -- ---- a number that has a pair

@@ -1,5 +1,5 @@
 -- How a memtable holds its entries: key by key (LevelDB, implementation notes: the memtable; the grouping is the store's own).
-use Rattle.std.specs.Prelude.{ℕ, Bool, nat_le, List, ◌≡◌, ◌<◌, ◌≤◌, ◌-◌, [], ◌∷◌, ◌++◌, length, sum_by, map, fold, take, filter, reverse, flat_map, if◌then◌else◌}
+use Rattle.std.specs.Prelude.{ℕ, Bool, nat_le, List, ◌≡◌, ◌<◌, ◌≤◌, ◌-◌, [], ◌∷◌, ◌++◌, length, sum_by, map, fold, take, filter, reverse, flat_map, if◌then◌else◌, Option, Some, None}
 use Rattle.std.specs.declared.cmp.Ordering.TheVariants.{Less}
 use Rattle.std.specs.declared.vec.Vec.{Vec}
 use Rattle.std.specs.Ordering.{nat_cmp, is_eq, match_ordering}
@@ -9,7 +9,7 @@ use Rattle.lsm_key.specs.declared.limits.TheConstants.{MAX_MEMTABLE_WEIGHT}
 use Rattle.lsm_key.specs.Sets.{IsIn}
 use Rattle.lsm_key.specs.Limits.{entry_weight}
 use Rattle.lsm_key.specs.Entries.{AreSound}
-use Rattle.lsm_key.specs.Order.{key_between}
+use Rattle.lsm_key.specs.Order.{key_le}
 use Rattle.lsm_mem.specs.Memtable.{last_sequence, SequencesDiffer}
 
 -- a key with its versions, the oldest first
@@ -27,9 +27,10 @@ chains_of pairs = map chain_of pairs
 abbrev pub entries_in : List Chain → List Entry
 entries_in chains = flat_map (λ c. reverse c.versions) chains
 
--- the keys, one of each chain
-abbrev pub keys_in : List Chain → List (List ℕ)
-keys_in chains = map (λ c. c.key) chains
+-- the entries of keys with their versions, if there are such
+abbrev pub entries_of_keys : {Y Z : Type 0} → Option (List (Vec ℕ Y × Vec Entry Z)) → List Entry
+entries_of_keys None = []
+entries_of_keys (Some pairs) = entries_in (chains_of pairs)
 
 -- each entry is older than those after it
 abbrev pub SequencesRise : List Entry → Type 0
@@ -83,9 +84,9 @@ without_newest key (c ∷ cs) =
     if is_eq (slice_cmp nat_cmp key c.key) then chain_if c.key (older c.versions) ++ cs
     else c ∷ without_newest key cs
 
--- the chains whose key is at or after lo and before hi
-abbrev pub chains_between : List ℕ → List ℕ → List Chain → List Chain
-chains_between lo hi chains = filter (λ c. key_between lo hi c.key) chains
+-- the chains whose key is at or after lo
+abbrev pub chains_from : List ℕ → List Chain → List Chain
+chains_from lo chains = filter (λ c. key_le lo c.key) chains
 
 -- chains, with what is noted of their entries
 pub record IsNoted (chains : List Chain) (weight count last : ℕ) : Type 0 where

@@ -1,7 +1,5 @@
 -- What every memtable keeps (LevelDB, implementation notes: the memtable; the limit is the store's own).
-use Rattle.std.specs.Prelude.{◌≡◌, ℕ, ◌≤◌, List, [], ◌∷◌, map, sum_by, max}
-use Rattle.std.specs.List.{dedup}
-use Rattle.std.specs.Str.{bytes_eq}
+use Rattle.std.specs.Prelude.{◌≡◌, ℕ, ◌≤◌, List, [], ◌∷◌, sum_by, max}
 use Rattle.lsm_key.specs.declared.entry.Entry.{Entry}
 use Rattle.lsm_key.specs.declared.limits.TheConstants.{MAX_MEMTABLE_WEIGHT}
 use Rattle.lsm_key.specs.Sets.{IsIn}
@@ -13,10 +11,6 @@ use Rattle.lsm_key.specs.Order.{IsAscending}
 abbrev pub last_sequence : List Entry → ℕ
 last_sequence [] = 0
 last_sequence (e ∷ es) = max e.ikey.seq (last_sequence es)
-
--- the keys of entries in order, each once
-abbrev pub keys_of : List Entry → List (List ℕ)
-keys_of entries = dedup bytes_eq (map (λ e. e.ikey.key) entries)
 
 -- no two entries of one sequence
 abbrev pub SequencesDiffer : List Entry → Type 0

@@ -1,14 +1,13 @@
 //! The entries whose keys have one prefix.
 
-ghost use Rattle.std.specs.Prelude.{◌≡◌, ◌≢◌, ◌+◌, ◌++◌, ◌↔◌, [], length, filter, slice_get, IfOk, IfSome, IfNone, IsTrue, OnOk, OnErr};
-ghost use Rattle.std.specs.Option.{option_copied};
+ghost use Rattle.std.specs.Prelude.{◌≡◌, ◌≢◌, ◌++◌, ◌↔◌, [], IfOk, IfSome, IfNone, IsTrue, OnOk, OnErr};
 ghost use Rattle.lsm_key.specs.Sets.{IsIn};
-ghost use Rattle.lsm_key.specs.Order.{key_le};
-ghost use Rattle.lsm_mem.specs.Chains.{Chain, chains_between, entries_in, keys_in, with_entry, without_newest};
+ghost use Rattle.lsm_mem.specs.Chains.{Chain, chains_from, entries_in, with_entry, without_newest};
 ghost use Rattle.lsm_mem.specs.Buckets.{chain_of_versions, chains_in, chains_lent};
 
+use crate::bucket_cursor::BucketCursor;
 use crate::chains::Chains;
-use crate::versions::{are_of, key_after, push_between, push_newest_first};
+use crate::versions::{are_of, push_newest_first, versions_from};
 use lsm_key::Entry;
 use std::alloc::{AllocError, Global};
 use std::slice;
@@ -88,30 +87,23 @@ impl Bucket {
         }
     }
 
-    /// Appends copies of the entries whose key is at or after `lo` and before `hi`, in order. Shares the bytes.
-    pub(crate) fn push_between(
-        &self,
-        copies: &mut Vec<Entry>,
-        lo: &[u8],
-        hi: &[u8],
-    ) -> Result<(), AllocError>
-        ensures { OnOk result (copies.new.items ≡ copies.old.items ++ entries_in (chains_between lo.now hi.now (chains_in self.now))) }
+    /// A cursor over all entries.
+    pub(crate) fn cursor(&self) -> BucketCursor<'_>
+        ensures { result ≡ entries_in (chains_in self.now) }
     {
         match self.lend() {
-            Lent::Key(versions) => push_between(copies, versions, lo, hi),
-            Lent::Keys(chains) => chains.push_between(copies, lo, hi),
+            Lent::Key(versions) => BucketCursor::new(versions, None),
+            Lent::Keys(chains) => chains.cursor(),
         }
     }
 
-    /// The key `left` keys after the first one at or after `lo`. If there is none, `left` becomes less by the number of
-    /// keys at or after `lo`.
-    pub(crate) fn key_after(&self, lo: &[u8], left: &mut usize) -> Result<Option<&[u8]>, AllocError>
-        ensures found { IfOk result (λ found. option_copied found ≡ slice_get (filter (key_le lo.now) (keys_in (chains_in self.now))) left.old) }
-        ensures left { IfOk result (λ found. IfNone found (left.new + length (filter (key_le lo.now) (keys_in (chains_in self.now))) ≡ left.old)) }
+    /// A cursor over the entries whose key is at or after `lo`. Allocates only if there are several keys: a copy of `lo`.
+    pub(crate) fn cursor_from(&self, lo: &[u8]) -> Result<BucketCursor<'_>, AllocError>
+        ensures { IfOk result (λ cursor. cursor ≡ entries_in (chains_from lo.now (chains_in self.now))) }
     {
         match self.lend() {
-            Lent::Key(versions) => Ok(key_after(versions, lo, left)),
-            Lent::Keys(chains) => chains.key_after(lo, left),
+            Lent::Key(versions) => Ok(BucketCursor::new(versions_from(versions, lo), None)),
+            Lent::Keys(chains) => chains.cursor_from(lo),
         }
     }
 

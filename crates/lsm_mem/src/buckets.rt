@@ -5,8 +5,10 @@ ghost use Rattle.lsm_key.specs.Places.{entry_of};
 ghost use Rattle.lsm_mem.specs.Runs.{bytes_in};
 
 use crate::bucket::Bucket;
+use crate::bucket_cursor::BucketCursor;
 use crate::chunk::Chunk;
 use crate::front::Front;
+use crate::memtable_cursor::MemtableCursor;
 use bytes::Bytes;
 use lsm_key::{Entry, InternalKey, Kind, Op, Seq, prefix_of};
 use std::alloc::{AllocError, Global};
@@ -39,12 +41,10 @@ impl Model for Buckets {
 }
 
 impl Buckets {
-    ghost use Rattle.std.specs.Prelude.{◌≢◌, ◌≤◌, ◌+◌, ◌-◌, ℕ, List, [], IsTrue, ◌↔◌, IfSome, IfNone, OnErr, filter, slice_get};
-    ghost use Rattle.std.specs.Option.{option_copied};
+    ghost use Rattle.std.specs.Prelude.{◌≢◌, ◌≤◌, ◌+◌, ◌-◌, ℕ, List, [], IsTrue, ◌↔◌, IfSome, IfNone, OnErr};
     ghost use Rattle.lsm_key.specs.Sets.{IsIn};
-    ghost use Rattle.lsm_key.specs.Order.{key_le};
     ghost use Rattle.lsm_key.specs.Places.{entries_after};
-    ghost use Rattle.lsm_mem.specs.Chains.{Chain, AreChains, entries_in, with_entry, with_entries, without_newest, chains_between, keys_in};
+    ghost use Rattle.lsm_mem.specs.Chains.{Chain, AreChains, entries_in, with_entry, with_entries, without_newest, chains_from};
 
     /// No keys. Those that begin with the front will be found fastest.
     pub(crate) fn new(alloc: Global, front: Front) -> Buckets
@@ -68,6 +68,11 @@ impl Buckets {
             _ => self.front,
         };
         Buckets::new(self.alloc, front)
+    }
+
+    /// What it allocates with.
+    pub(crate) fn alloc(&self) -> Global {
+        self.alloc
     }
 
     // The first key and the last one.
@@ -175,34 +180,17 @@ impl Buckets {
         Ok(copies)
     }
 
-    /// Copies of the entries whose key is at or after `lo` and before `hi`, in order. Shares the bytes.
-    pub(crate) fn entries_between(&self, lo: &[u8], hi: &[u8]) -> Result<Vec<Entry>, AllocError>
-        ensures { IfOk result (λ copies. copies.items ≡ entries_in (chains_between lo.now hi.now self.now)) }
+    /// A cursor over the entries whose key is at or after `lo`.
+    pub(crate) fn cursor_from(&self, lo: &[u8]) -> Result<MemtableCursor<'_>, AllocError>
+        ensures { IfOk result (λ cursor. cursor ≡ entries_in (chains_from lo.now self.now)) }
     {
-        let mut copies = Vec::new(self.alloc);
         let first = prefix_of(self.front.as_slice(), lo);
-        let last = prefix_of(self.front.as_slice(), hi);
-        if first > last {
-            return Ok(copies);
-        }
-        for (_, bucket) in self.by_prefix.range(first..=last) {
-            bucket.push_between(&mut copies, lo, hi)?;
-        }
-        Ok(copies)
-    }
-
-    /// The key `count` keys after the first one at or after `lo`, if there is one.
-    pub(crate) fn key_after(&self, lo: &[u8], count: usize) -> Result<Option<&[u8]>, AllocError>
-        ensures { IfOk result (λ found. option_copied found ≡ slice_get (filter (key_le lo.now) (keys_in self.now)) count) }
-    {
-        let mut left = count;
-        let first = prefix_of(self.front.as_slice(), lo);
-        for (_, bucket) in self.by_prefix.range(first..) {
-            if let Some(key) = bucket.key_after(lo, &mut left)? {
-                return Ok(Some(key));
-            }
-        }
-        Ok(None)
+        let mut later = self.by_prefix.range(first..);
+        let current = match later.next() {
+            Some((_, bucket)) => bucket.cursor_from(lo)?,
+            None => BucketCursor::new(&[], None),
+        };
+        Ok(MemtableCursor::new(current, later))
     }
 }
 

@@ -2,6 +2,7 @@
 
 ghost use Rattle.std.specs.Prelude.{◌≡◌, ◌++◌, OnOk};
 
+use crate::bucket_cursor::BucketCursor;
 use crate::versions::push_newest_first;
 use lsm_key::Entry;
 use std::alloc::{AllocError, Global};
@@ -25,11 +26,9 @@ impl Model for Chains {
 }
 
 impl Chains {
-    ghost use Rattle.std.specs.Prelude.{◌≢◌, ◌+◌, [], length, IfOk, IsTrue, ◌↔◌, IfSome, IfNone, OnErr, filter, slice_get};
-    ghost use Rattle.std.specs.Option.{option_copied};
+    ghost use Rattle.std.specs.Prelude.{◌≢◌, [], IfOk, IsTrue, ◌↔◌, IfSome, IfNone, OnErr};
     ghost use Rattle.lsm_key.specs.Sets.{IsIn};
-    ghost use Rattle.lsm_key.specs.Order.{key_le};
-    ghost use Rattle.lsm_mem.specs.Chains.{Chain, entries_in, with_entry, without_newest, chains_between, keys_in};
+    ghost use Rattle.lsm_mem.specs.Chains.{Chain, chains_from, entries_in, with_entry, without_newest};
     ghost use Rattle.lsm_mem.specs.Buckets.{chain_of_versions};
 
     /// No keys.
@@ -120,39 +119,18 @@ impl Chains {
         Ok(())
     }
 
-    /// Appends copies of the entries whose key is at or after `lo` and before `hi`, in order. Shares the bytes.
-    pub(crate) fn push_between(
-        &self,
-        copies: &mut Vec<Entry>,
-        lo: &[u8],
-        hi: &[u8],
-    ) -> Result<(), AllocError>
-        ensures { OnOk result (copies.new.items ≡ copies.old.items ++ entries_in (chains_between lo.now hi.now self.now)) }
+    /// A cursor over all entries.
+    pub(crate) fn cursor(&self) -> BucketCursor<'_>
+        ensures { result ≡ entries_in self.now }
     {
-        if lo.cmp(hi).is_ge() {
-            return Ok(());
-        }
-        let from = lo.to_vec(self.alloc)?;
-        let to = hi.to_vec(self.alloc)?;
-        for (_, versions) in self.by_key.range(from..to) {
-            push_newest_first(copies, versions.as_slice())?;
-        }
-        Ok(())
+        BucketCursor::new(&[], Some(self.by_key.range(..)))
     }
 
-    /// The key `left` keys after the first one at or after `lo`. If there is none, `left` becomes less by the number of
-    /// keys at or after `lo`.
-    pub(crate) fn key_after(&self, lo: &[u8], left: &mut usize) -> Result<Option<&[u8]>, AllocError>
-        ensures found { IfOk result (λ found. option_copied found ≡ slice_get (filter (key_le lo.now) (keys_in self.now)) left.old) }
-        ensures left { IfOk result (λ found. IfNone found (left.new + length (filter (key_le lo.now) (keys_in self.now)) ≡ left.old)) }
+    /// A cursor over the entries whose key is at or after `lo`. Allocates a copy of `lo`.
+    pub(crate) fn cursor_from(&self, lo: &[u8]) -> Result<BucketCursor<'_>, AllocError>
+        ensures { IfOk result (λ cursor. cursor ≡ entries_in (chains_from lo.now self.now)) }
     {
         let from = lo.to_vec(self.alloc)?;
-        for (key, _) in self.by_key.range(from..) {
-            if *left == 0 {
-                return Ok(Some(key.as_slice()));
-            }
-            *left -= 1;
-        }
-        Ok(None)
+        Ok(BucketCursor::new(&[], Some(self.by_key.range(from..))))
     }
 }

@@ -2,6 +2,7 @@
 
 use crate::buckets::Buckets;
 use crate::front::Front;
+use crate::memtable_cursor::MemtableCursor;
 use crate::versions::newest_at;
 use lsm_key::{Batch, Entry, EntryRef, Seq};
 use std::alloc::{AllocError, Global};
@@ -32,8 +33,8 @@ impl Model for Memtable {
 }
 
 impl Memtable {
-    ghost use Rattle.std.specs.Prelude.{◌≡◌, [], ◌++◌, ◌<◌, ◌≤◌, ◌+◌, ◌-◌, ◌↔◌, IfOk, OnOk, OnErr, IsTrue, filter, length, slice_get, sum_by};
-    ghost use Rattle.std.specs.Option.{option_copied, option_map};
+    ghost use Rattle.std.specs.Prelude.{◌≡◌, [], ◌++◌, ◌<◌, ◌≤◌, ◌+◌, ◌-◌, ◌↔◌, IfOk, OnOk, OnErr, IsTrue, filter, length, sum_by};
+    ghost use Rattle.std.specs.Option.{option_map};
     ghost use Rattle.lsm_key.specs.declared.entry.Entry.{Entry};
     ghost use Rattle.lsm_key.specs.declared.limits.TheConstants.{MAX_MEMTABLE_WEIGHT};
     ghost use Rattle.lsm_key.specs.Sets.{IsIn};
@@ -41,7 +42,7 @@ impl Memtable {
     ghost use Rattle.lsm_key.specs.Limits.{entry_weight, total_weight};
     ghost use Rattle.lsm_key.specs.Places.{entries_after};
     ghost use Rattle.lsm_key.specs.Visible.{visible, lent_entry};
-    ghost use Rattle.lsm_mem.specs.Memtable.{IsMemtable, keys_of, last_sequence};
+    ghost use Rattle.lsm_mem.specs.Memtable.{IsMemtable, last_sequence};
     ghost use Rattle.lsm_key.specs.Order.{is_between, key_le};
 
     /// An empty memtable.
@@ -115,21 +116,29 @@ impl Memtable {
         self.buckets.entries(self.count)
     }
 
+    /// A cursor over the entries whose key is at or after `lo`, in the order of internal keys, or out of memory. O(log n)
+    /// comparisons. It allocates a copy of `lo` if several keys share the prefix at which it begins, else nothing.
+    pub fn cursor_from(&self, lo: &[u8]) -> Result<MemtableCursor<'_>, AllocError>
+        ensures all { IfOk result (λ cursor. cursor ≡ filter (λ e. key_le lo.now e.ikey.key) self.now) }
+        ensures sound { IsMemtable self.now }
+    {
+        self.buckets.cursor_from(lo)
+    }
+
     /// Copies of the entries whose key is at or after `lo` and before `hi`, in the order of internal keys, or out of
-    /// memory. Shares the bytes. O(log n) comparisons, and a step for each entry returned.
+    /// memory. Shares the bytes. O(log n) comparisons, and one for each entry returned.
     pub fn range(&self, lo: &[u8], hi: &[u8]) -> Result<Vec<Entry>, AllocError>
         ensures all { IfOk result (λ copies. copies.items ≡ filter (is_between lo.now hi.now) self.now) }
         ensures sound { IsMemtable self.now }
     {
-        self.buckets.entries_between(lo, hi)
-    }
-
-    /// The key `count` keys after the first one at or after `lo`, if there is one, or out of memory. O(log n)
-    /// comparisons, and a step for each key skipped.
-    pub fn key_after(&self, lo: &[u8], count: usize) -> Result<Option<&[u8]>, AllocError>
-        ensures { IfOk result (λ found. option_copied found ≡ slice_get (filter (key_le lo.now) (keys_of self.now)) count) }
-    {
-        self.buckets.key_after(lo, count)
+        let mut copies = Vec::new(self.buckets.alloc());
+        for entry in self.cursor_from(lo)? {
+            if entry.ikey.key.as_slice().cmp(hi).is_ge() {
+                break;
+            }
+            copies.push(entry.clone()?)?;
+        }
+        Ok(copies)
     }
 
     /// The greatest sequence, 0 if there is no entry.

@@ -1,11 +1,10 @@
 //! The versions of one key, the oldest first.
 
-ghost use Rattle.std.specs.Prelude.{◌≡◌, ◌+◌, ◌++◌, IfNone, IsTrue, OnOk, filter, length, reverse, slice_get};
+ghost use Rattle.std.specs.Prelude.{◌≡◌, ◌++◌, OnOk, reverse};
 ghost use Rattle.std.specs.Option.{option_copied};
-ghost use Rattle.lsm_key.specs.Order.{key_between, key_le};
 ghost use Rattle.lsm_key.specs.Visible.{latest};
 ghost use Rattle.lsm_mem.specs.Buckets.{are_of, chain_of_versions};
-ghost use Rattle.lsm_mem.specs.Chains.{SequencesRise, chains_between, entries_in, is_written, keys_in};
+ghost use Rattle.lsm_mem.specs.Chains.{SequencesRise, chains_from, entries_in, is_written};
 
 use lsm_key::{Entry, Seq};
 use std::alloc::AllocError;
@@ -45,43 +44,12 @@ pub(crate) fn push_newest_first(
     Ok(())
 }
 
-/// The same if the key is at or after `lo` and before `hi`.
-pub(crate) fn push_between(
-    copies: &mut Vec<Entry>,
-    versions: &[Entry],
-    lo: &[u8],
-    hi: &[u8],
-) -> Result<(), AllocError>
-    ensures { OnOk result (copies.new.items ≡ copies.old.items ++ entries_in (chains_between lo.now hi.now (chain_of_versions versions.now))) }
+/// The versions if their key is at or after `lo`, else none.
+pub(crate) fn versions_from<'a>(versions: &'a [Entry], lo: &[u8]) -> &'a [Entry]
+    ensures { reverse result.now ≡ entries_in (chains_from lo.now (chain_of_versions versions.now)) }
 {
     match versions.first() {
-        Some(first) if is_between(first.ikey.key.as_slice(), lo, hi) => {
-            push_newest_first(copies, versions)
-        }
-        _ => Ok(()),
+        Some(first) if lo.cmp(first.ikey.key.as_slice()).is_le() => versions,
+        _ => &[],
     }
-}
-
-// Whether a key is at or after `lo` and before `hi`.
-fn is_between(key: &[u8], lo: &[u8], hi: &[u8]) -> bool
-    ensures { result ≡ key_between lo.now hi.now key.now }
-{
-    lo.cmp(key).is_le() && key.cmp(hi).is_lt()
-}
-
-/// Their key, if it is at or after `lo` and `left` is 0. If it is at or after `lo`, `left` becomes less by one.
-pub(crate) fn key_after<'a>(versions: &'a [Entry], lo: &[u8], left: &mut usize) -> Option<&'a [u8]>
-    ensures found { option_copied result ≡ slice_get (filter (key_le lo.now) (keys_in (chain_of_versions versions.now))) left.old }
-    ensures left { IfNone result (left.new + length (filter (key_le lo.now) (keys_in (chain_of_versions versions.now))) ≡ left.old) }
-{
-    let first = versions.first()?;
-    let key = first.ikey.key.as_slice();
-    if lo.cmp(key).is_gt() {
-        return None;
-    }
-    if *left == 0 {
-        return Some(key);
-    }
-    *left -= 1;
-    None
 }

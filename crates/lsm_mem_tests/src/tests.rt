@@ -76,15 +76,28 @@ fn push_number(alloc: Global, text: &mut String, number: u64) -> Result<(), Fail
     Ok(())
 }
 
+fn push_place(alloc: Global, text: &mut String, entry: &Entry) -> Result<(), Fail> {
+    if !text.is_empty() {
+        text.push(' ')?;
+    }
+    push_key(text, entry.ikey.key.as_slice())?;
+    push_number(alloc, text, entry.ikey.seq.number())
+}
+
 /// The keys and sequences of entries, as `a2 a1 b3`.
 fn places_of(alloc: Global, entries: &[Entry]) -> Result<String, Fail> {
     let mut text = String::new(alloc);
     for entry in entries {
-        if !text.is_empty() {
-            text.push(' ')?;
-        }
-        push_key(&mut text, entry.ikey.key.as_slice())?;
-        push_number(alloc, &mut text, entry.ikey.seq.number())?;
+        push_place(alloc, &mut text, entry)?;
+    }
+    Ok(text)
+}
+
+/// Those of the entries from a key on, as a cursor gives them.
+fn places_from(alloc: Global, memtable: &Memtable, lo: &[u8]) -> Result<String, Fail> {
+    let mut text = String::new(alloc);
+    for entry in memtable.cursor_from(lo)? {
+        push_place(alloc, &mut text, entry)?;
     }
     Ok(text)
 }
@@ -169,34 +182,40 @@ fn a_range_leaves_out_its_end(rt: HostRuntime) -> Result<(), Fail> {
     Ok(())
 }
 
-/// The same key, of which nothing is known.
-fn key_after<'a>(
-    memtable: &'a Memtable,
-    lo: &[u8],
-    count: usize,
-) -> Result<Option<&'a [u8]>, Fail> {
-    Ok(memtable.key_after(lo, count)?)
-}
-
 #[test]
-fn keys_are_counted_and_not_entries(rt: HostRuntime) -> Result<(), Fail> {
-    let memtable = puts_of(rt.alloc(), &[b"d", b"b", b"a", b"b"])?;
-    for (lo, count, want) in [
-        (b"a".as_slice(), 0, Some(b"a".as_slice())),
-        (b"a", 1, Some(b"b")),
-        (b"a", 2, Some(b"d")),
-        (b"a", 3, None),
-        (b"a", usize::MAX, None),
-        (b"a1", 0, Some(b"b")),
-        (b"c", 0, Some(b"d")),
-        (b"c", 1, None),
-        (b"", 0, Some(b"a")),
-        (b"", 2, Some(b"d")),
-        (b"e", 0, None),
+fn a_cursor_goes_from_its_key_to_the_end(rt: HostRuntime) -> Result<(), Fail> {
+    let keys = [
+        b"account-2".as_slice(),
+        b"account",
+        b"account-1",
+        b"b",
+        b"account-2",
+        b"zebra",
+        b"b",
+        b"account-10",
+    ];
+    let memtable = puts_of(rt.alloc(), &keys)?;
+    for (lo, want) in [
+        (
+            "",
+            "account2 account-13 account-108 account-25 account-21 b7 b4 zebra6",
+        ),
+        (
+            "account-1",
+            "account-13 account-108 account-25 account-21 b7 b4 zebra6",
+        ),
+        ("account-11", "account-25 account-21 b7 b4 zebra6"),
+        ("account-3", "b7 b4 zebra6"),
+        ("b", "b7 b4 zebra6"),
+        ("b1", "zebra6"),
+        ("zebras", ""),
     ] {
-        let key = key_after(&memtable, lo, count)?;
-        assert!(rt; key == want, "{count} after {lo:?}");
+        let places = places_from(rt.alloc(), &memtable, lo.as_bytes())?;
+        assert!(rt; places.as_str() == want, "from {lo}");
     }
+    let none = puts_of(rt.alloc(), &[])?;
+    let places = places_from(rt.alloc(), &none, b"")?;
+    assert!(rt; places.is_empty());
     Ok(())
 }
 
@@ -245,8 +264,6 @@ fn keys_with_one_prefix_are_told_apart(rt: HostRuntime) -> Result<(), Fail> {
         let places = places_of(rt.alloc(), entries.as_slice())?;
         assert!(rt; places.as_str() == want, "from {lo} to {hi}");
     }
-    let key = key_after(&memtable, b"account", 3)?;
-    assert!(rt; key == Some(b"account-10".as_slice()));
     let found = shown(rt.alloc(), &memtable, b"account-2", 4)?;
     assert!(rt; found.as_str() == "1 put 5");
     Ok(())
