@@ -51,10 +51,10 @@ module _ {X : Type 0} (t : X → Bool) where
 
 -- ---- a table's keys
 
-key_from : (p : Placed) → IsAsRecorded p.meta p.table → (e : Entry) → IsIn e p.table.entries → key_le p.meta.smallest e.ikey.key ≡ true
+pub key_from : (p : Placed) → IsAsRecorded p.meta p.table → (e : Entry) → IsIn e p.table.entries → key_le p.meta.smallest e.ikey.key ≡ true
 key_from p is e m = rw is.smallest (ap not (table_range p.table.bytes p.table.entries is.table e m).0)
 
-key_to : (p : Placed) → IsAsRecorded p.meta p.table → (e : Entry) → IsIn e p.table.entries → key_le e.ikey.key p.meta.largest ≡ true
+pub key_to : (p : Placed) → IsAsRecorded p.meta p.table → (e : Entry) → IsIn e p.table.entries → key_le e.ikey.key p.meta.largest ≡ true
 key_to p is e m = rw is.largest (ap not (table_range p.table.bytes p.table.entries is.table e m).1)
 
 -- ---- the order of a level's entries
@@ -87,7 +87,7 @@ falls_more level p ps deeper rec up true e h =
     rises p t.0 (rec p (inl refl)) (rec t.0 (inr s.0)) gap a f ma t.2)
 falls_more level p ps deeper rec up false e h = h
 
-level_falls : (level : ℕ) (ps : List Placed) → 1 ≤ level → AllRecorded ps → AreInSearchOrder ps → Falls (all_entries (tables_of (filter (is_of level) ps)))
+pub level_falls : (level : ℕ) (ps : List Placed) → 1 ≤ level → AllRecorded ps → AreInSearchOrder ps → Falls (all_entries (tables_of (filter (is_of level) ps)))
 level_falls level [] deeper rec up = tt
 level_falls level (p ∷ ps) deeper rec up = falls_more level p ps deeper rec up (is_of level p) refl (level_falls level ps deeper (λ q m. rec q (inr m)) up.1)
 
@@ -98,7 +98,7 @@ level_in_order lo hi level ps deeper rec up =
 
 -- ---- one level after another
 
-not_of : (level n : ℕ) → (n ≡ level → ⊥) → eqb n level ≡ false
+pub not_of : (level n : ℕ) → (n ≡ level → ⊥) → eqb n level ≡ false
 not_of level n h = by (eqb n level) refl
   where
     by : (b : Bool) → eqb n level ≡ b → eqb n level ≡ false

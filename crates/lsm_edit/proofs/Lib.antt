@@ -15,6 +15,8 @@ pub mod SearchOrder
 pub mod PlacesInOrder
 pub mod RangeEntries
 pub mod LevelRanges
+pub mod LevelCursors
+pub mod CursorsOnward
 pub mod LevelSearch
 pub mod CoveredFiles
 pub mod ServedAfterEdit

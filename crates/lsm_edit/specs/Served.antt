@@ -117,3 +117,8 @@ pub record IsServed (s : ServedValue) : Type 0 where
   pub ordered : AreInSearchOrder s.places
   pub listed : SameMembers (map (λ p. p.meta) s.places) s.version.files
   pub recorded : AllRecorded s.places
+
+-- the entries that a cursor has left, none if there is no cursor
+abbrev pub left_of : Option (List Entry) → List Entry
+left_of None = []
+left_of (Some es) = es

@@ -24,6 +24,6 @@ pub use file::{FileBounds, FileMeta, files_bytes, read_file, same_files, write_f
 pub use format::{FormatError, FormatFault};
 pub use laws::{a_number_names_one_file, no_file_is_removed_twice, worked_edits};
 pub use recorded::{is_as_recorded, open_as_recorded};
-pub use served::{Listing, Placed, Prepared, Room, Served};
+pub use served::{LevelCursor, Listing, Placed, Prepared, Room, Served};
 pub use valid::{are_keys, files_rise};
 pub use version::{ApplyError, Version, has_file, is_among, is_listed, removed_by};

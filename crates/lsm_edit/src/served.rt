@@ -1,5 +1,7 @@
 //! A version with its open tables, and reads of it.
 
+mod cursors;
+mod level_cursor;
 mod prepared;
 mod range;
 mod rebase;
@@ -20,6 +22,7 @@ ghost use Rattle.lsm_edit.specs.Served.{AllRecorded, AreAsRecorded, AreInSearchO
 
 use crate::version::copies_of;
 use crate::{ApplyError, Edit, FileMeta, Version};
+pub use level_cursor::LevelCursor;
 use lsm_key::{EntryRef, Kind, MAX_LEVEL, Seq, VersionNumber};
 use lsm_table::Table;
 pub use prepared::Prepared;

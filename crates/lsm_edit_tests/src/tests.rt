@@ -1,6 +1,7 @@
 //! Edits as the format's worked examples have them, and each refusal by its name.
 
 mod bases;
+mod cursors;
 mod installs;
 mod ranges;
 mod served;

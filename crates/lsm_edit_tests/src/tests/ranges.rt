@@ -91,7 +91,7 @@ fn are_recorded(files: &[FileMeta], tables: &[Table]) -> bool
     }
 }
 
-fn example(alloc: Global) -> Result<Served, Fail> {
+pub(super) fn example(alloc: Global) -> Result<Served, Fail> {
     let bytes = Bytes::copy_from_slice(alloc, &base(alloc)?)?;
     let version = decode_base(alloc, bytes)?;
     let tables = tables(alloc)?;
