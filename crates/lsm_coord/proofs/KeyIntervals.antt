@@ -1,15 +1,15 @@
 -- The order of keys, and ranges of keys.
-use Rattle.std.proofs.Common.{◌≡◌, ℕ, List, Bool, true, false, not, ◌&&◌, refl, sym, ap, subst, ◌∙◌, inl, inr, ◌⊎◌}
+use Rattle.std.proofs.Common.{◌≡◌, ℕ, List, true, false, not, refl, sym, ap, subst, ◌∙◌, inl, inr, ◌⊎◌}
 use Rattle.std.specs.Ordering.{nat_cmp, is_lt, is_gt, is_ge, ordering_reverse}
 use Rattle.std.specs.Cmp.Lexicographic.{slice_cmp}
 use Rattle.std.specs.declared.cmp.Ordering.{Ordering}
 use Rattle.std.specs.declared.cmp.Ordering.TheVariants.{Less, Equal, Greater}
-use Rattle.std.proofs.lemmas.Bool.{and_parts, false_from_ne_true}
+use Rattle.std.proofs.lemmas.Bool.{false_from_ne_true}
 use Rattle.std.proofs.lemmas.Cmp.{nat_list_cmp_total}
 use Rattle.lsm_key.specs.Order.{key_le, key_lt}
 use Rattle.lsm_key.proofs.EntryOrder.{keys_equal, is_less}
 use Rattle.lsm_key.proofs.RangeSlices.{not_before}
-use Rattle.lsm_coord.specs.Model.Range.{IsBelow, InHalfOpenRange}
+use Rattle.lsm_coord.specs.Model.Range.{IsBelow}
 
 not_both : (o p : Ordering) → o ≡ ordering_reverse p → is_lt o ≡ true → is_lt p ≡ true → ⊥
 not_both Less Less e a b = absurd cc
@@ -54,16 +54,6 @@ upto_from a b h = not_before a b ∙ ap not (false_from_ne_true (key_lt b a) h)
 pub not_below_upto : (a b : List ℕ) → key_le a b ≡ true → IsBelow b a → ⊥
 not_below_upto a b le x = below_irreflexive b b refl (below_upto b a b x le)
 
-pub below_is_upto : (a b : List ℕ) → IsBelow a b → key_le a b ≡ true
-below_is_upto a b x = upto_from a b (λ y. below_asym a b x y)
-
-pub key_or : (a b : List ℕ) → IsBelow a b ⊎ (key_le b a ≡ true)
-key_or a b = by (key_lt a b) refl
-  where
-    by : (c : Bool) → key_lt a b ≡ c → IsBelow a b ⊎ (key_le b a ≡ true)
-    by true e = inl e
-    by false e = inr (not_before b a ∙ ap not e)
-
 -- as the code compares
 pub upto_back : (a b : List ℕ) → is_ge (slice_cmp nat_cmp a b) ≡ true → key_le b a ≡ true
 upto_back a b h = ap (λ (o : Ordering). not (is_gt o)) (nat_list_cmp_total.antisymm b a) ∙ by (slice_cmp nat_cmp a b) h
@@ -73,37 +63,10 @@ upto_back a b h = ap (λ (o : Ordering). not (is_gt o)) (nat_list_cmp_total.anti
     by Equal e = refl
     by Greater e = refl
 
-pub upto_after : (a b : List ℕ) → is_gt (slice_cmp nat_cmp a b) ≡ true → key_le b a ≡ true
-upto_after a b h = upto_back a b (by (slice_cmp nat_cmp a b) h)
+pub below_from : (a b : List ℕ) → is_ge (slice_cmp nat_cmp a b) ≡ false → IsBelow a b
+below_from a b h = by (slice_cmp nat_cmp a b) h
   where
-    by : (o : Ordering) → is_gt o ≡ true → is_ge o ≡ true
-    by Less e = absurd cc
-    by Equal e = absurd cc
-    by Greater e = refl
-
-pub below_after : (a b : List ℕ) → is_gt (slice_cmp nat_cmp a b) ≡ true → IsBelow b a
-below_after a b h = ap is_lt (nat_list_cmp_total.antisymm b a) ∙ by (slice_cmp nat_cmp a b) h
-  where
-    by : (o : Ordering) → is_gt o ≡ true → is_lt (ordering_reverse o) ≡ true
-    by Less e = absurd cc
-    by Equal e = absurd cc
-    by Greater e = refl
-
-pub upto_on : (a b : List ℕ) → is_ge (slice_cmp nat_cmp a b) ≡ false → key_le a b ≡ true
-upto_on a b h = by (slice_cmp nat_cmp a b) h
-  where
-    by : (o : Ordering) → is_ge o ≡ false → not (is_gt o) ≡ true
+    by : (o : Ordering) → is_ge o ≡ false → is_lt o ≡ true
     by Less e = refl
     by Equal e = absurd cc
     by Greater e = absurd cc
-
--- ---- ranges
-
-pub within_parts : (lo hi key : List ℕ) → InHalfOpenRange lo hi key → (key_le lo key ≡ true) × IsBelow key hi
-within_parts lo hi key w = and_parts (key_le lo key) (key_lt key hi) w
-
-pub within_from : (lo hi key : List ℕ) → key_le lo key ≡ true → IsBelow key hi → InHalfOpenRange lo hi key
-within_from lo hi key a b = λ i. a i && b i
-
-pub none_within : (lo hi key : List ℕ) → key_le hi lo ≡ true → InHalfOpenRange lo hi key → ⊥
-none_within lo hi key back w = let p = within_parts lo hi key w in not_below_upto lo key p.0 (below_upto key hi lo p.1 back)

@@ -5,7 +5,10 @@ pub mod RunInvariants
 pub mod KeyIntervals
 pub mod ScansAgree
 pub mod ShownPairs
-pub mod ScanWindows
+pub mod TurnedHeads
+pub mod ScanRanges
+pub mod FirstPairs
+pub mod ScanSources
 pub mod StateRefusals
 pub mod CurrentVersion
 pub mod SnapshotEffects
@@ -22,7 +25,7 @@ pub mod SnapshotSteps
 pub mod TrimSteps
 pub mod SearchAnswers
 pub mod ForcedRefusals
-pub mod ShownWindows
+pub mod ShownRanges
 pub mod CoordInvariant
 pub mod JobsStaySound
 pub mod OpenedOutputs

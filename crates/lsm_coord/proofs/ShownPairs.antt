@@ -27,7 +27,7 @@ pub data Later (e f : Entry) : Type 0 where
   beyond : IsBelow e.ikey.key f.ikey.key → Later e f
   older : f.ikey.key ≡ e.ikey.key → f.ikey.seq ≤ e.ikey.seq → Later e f
 
-later : (e f : Entry) → precedes f e ≡ false → Later e f
+pub later : (e f : Entry) → precedes f e ≡ false → Later e f
 later e f h = by (slice_cmp nat_cmp f.ikey.key e.ikey.key) refl h
   where
     by : (o : Ordering) → slice_cmp nat_cmp f.ikey.key e.ikey.key ≡ o → is_lt (ordering_then o (nat_cmp e.ikey.seq f.ikey.seq)) ≡ false → Later e f

@@ -9,7 +9,6 @@ mod scan;
 mod serve;
 mod snapshots;
 mod trim;
-mod window;
 mod write;
 
 use crate::frozen::Frozen;

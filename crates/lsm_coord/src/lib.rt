@@ -7,7 +7,7 @@
 //! installable as long as its claim is live. Tables stay and are served until a trim lets them go. A `Seat` is up or down: a
 //! restart loses exactly what was not flushed, and makes every claim stale.
 //!
-//! It stands on `lsm_key` for writes and entries, `lsm_mem` for memtables, `lsm_table` for tables, `lsm_edit` for versions
+//! It stands on `lsm_key` for writes and entries, `lsm_mem` for memtables, `lsm_block` and `lsm_table` for tables, `lsm_edit` for versions
 //! and the tables that they serve, `lsm_versions` for the version set, `lsm_vault` for vaults, `lsm_claim` for
 //! claims, `lsm_msg` for jobs and messages, and `lsm_pick` for the rule of a pick.
 #![tactic(auto)]
@@ -19,10 +19,12 @@ mod desk;
 mod dispatcher;
 mod error;
 mod frozen;
+mod heads;
 mod job;
 mod laws;
 mod seat;
 mod snapshot;
+mod source;
 
 pub use answer::{Answer, ShownVersion};
 pub use call::{Call, ScanRange};

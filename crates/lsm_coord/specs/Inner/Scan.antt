@@ -1,7 +1,9 @@
 -- What is visible in sorted entries at a read sequence, key after key: the pass of a scan.
-use Rattle.std.specs.Prelude.{ℕ, Bool, not, false, ◌||◌, List, [], ◌∷◌, ◌++◌, Option, None, Some, nat_le, if◌then◌else◌}
+use Rattle.std.specs.Prelude.{◌≡◌, ◌↔◌, ℕ, Bool, not, true, false, ◌||◌, List, [], ◌∷◌, ◌++◌, Option, None, Some, nat_le, take, if◌then◌else◌}
 use Rattle.std.specs.Option.{option_map, option_to_list}
 use Rattle.lsm_key.specs.declared.entry.Entry.{Entry}
+use Rattle.lsm_key.specs.Order.{IsInOrder, key_lt}
+use Rattle.lsm_key.specs.Sets.{IsIn}
 use Rattle.lsm_key.specs.Visible.{has_key, entry_value}
 
 -- the entry has the key of the one before it
@@ -23,3 +25,14 @@ shown_pairs point before [] = []
 shown_pairs point before (e ∷ es) =
     if is_hidden point before e then shown_pairs point before es
     else pair_of e ++ shown_pairs point (Some e) es
+
+-- those of the entries whose key is before hi
+abbrev pub AreBelow : List ℕ → List Entry → List Entry → Type 0
+AreBelow hi entries these = (e : Entry) → IsIn e these ↔ (IsIn e entries × (key_lt e.ikey.key hi ≡ true))
+
+-- the first pairs of the entries whose key is before hi
+pub record AreFirstPairs (point : ℕ) (hi : List ℕ) (limit : ℕ) (entries : List Entry) (pairs : List (List ℕ × List ℕ)) : Type 0 where
+  pub sorted : List Entry
+  pub all : AreBelow hi entries sorted
+  pub order : IsInOrder sorted
+  pub first : pairs ≡ take limit (shown_pairs point None sorted)

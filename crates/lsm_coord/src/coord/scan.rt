@@ -1,30 +1,35 @@
 //! Scans of the store.
 
-ghost use Rattle.std.specs.Prelude.{◌≡◌, ◌≤◌, ◌++◌, None, true, IfOk, IfErr, OnOk, IsPermutation, List, ℕ, filter, length, take};
-ghost use Rattle.std.specs.Borrow.{Bor};
+ghost use Rattle.std.specs.Prelude.{◌≡◌, ◌++◌, IfOk, IfErr, OnOk, filter};
 ghost use Rattle.std.specs.Option.{option_map};
-ghost use Rattle.lsm_key.specs.declared.entry.Entry.{Entry};
-ghost use Rattle.lsm_key.specs.Order.{IsAscending, IsInOrder, is_between, key_le};
+ghost use Rattle.lsm_key.specs.Order.{key_le};
+ghost use Rattle.lsm_key.specs.Places.{all_entries};
+ghost use Rattle.lsm_key.specs.Visible.{lent_entry};
 ghost use Rattle.lsm_edit.specs.Served.{IsServed};
 ghost use Rattle.lsm_coord.specs.Model.Event.{Scan};
 ghost use Rattle.lsm_coord.specs.Contract.Shows.{Follows};
 ghost use Rattle.lsm_coord.specs.Contract.Calls.{IsPoint, ScanRefuses, Scans};
-ghost use Rattle.lsm_coord.specs.Contract.Value.{everything, frozen_entries};
+ghost use Rattle.lsm_coord.specs.Contract.Value.{everything};
 ghost use Rattle.lsm_coord.specs.Contract.Replies.{scan_reply};
-ghost use Rattle.lsm_coord.specs.Inner.Scan.{is_hidden, pair_of, shown_pairs};
+ghost use Rattle.lsm_coord.specs.Inner.Heads.{AllInOrder};
+ghost use Rattle.lsm_coord.specs.Inner.Scan.{AreFirstPairs, is_hidden, pair_of};
+ghost use Rattle.lsm_coord.specs.Inner.Sources.{entry_at, lists_of};
 
 use super::Coord;
 use crate::CoordError;
+use crate::heads::Heads;
 use crate::snapshot::SnapId;
+use crate::source::{Source, SourceEntry};
 use bytes::Bytes;
-use lsm_key::{Entry, Kind, Seq, merge_lists};
+use lsm_edit::LevelCursor;
+use lsm_key::{EntryRef, Kind, Seq};
 use lsm_vault::Vault;
 use std::alloc::{AllocError, Global};
 
 impl<V: Vault> Coord<V> {
     /// The first `limit` keys at or after `lo` and before `hi` that have a value, latest or at a live snapshot:
-    /// ascending, each with its value. Shares the bytes. The cost is that of the entries returned and skipped, not of
-    /// the whole range.
+    /// ascending, each with its value. Shares the bytes. It stops at its limit: O(log n) to
+    /// begin, and O(log s) for each entry returned or skipped, of s memtables, tables of level 0 and deeper levels.
     pub fn scan(
         &mut self,
         lo: &[u8],
@@ -43,7 +48,7 @@ impl<V: Vault> Coord<V> {
         Ok(pairs)
     }
 
-    // What a scan returns, window after window.
+    // What a scan returns.
     fn pairs_between(
         &self,
         lo: &[u8],
@@ -54,137 +59,94 @@ impl<V: Vault> Coord<V> {
         requires { IsPoint self.now point }
         ensures { IfOk result (λ pairs. Scans self.now point lo.now hi.now limit pairs.items) }
     {
-        let mut pairs = Vec::new(self.alloc);
-        if lo.cmp(hi).is_ge() {
-            return Ok(pairs);
-        }
-        let mut from = Bytes::copy_from_slice(self.alloc, lo)?;
-        for _window in 0..u64::MAX {
-            if pairs.len() as u64 >= limit {
-                return Ok(pairs);
-            }
-            let wanted = limit - pairs.len() as u64;
-            let Some(end) = self.window_end(&from, hi, wanted)? else {
-                break;
-            };
-            self.go_on(&mut pairs, &from, &end, point, limit)?;
-            from = end;
-        }
-        self.go_on(&mut pairs, &from, hi, point, limit)?;
-        Ok(pairs)
+        let sources = self.sources_from(lo)?;
+        let heads = Heads::new(self.alloc, sources)?;
+        first_pairs(self.alloc, heads, hi, point, limit)
     }
 
-    // Continues a scan from `from` up to `to`.
-    fn go_on(
-        &self,
-        pairs: &mut Vec<(Bytes, Bytes)>,
-        from: &[u8],
-        to: &[u8],
-        point: Seq,
-        limit: u64,
-    ) -> Result<(), AllocError>
-        requires point { IsPoint self.now point }
-        requires onward { key_le from.now to.now ≡ true }
-        requires few { length pairs.old.items ≤ limit }
-        ensures more { (lo : List ℕ) → key_le lo from.now ≡ true → Scans self.now point lo from.now limit pairs.old.items → OnOk result (Scans self.now point lo to.now limit pairs.new.items) }
-        ensures few { OnOk result (length pairs.new.items ≤ limit) }
-    {
-        let entries = self.entries_between(from, to)?;
-        push_shown(pairs, &entries, point, limit)
-    }
-
-    // Copies of all entries of a window, in order.
-    fn entries_between(&self, from: &[u8], to: &[u8]) -> Result<Vec<Entry>, AllocError>
-        ensures all { IfOk result (λ entries. IsPermutation (filter (is_between from.now to.now) (everything self.now)) entries.items) }
-        ensures order { IfOk result (λ entries. IsInOrder entries.items) }
+    // All entries whose key is at or after `lo`.
+    fn sources_from(&self, lo: &[u8]) -> Result<Vec<Source<'_>>, AllocError>
+        ensures all { IfOk result (λ sources. all_entries (lists_of sources.items) ≡ filter (λ e. key_le lo.now e.ikey.key) (everything self.now)) }
+        ensures order { IfOk result (λ sources. AllInOrder (lists_of sources.items)) }
         ensures sound { IsServed self.now.served }
     {
-        let served = self.versions.served();
-        let active = self.active.range(from, to)?;
-        let frozen = self.frozen_between(from, to)?;
-        let stored = served.range(from, to)?;
-        merged(self.alloc, active, frozen, stored)
-    }
-
-    // Those of the frozen memtable.
-    fn frozen_between(&self, from: &[u8], to: &[u8]) -> Result<Vec<Entry>, AllocError>
-        ensures all { IfOk result (λ entries. entries.items ≡ filter (is_between from.now to.now) (frozen_entries self.now.frozen)) }
-        ensures sound { IsAscending (frozen_entries self.now.frozen) }
-    {
-        match &self.frozen {
-            Some(frozen) => frozen.memtable.range(from, to),
-            None => Ok(Vec::new(self.alloc)),
+        let tables = self.versions.served().cursors_from(lo)?;
+        let mut sources = Vec::with_capacity(self.alloc, tables.len() + 2)?;
+        sources.push(Source::Memtable(self.active.cursor_from(lo)?))?;
+        if let Some(frozen) = &self.frozen {
+            sources.push(Source::Memtable(frozen.memtable.cursor_from(lo)?))?;
         }
+        push_tables(&mut sources, tables)?;
+        Ok(sources)
     }
 }
 
-// The entries of three lists, in order.
-fn merged(
-    alloc: Global,
-    active: Vec<Entry>,
-    frozen: Vec<Entry>,
-    stored: Vec<Entry>,
-) -> Result<Vec<Entry>, AllocError>
-    requires { IsInOrder active.items × IsInOrder frozen.items × IsInOrder stored.items }
-    ensures all { IfOk result (λ entries. IsPermutation (active.items ++ (frozen.items ++ stored.items)) entries.items) }
-    ensures order { IfOk result (λ entries. IsInOrder entries.items) }
-{
-    let mut lists = Vec::with_capacity(alloc, 3)?;
-    lists.push(active)?;
-    lists.push(frozen)?;
-    lists.push(stored)?;
-    let entries = merge_lists(alloc, lists)?;
-    Ok(entries)
-}
-
-// Appends what is visible in sorted entries at the read sequence, up to the limit.
-fn push_shown(
-    pairs: &mut Vec<(Bytes, Bytes)>,
-    entries: &[Entry],
-    point: Seq,
-    limit: u64,
+// Appends cursors over tables.
+fn push_tables<'a>(
+    sources: &mut Vec<Source<'a>>,
+    tables: Vec<LevelCursor<'a>>,
 ) -> Result<(), AllocError>
-    requires { length pairs.old.items ≤ limit }
-    ensures { OnOk result (pairs.new.items ≡ take limit (pairs.old.items ++ shown_pairs point None entries.now)) }
+    ensures { OnOk result (lists_of sources.new.items ≡ lists_of sources.old.items ++ tables.entry.items) }
 {
-    let mut before: Option<&Entry> = None;
-    for entry in entries {
-        if limit <= pairs.len() as u64 {
-            return Ok(());
-        }
-        if hides(point, before, entry) {
-            continue;
-        }
-        push_pair(pairs, entry)?;
-        before = Some(entry);
+    for cursor in tables {
+        sources.push(Source::Tables(cursor))?;
     }
     Ok(())
 }
 
-// Appends the key and the value of a put.
-fn push_pair(pairs: &mut Vec<(Bytes, Bytes)>, entry: &Entry) -> Result<(), AllocError>
-    ensures { OnOk result (pairs.new.items ≡ pairs.old.items ++ pair_of entry.now) }
+// The first pairs of what the heads have left.
+fn first_pairs<'a>(
+    alloc: Global,
+    heads: Heads<'a>,
+    hi: &[u8],
+    point: Seq,
+    limit: u64,
+) -> Result<Vec<(Bytes, Bytes)>, AllocError>
+    requires { AllInOrder heads }
+    ensures { IfOk result (λ pairs. AreFirstPairs point hi.now limit (all_entries heads.entry) pairs.items) }
 {
-    match entry.ikey.kind {
-        Kind::Put => {
-            let key = entry.ikey.key.clone()?;
-            let value = entry.value.clone()?;
-            pairs.push((key, value))?;
+    let mut left = heads;
+    let mut pairs = Vec::new(alloc);
+    let mut before: Option<EntryRef<'a>> = None;
+    while (pairs.len() as u64) < limit {
+        let found = match left.next() {
+            Some(found) => found,
+            None => return Ok(pairs),
+        };
+        let entry = found.entry();
+        if entry.key.cmp(hi).is_ge() {
+            return Ok(pairs);
         }
+        if hides(point, &before, &entry) {
+            continue;
+        }
+        push_pair(&mut pairs, &found)?;
+        before = Some(entry);
+    }
+    Ok(pairs)
+}
+
+// Appends the key and the value of a put.
+fn push_pair(pairs: &mut Vec<(Bytes, Bytes)>, entry: &SourceEntry<'_>) -> Result<(), AllocError>
+    ensures { OnOk result (pairs.new.items ≡ pairs.old.items ++ pair_of (entry_at entry.now)) }
+{
+    let shared = entry.shared()?;
+    match shared.ikey.kind {
+        Kind::Put => pairs.push((shared.ikey.key, shared.value))?,
         Kind::Delete => {}
     }
     Ok(())
 }
 
 // Whether the entry is not visible at the read sequence, or a newer one of its key was.
-fn hides(point: Seq, before: Option<&Entry>, entry: &Entry) -> bool
-    ensures { result ≡ is_hidden point (option_map (λ (r : Bor Entry). r.now) before.entry) entry.now }
+fn hides(point: Seq, before: &Option<EntryRef<'_>>, entry: &EntryRef<'_>) -> bool
+    ensures { result ≡ is_hidden point (option_map lent_entry before.now) (lent_entry entry.now) }
 {
-    if entry.ikey.seq > point {
+    if entry.seq > point {
         return true;
     }
     match before {
         None => false,
-        Some(seen) => seen.ikey.key == entry.ikey.key,
+        Some(seen) => seen.key == entry.key,
     }
 }

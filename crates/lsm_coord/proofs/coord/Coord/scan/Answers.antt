@@ -1,6 +1,6 @@
 use Rattle.std.proofs.Common.{◌∙◌, sym}
 use Rattle.lsm_coord.proofs.SnapshotSteps.{is_point}
-use Rattle.lsm_coord.proofs.ShownWindows.{scan_follows}
+use Rattle.lsm_coord.proofs.ShownRanges.{scan_follows}
 use Rattle.lsm_coord.proofs.coord.Coord.scan.Goals as goal
 
 pub pairs_between-requires : goal.pairs_between-requires

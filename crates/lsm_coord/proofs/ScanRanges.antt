@@ -1,21 +1,18 @@
--- A scan proceeds from window to window.
+-- The pairs of a range of keys.
 use Rattle.std.proofs.Common.{◌≡◌, ℕ, zero, suc, ◌≤◌, Bool, true, false, cond, List, [], ◌∷◌, ◌++◌, Option, None, Some, refl, sym, ap, subst, ◌∙◌, inl, inr, ◌⊎◌, arith, length, take, get_or}
 use Rattle.std.specs.List.{AllPairs, filter}
-use Rattle.std.specs.List.Sorted.{IsPermutation}
 use Rattle.std.specs.Option.{option_and_then, option_map, option_to_list}
 use Rattle.std.proofs.lemmas.List.{length-take, take_all, take-append-le}
 use Rattle.lsm_key.specs.declared.entry.Entry.{Entry}
-use Rattle.lsm_key.specs.Sets.{IsIn}
-use Rattle.lsm_key.specs.Order.{IsInOrder, key_le, is_between}
+use Rattle.lsm_key.specs.Sets.{IsIn, SameMembers}
+use Rattle.lsm_key.specs.Order.{IsInOrder, is_between}
 use Rattle.lsm_key.specs.Visible.{visible, newer, is_seen, entry_value, value_at, IsUnique}
-use Rattle.lsm_key.proofs.Membership.{IsIn-append_cases, IsIn-append_left, IsIn-append_right, IsIn-at, SameMembers-permutation}
-use Rattle.lsm_key.proofs.KeyRanges.{key_le_trans}
+use Rattle.lsm_key.proofs.Membership.{IsIn-at}
 use Rattle.lsm_key.proofs.AscendingEntries.{IsIn-filter}
 use Rattle.lsm_key.proofs.LatestOfList.{visible_same, at_visible, is_seen-key}
 use Rattle.lsm_coord.specs.Model.Range.{IsBelow, InHalfOpenRange, IsRange}
 use Rattle.lsm_coord.specs.Inner.Scan.{shown_pairs, is_hidden, pair_of}
-use Rattle.lsm_coord.proofs.KeyIntervals.{below_upto, key_or, within_parts, within_from, none_within}
-use Rattle.lsm_coord.proofs.ScansAgree.{Pair, Ascends, ascends}
+use Rattle.lsm_coord.proofs.ScansAgree.{Pair, Ascends}
 use Rattle.lsm_coord.proofs.ShownPairs.{pass_is}
 
 -- ---- lists of pairs that ascend
@@ -26,10 +23,6 @@ ascending (x ∷ xs) h zero zero d lt within = absurd (omega arith)
 ascending (x ∷ xs) h zero (suc j) d lt within = h.0 (get_or xs j d) (IsIn-at xs j d (omega arith))
 ascending (x ∷ xs) h (suc i) zero d lt within = absurd (omega arith)
 ascending (x ∷ xs) h (suc i) (suc j) d lt within = ascending xs h.1 i j d (omega arith) (omega arith)
-
-ascends-append : (xs ys : List Pair) → Ascends xs → Ascends ys → ((x y : Pair) → IsIn x xs → IsIn y ys → IsBelow x.0 y.0) → Ascends (xs ++ ys)
-ascends-append [] ys a b apart = b
-ascends-append (x ∷ xs) ys a b apart = (λ y m. elim (IsIn-append_cases y xs ys m) [ inl i ↦ a.0 y i | inr j ↦ apart x y (inl refl) j ], ascends-append xs ys a.1 b (λ p q i j. apart p q (inr i) j))
 
 in_front : (n : ℕ) (xs : List Pair) (x : Pair) → IsIn x (take n xs) → IsIn x xs
 in_front zero xs x m = absurd m
@@ -55,65 +48,20 @@ among_first (suc n) (z ∷ zs) x h m = elim m [
 
 -- ---- ranges of a function of keys
 
-module _ (value_of : List ℕ → Option (List ℕ)) where
-  pub nothing_between : (lo hi : List ℕ) (limit : ℕ) → key_le hi lo ≡ true → IsRange value_of lo hi limit []
-  nothing_between lo hi limit back = record {
-    few = omega arith;
-    ascending = λ i j d lt within. absurd (omega arith);
-    right = λ p m. absurd m;
-    whole = λ key value w v. absurd (none_within lo hi key back w);
-  }
+-- all pairs of a range of keys
+pub record IsWhole (value_of : List ℕ → Option (List ℕ)) (lo hi : List ℕ) (pairs : List Pair) : Type 0 where
+  pub up : Ascends pairs
+  pub right : (p : Pair) → IsIn p pairs → InHalfOpenRange lo hi p.0 × (value_of p.0 ≡ Some p.1)
+  pub whole : (key value : List ℕ) → InHalfOpenRange lo hi key → value_of key ≡ Some value → IsIn (key, value) pairs
 
-  -- a range that is full has nothing after it
-  pub already_full : (lo from hi : List ℕ) (limit : ℕ) (pairs : List Pair) → key_le from hi ≡ true → limit ≤ length pairs → IsRange value_of lo from limit pairs → IsRange value_of lo hi limit pairs
-  already_full lo from hi limit pairs on full r = record {
-    few = r.few;
-    ascending = r.ascending;
-    right = λ p m. let q = r.right p m in let w = within_parts lo from p.0 q.0 in (within_from lo hi p.0 w.0 (below_upto p.0 from hi w.1 on), q.1);
-    whole = λ key value w v. elim (key_or key from) [
-      | inl below ↦ r.whole key value (within_from lo from key (within_parts lo hi key w).0 below) v
-      | inr after ↦ inr (let few = r.few in omega arith, λ p m. below_upto p.0 from key (within_parts lo from p.0 (r.right p m).0).1 after)
-    ];
-  }
-
-  -- the whole of the next window
-  pub record IsWindow (from to : List ℕ) (pairs : List Pair) : Type 0 where
-    pub up : Ascends pairs
-    pub right : (p : Pair) → IsIn p pairs → InHalfOpenRange from to p.0 × (value_of p.0 ≡ Some p.1)
-    pub whole : (key value : List ℕ) → InHalfOpenRange from to key → value_of key ≡ Some value → IsIn (key, value) pairs
-
-  module _ (lo from to : List ℕ) (limit : ℕ) (old more : List Pair) (start : key_le lo from ≡ true) (on : key_le from to ≡ true) (r : IsRange value_of lo from limit old) (w : IsWindow from to more) where
-    joined : Ascends (old ++ more)
-    joined = ascends-append old more (ascends old r.ascending) w.up (λ x y i j. below_upto x.0 from y.0 (within_parts lo from x.0 (r.right x i).0).1 (within_parts from to y.0 (w.right y j).0).0)
-
-    right_of : (p : Pair) → IsIn p (old ++ more) → InHalfOpenRange lo to p.0 × (value_of p.0 ≡ Some p.1)
-    right_of p m = elim (IsIn-append_cases p old more m) [
-      | inl i ↦ let q = r.right p i in let v = within_parts lo from p.0 q.0 in (within_from lo to p.0 v.0 (below_upto p.0 from to v.1 on), q.1)
-      | inr j ↦ let q = w.right p j in let v = within_parts from to p.0 q.0 in (within_from lo to p.0 (key_le_trans lo from p.0 start v.0) v.1, q.1)
-    ]
-
-    first_of : (p : Pair) → IsIn p (old ++ more) → IsIn p (take limit (old ++ more)) ⊎ ((length (take limit (old ++ more)) ≡ limit) × ((q : Pair) → IsIn q (take limit (old ++ more)) → IsBelow q.0 p.0))
-    first_of p m = among_first limit (old ++ more) p joined m
-
-    -- the old ones are full
-    only_old : length old ≡ limit → take limit (old ++ more) ≡ old
-    only_old full = take-append-le limit old more (omega arith) ∙ take_all limit old (omega arith)
-
-    pub go_on : IsRange value_of lo to limit (take limit (old ++ more))
-    go_on = record {
-      few = omega (arith, length-take limit (old ++ more));
-      ascending = ascending (take limit (old ++ more)) (ascends-take limit (old ++ more) joined);
-      right = λ p m. right_of p (in_front limit (old ++ more) p m);
-      whole = λ key value inside v.
-          let parts = within_parts lo to key inside in
-          elim (key_or key from) [
-            | inl below ↦ elim (r.whole key value (within_from lo from key parts.0 below) v) [
-              | inl i ↦ first_of (key, value) (IsIn-append_left (key, value) old more i)
-              | inr out ↦ inr (rw (only_old out.0) out)
-            ]
-            | inr after ↦ first_of (key, value) (IsIn-append_right (key, value) old more (w.whole key value (within_from from to key after parts.1) v))
-          ];
-    }
+-- the first of them
+pub first_of_whole : (value_of : List ℕ → Option (List ℕ)) (lo hi : List ℕ) (limit : ℕ) (pairs : List Pair) → IsWhole value_of lo hi pairs → IsRange value_of lo hi limit (take limit pairs)
+first_of_whole value_of lo hi limit pairs h = record {
+  few = omega (arith, length-take limit pairs);
+  ascending = ascending (take limit pairs) (ascends-take limit pairs h.up);
+  right = λ p m. h.right p (in_front limit pairs p m);
+  whole = λ key value inside v. among_first limit pairs (key, value) h.up (h.whole key value inside v);
+}
 
 -- only the values count
 pub same_range : (one other : List ℕ → Option (List ℕ)) (lo hi : List ℕ) (limit : ℕ) (pairs : List Pair) → ((key : List ℕ) → one key ≡ other key) → IsRange one lo hi limit pairs → IsRange other lo hi limit pairs
@@ -124,7 +72,7 @@ same_range one other lo hi limit pairs same r = record {
   whole = λ key value w v. r.whole key value w (same key ∙ v);
 }
 
--- ---- the entries of a window
+-- ---- the entries of a range
 
 unique-filter : (test : Entry → Bool) (es : List Entry) → IsUnique es → IsUnique (filter test es)
 unique-filter test es u e f me mf keys seqs = u e f (IsIn-filter test e es me).0 (IsIn-filter test f es mf).0 keys seqs
@@ -146,23 +94,23 @@ visible-between from to key p w (e ∷ es) = by (is_between from to e) refl (vis
             let bad : false ≡ true = sym h ∙ yes in
             absurd cc
 
-module _ (all es : List Entry) (from to : List ℕ) (p : ℕ) (unique : IsUnique all) (perm : IsPermutation (filter (is_between from to) all) es) (order : IsInOrder es) where
+module _ (all es : List Entry) (from to : List ℕ) (p : ℕ) (unique : IsUnique all) (same : SameMembers (filter (is_between from to) all) es) (order : IsInOrder es) where
   value_within : (key : List ℕ) → InHalfOpenRange from to key → value_at es key p ≡ value_at all key p
   value_within key w =
       ap (option_and_then entry_value) (
-      sym (visible_same (filter (is_between from to) all) es key p (unique-filter (is_between from to) all unique) (SameMembers-permutation (filter (is_between from to) all) es perm))
+      sym (visible_same (filter (is_between from to) all) es key p (unique-filter (is_between from to) all unique) same)
       ∙ visible-between from to key p w all)
 
-  -- a key that has a value is one of the window's
+  -- a key that has a value is one of the range's
   inside : (key value : List ℕ) (o : Option Entry) → visible es key p ≡ o → option_and_then entry_value o ≡ Some value → InHalfOpenRange from to key
   inside key value None found v = absurd cc
   inside key value (Some x) found v =
       let l = at_visible es key p x found in
-      let m = (SameMembers-permutation (filter (is_between from to) all) es perm x).1 l.member in
+      let m = (same x).1 l.member in
       subst (λ (k : List ℕ). InHalfOpenRange from to k) (is_seen-key key p x l.satisfies) (IsIn-filter (is_between from to) x all m).1
 
-  pub window_is : IsWindow (λ key. value_at all key p) from to (shown_pairs p None es)
-  window_is =
+  pub whole_range : IsWhole (λ key. value_at all key p) from to (shown_pairs p None es)
+  whole_range =
       let passes = pass_is p es order in
       record {
         up = passes.up;

@@ -1,12 +1,12 @@
--- In every state that is shown, a scan proceeds from window to window.
-use Rattle.std.proofs.Common.{◌≡◌, ℕ, ◌≤◌, Bool, true, cond, is_none, List, [], ◌++◌, Option, None, Some, subst, refl, sym, ap, ◌∙◌, length, take}
+-- In every state that is shown, a scan gives the first pairs of a range.
+use Rattle.std.proofs.Common.{◌≡◌, ℕ, Bool, true, false, cond, ◌&&◌, is_none, List, [], ◌∷◌, ◌++◌, inl, inr, Option, None, Some, subst, refl, sym, ap, ◌∙◌, take}
 use Rattle.std.specs.List.{filter}
 use Rattle.std.specs.List.Sorted.{IsPermutation}
 use Rattle.lsm_key.specs.declared.entry.Entry.{Entry}
-use Rattle.std.proofs.lemmas.List.Elements.{filter-append}
-use Rattle.std.proofs.lemmas.List.Sorted.{IsPermutation-append_right, IsPermutation-trans}
-use Rattle.lsm_key.specs.Order.{IsAscending, IsInOrder, key_le, is_between}
-use Rattle.lsm_key.proofs.AscendingEntries.{ascending_falls, falls-filter, falls_in_order}
+use Rattle.std.specs.Prelude.{◌↔◌}
+use Rattle.std.proofs.lemmas.Bool.{true≢false}
+use Rattle.lsm_key.specs.Order.{key_le, key_lt, is_between}
+use Rattle.lsm_key.specs.Sets.{IsIn, SameMembers}
 use Rattle.lsm_key.specs.Visible.{IsUnique, value_at}
 use Rattle.lsm_key.specs.Writes.{answer}
 use Rattle.lsm_key.proofs.Membership.{SameMembers-permutation}
@@ -21,7 +21,7 @@ use Rattle.lsm_coord.specs.Model.Event as say
 use Rattle.lsm_coord.specs.Model.Rules.{unless_down, read_refusal, release_refusal}
 use Rattle.lsm_coord.specs.Model.Changes.{read_at}
 use Rattle.lsm_coord.specs.Model.Range.{IsRange}
-use Rattle.lsm_coord.specs.Inner.Scan.{shown_pairs}
+use Rattle.lsm_coord.specs.Inner.Scan.{AreBelow, AreFirstPairs, shown_pairs}
 use Rattle.lsm_coord.specs.Contract.Value.{CoordValue, frozen_entries, stored_entries, everything}
 use Rattle.lsm_edit.proofs.ServedPlaces.{stored_unique}
 use Rattle.lsm_coord.specs.Contract.Calls as calls
@@ -30,12 +30,45 @@ use Rattle.lsm_coord.specs.Contract.Shows.{Shows, Follows}
 use Rattle.lsm_coord.proofs.ScansAgree.{Pair}
 use Rattle.lsm_coord.proofs.ReadAnswers.{AreStored, reads, active_first, frozen_above}
 use Rattle.lsm_coord.proofs.SearchAnswers.{point_is}
-use Rattle.lsm_coord.proofs.ScanWindows.{nothing_between, already_full, go_on, same_range, window_is}
+use Rattle.lsm_coord.proofs.ScanRanges.{first_of_whole, same_range, whole_range}
 
 -- ---- no two entries of one key and sequence
 
 unique_same : (xs ys : List Entry) → IsPermutation xs ys → IsUnique ys → IsUnique xs
 unique_same xs ys perm u e f me mf keys seqs = let m = SameMembers-permutation xs ys perm in u e f ((m e).0 me) ((m f).0 mf) keys seqs
+
+-- ---- those from lo on and before hi
+
+between_kept : (lo hi : List ℕ) (b : Bool) (e : Entry) (es : List Entry) → key_le lo e.ikey.key ≡ b → (x : Entry)
+    → (IsIn x (filter (is_between lo hi) es) ↔ (IsIn x (filter (λ e. key_le lo e.ikey.key) es) × (key_lt x.ikey.key hi ≡ true)))
+    → IsIn x (cond (b && key_lt e.ikey.key hi) (e ∷ filter (is_between lo hi) es) (filter (is_between lo hi) es))
+    ↔ (IsIn x (cond b (e ∷ filter (λ e. key_le lo e.ikey.key) es) (filter (λ e. key_le lo e.ikey.key) es)) × (key_lt x.ikey.key hi ≡ true))
+between_kept lo hi false e es is x h = h
+between_kept lo hi true e es is x h = by (key_lt e.ikey.key hi) refl
+  where
+    by : (d : Bool) → key_lt e.ikey.key hi ≡ d
+        → IsIn x (cond d (e ∷ filter (is_between lo hi) es) (filter (is_between lo hi) es)) ↔ (IsIn x (e ∷ filter (λ e. key_le lo e.ikey.key) es) × (key_lt x.ikey.key hi ≡ true))
+    by true below = (
+      λ m. elim m [
+        | inl own ↦ (inl own, subst (λ (g : Entry). key_lt g.ikey.key hi ≡ true) (sym own) below)
+        | inr other ↦ (let q = h.0 other in (inr q.0, q.1))
+      ],
+      λ q. elim q.0 [ inl own ↦ inl own | inr other ↦ inr (h.1 (other, q.1)) ],
+    )
+    by false below = (
+      λ m. (let q = h.0 m in (inr q.0, q.1)),
+      λ q. elim q.0 [
+        | inl own ↦ absurd (true≢false (sym q.1 ∙ ap (λ (g : Entry). key_lt g.ikey.key hi) own ∙ below))
+        | inr other ↦ h.1 (other, q.1)
+      ],
+    )
+
+between_parts : (lo hi : List ℕ) (es : List Entry) (x : Entry) → IsIn x (filter (is_between lo hi) es) ↔ (IsIn x (filter (λ e. key_le lo e.ikey.key) es) × (key_lt x.ikey.key hi ≡ true))
+between_parts lo hi [] x = (λ m. absurd m, λ q. q.0)
+between_parts lo hi (e ∷ es) x = between_kept lo hi (key_le lo e.ikey.key) e es refl x (between_parts lo hi es x)
+
+between_below : (lo hi : List ℕ) (es sorted : List Entry) → AreBelow hi (filter (λ e. key_le lo e.ikey.key) es) sorted → SameMembers (filter (is_between lo hi) es) sorted
+between_below lo hi es sorted h x = (λ m. (h x).1 ((between_parts lo hi es x).0 m), λ m. (between_parts lo hi es x).1 ((h x).0 m))
 
 module _ (c : CoordValue) (s : State) (h : Shows c s) (served : IsServed c.served) where
   stored_in : AreStored (stored_entries c.served) s
@@ -54,43 +87,29 @@ module _ (c : CoordValue) (s : State) (h : Shows c s) (served : IsServed c.serve
     right_value : (key : List ℕ) → value_at (everything c) key p ≡ answer s.writes p key
     right_value key = reads c.active (frozen_entries c.frozen) (stored_entries c.served) s h.memtables stored_in p key (point_is c s p h point)
 
-    onward : (lo from to : List ℕ) (limit : ℕ) (old : List Pair) (es : List Entry) → IsPermutation (filter (is_between from to) (everything c)) es → IsInOrder es
-        → key_le lo from ≡ true → key_le from to ≡ true → IsRange (answer s.writes p) lo from limit old → IsRange (answer s.writes p) lo to limit (take limit (old ++ shown_pairs p None es))
-    onward lo from to limit old es perm order start on r =
+    first_shown : (lo hi : List ℕ) (limit : ℕ) (pairs : List Pair) → AreFirstPairs p hi limit (filter (λ e. key_le lo e.ikey.key) (everything c)) pairs → IsRange (answer s.writes p) lo hi limit pairs
+    first_shown lo hi limit pairs h =
         let value_of : List ℕ → Option (List ℕ) = λ key. value_at (everything c) key p in
-        same_range value_of (answer s.writes p) lo to limit (take limit (old ++ shown_pairs p None es)) right_value
-        (go_on value_of lo from to limit old (shown_pairs p None es) start on
-        (same_range (answer s.writes p) value_of lo from limit old (λ key. sym (right_value key)) r)
-        (window_is (everything c) es from to p everything_unique perm order))
-
--- ---- the parts of a window
-
-pub part_in_order : (from to : List ℕ) (es part : List Entry) → IsAscending es → part ≡ filter (is_between from to) es → IsInOrder part
-part_in_order from to es part up is = subst IsInOrder (sym is) (falls_in_order (filter (is_between from to) es) (falls-filter (is_between from to) es (ascending_falls es up)))
-
-pub parts_together : (from to : List ℕ) (a f t pa pf pt es : List Entry) → pa ≡ filter (is_between from to) a → pf ≡ filter (is_between from to) f → IsPermutation (filter (is_between from to) t) pt
-    → IsPermutation (pa ++ (pf ++ pt)) es → IsPermutation (filter (is_between from to) (a ++ (f ++ t))) es
-parts_together from to a f t pa pf pt es ea ef et p =
-    let test = is_between from to in
-    let split : filter test (a ++ (f ++ t)) ≡ pa ++ (pf ++ filter test t) =
-    filter-append test a (f ++ t)
-    ∙ ap (λ (xs : List Entry). filter test a ++ xs) (filter-append test f t)
-    ∙ (λ i. sym ea i ++ (sym ef i ++ filter test t)) in
-    IsPermutation-trans (filter test (a ++ (f ++ t))) (pa ++ (pf ++ pt)) es
-    (subst (λ (xs : List Entry). IsPermutation xs (pa ++ (pf ++ pt))) (sym split) (IsPermutation-append_right pa (pf ++ filter test t) (pf ++ pt) (IsPermutation-append_right pf (filter test t) pt et))) p
+        subst (IsRange (answer s.writes p) lo hi limit) (sym h.first)
+        (same_range value_of (answer s.writes p) lo hi limit (take limit (shown_pairs p None h.sorted)) right_value
+        (first_of_whole value_of lo hi limit (shown_pairs p None h.sorted)
+        (whole_range (everything c) h.sorted lo hi p everything_unique (between_below lo hi (everything c) h.sorted h.all) h.order)))
 
 -- ---- the same, of each state
 
-pub scans_on : (c : CoordValue) (p : ℕ) (lo from to : List ℕ) (limit : ℕ) (old : List Pair) (es : List Entry) → calls.IsPoint c p → IsServed c.served
-    → IsPermutation (filter (is_between from to) (everything c)) es → IsInOrder es → key_le lo from ≡ true → key_le from to ≡ true
-    → Scans c p lo from limit old → Scans c p lo to limit (take limit (old ++ shown_pairs p None es))
-scans_on c p lo from to limit old es point served perm order start on r s h = onward c s h served p point lo from to limit old es perm order start on (r s h)
-
-pub scans_nothing : (c : CoordValue) (p : ℕ) (lo hi : List ℕ) (limit : ℕ) → key_le hi lo ≡ true → Scans c p lo hi limit []
-scans_nothing c p lo hi limit back s h = nothing_between (answer s.writes p) lo hi limit back
-
-pub scans_full : (c : CoordValue) (p : ℕ) (lo from hi : List ℕ) (limit : ℕ) (pairs : List Pair) → key_le from hi ≡ true → limit ≤ length pairs → Scans c p lo from limit pairs → Scans c p lo hi limit pairs
-scans_full c p lo from hi limit pairs on full r s h = already_full (answer s.writes p) lo from hi limit pairs on full (r s h)
+pub scans_first : (c : CoordValue) (p : ℕ) (lo hi : List ℕ) (limit : ℕ) (entries : List Entry) (pairs : List Pair) → calls.IsPoint c p → IsServed c.served
+    → SameMembers (filter (λ e. key_le lo e.ikey.key) (everything c)) entries → AreFirstPairs p hi limit entries pairs → Scans c p lo hi limit pairs
+scans_first c p lo hi limit entries pairs point served same h s shows =
+    first_shown c s shows served p point lo hi limit pairs
+    (record {
+      sorted = h.sorted;
+      all = λ e. (
+        λ m. (let q = (h.all e).0 m in ((same e).1 q.0, q.1)),
+        λ q. (h.all e).1 ((same e).0 q.0, q.1),
+      );
+      order = h.order;
+      first = h.first;
+    })
 
 -- ---- the reply
 
