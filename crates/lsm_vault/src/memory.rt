@@ -1,13 +1,13 @@
 //! A vault in memory.
 
-ghost use Rattle.std.specs.Prelude.{◌≡◌, [], IfOk};
+ghost use Rattle.std.specs.Prelude.{◌≡◌, []};
 ghost use Rattle.std.specs.FinMap as map;
 
 use crate::tables::Tables;
 use crate::{Vault, VaultError};
 use bytes::Bytes;
 use lsm_key::FileNumber;
-use std::alloc::{AllocError, Global};
+use std::alloc::Global;
 
 /// A vault in memory. It has no device that could fail, so it never reports `Device`.
 #[derive(Drop)]
@@ -39,12 +39,12 @@ impl Vault for MemoryVault {
     ghost failures = { λ _. 0 };
 
     fn put_table(&mut self, number: FileNumber, table: Bytes) -> Result<(), VaultError> {
-        self.tables.insert(number.number(), table)?;
+        self.tables.insert(number, table)?;
         Ok(())
     }
 
     fn remove_table(&mut self, number: FileNumber) -> Result<(), VaultError> {
-        self.tables.remove(number.number());
+        self.tables.remove(number);
         Ok(())
     }
 
@@ -58,26 +58,14 @@ impl Vault for MemoryVault {
     }
 
     fn table(&mut self, number: FileNumber) -> Result<Option<Bytes>, VaultError> {
-        Ok(self.tables.get(number.number())?)
+        Ok(self.tables.get(number)?)
     }
 
     fn numbers(&mut self) -> Result<Vec<FileNumber>, VaultError> {
-        let numbers = self.tables.numbers(self.alloc)?;
-        Ok(file_numbers(self.alloc, numbers.as_slice())?)
+        Ok(self.tables.numbers(self.alloc)?)
     }
 
     fn failures(&self) -> u64 {
         0
     }
-}
-
-// The same numbers, as numbers of files.
-fn file_numbers(alloc: Global, numbers: &[u64]) -> Result<Vec<FileNumber>, AllocError>
-    ensures { IfOk result (λ all. all.items ≡ numbers.now) }
-{
-    let mut files = Vec::with_capacity(alloc, numbers.len())?;
-    for number in numbers {
-        files.push(FileNumber::new(*number))?;
-    }
-    Ok(files)
 }

@@ -5,5 +5,5 @@ use Rattle.lsm_vault.proofs.TableLookups.{one_removed}
 use Rattle.lsm_vault.proofs.tables.Tables.remove.Goals as goal
 
 pub returns : goal.returns
-returns c = one_removed c.self.inside.by_number.entries c.remove.new.self.entries c.args.number c.remove.ensures.updates.0
-    ∙ ap (λ (m : map.FinMap nat_cmp (List ℕ)). map.remove m c.args.number) c.self.view_is
+returns c = rw (← c.number.ensures) (one_removed c.self.inside.by_number.entries c.remove.new.self.entries c.number.result c.remove.ensures.updates.0
+    ∙ ap (λ (m : map.FinMap nat_cmp (List ℕ)). map.remove m c.number.result) c.self.view_is)

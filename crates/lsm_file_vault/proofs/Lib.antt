@@ -1,0 +1,3 @@
+pub mod FrameReading
+pub mod StoppedAppends
+pub mod TornFrames

@@ -1,0 +1,64 @@
+-- A frame: how an edit and a table stand in their files (RocksDB, db/log_format.h: a checksum and a length before the bytes; the layout is the store's own).
+use Rattle.std.specs.Prelude.{◌≡◌, ℕ, ◌-◌, ◌^◌, Bool, ◌==◌, ◌||◌, ◌&&◌, nat_lt, nat_le, List, [], ◌∷◌, ◌++◌, length, take, drop, Option, Some, None, Result, Ok, Err, IsErr, if◌then◌else◌}
+use Rattle.std.specs.List.{list_all}
+use Rattle.std.specs.Int.{w32, w64, to_be_bytes, from_be_bytes}
+use Rattle.std.specs.Hash.DefaultHasher as sip
+use Rattle.lsm_key.specs.Reading.{◌>>=◌, number_at, fixed_at, piece_at}
+use Rattle.lsm_file_vault.specs.declared.frame.FrameFault.{FrameFault}
+use Rattle.lsm_file_vault.specs.declared.frame.FrameFault.TheVariants.{Truncated, BadLength, BadChecksum}
+
+-- SipHash-1-3 under keys of zero
+abbrev pub checksum : List ℕ → ℕ
+checksum bytes = sip.finish (sip.write sip.initial bytes)
+
+-- each bit of a u32 turned
+abbrev pub turned : ℕ → ℕ
+turned n = 2 ^ 32 - 1 - n
+
+-- four bytes of length, the same turned, eight bytes of checksum, and the bytes
+abbrev pub header : List ℕ → List ℕ
+header bytes = to_be_bytes w32 (length bytes) ++ to_be_bytes w32 (turned (length bytes)) ++ to_be_bytes w64 (checksum bytes)
+
+abbrev pub frame : List ℕ → List ℕ
+frame bytes = header bytes ++ bytes
+
+-- the bytes of the first frame, and what stands behind it
+unfoldable pub frame_at : List ℕ → Result (List ℕ × List ℕ) FrameFault
+frame_at file = do
+  n ← number_at Truncated w32 file
+  after_length ← fixed_at Truncated BadLength w32 (turned n.0) n.1
+  sum ← number_at Truncated w64 after_length
+  held ← piece_at Truncated n.0 sum.1
+  if sum.0 == checksum held.0 then Ok held else Err BadChecksum
+
+-- the bytes of a frame with nothing behind it
+abbrev pub alone : Result (List ℕ × List ℕ) FrameFault → Option (List ℕ)
+alone (Ok (bytes, [])) = Some bytes
+alone (Ok (bytes, b ∷ rest)) = None
+alone (Err fault) = None
+
+-- the bytes of a file that is one frame and nothing else
+abbrev pub only_frame_at : List ℕ → Option (List ℕ)
+only_frame_at file = alone (frame_at file)
+
+-- frames one after another
+abbrev pub frames : List (List ℕ) → List ℕ
+frames [] = []
+frames (bytes ∷ more) = frame bytes ++ frames more
+
+-- from the front of a file a frame was taken, or there is none and nothing was taken
+abbrev pub IsTaken : Option (List ℕ) → List ℕ → List ℕ → Type 0
+IsTaken (Some bytes) before after = before ≡ frame bytes ++ after
+IsTaken None before after = (after ≡ before) × IsErr (frame_at before)
+
+-- the length that a header claims
+abbrev pub claimed : List ℕ → ℕ
+claimed rest = from_be_bytes w32 (take 4 rest)
+
+-- a length and its complement agree, and the frame would reach to the end of the bytes or past it
+abbrev pub reaches_end : List ℕ → Bool
+reaches_end rest = from_be_bytes w32 (take 4 (drop 4 rest)) == turned (claimed rest) && nat_le (length rest - 16) (claimed rest)
+
+-- what a stop in the middle of the last append may leave, where no frame begins: less than a header, zeros, or a frame that was cut short or has lost bytes
+abbrev pub is_torn : List ℕ → Bool
+is_torn rest = nat_lt (length rest) 16 || list_all (λ b. b == 0) rest || reaches_end rest

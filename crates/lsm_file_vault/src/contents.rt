@@ -1,0 +1,121 @@
+//! What a folder holds, as it is read.
+
+use crate::edits_file::{EditsFile, read_edits};
+use crate::frame::only_frame;
+use crate::names::{EDITS, FileKind, file_path, kind_of, table_path};
+use crate::{FileCall, OpenError};
+use bytes::Bytes;
+use lsm_key::{FileNumber, Refused};
+use lsm_vault::Tables;
+use std::fs;
+use std::rt::Files;
+
+/// What a folder holds.
+#[derive(Drop)]
+pub struct Contents {
+    /// The tables whose files are whole.
+    pub tables: Tables,
+    /// The numbers of the tables whose files are damaged, in no order.
+    pub damaged_tables: Vec<FileNumber>,
+    /// The edits, in the order in which they were appended.
+    pub edits: Vec<Bytes>,
+    /// How many bytes the edits take in their file, with their frames.
+    pub edits_bytes: u64,
+    /// How many bytes behind the last edit a stop in the middle of an append has left.
+    pub torn_bytes: u64,
+}
+
+impl Contents {
+    /// Reads the folder at `path`. It writes, cuts and locks nothing. A folder without a file of edits has none.
+    ///
+    /// Damaged edits and a file of a name that no vault gives are errors. Damaged tables and torn bytes are reported.
+    pub fn read<R: Files + AllocGlobal + Clone + Drop>(
+        files: &R,
+        path: &str,
+    ) -> Result<Contents, OpenError> {
+        let alloc = files.alloc();
+        let mut tables = Tables::new(alloc);
+        let mut damaged_tables = Vec::new(alloc);
+        for number in table_numbers(files, path)? {
+            match table_of(files, path, number)? {
+                Some(table) => {
+                    tables.insert(number, table)?;
+                }
+                None => damaged_tables.push(number)?,
+            }
+        }
+        let found = edits_of(files, path)?;
+        Ok(Contents {
+            tables,
+            damaged_tables,
+            edits: found.edits,
+            edits_bytes: found.edits_bytes,
+            torn_bytes: found.torn_bytes,
+        })
+    }
+}
+
+/// The numbers of the tables in the folder. A file of a name that no vault gives is refused.
+pub(crate) fn table_numbers<R: Files + AllocGlobal + Clone + Drop>(
+    files: &R,
+    path: &str,
+) -> Result<Vec<FileNumber>, OpenError> {
+    let alloc = files.alloc();
+    let mut numbers = Vec::new(alloc);
+    let listed = fs::read_dir(files, path);
+    let entries = listed.map_err(|error| OpenError::io(alloc, FileCall::List, path, error))?;
+    for entry in entries {
+        let entry = entry.map_err(|error| OpenError::io(alloc, FileCall::List, path, error))?;
+        match kind_of(entry.file_name()) {
+            FileKind::Table(number) => numbers.push(number)?,
+            FileKind::Edits | FileKind::NewTable | FileKind::Lock => {}
+            FileKind::Foreign => {
+                let file = file_path(alloc, path, entry.file_name())?;
+                return Err(OpenError::ForeignFile { file });
+            }
+        }
+    }
+    Ok(numbers)
+}
+
+// The table of this number, or none if its file is damaged.
+fn table_of<R: Files + AllocGlobal>(
+    files: &R,
+    path: &str,
+    number: FileNumber,
+) -> Result<Option<Bytes>, OpenError> {
+    let file = table_path(files.alloc(), path, number)?;
+    let bytes = read_file(files, file.as_str())?;
+    Ok(only_frame(bytes)?)
+}
+
+// The edits.
+fn edits_of<R: Files + AllocGlobal>(files: &R, path: &str) -> Result<EditsFile, OpenError> {
+    let alloc = files.alloc();
+    let file = file_path(alloc, path, EDITS)?;
+    let exists = fs::exists(files, file.as_str());
+    let exists = exists.map_err(|error| OpenError::io(
+        alloc,
+        FileCall::Read,
+        file.as_str(),
+        error,
+    ))?;
+    let bytes = if exists {
+        read_file(files, file.as_str())?
+    } else {
+        Bytes::new()
+    };
+    match read_edits(alloc, bytes) {
+        Ok(found) => Ok(found),
+        Err(Refused::Fault(offset)) => Err(OpenError::DamagedEdits { file, offset }),
+        Err(Refused::OutOfMemory) => Err(OpenError::OutOfMemory),
+    }
+}
+
+// All bytes of a file.
+fn read_file<R: Files + AllocGlobal>(files: &R, file: &str) -> Result<Bytes, OpenError> {
+    let alloc = files.alloc();
+    let read = fs::read(files, file);
+    let bytes = read.map_err(|error| OpenError::io(alloc, FileCall::Read, file, error))?;
+    Ok(Bytes::from_vec(bytes)?)
+}

@@ -1,0 +1,40 @@
+//! The file of the edits: a frame for each.
+
+ghost use Rattle.std.specs.Prelude.{◌≡◌, Err, IfOk};
+ghost use Rattle.lsm_key.specs.declared.refused.Refused.TheVariants.{Fault};
+ghost use Rattle.lsm_file_vault.specs.EditsFile.{IsDamagedAt, IsEditsFile};
+
+use crate::frame::{is_torn, read_frames};
+use bytes::Bytes;
+use lsm_key::Refused;
+use std::alloc::Global;
+
+/// What the file of the edits holds.
+#[derive(Drop)]
+pub(crate) struct EditsFile {
+    /// The edits, in the order in which they were appended.
+    pub edits: Vec<Bytes>,
+    /// How many bytes they take, with their frames.
+    pub edits_bytes: u64,
+    /// How many bytes a stop in the middle of an append has left behind them.
+    pub torn_bytes: u64,
+}
+
+/// Reads the edits in the bytes of their file. What can't be left by a stop is a fault: the offset at which it begins.
+pub(crate) fn read_edits(alloc: Global, file: Bytes) -> Result<EditsFile, Refused<u64>>
+    ensures ok { IfOk result (λ found. IsEditsFile file found.edits.items found.edits_bytes found.torn_bytes) }
+    ensures fault { (offset : _) → result ≡ Err (Fault offset) → IsDamagedAt file offset }
+{
+    let len = file.len();
+    let (edits, rest) = read_frames(alloc, file)?;
+    let edits_bytes = (len - rest.len()) as u64;
+    if is_torn(rest.as_slice()) {
+        Ok(EditsFile {
+            edits,
+            edits_bytes,
+            torn_bytes: rest.len() as u64,
+        })
+    } else {
+        Err(Refused::Fault(edits_bytes))
+    }
+}

@@ -1,0 +1,97 @@
+//! Why a folder is not opened.
+
+use lsm_key::FileNumber;
+use std::alloc::{AllocError, AllocFailed, Global};
+use std::{fmt, io};
+use thiserror::Error;
+
+/// Why a folder is not opened or read. Each names the file or the folder.
+#[derive(Debug, Drop, Error)]
+pub enum OpenError {
+    #[error("out of memory")]
+    OutOfMemory,
+    /// A call on a file or on a folder failed.
+    #[error("{path} could not be {call}: {error}")]
+    Io {
+        path: String,
+        call: FileCall,
+        error: io::Error,
+    },
+    #[error("the path {path} is not a folder")]
+    NotAFolder {
+        path: String,
+    },
+    /// Another process has the folder open.
+    #[error("the folder {path} is in use by another process")]
+    Busy {
+        path: String,
+    },
+    /// The folder has a file that no vault writes.
+    #[error("the file {file} does not belong to a store")]
+    ForeignFile {
+        file: String,
+    },
+    /// The table of this number is not what was written.
+    #[error("the file {file} is damaged: it does not hold the table {}", .number.number())]
+    DamagedTable {
+        file: String,
+        number: FileNumber,
+    },
+    /// An edit is not what was written, and others may follow it. The edit begins at this offset.
+    #[error("the file {file} is damaged: the edit at offset {offset} is not whole")]
+    DamagedEdits {
+        file: String,
+        offset: u64,
+    },
+}
+
+/// A call on a file, or on a folder.
+#[derive(Clone, Copy, Debug, PartialEq, Eq)]
+pub enum FileCall {
+    Create,
+    List,
+    Open,
+    Read,
+    Cut,
+    Sync,
+    Lock,
+}
+
+impl fmt::Display for FileCall {
+    fn fmt<W: fmt::Write>(&self, f: &mut fmt::Formatter<W>) -> fmt::Result {
+        f.write_str(match self {
+            FileCall::Create => "created",
+            FileCall::List => "listed",
+            FileCall::Open => "opened",
+            FileCall::Read => "read",
+            FileCall::Cut => "cut",
+            FileCall::Sync => "synced",
+            FileCall::Lock => "locked",
+        })
+    }
+}
+
+impl OpenError {
+    /// Why a call on the file or folder at this path failed.
+    pub(crate) fn io(alloc: Global, call: FileCall, path: &str, error: io::Error) -> OpenError {
+        if error.kind() == io::ErrorKind::OutOfMemory {
+            return OpenError::OutOfMemory;
+        }
+        match String::from_str(alloc, path) {
+            Ok(path) => OpenError::Io { path, call, error },
+            Err(_) => OpenError::OutOfMemory,
+        }
+    }
+}
+
+impl From<AllocError> for OpenError {
+    fn from(_e: AllocError) -> OpenError {
+        OpenError::OutOfMemory
+    }
+}
+
+impl<T: Drop> From<AllocFailed<T>> for OpenError {
+    fn from(_e: AllocFailed<T>) -> OpenError {
+        OpenError::OutOfMemory
+    }
+}

@@ -1,0 +1,119 @@
+//! The vault over a folder.
+
+ghost use Rattle.std.specs.Prelude.{◌≡◌, IsErr};
+ghost use Rattle.lsm_vault.specs.Failures.{CountsFailures};
+
+use crate::Folder;
+use bytes::Bytes;
+use lsm_key::FileNumber;
+use lsm_vault::{Tables, Vault, VaultError};
+use std::alloc::Global;
+use std::io;
+
+/// A vault whose tables and edits are in a folder and also in memory, from which they are read: the bytes of a table are shared with
+/// who reads it. So a read never fails for the folder, and a change that the folder refused is not seen.
+#[derive(Drop)]
+pub struct FileVault<F: Folder> {
+    alloc: Global,
+    folder: F,
+    tables: Tables,
+    edits: Vec<Bytes>,
+    failures: u64,
+    ghost same_tables: { tables ≡ F.tables folder },
+    ghost same_edits: { edits.items ≡ F.edits folder },
+}
+
+impl<F: Folder> FileVault<F> {
+    /// A vault over a folder that has these tables and edits. No failure is counted yet.
+    pub fn new(alloc: Global, folder: F, tables: Tables, edits: Vec<Bytes>) -> FileVault<F>
+        requires same_tables { tables ≡ F.tables folder }
+        requires same_edits { edits.items ≡ F.edits folder }
+        ensures tables { ⟦<FileVault<F> as Vault>⟧.tables result ≡ F.tables folder }
+        ensures edits { ⟦<FileVault<F> as Vault>⟧.edits result ≡ F.edits folder }
+        ensures failures { ⟦<FileVault<F> as Vault>⟧.failures result ≡ 0 }
+    {
+        FileVault {
+            alloc,
+            folder,
+            tables,
+            edits,
+            failures: 0,
+        }
+    }
+}
+
+// Reports why the folder refused a call. A failure of the device is counted first; a count at its greatest value can't tell of one more.
+fn refusal<T>(failures: &mut u64, error: io::Error) -> Result<T, VaultError>
+    ensures err { IsErr result }
+    ensures counted { CountsFailures result failures.old failures.new }
+{
+    if error.kind() == io::ErrorKind::OutOfMemory {
+        return Err(VaultError::OutOfMemory);
+    }
+    match failures.checked_add(1) {
+        Some(count) => {
+            *failures = count;
+            Err(VaultError::Device)
+        }
+        None => Err(VaultError::OutOfMemory),
+    }
+}
+
+#[tactic(auto, using(lsm_vault::proofs::Restoring::put_restored))]
+impl<F: Folder> Vault for FileVault<F> {
+    ghost tables = { λ v. F.tables v.folder };
+
+    ghost edits = { λ v. F.edits v.folder };
+
+    ghost failures = { λ v. v.failures };
+
+    fn put_table(&mut self, number: FileNumber, table: Bytes) -> Result<(), VaultError> {
+        let shared = table.clone()?;
+        // Memory first, since that can be undone.
+        let before = self.tables.insert(number, shared)?;
+        match self.folder.put_table(number, &table) {
+            Ok(()) => Ok(()),
+            Err(error) => {
+                self.tables.put_back(number, before);
+                refusal(&mut self.failures, error)
+            }
+        }
+    }
+
+    fn remove_table(&mut self, number: FileNumber) -> Result<(), VaultError> {
+        match self.folder.remove_table(number) {
+            Ok(()) => {
+                self.tables.remove(number);
+                Ok(())
+            }
+            Err(error) => refusal(&mut self.failures, error),
+        }
+    }
+
+    fn append_edit(&mut self, edit: Bytes) -> Result<(), VaultError> {
+        self.edits.reserve(1)?;
+        match self.folder.append_edit(&edit) {
+            Ok(()) => {
+                self.edits.push_reserved(edit);
+                Ok(())
+            }
+            Err(error) => refusal(&mut self.failures, error),
+        }
+    }
+
+    fn edits(&mut self) -> Result<Vec<Bytes>, VaultError> {
+        Ok(self.edits.clone()?)
+    }
+
+    fn table(&mut self, number: FileNumber) -> Result<Option<Bytes>, VaultError> {
+        Ok(self.tables.get(number)?)
+    }
+
+    fn numbers(&mut self) -> Result<Vec<FileNumber>, VaultError> {
+        Ok(self.tables.numbers(self.alloc)?)
+    }
+
+    fn failures(&self) -> u64 {
+        self.failures
+    }
+}

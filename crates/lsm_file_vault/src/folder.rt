@@ -1,0 +1,32 @@
+//! What a vault asks of the folder that keeps its data.
+
+ghost use Rattle.std.specs.Prelude.{◌≡◌, ℕ, ◌++◌, ◌∷◌, [], List, is_ok, if◌then◌else◌};
+ghost use Rattle.std.specs.Ordering.{nat_cmp};
+ghost use Rattle.std.specs.FinMap as map;
+
+use bytes::Bytes;
+use lsm_key::FileNumber;
+use std::io;
+
+/// A folder of tables by file number, and of edits in the order in which they were appended. `tables` and `edits` are what the calls
+/// leave that returned `Ok`: a call that was refused counts as not made.
+pub trait Folder {
+    ghost tables: { Self → map.FinMap nat_cmp (List ℕ) };
+
+    ghost edits: { Self → List (List ℕ) };
+
+    /// Stores a table under a number so that it outlives the process, in place of the one that the number had.
+    fn put_table(&mut self, number: FileNumber, table: &Bytes) -> io::Result<()>
+        ensures tables { tables self.new ≡ (if is_ok result then map.insert (tables self.old) number table.now else tables self.old) }
+        ensures edits { edits self.new ≡ edits self.old };
+
+    /// Removes the table of a number, if there is one.
+    fn remove_table(&mut self, number: FileNumber) -> io::Result<()>
+        ensures tables { tables self.new ≡ (if is_ok result then map.remove (tables self.old) number else tables self.old) }
+        ensures edits { edits self.new ≡ edits self.old };
+
+    /// Adds an edit after the others so that it outlives the process.
+    fn append_edit(&mut self, edit: &Bytes) -> io::Result<()>
+        ensures edits { edits self.new ≡ (if is_ok result then edits self.old ++ edit.now ∷ [] else edits self.old) }
+        ensures tables { tables self.new ≡ tables self.old };
+}

@@ -1,0 +1,177 @@
+//! A folder of the operating system.
+
+ghost use Rattle.std.specs.Prelude.{◌≡◌, IfOk};
+
+use crate::frame::write_header;
+use crate::names::{EDITS, NEW_TABLE, file_path, table_path};
+use crate::{Change, Contents, FileCall, Folder, Notes, OpenError};
+use bytes::{Bytes, BytesMut};
+use lsm_key::FileNumber;
+use std::fs::{self, File, OpenFile, OpenOptions};
+use std::io::{self, ErrorKind, Seek, SeekFrom, Write};
+use std::rt::Files;
+use std::snapshot::Snapshot;
+
+/// A folder of the operating system: a file for each table, and one for the edits. What a call leaves there is synced before it
+/// returns `Ok`.
+///
+/// No clause tells of a file. So `notes` stands for what the folder holds, and that each call makes the file calls which it notes is
+/// to be read in its body.
+#[derive(Drop)]
+pub struct HostFolder<R: Files + AllocGlobal + Drop> {
+    files: R,
+    path: String,
+    edits_file: R::File,
+    // How many bytes the edits take in their file.
+    edits_bytes: u64,
+    // A refused edit may still stand behind the others, so no other one can follow them.
+    is_broken: bool,
+    // Held open for its lock.
+    lock: Option<File>,
+    notes: Notes,
+}
+
+impl<R: Files + AllocGlobal + Drop> HostFolder<R> {
+    /// The folder at `path` that was found to have these contents, of which what a stop has left behind the last edit is cut off.
+    /// The file of the edits is made if there is none.
+    pub(crate) fn new(
+        files: R,
+        path: &str,
+        contents: &Contents,
+        lock: Option<File>,
+    ) -> Result<HostFolder<R>, OpenError>
+        ensures tables { IfOk result (λ folder. ⟦<HostFolder<R> as Folder>⟧.tables folder ≡ contents.now.tables) }
+        ensures edits { IfOk result (λ folder. ⟦<HostFolder<R> as Folder>⟧.edits folder ≡ contents.now.edits.items) }
+    {
+        let alloc = files.alloc();
+        let file = file_path(alloc, path, EDITS)?;
+        let edits_file = open_edits(&files, file.as_str())?;
+        if contents.torn_bytes > 0 {
+            let cut = edits_file.set_len(contents.edits_bytes);
+            cut.map_err(|error| OpenError::io(alloc, FileCall::Cut, file.as_str(), error))?;
+        }
+        let synced = edits_file.sync_all();
+        synced.map_err(|error| OpenError::io(alloc, FileCall::Sync, file.as_str(), error))?;
+        let synced = sync_folder(&files, path);
+        synced.map_err(|error| OpenError::io(alloc, FileCall::Sync, path, error))?;
+        Ok(HostFolder {
+            path: String::from_str(alloc, path)?,
+            files,
+            edits_file,
+            edits_bytes: contents.edits_bytes,
+            is_broken: false,
+            lock,
+            notes: Notes::of(contents),
+        })
+    }
+
+    // Writes a table beside its file, and gives it the file's name once it is whole on the disk.
+    fn write_table(&self, number: FileNumber, table: &[u8]) -> io::Result<()> {
+        let alloc = self.files.alloc();
+        let path = self.path.as_str();
+        let mut header = BytesMut::new(alloc);
+        frame_header(&mut header, table)?;
+        let new = file_path(alloc, path, NEW_TABLE)?;
+        let mut file = fs::create(&self.files, new.as_str())?;
+        file.write_all(header.as_slice())?;
+        file.write_all(table)?;
+        file.sync_all()?;
+        let named = table_path(alloc, path, number)?;
+        fs::rename(&self.files, new.as_str(), named.as_str())?;
+        sync_folder(&self.files, path)
+    }
+
+    // Removes a table's file, if there is one.
+    fn remove_file(&self, number: FileNumber) -> io::Result<()> {
+        let path = self.path.as_str();
+        let named = table_path(self.files.alloc(), path, number)?;
+        match fs::remove_file(&self.files, named.as_str()) {
+            Err(error) if error.kind() != ErrorKind::NotFound => return Err(error),
+            _ => {}
+        }
+        sync_folder(&self.files, path)
+    }
+
+    // Writes an edit behind the others. What a refused one may have left is cut off.
+    fn write_edit(&mut self, edit: &[u8]) -> io::Result<()>
+        ensures { self.new.notes ≡ self.old.notes }
+    {
+        if self.is_broken {
+            return Err(ErrorKind::Other.into());
+        }
+        let mut framed = BytesMut::new(self.files.alloc());
+        frame_header(&mut framed, edit)?;
+        framed.extend_from_slice(edit)?;
+        let written = self.write_at_end(framed.as_slice());
+        match written {
+            Ok(()) => self.edits_bytes = self.edits_bytes.saturating_add(framed.len() as u64),
+            Err(_) => self.is_broken = self.cut_edits().is_err(),
+        }
+        written
+    }
+
+    // Writes bytes behind the edits, and syncs them.
+    fn write_at_end(&mut self, framed: &[u8]) -> io::Result<()>
+        ensures { self.new.notes ≡ self.old.notes }
+    {
+        self.edits_file.seek(SeekFrom::Start(self.edits_bytes))?;
+        self.edits_file.write_all(framed)?;
+        self.edits_file.sync_data()
+    }
+
+    // Cuts off what stands behind the edits.
+    fn cut_edits(&mut self) -> io::Result<()>
+        ensures { self.new.notes ≡ self.old.notes }
+    {
+        self.edits_file.set_len(self.edits_bytes)?;
+        self.edits_file.sync_all()
+    }
+}
+
+// Opens the file of the edits, and makes it if there is none.
+fn open_edits<R: Files + AllocGlobal>(files: &R, file: &str) -> Result<R::File, OpenError> {
+    let mut options = OpenOptions::new();
+    options.read(true).write(true).create(true);
+    let opened = options.open(files, file);
+    opened.map_err(|error| OpenError::io(files.alloc(), FileCall::Open, file, error))
+}
+
+// Appends the header of a frame of these bytes. More than a frame can hold is refused.
+fn frame_header(out: &mut BytesMut, bytes: &[u8]) -> io::Result<()> {
+    if bytes.len() > u32::MAX as usize {
+        return Err(ErrorKind::InvalidInput.into());
+    }
+    write_header(out, bytes)?;
+    Ok(())
+}
+
+// Syncs the folder's list of files.
+fn sync_folder(files: &impl Files, path: &str) -> io::Result<()> {
+    fs::open(files, path)?.sync_all()
+}
+
+impl<R: Files + AllocGlobal + Drop> Folder for HostFolder<R> {
+    ghost tables = { λ f. f.notes.tables };
+
+    ghost edits = { λ f. f.notes.edits };
+
+    fn put_table(&mut self, number: FileNumber, table: &Bytes) -> io::Result<()> {
+        self.write_table(number, table.as_slice())?;
+        self.notes = self
+            .notes
+            .after(&Change::TablePut(number, Snapshot::of(table)));
+        Ok(())
+    }
+
+    fn remove_table(&mut self, number: FileNumber) -> io::Result<()> {
+        self.remove_file(number)?;
+        self.notes = self.notes.after(&Change::TableRemoved(number));
+        Ok(())
+    }
+
+    fn append_edit(&mut self, edit: &Bytes) -> io::Result<()> {
+        self.write_edit(edit.as_slice())?;
+        self.notes = self.notes.after(&Change::EditAppended(Snapshot::of(edit)));
+        Ok(())
+    }
+}

@@ -1,0 +1,147 @@
+//! Opening the vault in a folder.
+
+ghost use Rattle.std.specs.Prelude.{◌≡◌, IfOk};
+
+use crate::contents::table_numbers;
+use crate::names::{LOCK, file_path, table_path};
+use crate::{Contents, FileCall, FileVault, Folder, HostFolder, OpenError};
+use lsm_vault::Vault;
+use std::alloc::Global;
+use std::fs::{self, File, OpenFile, OpenOptions, TryLockError};
+use std::rt::Files;
+
+/// A vault that was opened, and what was found.
+#[derive(Drop)]
+pub struct Opened<R: Files + AllocGlobal + Drop>
+where
+    HostFolder<R>: Folder,
+{
+    pub vault: FileVault<HostFolder<R>>,
+    /// How many bytes that a stop in the middle of an append had left behind the last edit were cut off.
+    pub cut_bytes: u64,
+}
+
+/// Opens the vault in the folder at `path`, and makes the folder if there is none; the folder above it has to be there. Torn bytes
+/// behind the edits are cut off. No other process can open it until the vault is dropped or this process ends.
+///
+/// Of several reasons against it the first one in this order is reported: `NotAFolder`, `ForeignFile`, `Busy`, `DamagedEdits`,
+/// `DamagedTable`. Then nothing was changed but that the folder was made and, if no file is foreign, its lock.
+pub fn open(rt: &HostRuntime, path: &str) -> Result<Opened<HostRuntime>, OpenError>
+    ensures failures { IfOk result (λ opened. ⟦<FileVault<HostFolder<HostRuntime>> as Vault>⟧.failures opened.vault ≡ 0) }
+{
+    create_folder(rt, path)?;
+    let _numbers = table_numbers(rt, path)?;
+    let lock = lock(rt, path)?;
+    open_contents(rt.clone()?, path, Some(lock))
+}
+
+/// Opens the vault in the folder at `path`, of which the caller knows that nobody else has it open, over any files.
+pub fn open_unlocked<R: Files + AllocGlobal + Clone + Drop>(
+    files: R,
+    path: &str,
+) -> Result<Opened<R>, OpenError>
+    ensures failures { IfOk result (λ opened. ⟦<FileVault<HostFolder<R>> as Vault>⟧.failures opened.vault ≡ 0) }
+{
+    create_folder(&files, path)?;
+    open_contents(files, path, None)
+}
+
+/// Reads what the folder at `path` holds, and changes nothing there; damaged tables and torn bytes are reported. The folder is
+/// refused while a process has it open, and not opened while it is read. Errors are as of `open`, but for damaged tables.
+pub fn read(rt: &HostRuntime, path: &str) -> Result<Contents, OpenError> {
+    is_there(rt, path)?;
+    let _shared = lock_shared(rt, path)?;
+    Contents::read(rt, path)
+}
+
+// Opens a folder that is there.
+fn open_contents<R: Files + AllocGlobal + Clone + Drop>(
+    files: R,
+    path: &str,
+    lock: Option<File>,
+) -> Result<Opened<R>, OpenError>
+    ensures failures { IfOk result (λ opened. ⟦<FileVault<HostFolder<R>> as Vault>⟧.failures opened.vault ≡ 0) }
+{
+    let alloc = files.alloc();
+    let contents = Contents::read(&files, path)?;
+    if let Some(number) = contents.damaged_tables.first() {
+        let number = *number;
+        let file = table_path(alloc, path, number)?;
+        return Err(OpenError::DamagedTable { file, number });
+    }
+    let folder = HostFolder::new(files, path, &contents, lock)?;
+    let cut_bytes = contents.torn_bytes;
+    let vault = FileVault::new(alloc, folder, contents.tables, contents.edits);
+    Ok(Opened { vault, cut_bytes })
+}
+
+// Whether the folder is there.
+fn is_there<R: Files + AllocGlobal>(files: &R, path: &str) -> Result<bool, OpenError> {
+    match fs::metadata(files, path) {
+        Ok(found) => {
+            if found.is_dir() {
+                Ok(true)
+            } else {
+                let path = String::from_str(files.alloc(), path)?;
+                Err(OpenError::NotAFolder { path })
+            }
+        }
+        Err(_) => Ok(false),
+    }
+}
+
+// Makes the folder if there is none, so that it outlives the process.
+fn create_folder<R: Files + AllocGlobal>(files: &R, path: &str) -> Result<(), OpenError> {
+    let alloc = files.alloc();
+    if is_there(files, path)? {
+        return Ok(());
+    }
+    let created = fs::create_dir(files, path);
+    created.map_err(|error| OpenError::io(alloc, FileCall::Create, path, error))?;
+    let above = file_path(alloc, path, "..")?;
+    let synced = fs::open(files, above.as_str()).and_then(|folder| folder.sync_all());
+    synced.map_err(|error| OpenError::io(alloc, FileCall::Sync, above.as_str(), error))
+}
+
+// Takes the folder for this process, until the file is dropped.
+fn lock(rt: &HostRuntime, path: &str) -> Result<File, OpenError> {
+    let alloc = rt.alloc();
+    let name = file_path(alloc, path, LOCK)?;
+    let opened = OpenOptions::new()
+        .read(true)
+        .write(true)
+        .create(true)
+        .open(rt, name.as_str());
+    let file = opened.map_err(|error| OpenError::io(alloc, FileCall::Open, name.as_str(), error))?;
+    match file.try_lock() {
+        Ok(()) => Ok(file),
+        Err(error) => Err(not_locked(alloc, path, name.as_str(), error)),
+    }
+}
+
+// Keeps others from taking the folder, until the file is dropped. A folder that was never opened has no file to lock.
+fn lock_shared(rt: &HostRuntime, path: &str) -> Result<Option<File>, OpenError> {
+    let alloc = rt.alloc();
+    let name = file_path(alloc, path, LOCK)?;
+    let exists = fs::exists(rt, name.as_str());
+    if !exists.map_err(|error| OpenError::io(alloc, FileCall::Open, name.as_str(), error))? {
+        return Ok(None);
+    }
+    let opened = fs::open(rt, name.as_str());
+    let file = opened.map_err(|error| OpenError::io(alloc, FileCall::Open, name.as_str(), error))?;
+    match file.try_lock_shared() {
+        Ok(()) => Ok(Some(file)),
+        Err(error) => Err(not_locked(alloc, path, name.as_str(), error)),
+    }
+}
+
+// Why a lock was not had.
+fn not_locked(alloc: Global, path: &str, name: &str, error: TryLockError) -> OpenError {
+    match error {
+        TryLockError::WouldBlock => match String::from_str(alloc, path) {
+            Ok(path) => OpenError::Busy { path },
+            Err(_) => OpenError::OutOfMemory,
+        },
+        TryLockError::Error(error) => OpenError::io(alloc, FileCall::Lock, name, error),
+    }
+}
