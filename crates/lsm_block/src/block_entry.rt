@@ -51,6 +51,18 @@ impl<'a> BlockEntry<'a> {
         }
     }
 
+    /// The same entry, where it lies.
+    pub fn copy(&self) -> BlockEntry<'a>
+        ensures { result ≡ self.now }
+    {
+        BlockEntry {
+            block: self.block,
+            place: self.place,
+            end: self.end,
+            prefix: self.prefix,
+        }
+    }
+
     /// The entry, which borrows the bytes.
     pub fn entry(&self) -> EntryRef<'a>
         ensures { lent_entry result ≡ self.now }

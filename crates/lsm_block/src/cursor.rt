@@ -1,6 +1,6 @@
 //! Going through the entries of a block, one after the other.
 
-ghost use Rattle.std.specs.Prelude.{◌≡◌, ◌∷◌, [], IfOk, MatchOption, OnErr, length};
+ghost use Rattle.std.specs.Prelude.{◌≡◌, ◌≢◌, ◌∷◌, [], IfErr, IfOk, MatchOption, OnErr, length};
 ghost use Rattle.lsm_block.specs.Cursors.{GivesNext, IsPlaceIn, entries_from};
 
 use crate::block_entry::BlockEntry;
@@ -38,10 +38,11 @@ impl<'a> Cursor<'a> {
         Cursor { bytes, place }
     }
 
-    /// The next entry, if there is one. It shares the bytes. After an error the cursor is as it was.
+    /// The next entry, if there is one. It shares the bytes. After an error the cursor is as it was; at the end there is no error.
     pub fn next(&mut self) -> Result<Option<Entry>, AllocError>
         ensures gives { IfOk result (λ e. GivesNext self.old e self.new) }
         ensures err { OnErr result (self.new ≡ self.old) }
+        ensures refused { IfErr result (λ _. self.old ≢ []) }
     {
         let bytes = self.bytes;
         let place = self.place;

@@ -10,7 +10,8 @@ use Rattle.lsm_key.specs.Sets.{IsIn}
 use Rattle.lsm_key.proofs.AscendingEntries.{first_in_order, rest_in_order}
 use Rattle.lsm_key.proofs.Membership.{IsIn-at, SameMembers-permutation}
 use Rattle.lsm_key.proofs.MergedLists.{entries_weak}
-use Rattle.lsm_coord.specs.Inner.Heads.{AllInOrder, TakesFirst}
+use Rattle.lsm_table.specs.Heads.{AllInOrder, TakesFirst}
+use Rattle.lsm_table.proofs.ReadLists.{cons_in_order}
 use Rattle.lsm_coord.specs.Inner.Scan.{AreBelow, AreFirstPairs, is_hidden, pair_of, shown_pairs}
 use Rattle.lsm_coord.proofs.KeyIntervals.{below_trans, not_below_upto, upto_from}
 use Rattle.lsm_coord.proofs.ScansAgree.{Pair}
@@ -18,10 +19,6 @@ use Rattle.lsm_coord.proofs.ShownPairs.{Later, beyond, older, later}
 use Rattle.lsm_coord.proofs.ScanRanges.{pass_hidden, pass_seen, one_pair, full_front}
 
 -- ---- lists in order
-
-pub cons_in_order : (e : Entry) (es : List Entry) → ((f : Entry) → IsIn f es → precedes f e ≡ false) → IsInOrder es → IsInOrder (e ∷ es)
-cons_in_order e es first up zero d low lt = first (get_or es 0 d) (IsIn-at es 0 d (omega (arith, lt)))
-cons_in_order e es first up (suc k) d low lt = subst (λ (n : ℕ). precedes (get_or (e ∷ es) n d) (get_or es k d) ≡ false) (let same : suc (k + 1) ≡ suc k + 1 = omega arith in same) (up k d (omega arith) (omega (arith, lt)))
 
 -- the same entries, in order
 record IsOrdered (es out : List Entry) : Type 0 where
@@ -146,20 +143,17 @@ module _ (hi : List ℕ) where
             first = sym (full_front limit pairs (shown_pairs point before rest.0) full h.few) ∙ ap (take limit) (sym g.3);
           }
 
+      -- the next one is at or after hi
+      pub scanned_beyond : (e : Entry) → ((f : Entry) → IsIn f (all_entries left) → precedes f e ≡ false) → key_le hi e.ikey.key ≡ true → AreFirstPairs point hi limit entries pairs
+      scanned_beyond e least out = scanned_all (λ f m. by f (later e f (least f m)))
+        where
+          by : (f : Entry) → Later e f → key_le hi f.ikey.key ≡ true
+          by f (beyond b) = upto_from hi f.ikey.key (λ c. not_below_upto hi e.ikey.key out (below_trans e.ikey.key f.ikey.key hi b c))
+          by f (older k le) = subst (λ (l : List ℕ). key_le hi l ≡ true) (sym k) out
+
       module _ (e : Entry) (new : List (List Entry)) (takes : TakesFirst left e new) where
         first : (f : Entry) → IsIn f (all_entries new) → precedes f e ≡ false
         first f m = takes.first h.order f m
-
-        -- the next one is at or after hi
-        pub scanned_beyond : key_le hi e.ikey.key ≡ true → AreFirstPairs point hi limit entries pairs
-        scanned_beyond out = scanned_all (λ f m. elim ((SameMembers-permutation (all_entries left) (e ∷ all_entries new) takes.all f).0 m) [
-          | inl own ↦ subst (λ (g : Entry). key_le hi g.ikey.key ≡ true) (sym own) out
-          | inr other ↦ by f (later e f (first f other))
-        ])
-          where
-            by : (f : Entry) → Later e f → key_le hi f.ikey.key ≡ true
-            by f (beyond b) = upto_from hi f.ikey.key (λ c. not_below_upto hi e.ikey.key out (below_trans e.ikey.key f.ikey.key hi b c))
-            by f (older k le) = subst (λ (l : List ℕ). key_le hi l ≡ true) (sym k) out
 
         module _ (below : key_lt e.ikey.key hi ≡ true) where
           onward : (rest : List Entry) → AreBelow hi (all_entries new) rest → IsInOrder rest

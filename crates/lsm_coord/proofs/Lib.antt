@@ -5,7 +5,6 @@ pub mod RunInvariants
 pub mod KeyIntervals
 pub mod ScansAgree
 pub mod ShownPairs
-pub mod TurnedHeads
 pub mod ScanRanges
 pub mod FirstPairs
 pub mod ScanSources

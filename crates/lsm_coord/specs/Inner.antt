@@ -1,5 +1,4 @@
 -- What only contracts of private functions cite: nothing that a reader has to believe.
 pub mod Scan
 pub mod Putting
-pub mod Heads
 pub mod Sources

@@ -19,7 +19,6 @@ mod desk;
 mod dispatcher;
 mod error;
 mod frozen;
-mod heads;
 mod job;
 mod laws;
 mod seat;

@@ -1,83 +1,138 @@
 //! What a scan reads: each memtable, each table of level 0, and each deeper level.
 
 ghost use Rattle.std.specs.Prelude.{◌≡◌, IfOk};
-ghost use Rattle.std.specs.Option.{option_map};
 ghost use Rattle.lsm_key.specs.Order.{precedes};
 ghost use Rattle.lsm_key.specs.Visible.{lent_entry};
-ghost use Rattle.lsm_block.specs.Cursors.{GivesNext};
-ghost use Rattle.lsm_coord.specs.Inner.Sources.{entry_at, left_in};
+ghost use Rattle.lsm_table.specs.Heads.{IsRefilled};
+ghost use Rattle.lsm_coord.specs.Inner.Sources.{IsRead, source_entry};
 
 use lsm_block::BlockEntry;
 use lsm_edit::LevelCursor;
 use lsm_key::{Entry, EntryRef, compare_place};
 use lsm_mem::MemtableCursor;
+use lsm_table::Head;
 use std::alloc::AllocError;
 
-/// A place among the entries of a memtable, of a table or of a level: those from there on are left.
+/// A memtable read up to an entry: that one where it lies, and those that are left behind it.
+#[derive(Drop)]
+pub(crate) struct MemtableHead<'a> {
+    entry: &'a Entry,
+    rest: MemtableCursor<'a>,
+}
+
+/// A table of level 0 or the tables of a deeper level, read up to an entry in the same way.
+#[derive(Drop)]
+pub(crate) struct TablesHead<'a> {
+    entry: BlockEntry<'a>,
+    rest: LevelCursor<'a>,
+}
+
+/// A source of a scan, read up to an entry.
 #[derive(Drop)]
 pub(crate) enum Source<'a> {
-    Memtable(MemtableCursor<'a>),
-    Tables(LevelCursor<'a>),
+    Memtable(MemtableHead<'a>),
+    Tables(TablesHead<'a>),
 }
 
-/// An entry where it lies.
-#[derive(Drop)]
-pub(crate) enum SourceEntry<'a> {
-    Memtable(&'a Entry),
-    Table(BlockEntry<'a>),
-}
-
-impl<'a> Source<'a> {
-    /// The next entry, if there is one. Allocates nothing.
-    pub(crate) fn next(&mut self) -> Option<SourceEntry<'a>>
-        ensures { GivesNext (left_in self.old) (option_map entry_at result) (left_in self.new) }
+impl<'a> MemtableHead<'a> {
+    // Goes on to the next entry, if there is one.
+    fn advance(&mut self) -> bool
+        ensures { IsRefilled self.old.rest result self.new.entry.now self.new.rest }
     {
-        match self {
-            Source::Memtable(cursor) => Some(SourceEntry::Memtable(cursor.next()?)),
-            Source::Tables(cursor) => Some(SourceEntry::Table(cursor.next()?)),
+        match self.rest.next() {
+            Some(next) => {
+                self.entry = next;
+                true
+            }
+            None => false,
         }
     }
 }
 
-impl<'a> SourceEntry<'a> {
+impl<'a> TablesHead<'a> {
+    // Goes on to the next entry, if there is one.
+    fn advance(&mut self) -> bool
+        ensures { IsRefilled self.old.rest result self.new.entry self.new.rest }
+    {
+        match self.rest.next() {
+            Some(next) => {
+                self.entry = next;
+                true
+            }
+            None => false,
+        }
+    }
+}
+
+impl<'a> Source<'a> {
+    /// What a memtable has left, if it has an entry left.
+    pub(crate) fn of_memtable(cursor: MemtableCursor<'a>) -> Option<Source<'a>>
+        ensures { IsRead cursor.entry result }
+    {
+        let mut rest = cursor;
+        let entry = rest.next()?;
+        Some(Source::Memtable(MemtableHead { entry, rest }))
+    }
+
+    /// What tables have left, if they have an entry left.
+    pub(crate) fn of_tables(cursor: LevelCursor<'a>) -> Option<Source<'a>>
+        ensures { IsRead cursor.entry result }
+    {
+        let mut rest = cursor;
+        let entry = rest.next()?;
+        Some(Source::Tables(TablesHead { entry, rest }))
+    }
+
     /// The entry, which borrows the bytes.
     pub(crate) fn entry(&self) -> EntryRef<'a>
-        ensures { lent_entry result ≡ entry_at self.now }
+        ensures { lent_entry result ≡ source_entry self.now }
     {
         match self {
-            SourceEntry::Memtable(entry) => EntryRef {
-                key: entry.ikey.key.as_slice(),
-                seq: entry.ikey.seq,
-                kind: entry.ikey.kind,
-                value: entry.value.as_slice(),
+            Source::Memtable(head) => EntryRef {
+                key: head.entry.ikey.key.as_slice(),
+                seq: head.entry.ikey.seq,
+                kind: head.entry.ikey.kind,
+                value: head.entry.value.as_slice(),
             },
-            SourceEntry::Table(entry) => entry.entry(),
+            Source::Tables(head) => head.entry.entry(),
         }
     }
 
     /// The entry, which shares the bytes.
     pub(crate) fn shared(&self) -> Result<Entry, AllocError>
-        ensures { IfOk result (λ e. e ≡ entry_at self.now) }
+        ensures { IfOk result (λ e. e ≡ source_entry self.now) }
     {
         match self {
-            SourceEntry::Memtable(entry) => (**entry).clone(),
-            SourceEntry::Table(entry) => entry.shared(),
+            Source::Memtable(head) => head.entry.clone(),
+            Source::Tables(head) => head.entry.shared(),
+        }
+    }
+}
+
+impl<'a> Head for Source<'a> {
+    ghost use Rattle.lsm_coord.specs.Inner.Sources.{left_behind, source_entry};
+
+    ghost entry = { source_entry };
+
+    ghost left = { left_behind };
+
+    fn advance(&mut self) -> bool {
+        match self {
+            Source::Memtable(head) => head.advance(),
+            Source::Tables(head) => head.advance(),
         }
     }
 
-    /// Whether it comes before another one, by key and sequence.
-    pub(crate) fn precedes(&self, other: &SourceEntry<'_>) -> bool
-        ensures { result ≡ precedes (entry_at self.now) (entry_at other.now) }
-    {
+    fn precedes(&self, other: &Source<'a>) -> bool {
         match (self, other) {
-            (SourceEntry::Table(one), SourceEntry::Table(two)) => one.precedes(two),
-            (SourceEntry::Memtable(one), _) => {
+            (Source::Tables(one), Source::Tables(two)) => one.entry.precedes(&two.entry),
+            (Source::Memtable(one), _) => {
                 let two = other.entry();
-                compare_place(&one.ikey, two.key, two.seq).is_lt()
+                compare_place(&one.entry.ikey, two.key, two.seq).is_lt()
             }
-            (SourceEntry::Table(one), SourceEntry::Memtable(two)) => {
-                let one = one.entry();
-                compare_place(&two.ikey, one.key, one.seq).is_gt()
+            (Source::Tables(one), Source::Memtable(two)) => {
+                let one = one.entry.entry();
+                compare_place(&two.entry.ikey, one.key, one.seq).is_gt()
             }
         }
     }

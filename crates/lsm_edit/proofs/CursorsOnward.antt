@@ -12,9 +12,9 @@ use Rattle.lsm_key.proofs.Membership.{IsIn-at}
 use Rattle.lsm_table.proofs.TableContents.{table_ascending}
 use Rattle.lsm_edit.specs.declared.served.Placed.{Placed}
 use Rattle.lsm_edit.specs.Served.{AllRecorded, AreInSearchOrder, IsAsRecorded, tables_of}
+use Rattle.lsm_edit.proofs.AllEntries.{all_entries-push}
 use Rattle.lsm_edit.proofs.LevelCursors.{is_from, onward, onward-append}
-use Rattle.lsm_edit.proofs.LevelRanges.{is_of, is_over, level_falls, next_level, order_left, zero_here, zero_stopped}
-use Rattle.lsm_edit.proofs.RangeEntries.{all_entries-append}
+use Rattle.lsm_edit.proofs.LevelEntries.{is_of, is_over, level_falls, next_level, order_left, zero_here, zero_stopped}
 
 -- the lists have what the places before the rest have from the key on
 pub record GathersOn (lo : List ℕ) (ps : List Placed) (lists : List (List Entry)) (rest : List Placed) : Type 0 where
@@ -28,7 +28,7 @@ pub one_gathered : (lo : List ℕ) (ps rest : List Placed) (lists : List (List E
     → list ≡ filter (is_from lo) p.table.entries → GathersOn lo ps (lists ++ list ∷ []) rest
 one_gathered lo ps rest lists p list rec g is = record {
   all =
-      ap (λ (es : List Entry). es ++ onward lo rest) (all_entries-append lists (list ∷ []) ∙ ap (λ (es : List Entry). all_entries lists ++ es) (append-nil list ∙ is))
+      ap (λ (es : List Entry). es ++ onward lo rest) (all_entries-push lists list ∙ ap (λ (es : List Entry). all_entries lists ++ es) is)
       ∙ append_assoc (all_entries lists) (filter (is_from lo) p.table.entries) (onward lo rest)
       ∙ ap (λ (es : List Entry). all_entries lists ++ es) (sym (filter-append (is_from lo) p.table.entries (all_entries (tables_of rest))))
       ∙ g.all;
@@ -61,8 +61,8 @@ module _ (lo : List ℕ) (ps : List Placed) (rec : AllRecorded ps) (up : AreInSe
 
 pub level_more : (lo : List ℕ) (level : ℕ) (ps : List Placed) (lists : List (List Entry)) (list : List Entry) → AreInSearchOrder ps → all_entries lists ≡ onward lo (filter (is_over level) ps) → list ≡ onward lo (filter (is_of level) ps) → all_entries (lists ++ list ∷ []) ≡ onward lo (filter (is_over (level + 1)) ps)
 level_more lo level ps lists list up before is =
-    all_entries-append lists (list ∷ [])
-    ∙ (λ i. before i ++ (append-nil list ∙ is) i)
+    all_entries-push lists list
+    ∙ (λ i. before i ++ is i)
     ∙ sym (onward-append lo (filter (is_over level) ps) (filter (is_of level) ps))
     ∙ ap (onward lo) (sym (next_level level ps up))
 

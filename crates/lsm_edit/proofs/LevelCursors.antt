@@ -13,9 +13,9 @@ use Rattle.lsm_key.proofs.KeyRanges.{key_le_or, key_le_trans}
 use Rattle.lsm_key.proofs.Membership.{IsIn-append_left, IsIn-append_right, IsIn-place}
 use Rattle.lsm_edit.specs.declared.served.Placed.{Placed}
 use Rattle.lsm_edit.specs.Served.{AllRecorded, AreInSearchOrder, IsAsRecorded, comes_left, tables_of}
-use Rattle.lsm_edit.proofs.LevelRanges.{filter-all, filter-none, is_of, key_from, key_to, not_of, order_left}
+use Rattle.lsm_edit.proofs.AllEntries.{all_entries-append}
+use Rattle.lsm_edit.proofs.LevelEntries.{filter-all, filter-none, is_of, key_from, key_to, not_of, order_left}
 use Rattle.lsm_edit.proofs.LevelSearch.{Left, above, beside, left_of, not_left}
-use Rattle.lsm_edit.proofs.RangeEntries.{all_entries-append}
 use Rattle.lsm_edit.proofs.SearchOrder.{Before, above_le, before_of, lesser, newer, upper}
 
 module _ (lo : List ℕ) where

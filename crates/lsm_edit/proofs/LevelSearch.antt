@@ -62,7 +62,7 @@ pub left_is : (level : ℕ) (key : List ℕ) (p : Placed) → Left level key p.m
 left_is level key p (above lt) = or-left (ltb p.meta.level level) _ (lt-ltb p.meta.level level lt)
 left_is level key p (beside e k) = or-right (ltb p.meta.level level) _ (and-both (eqb p.meta.level level) _ (eq-eqb p.meta.level level e) (ap not k))
 
-pub and-second : (a b : Bool) → a ≡ true → (a && b) ≡ false → b ≡ false
+and-second : (a b : Bool) → a ≡ true → (a && b) ≡ false → b ≡ false
 and-second true b h k = k
 and-second false b h k = absurd cc
 

@@ -13,8 +13,8 @@ pub mod AdvancedPlaces
 pub mod NextLaws
 pub mod SearchOrder
 pub mod PlacesInOrder
-pub mod RangeEntries
-pub mod LevelRanges
+pub mod AllEntries
+pub mod LevelEntries
 pub mod LevelCursors
 pub mod CursorsOnward
 pub mod LevelSearch

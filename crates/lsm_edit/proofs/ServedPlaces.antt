@@ -15,7 +15,7 @@ use Rattle.lsm_edit.specs.declared.file.FileMeta.{FileMeta}
 use Rattle.lsm_edit.specs.declared.served.Placed.{Placed}
 use Rattle.lsm_edit.specs.Version.{IsVersion, FileNumbersRise}
 use Rattle.lsm_edit.specs.Served.{AllRecorded, AreInSearchOrder, ServedValue, IsServed, is_covered, tables_of}
-use Rattle.lsm_edit.proofs.LevelRanges.{in_tables}
+use Rattle.lsm_edit.proofs.LevelEntries.{in_tables}
 use Rattle.lsm_edit.proofs.KeysOutOfRange.{key_covered}
 use Rattle.lsm_edit.proofs.SearchOrder.{Before, upper, newer, lesser, before_of, before_trans, above_le}
 

@@ -2,7 +2,7 @@
 //!
 //! It promises that an edit or a whole version and its bytes say the same, that a version is the result of applying its
 //! edits in turn, and that a read of a version with its tables returns the newest visible entry. It stands on the
-//! tables and the keys.
+//! tables, their blocks and the keys.
 #![tactic(auto)]
 
 mod base;

@@ -3,7 +3,6 @@
 mod cursors;
 mod level_cursor;
 mod prepared;
-mod range;
 mod rebase;
 mod search;
 

@@ -3,7 +3,6 @@
 mod bases;
 mod cursors;
 mod installs;
-mod ranges;
 mod served;
 mod versions;
 

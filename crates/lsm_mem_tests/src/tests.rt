@@ -6,6 +6,16 @@ use lsm_mem::Memtable;
 use std::alloc::Global;
 use std::test::Fail;
 
+/// Keys that begin alike, one of them twice.
+const ALIKE: [&[u8]; 6] = [
+    b"account-2",
+    b"account",
+    b"account-1",
+    b"account\0",
+    b"account-2",
+    b"account-10",
+];
+
 fn put_of(key: &'static [u8], value: &'static [u8]) -> Op {
     Op::Put(Bytes::from_static(key), Bytes::from_static(value))
 }
@@ -184,30 +194,22 @@ fn a_range_leaves_out_its_end(rt: HostRuntime) -> Result<(), Fail> {
 
 #[test]
 fn a_cursor_goes_from_its_key_to_the_end(rt: HostRuntime) -> Result<(), Fail> {
-    let keys = [
-        b"account-2".as_slice(),
-        b"account",
-        b"account-1",
-        b"b",
-        b"account-2",
-        b"zebra",
-        b"b",
-        b"account-10",
-    ];
-    let memtable = puts_of(rt.alloc(), &keys)?;
+    let mut memtable = puts_of(rt.alloc(), &ALIKE)?;
+    let others = batch_of(rt.alloc(), &[b"b".as_slice(), b"zebra", b"b"])?;
+    apply(&mut memtable, 7, &others)?;
     for (lo, want) in [
         (
             "",
-            "account2 account-13 account-108 account-25 account-21 b7 b4 zebra6",
+            "account2 account\04 account-13 account-106 account-25 account-21 b9 b7 zebra8",
         ),
         (
             "account-1",
-            "account-13 account-108 account-25 account-21 b7 b4 zebra6",
+            "account-13 account-106 account-25 account-21 b9 b7 zebra8",
         ),
-        ("account-11", "account-25 account-21 b7 b4 zebra6"),
-        ("account-3", "b7 b4 zebra6"),
-        ("b", "b7 b4 zebra6"),
-        ("b1", "zebra6"),
+        ("account-11", "account-25 account-21 b9 b7 zebra8"),
+        ("account-3", "b9 b7 zebra8"),
+        ("b", "b9 b7 zebra8"),
+        ("b1", "zebra8"),
         ("zebras", ""),
     ] {
         let places = places_from(rt.alloc(), &memtable, lo.as_bytes())?;
@@ -237,15 +239,7 @@ fn a_key_takes_a_thousand_versions(rt: HostRuntime) -> Result<(), Fail> {
 
 #[test]
 fn keys_with_one_prefix_are_told_apart(rt: HostRuntime) -> Result<(), Fail> {
-    let keys = [
-        b"account-2".as_slice(),
-        b"account",
-        b"account-1",
-        b"account\0",
-        b"account-2",
-        b"account-10",
-    ];
-    let memtable = puts_of(rt.alloc(), &keys)?;
+    let memtable = puts_of(rt.alloc(), &ALIKE)?;
     for (lo, hi, want) in [
         (
             "a",

@@ -9,6 +9,7 @@ pub mod OutputCuts
 pub mod MergeOfJob
 pub mod MergeIsDecided
 pub mod DeeperKeys
+pub mod TakenHeads
 pub mod WalkSteps
 pub mod WalkChains
 pub mod MergedWalks

@@ -2,10 +2,9 @@
 use Rattle.std.proofs.Common.{◌≡◌, ℕ, Bool, true, false, not, ◌&&◌, cond, List, [], ◌∷◌, ◌++◌, Option, Some, None, refl, sym, ap, subst, ◌∙◌, inl, inr, arith, All, suc}
 use Rattle.std.specs.List.Sorted.{IsPermutation}
 use Rattle.std.proofs.lemmas.List.Sorted.{sum_by-IsPermutation}
-use Rattle.std.proofs.lemmas.Bool.{false≢true, true≢false}
+use Rattle.std.proofs.lemmas.Bool.{true≢false}
 use Rattle.std.proofs.lemmas.List.{append-nil}
 use Rattle.std.proofs.lemmas.List.Sums.{sum_by-append}
-use Rattle.itertools.specs.KMerge.{joined_lists}
 use Rattle.lsm_key.specs.declared.entry.Entry.{Entry}
 use Rattle.lsm_key.specs.declared.range.KeyRange.{KeyRange}
 use Rattle.lsm_key.specs.Order.{IsAscending}
@@ -13,12 +12,13 @@ use Rattle.lsm_key.specs.Places.{all_entries}
 use Rattle.lsm_key.proofs.AscendingEntries.{Falls, ascending_falls, falls_ascend}
 use Rattle.lsm_key.proofs.EntryOrder.{ascending_unique}
 use Rattle.lsm_key.proofs.Membership.{SameMembers-permutation}
-use Rattle.lsm_key.proofs.MergedLists.{joined-all}
 use Rattle.lsm_table.specs.Building.{Draft}
 use Rattle.lsm_table.specs.Tables.{Opened}
+use Rattle.lsm_table.proofs.ReadLists.{all_in_order}
 use Rattle.lsm_edit.specs.Served.{AreAsRecorded}
 use Rattle.lsm_msg.specs.declared.job.JobParts.{JobParts}
 use Rattle.lsm_msg.specs.Merge.{HoldsKept, is_at_most_all, is_deletion, is_in_ranges}
+use Rattle.lsm_merge.specs.declared.cursor_head.CursorHead.{CursorHead}
 use Rattle.lsm_merge.specs.declared.error.MergeError.{MergeError}
 use Rattle.lsm_merge.specs.declared.error.MergeError.TheVariants.{WrongInputs, SameEntry, OutOfMemory}
 use Rattle.lsm_merge.specs.Comparing.{IsUnmerged}
@@ -27,12 +27,13 @@ use Rattle.lsm_merge.specs.Filling.{IsFilled, StopsFilling}
 use Rattle.lsm_merge.specs.Inputs.{CanMerge, HaveSameEntry, lists_of}
 use Rattle.lsm_merge.specs.Keeping.{is_needed, kept_list, stays}
 use Rattle.lsm_merge.specs.Outputs.{IsMerge}
-use Rattle.lsm_merge.specs.Walks.{BeginsWalk, IsMerged, Merged, GivesInTurn, Took, WalkValue, follows, last_taken}
+use Rattle.lsm_merge.specs.Walks.{BeginsWalk, GivesInTurn, Took, WalkValue, follows, last_taken, cursor_lists}
 use Rattle.lsm_merge.specs.Laws.{AWalkIsRefusedForASharedEntry, AnEndedWalkGaveWhatIsKept}
 use Rattle.lsm_merge.proofs.InputTests.{fall_in_order, recorded_tables, tables_fall}
 use Rattle.lsm_merge.proofs.MergeOfJob.{can_merge, is_merge}
 use Rattle.lsm_merge.proofs.KeptInOnePass.{kept_list_falls, kept_list_holds, kept_stays}
-use Rattle.lsm_merge.proofs.SharedEntries.{AllFall, apart, count_at, falls_or_twice, one_at, shared}
+use Rattle.lsm_merge.proofs.SharedEntries.{AllFall, apart, falls_or_twice, one_at, shared}
+use Rattle.lsm_merge.proofs.TakenHeads.{walk_all, walk_in_order}
 use Rattle.lsm_merge.proofs.WalkChains.{follow_falls}
 
 -- what is kept is one for ranges of the same keys
@@ -55,25 +56,23 @@ follows_last (x ∷ taken) e falls = after_one x taken e falls
 
 module _ (lists : List (List Entry)) (start : WalkValue) (begins : BeginsWalk lists start) where
   -- what was taken up to the end is all
-  pub took_all : (taken kept : List Entry) (last : WalkValue) → Took start taken kept last → IsMerged last.merged → IsPermutation (all_entries lists) taken
+  pub took_all : (taken kept : List Entry) (last : WalkValue) → Took start taken kept last → last.heads ≡ [] → IsPermutation (all_entries lists) taken
   took_all taken kept last took ended =
-      let given = begins.all taken true (last.merged, took.takes, λ h. ended) in
-      let none : taken ++ given.0 ≡ taken = ap (λ (rest : List Entry). taken ++ rest) (given.2 refl) ∙ append-nil taken in
-      subst (λ (ys : List Entry). IsPermutation ys taken) (joined-all lists) (subst (IsPermutation (joined_lists lists)) none given.1)
+      let none : taken ++ all_entries (cursor_lists last.heads) ≡ taken = ap (λ (hs : List CursorHead). taken ++ all_entries (cursor_lists hs)) ended ∙ append-nil taken in
+      subst (IsPermutation (all_entries lists)) none (walk_all lists start begins taken last.heads took.takes)
 
   -- an entry that does not follow the one before it is shared
-  pub walk_shares : AllFall lists → (taken : List Entry) (e : Entry) (after : Merged) → GivesInTurn start.merged (taken ++ e ∷ []) after → follows (last_taken start.before taken) e ≡ false → HaveSameEntry lists
+  pub walk_shares : AllFall lists → (taken : List Entry) (e : Entry) (after : List CursorHead) → GivesInTurn start.heads (taken ++ e ∷ []) after → follows (last_taken start.before taken) e ≡ false → HaveSameEntry lists
   walk_shares fall taken e after takes not =
       let xs : List Entry = taken ++ e ∷ [] in
-      let given = begins.all xs false (after, takes, λ h. absurd (false≢true h)) in
-      let sorted = begins.order (fall_in_order lists fall) xs false (after, takes, λ h. absurd (false≢true h)) in
+      let rest : List Entry = all_entries (cursor_lists after) in
+      let sorted = walk_in_order lists start begins xs after takes (all_in_order lists (fall_in_order lists fall)) in
       elim (falls_or_twice xs sorted) [
         | inl falls ↦ absurd (true≢false (sym (follows_last taken e falls) ∙ subst (λ (o : Option Entry). follows (last_taken o taken) e ≡ false) begins.fresh not))
         | inr t ↦
-            let same = sum_by-IsPermutation (one_at t.0 t.1) (joined_lists lists) (xs ++ given.0) given.1 in
-            let parts = sum_by-append (one_at t.0 t.1) xs given.0 in
-            let joined = ap (λ (es : List Entry). count_at t.0 t.1 es) (joined-all lists) in
-            shared lists fall t.0 t.1 (omega (arith, t.2, same, parts, joined))
+            let same = sum_by-IsPermutation (one_at t.0 t.1) (all_entries lists) (xs ++ rest) (walk_all lists start begins xs after takes) in
+            let parts = sum_by-append (one_at t.0 t.1) xs rest in
+            shared lists fall t.0 t.1 (omega (arith, t.2, same, parts))
       ]
 
 -- ---- the laws

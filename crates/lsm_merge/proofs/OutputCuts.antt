@@ -1,6 +1,6 @@
 -- Outputs that are cut from the front one after another.
 use Rattle.std.proofs.Common.{◌≡◌, ℕ, zero, suc, ◌<◌, ◌≤◌, List, [], ◌∷◌, ◌++◌, length, get_or, append_assoc, sym, ap, ◌∙◌, subst, arith}
-use Rattle.std.proofs.lemmas.List.{length-append, append-nil}
+use Rattle.std.proofs.lemmas.List.{length-append}
 use Rattle.std.proofs.lemmas.List.Elements.{All-cons}
 use Rattle.std.proofs.lemmas.List.Kept.{AllPairs-cons}
 use Rattle.lsm_key.specs.declared.entry.Entry.{Entry}
@@ -8,18 +8,15 @@ use Rattle.lsm_key.specs.Places.{all_entries}
 use Rattle.lsm_key.specs.Sets.{IsIn}
 use Rattle.lsm_key.proofs.Membership.{IsIn-append_left, IsIn-append_right}
 use Rattle.lsm_table.specs.Tables.{IsTable, target_of}
+use Rattle.lsm_edit.proofs.AllEntries.{all_entries-push}
 use Rattle.lsm_merge.specs.declared.outputs.TheConstants.{OUTPUT_TARGET}
 use Rattle.lsm_merge.specs.Outputs.{weight_of, before_last_key, HasLowerKeys, AreCut, EncodeEntries}
 use Rattle.lsm_merge.specs.Cutting.{AreFirstOutputs, IsFirstOutput}
 
-pub all_push : (lists : List (List Entry)) (es : List Entry) → all_entries (lists ++ es ∷ []) ≡ all_entries lists ++ es
-all_push [] es = append-nil es
-all_push (xs ∷ lists) es = ap (λ (ys : List Entry). xs ++ ys) (all_push lists es) ∙ sym (append_assoc xs (all_entries lists) es)
-
 pub cut_push : (lists : List (List Entry)) (es rest : List Entry) → AreFirstOutputs lists (es ++ rest) → IsFirstOutput es rest → AreFirstOutputs (lists ++ es ∷ []) rest
 cut_push [] es rest h one = (one, tt)
 cut_push (xs ∷ lists) es rest h one =
-    let same : all_entries lists ++ (es ++ rest) ≡ all_entries (lists ++ es ∷ []) ++ rest = sym (append_assoc (all_entries lists) es rest) ∙ ap (λ (ys : List Entry). ys ++ rest) (sym (all_push lists es)) in
+    let same : all_entries lists ++ (es ++ rest) ≡ all_entries (lists ++ es ∷ []) ++ rest = sym (append_assoc (all_entries lists) es rest) ∙ ap (λ (ys : List Entry). ys ++ rest) (sym (all_entries-push lists es)) in
     (subst (IsFirstOutput xs) same h.0, cut_push lists es rest h.1 one)
 
 pub tables_push : (target : ℕ) (outputs : List (List ℕ)) (lists : List (List Entry)) (bytes : List ℕ) (es : List Entry) → EncodeEntries target outputs lists → IsTable bytes es → target_of bytes ≡ target → EncodeEntries target (outputs ++ bytes ∷ []) (lists ++ es ∷ [])

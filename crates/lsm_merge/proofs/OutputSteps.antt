@@ -20,12 +20,13 @@ use Rattle.lsm_table.specs.declared.building.BuildError.TheVariants.{EmptyTable,
 use Rattle.lsm_table.specs.Building.{BuilderRefuses, Draft, add_fault, finish_fault}
 use Rattle.lsm_table.specs.Tables.{IsTable, key_of_entry, largest_key, target_of}
 use Rattle.lsm_table.proofs.BuilderDrafts.{fault_none}
+use Rattle.lsm_edit.proofs.AllEntries.{all_entries-push}
 use Rattle.lsm_merge.specs.declared.outputs.TheConstants.{OUTPUT_TARGET}
 use Rattle.lsm_merge.specs.Cutting.{AreFew, AreFirstOutputs, IsFirstOutput, IsSplitInto, IsSplitSoFar, MayCome, closes_before, draft_with}
 use Rattle.lsm_merge.specs.Outputs.{weight_of, before_last_key}
 use Rattle.lsm_merge.proofs.FirstOutput.{falls_across, filter_weight, lower_keys}
 use Rattle.lsm_merge.proofs.KeptInOnePass.{KeyLess, by_key, less-trans}
-use Rattle.lsm_merge.proofs.OutputCuts.{all_cut, all_push, cut_push, tables_push}
+use Rattle.lsm_merge.proofs.OutputCuts.{all_cut, cut_push, tables_push}
 use Rattle.lsm_merge.proofs.OutputFits.{output_fits, part_few, part_sound}
 
 -- ---- the weight before the last key
@@ -193,7 +194,7 @@ module _ (target : ℕ) (entries : List Entry) (closed : List (List ℕ)) (takin
       lists = split.lists ++ taking.entries ∷ [];
       spelled = tables_push target closed split.lists bytes taking.entries split.spelled is (of ∙ split.aims);
       aims = split.aims;
-      all = ap (λ (xs : List Entry). xs ++ e ∷ []) (all_push split.lists taking.entries ∙ split.all);
+      all = ap (λ (xs : List Entry). xs ++ e ∷ []) (all_entries-push split.lists taking.entries ∙ split.all);
       cut = cut_push split.lists taking.entries (e ∷ []) (cut_grow split.lists taking.entries e split.some own_falls split.cut) (closed_first taking.entries e heavy_other.0 heavy_other.1 own_falls split.late);
       late = one_late;
       some = λ lt. omega arith;
@@ -208,7 +209,7 @@ module _ (target : ℕ) (entries : List Entry) (closed : List (List ℕ)) (takin
       record {
         lists = split.lists ++ taking.entries ∷ [];
         spelled = tables_push target closed split.lists bytes taking.entries split.spelled is (of ∙ split.aims);
-        all = all_push split.lists taking.entries ∙ split.all;
+        all = all_entries-push split.lists taking.entries ∙ split.all;
         cut = all_cut (split.lists ++ taking.entries ∷ []) (cut_push split.lists taking.entries [] (subst (AreFirstOutputs split.lists) (sym (append-nil taking.entries)) split.cut) last);
       }
 

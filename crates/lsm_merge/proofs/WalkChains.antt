@@ -1,8 +1,6 @@
 -- Walks one after the other, and what they bring into the outputs.
 use Rattle.std.proofs.Common.{◌≡◌, ℕ, ◌≤◌, false, List, [], ◌∷◌, ◌++◌, length, Option, Some, None, Err, sym, ap, subst, inl, inr, arith}
 use Rattle.std.proofs.lemmas.List.{append-nil}
-use Rattle.itertools.proofs.AdaptorLemmas.{Yields-append}
-use Rattle.itertools.specs.KMerge.{kmerge_steps}
 use Rattle.lsm_key.specs.declared.entry.Entry.{Entry}
 use Rattle.lsm_key.specs.declared.limits.TheConstants.{MAX_POINTS}
 use Rattle.lsm_key.specs.Entries.{IsEntry}
@@ -10,18 +8,17 @@ use Rattle.lsm_key.specs.Order.{Precedes}
 use Rattle.lsm_key.specs.Sets.{IsIn}
 use Rattle.lsm_key.proofs.AscendingEntries.{Falls, falls_ascend}
 use Rattle.lsm_block.specs.Blocks.{AreEntries, HasSequence}
-use Rattle.lsm_block.specs.Cursors.{GivesNext}
 use Rattle.lsm_block.proofs.EntriesGrow as grow
 use Rattle.lsm_block.proofs.EntriesGrow.{one_more}
 use Rattle.lsm_table.specs.Building.{Draft}
-use Rattle.lsm_table.specs.Merging.{ByOrder}
 use Rattle.lsm_merge.specs.declared.error.MergeError.{MergeError}
 use Rattle.lsm_merge.specs.Cutting.{IsSplitSoFar, MayCome}
 use Rattle.lsm_merge.specs.Filling.{IsFilled, IsFilling, StopsFilling}
 use Rattle.lsm_merge.specs.Keeping.{kept_list}
-use Rattle.lsm_merge.specs.Walks.{AllFollow, IsMerged, Steps, Took, WalkValue, follows}
+use Rattle.lsm_merge.specs.Walks.{AllFollow, Steps, Took, WalkValue, follows}
 use Rattle.lsm_merge.proofs.FewVersions.{of_key, of_key-filter, few_kept}
 use Rattle.lsm_merge.proofs.KeptInOnePass.{kept_list_falls, precedes-trans}
+use Rattle.lsm_merge.proofs.TakenHeads.{turns_chain}
 use Rattle.lsm_merge.proofs.WalkSteps.{took_chain, took_none}
 
 -- ---- the order of what was taken
@@ -75,7 +72,7 @@ module _ (start now after : WalkValue) (target : ℕ) (closed : List (List ℕ))
     filling_more outputs draft split = record { taken = filling.taken ++ taken; kept = filling.kept ++ e ∷ []; took = all_took; sound = own_sound; split = split }
 
 module _ (start now : WalkValue) (target : ℕ) (closed : List (List ℕ)) (taking : Draft) (filling : IsFilling start now target closed taking) where
-  pub filled : (taken : List Entry) (last : WalkValue) → Took now taken [] last → IsMerged last.merged → IsFilled start target closed taking
+  pub filled : (taken : List Entry) (last : WalkValue) → Took now taken [] last → last.heads ≡ [] → IsFilled start target closed taking
   filled taken last took ended = record {
     last = last;
     filling = record {
@@ -91,5 +88,5 @@ module _ (start now : WalkValue) (target : ℕ) (closed : List (List ℕ)) (taki
   pub stops : (after : WalkValue) (why : MergeError) → Steps now (Err why) after → StopsFilling start why
   stops after why s =
       let took : Took start (filling.taken ++ s.0) (filling.kept ++ []) s.1 = took_chain start now s.1 filling.taken s.0 filling.kept [] filling.took s.3 in
-      let takes = Yields-append (kmerge_steps GivesNext ByOrder) start.merged (filling.taken ++ s.0) s.1.merged (s.2 ∷ []) after.merged took.takes s.4 in
-      rw s.6 (filling.taken ++ s.0, s.2, after.merged, takes, subst (λ (o : Option Entry). follows o s.2 ≡ false) took.before s.5)
+      let takes = turns_chain start.heads s.1.heads after.heads (filling.taken ++ s.0) (s.2 ∷ []) took.takes s.4 in
+      rw s.6 (filling.taken ++ s.0, s.2, after.heads, takes, subst (λ (o : Option Entry). follows o s.2 ≡ false) took.before s.5)

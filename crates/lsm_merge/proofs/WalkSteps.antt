@@ -2,17 +2,15 @@
 use Rattle.std.proofs.Common.{◌≡◌, ℕ, Bool, true, false, cond, List, [], ◌∷◌, ◌++◌, Option, Some, None, refl, sym, ap, subst, ◌∙◌}
 use Rattle.std.specs.Borrow.{Bor}
 use Rattle.std.specs.Option.{option_copied, option_map}
-use Rattle.itertools.proofs.AdaptorLemmas.{Yields-append}
-use Rattle.itertools.specs.KMerge.{kmerge_steps}
 use Rattle.lsm_key.specs.declared.entry.Entry.{Entry}
 use Rattle.lsm_key.specs.declared.entry.EntryRef.{EntryRef}
 use Rattle.lsm_key.specs.declared.range.KeyRange.{KeyRange}
 use Rattle.lsm_key.specs.Visible.{lent_entry}
-use Rattle.lsm_block.specs.Cursors.{GivesNext}
-use Rattle.lsm_table.specs.Merging.{ByOrder}
+use Rattle.lsm_merge.specs.declared.cursor_head.CursorHead.{CursorHead}
 use Rattle.lsm_merge.specs.declared.error.MergeError.{MergeError}
 use Rattle.lsm_merge.specs.Keeping.{kept_list, stays}
-use Rattle.lsm_merge.specs.Walks.{AllFollow, Merged, Took, WalkValue, follows, last_taken}
+use Rattle.lsm_merge.specs.Walks.{AllFollow, IsGivenFirst, Took, WalkValue, follows, last_taken}
+use Rattle.lsm_merge.proofs.TakenHeads.{turns_chain}
 
 -- ---- one walk after another
 
@@ -36,7 +34,7 @@ module _ (points : List ℕ) (deeper : List KeyRange) where
 
 pub took_chain : (old mid new : WalkValue) (xs ys kept more : List Entry) → Took old xs kept mid → Took mid ys more new → Took old (xs ++ ys) (kept ++ more) new
 took_chain old mid new xs ys kept more one other = record {
-  takes = Yields-append (kmerge_steps GivesNext ByOrder) old.merged xs mid.merged ys new.merged one.takes other.takes;
+  takes = turns_chain old.heads mid.heads new.heads xs ys one.takes other.takes;
   ordered = follow_chain old.before xs ys one.ordered (subst (λ (o : Option Entry). AllFollow o ys) one.before other.ordered);
   keeps = kept_chain old.points old.deeper old.before xs ys
       ∙ ap (λ (es : List Entry). es ++ kept_list old.points old.deeper (last_taken old.before xs) ys) one.keeps
@@ -50,11 +48,11 @@ pub took_none : (w : WalkValue) → Took w [] [] w
 took_none w = record { takes = refl; ordered = tt; keeps = refl; before = refl; points = refl; deeper = refl }
 
 -- one more
-pub took_more : (old now after : WalkValue) (taken : List Entry) (e : Entry) (b : Bool) → Took old taken [] now → kmerge_steps GivesNext ByOrder now.merged (Some e) after.merged → follows now.before e ≡ true → stays now.points now.deeper now.before e ≡ b
+pub took_more : (old now after : WalkValue) (taken : List Entry) (e : Entry) (b : Bool) → Took old taken [] now → IsGivenFirst now.heads e after.heads → follows now.before e ≡ true → stays now.points now.deeper now.before e ≡ b
     → after.before ≡ Some e → after.points ≡ now.points → after.deeper ≡ now.deeper → Took old (taken ++ e ∷ []) (cond b (e ∷ []) []) after
 took_more old now after taken e b so_far steps follow kept last p d =
     let one : Took now (e ∷ []) (cond b (e ∷ []) []) after = record {
-      takes = (after.merged, steps, refl);
+      takes = (after.heads, steps, refl);
       ordered = (follow, tt);
       keeps = ap (λ (c : Bool). cond c (e ∷ []) []) kept;
       before = last;
@@ -64,8 +62,8 @@ took_more old now after taken e b so_far steps follow kept last p d =
     took_chain old now after taken (e ∷ []) [] (cond b (e ∷ []) []) so_far one
 
 -- a walk's value
-abbrev pub seen : Merged → Option Entry → List ℕ → List KeyRange → Option MergeError → WalkValue
-seen merged before points deeper refused = record { merged = merged; before = before; points = points; deeper = deeper; refused = refused }
+abbrev pub seen : List CursorHead → Option Entry → List ℕ → List KeyRange → Option MergeError → WalkValue
+seen heads before points deeper refused = record { heads = heads; before = before; points = points; deeper = deeper; refused = refused }
 
 pub not_refused : {A : Type 0} (o : Option A) (x : A) → o ≡ None → o ≡ Some x → ⊥
 not_refused {A} o x none some = let bad : ◌≡◌ {A = Option A} None (Some x) = sym none ∙ some in absurd cc

@@ -3,12 +3,14 @@ use Rattle.std.specs.Prelude.{◌≡◌, ℕ, false, List, [], ◌∷◌, ◌++�
 use Rattle.lsm_key.specs.declared.entry.Entry.{Entry}
 use Rattle.lsm_key.specs.Order.{IsAscending}
 use Rattle.lsm_key.specs.Places.{all_entries}
+use Rattle.lsm_key.specs.Sets.{IsIn}
 use Rattle.lsm_table.specs.Tables.{Opened}
 use Rattle.lsm_msg.specs.declared.job.JobParts.{JobParts}
 use Rattle.lsm_msg.specs.Merge.{HoldsKept}
+use Rattle.lsm_merge.specs.declared.cursor_head.CursorHead.{CursorHead}
 use Rattle.lsm_merge.specs.Inputs.{HaveSameEntry}
 use Rattle.lsm_merge.specs.Outputs.{IsMerge}
-use Rattle.lsm_merge.specs.Walks.{BeginsWalk, IsMerged, Merged, GivesInTurn, Took, WalkValue, follows, last_taken}
+use Rattle.lsm_merge.specs.Walks.{BeginsWalk, GivesInTurn, Took, WalkValue, follows, last_taken}
 
 -- the outputs of a job are determined, to the byte
 abbrev pub AMergeHasOneOutcome : Type 0
@@ -16,8 +18,12 @@ AMergeHasOneOutcome = (tables : List Opened) (job : JobParts) (one other : List 
 
 -- a walk that came to its end gave what a merge of the lists keeps, in order, and no two of them share an entry
 abbrev pub AnEndedWalkGaveWhatIsKept : Type 0
-AnEndedWalkGaveWhatIsKept = (lists : List (List Entry)) (start last : WalkValue) (taken kept : List Entry) → BeginsWalk lists start → Took start taken kept last → IsMerged last.merged → HoldsKept (all_entries lists) start.points start.deeper kept × IsAscending kept × (HaveSameEntry lists → ⊥)
+AnEndedWalkGaveWhatIsKept = (lists : List (List Entry)) (start last : WalkValue) (taken kept : List Entry) → BeginsWalk lists start → Took start taken kept last → last.heads ≡ [] → HoldsKept (all_entries lists) start.points start.deeper kept × IsAscending kept × (HaveSameEntry lists → ⊥)
 
 -- where an entry does not come after the one before it, two of the lists share it
 abbrev pub AWalkIsRefusedForASharedEntry : Type 0
-AWalkIsRefusedForASharedEntry = (lists : List (List Entry)) (start : WalkValue) (taken : List Entry) (e : Entry) (after : Merged) → All IsAscending lists → BeginsWalk lists start → GivesInTurn start.merged (taken ++ e ∷ []) after → follows (last_taken start.before taken) e ≡ false → HaveSameEntry lists
+AWalkIsRefusedForASharedEntry = (lists : List (List Entry)) (start : WalkValue) (taken : List Entry) (e : Entry) (after : List CursorHead) → All IsAscending lists → BeginsWalk lists start → GivesInTurn start.heads (taken ++ e ∷ []) after → follows (last_taken start.before taken) e ≡ false → HaveSameEntry lists
+
+-- what a cursor has given, but for the one entry that it is read up to, was taken
+abbrev pub AWalkReadsOneEntryAhead : Type 0
+AWalkReadsOneEntryAhead = (lists : List (List Entry)) (start last : WalkValue) (taken kept : List Entry) → BeginsWalk lists start → Took start taken kept last → (h : CursorHead) → IsIn h last.heads → (given : List Entry) × IsIn (given ++ h.entry ∷ h.rest) lists × ((e : Entry) → IsIn e given → IsIn e taken)

@@ -3,7 +3,7 @@
 
 ghost use Rattle.std.specs.Prelude.{◌≡◌};
 ghost use Rattle.lsm_merge.specs.declared.outputs.TheConstants.{OUTPUT_TARGET};
-ghost use Rattle.lsm_merge.specs.Laws.{AMergeHasOneOutcome, AWalkIsRefusedForASharedEntry, AnEndedWalkGaveWhatIsKept};
+ghost use Rattle.lsm_merge.specs.Laws.{AMergeHasOneOutcome, AWalkIsRefusedForASharedEntry, AWalkReadsOneEntryAhead, AnEndedWalkGaveWhatIsKept};
 
 /// The outputs of a job's tables are determined, to the byte: every worker produces the same.
 pub fn a_merge_has_one_outcome()
@@ -18,6 +18,12 @@ pub fn an_ended_walk_gave_what_is_kept()
 /// A walk is refused only where two of its cursors share an entry.
 pub fn a_walk_is_refused_for_a_shared_entry()
     ensures { AWalkIsRefusedForASharedEntry }
+{}
+
+/// A walk reads each cursor one entry ahead: what a cursor has given, but for the one entry that the walk holds of it, was taken. So
+/// no list of entries is held.
+pub fn a_walk_reads_one_entry_ahead()
+    ensures { AWalkReadsOneEntryAhead }
 {}
 
 /// The limits of a merge are these numbers.

@@ -1,22 +1,22 @@
 //! What a merge keeps of the entries of cursors, one by one.
 
-ghost use Rattle.std.specs.Prelude.{◌≡◌, ℕ, ◌≤◌, List, None, All, IfOk, length, map};
+ghost use Rattle.std.specs.Prelude.{◌≡◌, ℕ, ◌≤◌, List, [], None, IfOk, MatchOption, length};
 ghost use Rattle.std.specs.Borrow.{Bor};
 ghost use Rattle.std.specs.Option.{option_map};
 ghost use Rattle.lsm_key.specs.declared.entry.EntryRef.{EntryRef};
 ghost use Rattle.lsm_key.specs.declared.limits.TheConstants.{MAX_POINTS};
 ghost use Rattle.lsm_key.specs.Visible.{lent_entry};
 ghost use Rattle.lsm_msg.specs.Merge.{is_in_ranges};
-ghost use Rattle.lsm_merge.specs.Walks.{BeginsWalk, IsFewer, Walks, WalksOrStops, follows};
+ghost use Rattle.lsm_merge.specs.Walks.{BeginsWalk, IsGivenFirst, IsFewer, Walks, WalksOrStops, follows};
 
+use crate::cursor_head::{CursorHead, heads_of};
 use crate::deeper::DeeperKeys;
 use crate::error::MergeError;
 use crate::keep::stays;
-use itertools::KMergeBy;
 use lsm_block::{BlockEntry, Cursor};
 use lsm_key::{Entry, EntryRef, Seq};
 use lsm_msg::Job;
-use lsm_table::{EntryOrder, merge_cursors};
+use lsm_table::Heads;
 use std::alloc::{AllocError, Global};
 use std::cmp::Ordering;
 use std::marker::Model;
@@ -25,7 +25,7 @@ use std::marker::Model;
 /// one entry ahead.
 #[derive(Drop)]
 pub struct Walk<'a> {
-    merged: KMergeBy<Cursor<'a>, EntryOrder, Global>,
+    heads: Heads<CursorHead<'a>>,
     before: Option<EntryRef<'a>>,
     points: &'a [Seq],
     deeper: DeeperKeys,
@@ -35,13 +35,11 @@ pub struct Walk<'a> {
 impl<'a> Model for Walk<'a> {
     ghost use Rattle.std.specs.Option.{option_map};
     ghost use Rattle.lsm_key.specs.Visible.{lent_entry};
-    ghost use Rattle.lsm_merge.specs.Walks.{CanWalk, WalkValue};
+    ghost use Rattle.lsm_merge.specs.Walks.{WalkValue};
 
     ghost Value = { WalkValue };
 
-    ghost view = { λ w. record { merged = w.merged; before = option_map lent_entry w.before; points = w.points.now; deeper = w.deeper; refused = w.refused } };
-
-    ghost invariant = { λ w. CanWalk w.merged };
+    ghost view = { λ w. record { heads = w.heads; before = option_map lent_entry w.before; points = w.points.now; deeper = w.deeper; refused = w.refused } };
 }
 
 impl<'a> Walk<'a> {
@@ -56,9 +54,9 @@ impl<'a> Walk<'a> {
         ensures deeper { IfOk result (λ w. (key : List ℕ) → is_in_ranges w.deeper key ≡ is_in_ranges job.now.deeper key) }
     {
         let deeper = DeeperKeys::of(alloc, job.deeper())?;
-        let merged = merge_cursors(alloc, cursors)?;
+        let heads = Heads::new(alloc, heads_of(alloc, cursors)?)?;
         Ok(Walk {
-            merged,
+            heads,
             before: None,
             points: job.points(),
             deeper,
@@ -92,7 +90,7 @@ impl<'a> Walk<'a> {
             Some(why) => return Err(why),
             None => {}
         }
-        while let Some(found) = self.merged.next() {
+        while let Some(found) = take_next(&mut self.heads) {
             let entry = found.entry();
             if !may_follow(self.before.as_ref(), &entry) {
                 self.refused = Some(MergeError::SameEntry);
@@ -106,6 +104,15 @@ impl<'a> Walk<'a> {
         }
         Ok(None)
     }
+}
+
+// Takes the first entry in order of all that the cursors have left, if there is one.
+fn take_next<'a>(heads: &mut Heads<CursorHead<'a>>) -> Option<BlockEntry<'a>>
+    ensures { MatchOption result ((heads.old ≡ []) × (heads.new ≡ [])) (λ e. IsGivenFirst heads.old e heads.new) }
+{
+    let found = heads.first()?.entry();
+    heads.advance();
+    Some(found)
 }
 
 // Whether an entry comes after the one before it, if there is one.

@@ -15,7 +15,7 @@ use Rattle.lsm_edit.specs.declared.edit.Edit.{Edit}
 use Rattle.lsm_edit.specs.declared.served.Placed.{Placed}
 use Rattle.lsm_edit.specs.Version.{IsVersion, has_number}
 use Rattle.lsm_edit.specs.Served.{ServedValue, IsServed, tables_of}
-use Rattle.lsm_edit.proofs.LevelRanges.{in_tables}
+use Rattle.lsm_edit.proofs.LevelEntries.{in_tables}
 use Rattle.lsm_edit.proofs.ServedPlaces.{newer_places, stored_unique, tables_in}
 use Rattle.lsm_msg.specs.declared.job.JobParts.{JobParts}
 use Rattle.lsm_key.specs.declared.range.KeyRange.{KeyRange}

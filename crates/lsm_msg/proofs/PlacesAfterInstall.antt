@@ -18,7 +18,7 @@ use Rattle.lsm_edit.specs.declared.served.Placed.{Placed}
 use Rattle.lsm_edit.specs.Version.{IsVersion, has_number, files_after, files_without}
 use Rattle.lsm_edit.specs.Served.{ServedValue, IsServed, AreAsRecorded, is_covered, placed_of, places_without, put_all, tables_of}
 use Rattle.lsm_edit.proofs.ServedAfterEdit.{put_all-members, served_after}
-use Rattle.lsm_edit.proofs.LevelRanges.{in_tables}
+use Rattle.lsm_edit.proofs.LevelEntries.{in_tables}
 use Rattle.lsm_edit.proofs.ServedPlaces.{AreNewer, covered, newer_places, no_shared, ordered_from, tables_in}
 use Rattle.lsm_edit.proofs.PlacesInOrder.{placed_meta, placed_recorded}
 use Rattle.lsm_edit.proofs.KeysOutOfRange.{key_covered}

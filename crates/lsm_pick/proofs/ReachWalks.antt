@@ -14,7 +14,7 @@ use Rattle.lsm_edit.specs.Served.{AllRecorded, AreInSearchOrder, IsAsRecorded, c
 use Rattle.lsm_edit.proofs.SearchOrder.{Before, upper, newer, lesser, before_of}
 use Rattle.lsm_edit.proofs.LevelSearch.{Left, above, beside, left_of, level_up, not_left, whole_of}
 use Rattle.lsm_edit.proofs.ServedAfterEdit.{ordered-filter}
-use Rattle.lsm_edit.proofs.LevelRanges.{order_left}
+use Rattle.lsm_edit.proofs.LevelEntries.{order_left}
 use Rattle.lsm_pick.specs.Closure.{Candidate}
 use Rattle.lsm_key.specs.KeyRanges.{lower, higher}
 use Rattle.lsm_pick.specs.Reach.{IsReach, Grows, is_inside, is_met, joins_at, may_join}

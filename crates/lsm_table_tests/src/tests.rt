@@ -39,12 +39,13 @@ const TWO_BLOCKS: [u8; 78] = [
     0, 1, 0x61, 0, 0, 0, 0, 0, 0, 1, 1, 0, 0, 0, 1, 0x31,
 ];
 
-// Of the key a: a put of 1 at a sequence.
-fn put_of_one_at(seq: u8) -> Entry
-    requires { 1 ≤ seq }
+// Of a key of one letter: a put of 1 at a sequence.
+fn put_at(key: &'static [u8], seq: u8) -> Entry
+    requires letter { length key.now ≡ 1 }
+    requires first { 1 ≤ seq }
     ensures { IsEntry result }
 {
-    let key = Bytes::from_static(b"a");
+    let key = Bytes::from_static(key);
     let seq = Seq::new(u64::from(seq));
     let kind = Kind::Put;
     let value = Bytes::from_static(b"1");
@@ -54,11 +55,11 @@ fn put_of_one_at(seq: u8) -> Entry
     }
 }
 
-// The same at the first sequence.
+// Of the key a: a put of 1 at the first sequence.
 fn put_of_one() -> Entry
     ensures { IsEntry result }
 {
-    put_of_one_at(1)
+    put_at(b"a", 1)
 }
 
 // Of the key a: a deletion at the second sequence.
@@ -222,7 +223,7 @@ fn versions_of_a_key_span_blocks(rt: HostRuntime) -> Result<(), Fail> {
     // An entry takes 16 bytes, so that a block has three.
     let mut builder = TableBuilder::new(rt.alloc(), 48);
     for newer in 0..20 {
-        add(&mut builder, put_of_one_at(20 - newer))?;
+        add(&mut builder, put_at(b"a", 20 - newer))?;
     }
     let table = builder.finish_open()?;
     assert_eq!(rt; table.bytes().len(), 17 + 7 * 15 + 20 * 16);

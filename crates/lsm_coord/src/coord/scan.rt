@@ -1,28 +1,29 @@
 //! Scans of the store.
 
-ghost use Rattle.std.specs.Prelude.{◌≡◌, ◌++◌, IfOk, IfErr, OnOk, filter};
+ghost use Rattle.std.specs.Prelude.{◌≡◌, [], ◌∷◌, ◌++◌, IfOk, IfErr, OnOk, filter};
 ghost use Rattle.std.specs.Option.{option_map};
 ghost use Rattle.lsm_key.specs.Order.{key_le};
 ghost use Rattle.lsm_key.specs.Places.{all_entries};
 ghost use Rattle.lsm_key.specs.Visible.{lent_entry};
+ghost use Rattle.lsm_table.specs.Heads.{AllInOrder, has_entry};
 ghost use Rattle.lsm_edit.specs.Served.{IsServed};
 ghost use Rattle.lsm_coord.specs.Model.Event.{Scan};
 ghost use Rattle.lsm_coord.specs.Contract.Shows.{Follows};
 ghost use Rattle.lsm_coord.specs.Contract.Calls.{IsPoint, ScanRefuses, Scans};
 ghost use Rattle.lsm_coord.specs.Contract.Value.{everything};
 ghost use Rattle.lsm_coord.specs.Contract.Replies.{scan_reply};
-ghost use Rattle.lsm_coord.specs.Inner.Heads.{AllInOrder};
 ghost use Rattle.lsm_coord.specs.Inner.Scan.{AreFirstPairs, is_hidden, pair_of};
-ghost use Rattle.lsm_coord.specs.Inner.Sources.{entry_at, lists_of};
+ghost use Rattle.lsm_coord.specs.Inner.Sources.{source_lists, source_entry};
 
 use super::Coord;
 use crate::CoordError;
-use crate::heads::Heads;
 use crate::snapshot::SnapId;
-use crate::source::{Source, SourceEntry};
+use crate::source::Source;
 use bytes::Bytes;
 use lsm_edit::LevelCursor;
 use lsm_key::{EntryRef, Kind, Seq};
+use lsm_mem::MemtableCursor;
+use lsm_table::Heads;
 use lsm_vault::Vault;
 use std::alloc::{AllocError, Global};
 
@@ -66,30 +67,45 @@ impl<V: Vault> Coord<V> {
 
     // All entries whose key is at or after `lo`.
     fn sources_from(&self, lo: &[u8]) -> Result<Vec<Source<'_>>, AllocError>
-        ensures all { IfOk result (λ sources. all_entries (lists_of sources.items) ≡ filter (λ e. key_le lo.now e.ikey.key) (everything self.now)) }
-        ensures order { IfOk result (λ sources. AllInOrder (lists_of sources.items)) }
+        ensures all { IfOk result (λ sources. all_entries (source_lists sources.items) ≡ filter (λ e. key_le lo.now e.ikey.key) (everything self.now)) }
+        ensures order { IfOk result (λ sources. AllInOrder (source_lists sources.items)) }
         ensures sound { IsServed self.now.served }
     {
         let tables = self.versions.served().cursors_from(lo)?;
         let mut sources = Vec::with_capacity(self.alloc, tables.len() + 2)?;
-        sources.push(Source::Memtable(self.active.cursor_from(lo)?))?;
+        push_memtable(&mut sources, self.active.cursor_from(lo)?)?;
         if let Some(frozen) = &self.frozen {
-            sources.push(Source::Memtable(frozen.memtable.cursor_from(lo)?))?;
+            push_memtable(&mut sources, frozen.memtable.cursor_from(lo)?)?;
         }
         push_tables(&mut sources, tables)?;
         Ok(sources)
     }
 }
 
-// Appends cursors over tables.
+// Appends what a memtable has left, if it has an entry left.
+fn push_memtable<'a>(
+    sources: &mut Vec<Source<'a>>,
+    cursor: MemtableCursor<'a>,
+) -> Result<(), AllocError>
+    ensures { OnOk result (source_lists sources.new.items ≡ source_lists sources.old.items ++ filter has_entry (cursor.entry ∷ [])) }
+{
+    match Source::of_memtable(cursor) {
+        Some(source) => Ok(sources.push(source)?),
+        None => Ok(()),
+    }
+}
+
+// Appends what tables have left, of those that have an entry left.
 fn push_tables<'a>(
     sources: &mut Vec<Source<'a>>,
     tables: Vec<LevelCursor<'a>>,
 ) -> Result<(), AllocError>
-    ensures { OnOk result (lists_of sources.new.items ≡ lists_of sources.old.items ++ tables.entry.items) }
+    ensures { OnOk result (source_lists sources.new.items ≡ source_lists sources.old.items ++ filter has_entry tables.entry.items) }
 {
     for cursor in tables {
-        sources.push(Source::Tables(cursor))?;
+        if let Some(source) = Source::of_tables(cursor) {
+            sources.push(source)?;
+        }
     }
     Ok(())
 }
@@ -97,38 +113,37 @@ fn push_tables<'a>(
 // The first pairs of what the heads have left.
 fn first_pairs<'a>(
     alloc: Global,
-    heads: Heads<'a>,
+    heads: Heads<Source<'a>>,
     hi: &[u8],
     point: Seq,
     limit: u64,
 ) -> Result<Vec<(Bytes, Bytes)>, AllocError>
-    requires { AllInOrder heads }
-    ensures { IfOk result (λ pairs. AreFirstPairs point hi.now limit (all_entries heads.entry) pairs.items) }
+    requires { AllInOrder (source_lists heads) }
+    ensures { IfOk result (λ pairs. AreFirstPairs point hi.now limit (all_entries (source_lists heads.entry)) pairs.items) }
 {
     let mut left = heads;
     let mut pairs = Vec::new(alloc);
     let mut before: Option<EntryRef<'a>> = None;
     while (pairs.len() as u64) < limit {
-        let found = match left.next() {
-            Some(found) => found,
-            None => return Ok(pairs),
+        let Some(first) = left.first() else {
+            return Ok(pairs);
         };
-        let entry = found.entry();
+        let entry = first.entry();
         if entry.key.cmp(hi).is_ge() {
             return Ok(pairs);
         }
-        if hides(point, &before, &entry) {
-            continue;
+        if !hides(point, &before, &entry) {
+            push_pair(&mut pairs, first)?;
+            before = Some(entry);
         }
-        push_pair(&mut pairs, &found)?;
-        before = Some(entry);
+        left.advance();
     }
     Ok(pairs)
 }
 
 // Appends the key and the value of a put.
-fn push_pair(pairs: &mut Vec<(Bytes, Bytes)>, entry: &SourceEntry<'_>) -> Result<(), AllocError>
-    ensures { OnOk result (pairs.new.items ≡ pairs.old.items ++ pair_of (entry_at entry.now)) }
+fn push_pair(pairs: &mut Vec<(Bytes, Bytes)>, entry: &Source<'_>) -> Result<(), AllocError>
+    ensures { OnOk result (pairs.new.items ≡ pairs.old.items ++ pair_of (source_entry entry.now)) }
 {
     let shared = entry.shared()?;
     match shared.ikey.kind {

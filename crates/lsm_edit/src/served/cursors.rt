@@ -1,10 +1,8 @@
 //! Cursors over all tables of a version.
 
-ghost use Rattle.std.specs.Prelude.{◌≡◌, ◌≤◌, All, IfOk, filter, nat_eq};
+ghost use Rattle.std.specs.Prelude.{◌≡◌, All, IfOk, filter, nat_eq};
 ghost use Rattle.lsm_key.specs.Order.{IsInOrder, key_le};
 ghost use Rattle.lsm_key.specs.Places.{all_entries};
-ghost use Rattle.lsm_key.specs.Sets.{IsIn};
-ghost use Rattle.lsm_edit.specs.declared.served.Placed.{Placed};
 ghost use Rattle.lsm_edit.specs.Served.{AllRecorded, AreInSearchOrder, tables_of};
 
 use super::level_cursor::{LevelCursor, level_cursor};
@@ -19,32 +17,19 @@ impl Served {
         ensures all { IfOk result (λ cursors. all_entries cursors.items ≡ filter (λ e. key_le lo.now e.ikey.key) (all_entries (tables_of self.now.places))) }
         ensures order { IfOk result (λ cursors. All IsInOrder cursors.items) }
     {
-        all_cursors(self.current.alloc(), self.places(), lo)
+        let places = self.places();
+        let mut cursors = zero_cursors(self.current.alloc(), places, lo)?;
+        for level in 1..MAX_LEVEL + 1 {
+            let Some(cursor) = level_cursor(places, level, lo) else {
+                continue;
+            };
+            cursors.push(cursor)?;
+        }
+        Ok(cursors)
     }
 }
 
-fn all_cursors<'a>(
-    alloc: Global,
-    places: &'a [Placed],
-    lo: &[u8],
-) -> Result<Vec<LevelCursor<'a>>, AllocError>
-    requires recorded { AllRecorded places.now }
-    requires ordered { AreInSearchOrder places.now }
-    requires levels { (p : Placed) → IsIn p places.now → p.meta.level ≤ MAX_LEVEL }
-    ensures all { IfOk result (λ cursors. all_entries cursors.items ≡ filter (λ e. key_le lo.now e.ikey.key) (all_entries (tables_of places.now))) }
-    ensures order { IfOk result (λ cursors. All IsInOrder cursors.items) }
-{
-    let mut cursors = zero_cursors(alloc, places, lo)?;
-    for level in 1..MAX_LEVEL + 1 {
-        let Some(cursor) = level_cursor(places, level, lo) else {
-            continue;
-        };
-        cursors.push(cursor)?;
-    }
-    Ok(cursors)
-}
-
-// Those of the tables of level 0.
+// Cursors over the tables of level 0.
 fn zero_cursors<'a>(
     alloc: Global,
     places: &'a [Placed],

@@ -3,6 +3,7 @@
 ghost use Rattle.std.specs.Prelude.{◌≡◌, IfOk, IsTrue, [], ◌∷◌};
 ghost use Rattle.lsm_edit.specs.Served.{AreAsRecorded};
 
+use super::cursors::shown_from;
 use super::versions::{NEXT, are_numbered, version_after};
 use super::{EPOCH, FLUSH, edit_of};
 use bytes::Bytes;
@@ -136,11 +137,6 @@ fn has_only(served: &Served, number: u64) -> bool {
     }
 }
 
-// How many entries a range has.
-fn count_in(served: &Served, lo: &[u8], hi: &[u8]) -> Result<usize, Fail> {
-    Ok(served.range(lo, hi)?.len())
-}
-
 #[test]
 fn a_served_version_becomes_another(rt: HostRuntime) -> Result<(), Fail> {
     let served = rebased(rt.alloc())?;
@@ -155,8 +151,9 @@ fn what_is_read_of_a_served_version(rt: HostRuntime) -> Result<(), Fail> {
     let served = rebased(rt.alloc())?;
     assert!(rt; gives(&served, b"a", b"1"));
     assert!(rt; served.get(b"b").is_none() && !is_found(&served, b"a", 0));
-    for (lo, hi, count) in [(b"a".as_slice(), b"b", 1), (b"", b"a", 0)] {
-        assert!(rt; count_in(&served, lo, hi)? == count);
+    for (lo, want) in [("", "a1 |"), ("a", "a1 |"), ("b", "|")] {
+        let shown = shown_from(rt.alloc(), &served, lo.as_bytes())?;
+        assert_eq!(rt; shown.as_str(), want, "from {lo}");
     }
     Ok(())
 }
@@ -168,8 +165,9 @@ fn what_is_read_after_an_install(rt: HostRuntime) -> Result<(), Fail> {
     for (key, at, found) in [(b"a", 2, true), (b"b", 1, false), (b"c", 2, false)] {
         assert!(rt; is_found(&served, key, at) == found);
     }
-    for (lo, count) in [(b"a", 2), (b"b", 1)] {
-        assert!(rt; count_in(&served, lo, b"c")? == count);
+    for (lo, want) in [("a", "a1 b2 |"), ("b", "b2 |"), ("c", "")] {
+        let shown = shown_from(rt.alloc(), &served, lo.as_bytes())?;
+        assert_eq!(rt; shown.as_str(), want, "from {lo}");
     }
     Ok(())
 }

@@ -1,31 +1,10 @@
 //! Cursors that begin at a key.
 
-ghost use Rattle.lsm_key.specs.Entries.{IsEntry};
-ghost use Rattle.std.specs.Prelude.{◌≡◌, ◌≤◌, length};
-
-use crate::tests::add;
-use bytes::Bytes;
+use crate::tests::{add, put_at};
 use lsm_block::Cursor;
-use lsm_key::{Entry, InternalKey, Kind, Seq};
 use lsm_table::{BuildError, Table, TableBuilder};
 use std::alloc::Global;
 use std::test::Fail;
-
-// A put of 1 at a sequence, of a key of one letter.
-fn put_at(key: &'static [u8], seq: u8) -> Entry
-    requires letter { length key.now ≡ 1 }
-    requires first { 1 ≤ seq }
-    ensures { IsEntry result }
-{
-    let key = Bytes::from_static(key);
-    let seq = Seq::new(u64::from(seq));
-    let kind = Kind::Put;
-    let value = Bytes::from_static(b"1");
-    Entry {
-        ikey: InternalKey { key, seq, kind },
-        value,
-    }
-}
 
 // A table of three keys, one of which has two versions, each entry in a block of its own.
 fn table_of_three(alloc: Global) -> Result<Table, BuildError> {

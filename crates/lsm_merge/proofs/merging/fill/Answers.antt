@@ -43,4 +43,4 @@ returns-clause-ok c = λ target split.
     let now = c.loop-entry.walk in
     let inv = c.loop-entry.invariant in
     let s = subst (λ (o : Option Entry). Steps now (Ok o) c.step.new.self) c.in_default.is (c.in_ok-entry.ensures.steps.1 inv.1) in
-    filled c.args.walk.now now target c.loop-entry.outputs.closed.items c.loop-entry.outputs.taking (inv.0 target split) s.0 s.1 s.2 s.3
+    filled c.args.walk.now now target c.loop-entry.outputs.closed.items c.loop-entry.outputs.taking (inv.0 target split) s.0 c.step.new.self s.1 s.2

@@ -8,4 +8,4 @@ abbrev pub invariant-loop-entry : goal.invariant-loop-entry
 invariant-loop-entry l = ((target : ℕ) → IsSplitSoFar target [] l.fn.outputs.closed.items l.fn.outputs.taking → IsFilling l.fn.walk l.walk target l.outputs.closed.items l.outputs.taking) × (l.walk.refused ≡ None)
 
 abbrev pub decreases-loop-entry : goal.decreases-loop-entry
-decreases-loop-entry l = left_to_merge l.walk.merged
+decreases-loop-entry l = left_to_merge l.walk.heads

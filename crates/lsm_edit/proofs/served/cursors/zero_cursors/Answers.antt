@@ -3,7 +3,7 @@ use Rattle.std.proofs.lemmas.List.{append-nil, drop_all}
 use Rattle.lsm_key.specs.declared.entry.Entry.{Entry}
 use Rattle.lsm_edit.specs.declared.served.Placed.{Placed}
 use Rattle.lsm_edit.proofs.CursorsOnward.{GathersOn, all_gathered, none_gathered, zero_ends, zero_more}
-use Rattle.lsm_edit.proofs.LevelRanges.{is_of}
+use Rattle.lsm_edit.proofs.LevelEntries.{is_of}
 use Rattle.lsm_edit.proofs.served.cursors.zero_cursors.Goals as goal
 
 pub loop-placed-init : goal.loop-placed-init

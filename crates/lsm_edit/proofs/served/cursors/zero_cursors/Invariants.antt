@@ -1,6 +1,6 @@
 use Rattle.std.proofs.Common.{drop, filter}
 use Rattle.lsm_edit.proofs.CursorsOnward.{GathersOn}
-use Rattle.lsm_edit.proofs.LevelRanges.{is_of}
+use Rattle.lsm_edit.proofs.LevelEntries.{is_of}
 use Rattle.lsm_edit.proofs.served.cursors.zero_cursors.Given as goal
 
 abbrev pub invariant-loop-placed : goal.invariant-loop-placed
