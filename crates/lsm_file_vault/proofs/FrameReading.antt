@@ -7,7 +7,7 @@ use Rattle.lsm_key.specs.Reading.{number_at, fixed_at, piece_at}
 use Rattle.lsm_key.proofs.FieldLaws.{IsBytes, bind_ok, guard_held, ok_is, Takes-then, wide32, wide64, number_takes, number_again, fixed_takes, fixed_again, piece_takes, piece_again}
 use Rattle.lsm_file_vault.specs.declared.frame.FrameFault.{FrameFault}
 use Rattle.lsm_file_vault.specs.declared.frame.FrameFault.TheVariants.{Truncated, BadLength, BadChecksum}
-use Rattle.lsm_file_vault.specs.Frames.{checksum, turned, header, frame, frame_at, frames}
+use Rattle.lsm_file_vault.specs.Frames.{checksum, turned, header_of, frame, frame_at, frames}
 
 -- a header's three fields before what follows
 pub regrouped : (a b c more : List ℕ) → (a ++ (b ++ c)) ++ more ≡ a ++ (b ++ (c ++ more))
@@ -49,7 +49,7 @@ unfolding frame_at
 frame_again bytes rest short small =
     let n = length bytes in
     let layout : frame bytes ++ rest ≡ to_be_bytes w32 n ++ (to_be_bytes w32 (turned n) ++ (to_be_bytes w64 (checksum bytes) ++ (bytes ++ rest))) =
-    append_assoc (header bytes) bytes rest ∙ regrouped (to_be_bytes w32 n) (to_be_bytes w32 (turned n)) (to_be_bytes w64 (checksum bytes)) (bytes ++ rest) in
+    append_assoc (header_of bytes) bytes rest ∙ regrouped (to_be_bytes w32 n) (to_be_bytes w32 (turned n)) (to_be_bytes w64 (checksum bytes)) (bytes ++ rest) in
     ap frame_at layout ∙ rw (
       number_again Truncated w32 (2 ^ 32) wide32 n (to_be_bytes w32 (turned n) ++ (to_be_bytes w64 (checksum bytes) ++ (bytes ++ rest))) short,
       fixed_again Truncated BadLength w32 (2 ^ 32) wide32 (turned n) (to_be_bytes w64 (checksum bytes) ++ (bytes ++ rest)) (omega (arith, short)),

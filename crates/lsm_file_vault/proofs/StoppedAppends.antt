@@ -5,7 +5,7 @@ use Rattle.std.specs.Int.{w32, w64, to_be_bytes, from_be_bytes}
 use Rattle.std.proofs.lemmas.List.{length-append, length-drop, length-take-le, take_at}
 use Rattle.lsm_key.proofs.FieldLaws.{IsBytes, ok_is, wide32}
 use Rattle.lsm_file_vault.specs.declared.frame.FrameFault.{FrameFault}
-use Rattle.lsm_file_vault.specs.Frames.{checksum, turned, header, frame, frames, frame_at, claimed}
+use Rattle.lsm_file_vault.specs.Frames.{checksum, turned, header_of, frame, frames, frame_at, claimed}
 use Rattle.lsm_file_vault.specs.EditsFile.{AllFit, IsEditsFile}
 use Rattle.lsm_file_vault.proofs.FrameReading.{regrouped, frame_takes, frame_again}
 use Rattle.lsm_file_vault.proofs.TornFrames.{claim_of_front}
@@ -15,7 +15,7 @@ claims : (bytes rest : List ℕ) → length bytes < 2 ^ 32 → claimed (frame by
 claims bytes rest short =
     let len = to_be_bytes w32 (length bytes) in
     let more = to_be_bytes w32 (turned (length bytes)) ++ (to_be_bytes w64 (checksum bytes) ++ (bytes ++ rest)) in
-    let layout : frame bytes ++ rest ≡ len ++ more = append_assoc (header bytes) bytes rest ∙ regrouped len (to_be_bytes w32 (turned (length bytes))) (to_be_bytes w64 (checksum bytes)) (bytes ++ rest) in
+    let layout : frame bytes ++ rest ≡ len ++ more = append_assoc (header_of bytes) bytes rest ∙ regrouped len (to_be_bytes w32 (turned (length bytes))) (to_be_bytes w64 (checksum bytes)) (bytes ++ rest) in
     ap claimed layout ∙ ap (from_be_bytes w32) (take_at len more 4 refl) ∙ wide32.again (length bytes) short
 
 -- no frame begins a beginning of a frame

@@ -16,11 +16,11 @@ abbrev pub turned : ℕ → ℕ
 turned n = 2 ^ 32 - 1 - n
 
 -- four bytes of length, the same turned, eight bytes of checksum, and the bytes
-abbrev pub header : List ℕ → List ℕ
-header bytes = to_be_bytes w32 (length bytes) ++ to_be_bytes w32 (turned (length bytes)) ++ to_be_bytes w64 (checksum bytes)
+abbrev pub header_of : List ℕ → List ℕ
+header_of bytes = to_be_bytes w32 (length bytes) ++ to_be_bytes w32 (turned (length bytes)) ++ to_be_bytes w64 (checksum bytes)
 
 abbrev pub frame : List ℕ → List ℕ
-frame bytes = header bytes ++ bytes
+frame bytes = header_of bytes ++ bytes
 
 -- the bytes of the first frame, and what stands behind it
 unfoldable pub frame_at : List ℕ → Result (List ℕ × List ℕ) FrameFault
@@ -47,9 +47,9 @@ frames [] = []
 frames (bytes ∷ more) = frame bytes ++ frames more
 
 -- from the front of a file a frame was taken, or there is none and nothing was taken
-abbrev pub IsTaken : Option (List ℕ) → List ℕ → List ℕ → Type 0
-IsTaken (Some bytes) before after = before ≡ frame bytes ++ after
-IsTaken None before after = (after ≡ before) × IsErr (frame_at before)
+abbrev pub TakesFrame : Option (List ℕ) → List ℕ → List ℕ → Type 0
+TakesFrame (Some bytes) before after = before ≡ frame bytes ++ after
+TakesFrame None before after = (after ≡ before) × IsErr (frame_at before)
 
 -- the length that a header claims
 abbrev pub claimed : List ℕ → ℕ

@@ -4,7 +4,7 @@ ghost use Rattle.std.specs.List.{list_all};
 ghost use Rattle.std.specs.Prelude.{◌≡◌, ◌==◌, ◌<◌, ◌≤◌, ◌^◌, ◌++◌, length, IfOk, IsErr, OnOk};
 ghost use Rattle.lsm_key.specs.Reading.{Gives};
 ghost use Rattle.lsm_file_vault.specs.declared.frame.TheConstants.{HEAD_BYTES};
-ghost use Rattle.lsm_file_vault.specs.Frames.{IsTaken, checksum, frame_at, frames, header, is_torn, only_frame_at, reaches_end};
+ghost use Rattle.lsm_file_vault.specs.Frames.{TakesFrame, checksum, frame_at, frames, header_of, is_torn, only_frame_at, reaches_end};
 
 use bytes::{BufMut, Bytes, BytesMut};
 use lsm_key::{Refused, know_bytes, read_piece, read_u32, read_u64};
@@ -37,7 +37,7 @@ pub(crate) fn checksum_of(bytes: &[u8]) -> u64
 /// Appends the header of the frame of these bytes, which go behind it.
 pub(crate) fn write_header(out: &mut BytesMut, bytes: &[u8]) -> Result<(), AllocError>
     requires { length bytes.now < 2 ^ 32 }
-    ensures { OnOk result (out.new.items ≡ out.old.items ++ header bytes.now) }
+    ensures { OnOk result (out.new.items ≡ out.old.items ++ header_of bytes.now) }
 {
     let len = bytes.len() as u32;
     out.put_u32(len)?;
@@ -65,7 +65,7 @@ pub(crate) fn read_frame(rest: &mut Bytes) -> Result<Bytes, Refused<FrameFault>>
 
 // Takes a frame from the front, if one begins there, and returns its bytes.
 fn take_frame(rest: &mut Bytes) -> Result<Option<Bytes>, AllocError>
-    ensures { IfOk result (λ taken. IsTaken taken rest.old rest.new) }
+    ensures { IfOk result (λ taken. TakesFrame taken rest.old rest.new) }
 {
     know_bytes(rest);
     let mut after = rest.clone()?;
