@@ -111,6 +111,13 @@ impl<V: Vault> Coord<V> {
         self.book.epoch()
     }
 
+    /// The sequence of the last operation that it has accepted.
+    pub fn latest_sequence(&self) -> Seq
+        ensures { result ≡ self.now.last }
+    {
+        self.newest
+    }
+
     /// Ends it, and hands the vault back. All that was not flushed is lost, and all claims are stale.
     pub fn close(self) -> V
         ensures edits { V.edits result ≡ self.edits }

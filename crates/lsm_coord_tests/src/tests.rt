@@ -5,10 +5,10 @@ mod devices;
 mod fetches;
 mod installs;
 mod jobs;
-mod library;
 mod picks;
 mod records;
 mod restarts;
+mod session;
 mod steps;
 mod trims;
 

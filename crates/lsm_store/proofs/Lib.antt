@@ -4,3 +4,5 @@ pub mod MergedOutputs
 pub mod SoundJobs
 pub mod Compactions
 pub mod CompactionAnswers
+pub mod StoreSteps
+pub mod StoreCompactions

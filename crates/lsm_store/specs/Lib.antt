@@ -1,1 +1,4 @@
 pub mod Compacting
+pub mod Errors
+pub mod Store
+pub mod Stats

@@ -1,9 +1,22 @@
-//! A store in one process: its coordinator's compactions are merged where it stands.
+//! A store in one process: the front door of the library.
 //!
-//! It promises that a compaction is the pick, the merge and the install of one job, that it changes no read, and that
-//! it leaves no claim behind, whatever is refused. It stands on the coordinator and on the merge.
+//! `Store` is what a user of LevelDB expects over a vault: it puts, deletes, writes batches, gets, scans and makes snapshots, and runs
+//! its flushes and compactions inside its calls. It promises what it holds by the operations that it has accepted: what is
+//! answered `Ok` is in the store, reads answer by it, and a call that is refused leaves it as it was. `compact_once` is one
+//! compaction, the pick, the merge and the install of one job: it changes no read, and leaves no claim behind, whatever is
+//! refused. It stands on the coordinator and on the merge.
 #![tactic(auto)]
 
 mod compact;
+mod due;
+mod error;
+mod options;
+mod stats;
+mod store;
 
 pub use compact::{compact_once, result_of};
+pub use due::Due;
+pub use error::StoreError;
+pub use options::Options;
+pub use stats::{LevelStats, stats_of};
+pub use store::Store;

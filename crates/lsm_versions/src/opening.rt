@@ -44,8 +44,8 @@ pub(crate) fn recover<V: Vault>(
     Ok((served, recent))
 }
 
-// The version that these edits replay to, if they do.
-fn replay(alloc: Global, edits: &[Bytes]) -> Result<Option<Version>, AllocError>
+/// The version that these edits of a manifest make, if each applies to the version before it. No edits make version 0.
+pub fn replay(alloc: Global, edits: &[Bytes]) -> Result<Option<Version>, AllocError>
     ensures some { IfOk result (λ o. IfSome o (Folds edits.now)) }
     ensures none { IfOk result (λ o. IfNone o (Folds edits.now (manifest_version edits.now) → ⊥)) }
 {

@@ -1,4 +1,4 @@
-//! The example of the README, line by line.
+//! One coordinator from its opening to a scan, call by call.
 
 use bytes::Bytes;
 use lsm_coord::Coord;
@@ -7,7 +7,7 @@ use lsm_vault::MemoryVault;
 use std::test::Fail;
 
 #[test]
-fn a_store_as_a_library(rt: HostRuntime) -> Result<(), Fail> {
+fn a_session_of_one_coordinator(rt: HostRuntime) -> Result<(), Fail> {
     let alloc = rt.alloc();
     let limits = Limits::new(DEFAULT_L0, DEFAULT_BASE, DEFAULT_BLOCK).unwrap();
     let vault = MemoryVault::new(alloc);

@@ -1,0 +1,157 @@
+-- What the coordinator's steps do to what a store holds.
+use Rattle.std.proofs.Common.{◌≡◌, ℕ, ◌+◌, Bool, true, false, List, [], ◌∷◌, ◌++◌, Option, None, Some, Result, Vec, length, refl, sym, ap, subst, ◌∙◌, arith, inl, inr, is_none, ◌&&◌, take}
+use Rattle.std.specs.Prelude.{IsSome, nat_eq}
+use Rattle.std.specs.Bool.{if◌then◌else◌}
+use Rattle.std.proofs.lemmas.Bool.{eqb-true}
+use Rattle.lsm_key.specs.declared.op.Op.{Op}
+use Rattle.lsm_key.specs.Writes.{answer}
+use Rattle.lsm_versions.specs.Kept.{Kept}
+use Rattle.lsm_coord.specs.declared.error.CoordError.{CoordError}
+use Rattle.lsm_coord.specs.declared.error.CoordError.TheVariants as coord
+use Rattle.lsm_coord.specs.declared.snapshot.SnapId.{SnapId}
+use Rattle.lsm_coord.specs.declared.snapshot.Snapshot.{Snapshot}
+use Rattle.lsm_coord.specs.Model.Changes.{IsIndex, after_restart, after_stop, read_at}
+use Rattle.lsm_coord.specs.Model.Event.{Event, Refusal, Reply}
+use Rattle.lsm_coord.specs.Model.Event as say
+use Rattle.lsm_coord.specs.Model.Range.{IsRange}
+use Rattle.lsm_coord.specs.Model.Rules.{read_refusal, unless_down}
+use Rattle.lsm_coord.specs.Model.State.{State, Version, last_flushed, last_seq, snapshot_at}
+use Rattle.lsm_coord.specs.Model.Step.{Leaves}
+use Rattle.lsm_coord.specs.Contract.Replies.{refusal_of}
+use Rattle.lsm_coord.specs.Contract.Seats.{OpenFollows, ShowsDown}
+use Rattle.lsm_coord.specs.Contract.Shows.{Follows, Shows}
+use Rattle.lsm_coord.specs.Contract.Value.{CoordValue}
+use Rattle.lsm_coord.proofs.CurrentVersion.{current_version-risen}
+use Rattle.lsm_coord.proofs.RestartStops.{down_again, stays_down}
+use Rattle.lsm_coord.proofs.ShownVersions.{flushed_is}
+use Rattle.lsm_store.specs.Compacting.{IsCompacted}
+use Rattle.lsm_store.specs.Store.{AddsSnapshot, CanRead, Holds, HoldsStored, Keeps, ReadsRange, Stores, seen_count, stored_count}
+
+-- ---- a state that has the same writes and snapshots
+
+pub keeps_then : (old mid new : CoordValue) → Keeps old mid → Keeps mid new → Keeps old new
+keeps_then old mid new first second writes snapshots h = second writes snapshots (first writes snapshots h)
+
+-- a compaction's steps
+pub compaction_keeps : {Z : Type 0} (old new : CoordValue) (r : Result (Option (ℕ × Vec ℕ Z)) CoordError) → ((dispatcher message : ℕ) → IsIndex dispatcher → (s : State) → Shows old s → IsCompacted dispatcher message s r new) → Keeps old new
+compaction_keeps old new r steps writes snapshots h =
+    let done = steps 1 1 (omega arith, omega arith) h.state h.shown in
+    record { state = done.after; shown = done.shown; writes_are = done.writes ∙ h.writes_are; snapshots_are = done.snapshots ∙ h.snapshots_are }
+
+-- a trim, refused or not
+trim_leaves : (s : State) (n : ℕ) (why : Refusal) (t : State) → Leaves s (say.Trim n) why t → (t.writes ≡ s.writes) × (t.snapshots ≡ s.snapshots)
+trim_leaves s n say.Device t h = (ap (λ (x : State). x.writes) h, ap (λ (x : State). x.snapshots) h)
+trim_leaves s n say.OutOfMemory t (inl h) = (ap (λ (x : State). x.writes) h.1, ap (λ (x : State). x.snapshots) h.1)
+trim_leaves s n say.OutOfMemory t (inr h) = (ap (λ (x : State). x.writes) h, ap (λ (x : State). x.snapshots) h)
+trim_leaves s n why t h = (ap (λ (x : State). x.writes) h, ap (λ (x : State). x.snapshots) h)
+
+pub refused_trim_keeps : (old new : CoordValue) (n : ℕ) (why : Refusal) → Follows old (say.Trim n) (say.Refused why) new → Keeps old new
+refused_trim_keeps old new n why follows writes snapshots h =
+    let r = follows h.state h.shown in
+    let left = trim_leaves h.state n why r.0 (r.1).1 in
+    record { state = r.0; shown = r.2; writes_are = left.0 ∙ h.writes_are; snapshots_are = left.1 ∙ h.snapshots_are }
+
+pub trim_keeps : (old new : CoordValue) (n floor : ℕ) → Follows old (say.Trim n) (say.Trimmed floor) new → Keeps old new
+trim_keeps old new n floor follows writes snapshots h =
+    let r = follows h.state h.shown in
+    let is = ((r.1).1).1 in
+    record { state = r.0; shown = r.2; writes_are = ap (λ (x : State). x.writes) is ∙ h.writes_are; snapshots_are = ap (λ (x : State). x.snapshots) is ∙ h.snapshots_are }
+
+-- a flush that is refused
+pub refused_flush_keeps : (old new : CoordValue) (why : Refusal) → Follows old say.Flush (say.Refused why) new → Keeps old new
+refused_flush_keeps old new why follows writes snapshots h =
+    let r = follows h.state h.shown in
+    let is = (r.1).1 in
+    record { state = r.0; shown = r.2; writes_are = ap (λ (x : State). x.writes) is ∙ h.writes_are; snapshots_are = ap (λ (x : State). x.snapshots) is ∙ h.snapshots_are }
+
+-- ---- flushes
+
+-- nothing is left to flush
+nothing_left : (up a b c : Bool) → (if up then (if a && b then Some say.NothingToFlush else if c then Some say.NumbersExhausted else None) else Some say.Down) ≡ Some say.NothingToFlush → b ≡ true
+nothing_left true true true c e = refl
+nothing_left true true false true e = absurd cc
+nothing_left true true false false e = absurd cc
+nothing_left true false b true e = absurd cc
+nothing_left true false b false e = absurd cc
+nothing_left false a b c e = absurd cc
+
+nothing_left_stores : (old new : CoordValue) → Follows old say.Flush (say.Refused say.NothingToFlush) new → Stores old new
+nothing_left_stores old new follows writes snapshots h =
+    let s = h.state in
+    let r = follows s h.shown in
+    let is : r.0 ≡ s = (r.1).1 in
+    elim (r.1).0 [
+      | inl forced ↦
+          let same : last_seq s ≡ last_flushed s = eqb-true (last_seq s) (last_flushed s) (nothing_left s.up (is_none s.frozen) (nat_eq (last_seq s) (last_flushed s)) _ forced) in (
+            record { state = r.0; shown = r.2; writes_are = ap (λ (x : State). x.writes) is ∙ h.writes_are; snapshots_are = ap (λ (x : State). x.snapshots) is ∙ h.snapshots_are },
+            sym (flushed_is new.edits new.served r.0 r.2.tables) ∙ ap last_flushed is ∙ sym same ∙ ap length h.writes_are,
+          )
+      | inr other ↦ absurd other.1
+    ]
+
+pub nothing_stores : (old new : CoordValue) (e : CoordError) → e ≡ coord.NothingToFlush → Follows old say.Flush (say.Refused (refusal_of e)) new → Stores old new
+nothing_stores old new e is follows = nothing_left_stores old new (subst (λ (x : CoordError). Follows old say.Flush (say.Refused (refusal_of x)) new) is follows)
+
+-- ---- snapshots
+
+pub snapshot_adds : (old new : CoordValue) (id : SnapId) (seq : ℕ) → Follows old say.Snap (say.Snapped id seq) new → AddsSnapshot old id new
+snapshot_adds old new id seq follows writes snapshots h =
+    let s = h.state in
+    let r = follows s h.shown in
+    let does = (r.1).1 in (
+      does.0 ∙ (λ i. record { epoch = h.shown.tables.epoch i; number = h.shown.made i + 1 }),
+      record {
+        state = r.0;
+        shown = r.2;
+        writes_are = ap (λ (x : State). x.writes) does.2 ∙ h.writes_are;
+        snapshots_are = ap (λ (x : State). x.snapshots) does.2 ∙ (λ i. h.snapshots_are i ++ record { id = sym does.0 i; at = length (h.writes_are i) } ∷ []);
+      },
+    )
+
+-- ---- reads
+
+live_of : (up : Bool) (at : Option ℕ) → (if up then (if is_none at then Some say.NoSnapshot else None) else Some say.Down) ≡ None → IsSome at
+live_of true (Some x) e = refl
+live_of true None e = absurd cc
+live_of false at e = absurd cc
+
+pub can_read : (s : State) (at : Option SnapId) → unless_down s (read_refusal s at) ≡ None → CanRead s.snapshots at
+can_read s None e = tt
+can_read s (Some id) e = live_of s.up (snapshot_at s.snapshots id) e
+
+read_is : (s : State) (at : Option SnapId) → read_at s at ≡ seen_count s.writes s.snapshots at
+read_is s None = refl
+read_is s (Some id) = refl
+
+pub scan_reads : (c new : CoordValue) (lo hi : List ℕ) (at : Option SnapId) (limit : ℕ) (pairs : List (List ℕ × List ℕ)) → Follows c (say.Scan lo hi at limit) (say.Scanned pairs) new → ReadsRange c lo hi at limit pairs
+scan_reads c new lo hi at limit pairs follows writes snapshots h =
+    let s = h.state in
+    let r = follows s h.shown in
+    let range : IsRange (answer s.writes (seen_count s.writes s.snapshots at)) lo hi limit pairs = subst (λ (n : ℕ). IsRange (answer s.writes n) lo hi limit pairs) (read_is s at) ((r.1).1).0 in
+    subst (λ (ws : List Op). CanRead snapshots at × IsRange (answer ws (seen_count ws snapshots at)) lo hi limit pairs) h.writes_are
+    (subst (λ (xs : List Snapshot). CanRead xs at × IsRange (answer s.writes (seen_count s.writes xs at)) lo hi limit pairs) h.snapshots_are
+    (can_read s at (r.1).0, range))
+
+-- ---- the vault
+
+pub closed_holds : (c : CoordValue) → ((s : State) → Shows c s → ShowsDown c.edits c.kept (after_stop s)) → (writes : List Op) (snapshots : List Snapshot) → Holds c writes snapshots → HoldsStored c.edits c.kept (take (stored_count c) writes)
+closed_holds c stops writes snapshots h = record {
+  state = after_stop h.state;
+  shown = stops h.state h.shown;
+  writes_are = λ i. take (flushed_is c.edits c.served h.state h.shown.tables i) (h.writes_are i);
+}
+
+pub opened_holds : (edits : List (List ℕ)) (kept : Kept) (c : CoordValue) → OpenFollows edits kept c → (writes : List Op) → HoldsStored edits kept writes → Holds c writes [] × (stored_count c ≡ length writes)
+opened_holds edits kept c follows writes h =
+    let s = h.state in
+    let r = follows s (down_again edits kept s h.shown) in
+    let is : r.0 ≡ after_restart s = (r.1).1.3 in
+    let stopped : after_stop s ≡ s = stays_down edits kept s h.shown in (
+      record {
+        state = r.0;
+        shown = r.2;
+        writes_are = ap (λ (x : State). x.writes) is ∙ ap (λ (x : State). x.writes) stopped ∙ h.writes_are;
+        snapshots_are = ap (λ (x : State). x.snapshots) is;
+      },
+      sym (flushed_is c.edits c.served r.0 r.2.tables) ∙ ap last_flushed is ∙ ap (λ (v : Version). v.flushed) (current_version-risen s) ∙ sym h.shown.flushed ∙ ap length h.writes_are,
+    )

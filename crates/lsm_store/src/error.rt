@@ -1,0 +1,54 @@
+//! Why a store refuses a call.
+
+use lsm_coord::CoordError;
+use lsm_key::KeyError;
+use std::alloc::{AllocError, AllocFailed};
+use thiserror::Error;
+
+/// Why a store refuses a call. It holds what it held before, so that the call can be tried again.
+#[derive(Clone, Copy, Debug, PartialEq, Eq, Error)]
+pub enum StoreError {
+    /// A key or a value is outside its limits. Never for want of memory.
+    #[error("{0}")]
+    Key(KeyError),
+    /// The coordinator refuses the call.
+    #[error("{0}")]
+    Coord(CoordError),
+}
+
+impl From<CoordError> for StoreError {
+    ghost use Rattle.std.specs.Prelude.{◌≡◌};
+    ghost use Rattle.lsm_store.specs.declared.error.StoreError.TheVariants.{Coord};
+
+    ghost from_gives = { λ why e. e ≡ Coord why };
+
+    fn from(why: CoordError) -> StoreError {
+        StoreError::Coord(why)
+    }
+}
+
+impl From<KeyError> for StoreError {
+    ghost use Rattle.std.specs.Prelude.{◌≡◌};
+    ghost use Rattle.lsm_store.specs.Errors.{error_of_key};
+
+    ghost from_gives = { λ why e. e ≡ error_of_key why };
+
+    fn from(why: KeyError) -> StoreError {
+        match why {
+            KeyError::OutOfMemory => StoreError::Coord(CoordError::OutOfMemory),
+            _ => StoreError::Key(why),
+        }
+    }
+}
+
+impl From<AllocError> for StoreError {
+    ghost use Rattle.std.specs.Prelude.{◌≡◌};
+    ghost use Rattle.lsm_coord.specs.declared.error.CoordError.TheVariants.{OutOfMemory};
+    ghost use Rattle.lsm_store.specs.declared.error.StoreError.TheVariants.{Coord};
+
+    ghost from_gives = { λ _ e. e ≡ Coord OutOfMemory };
+
+    fn from(_e: AllocError) -> StoreError {
+        StoreError::Coord(CoordError::OutOfMemory)
+    }
+}

@@ -1,0 +1,109 @@
+//! Writes, and the flushes that make room for them.
+
+ghost use Rattle.std.specs.Prelude.{◌≡◌, ◌∷◌, ◌≤◌, [], None, IfErr, OnErr, OnOk};
+ghost use Rattle.lsm_key.specs.declared.op.Op.TheVariants.{Delete, Put};
+ghost use Rattle.lsm_key.specs.Faults.{Refuses};
+ghost use Rattle.lsm_key.specs.Limits.{push_fault};
+ghost use Rattle.lsm_coord.specs.Contract.Calls.{write_fault};
+ghost use Rattle.lsm_store.specs.Store.{Accepts, CanWrite, EmptiesMemtable, Keeps, OfCoord, OpRefuses, RoomRefuses, StoreFlushRefuses, Stores, WriteRefuses};
+
+use super::Store;
+use crate::StoreError;
+use bytes::Bytes;
+use lsm_coord::CoordError;
+use lsm_key::{Batch, Op};
+use lsm_vault::Vault;
+
+impl<V: Vault> Store<V> {
+    /// Puts a key with its value. Copies both. If it is refused, the store holds what it held.
+    pub fn put(&mut self, key: &[u8], value: &[u8]) -> Result<(), StoreError>
+        ensures ok { OnOk result ((push_fault [] (Put key.now value.now) ≡ None) × CanWrite self.old (Put key.now value.now ∷ []) × Accepts self.old (Put key.now value.now ∷ []) self.new) }
+        ensures err { OnErr result (Keeps self.old self.new) }
+        ensures refused { IfErr result (OpRefuses self.old (Put key.now value.now) self.new) }
+    {
+        let key = Bytes::copy_from_slice(self.alloc, key)?;
+        let value = Bytes::copy_from_slice(self.alloc, value)?;
+        self.write_op(Op::Put(key, value))
+    }
+
+    /// Deletes a key, whether it has a value or not. Copies it. If it is refused, the store holds what it held.
+    pub fn delete(&mut self, key: &[u8]) -> Result<(), StoreError>
+        ensures ok { OnOk result ((push_fault [] (Delete key.now) ≡ None) × CanWrite self.old (Delete key.now ∷ []) × Accepts self.old (Delete key.now ∷ []) self.new) }
+        ensures err { OnErr result (Keeps self.old self.new) }
+        ensures refused { IfErr result (OpRefuses self.old (Delete key.now) self.new) }
+    {
+        let key = Bytes::copy_from_slice(self.alloc, key)?;
+        self.write_op(Op::Delete(key))
+    }
+
+    // Applies a batch of one operation.
+    fn write_op(&mut self, op: Op) -> Result<(), StoreError>
+        ensures ok { OnOk result ((push_fault [] op ≡ None) × CanWrite self.old (op ∷ []) × Accepts self.old (op ∷ []) self.new) }
+        ensures err { OnErr result (Keeps self.old self.new) }
+        ensures refused { IfErr result (OpRefuses self.old op self.new) }
+    {
+        let mut batch = Batch::new(self.alloc);
+        batch.push(op)?;
+        self.write(&batch)
+    }
+
+    /// Applies a batch as a whole: its operations are in the store once this is `Ok`. If the memtable has no room for it, it is flushed
+    /// first, and all compactions that are due are run. If it is refused, the store holds what it held, and the call can be tried
+    /// again.
+    pub fn write(&mut self, batch: &Batch) -> Result<(), StoreError>
+        ensures ok { OnOk result (CanWrite self.old batch.now × Accepts self.old batch.now self.new) }
+        ensures err { OnErr result (Keeps self.old self.new) }
+        ensures refused { IfErr result (WriteRefuses self.old batch.now self.new) }
+    {
+        let Err(why) = self.accept(batch) else {
+            return Ok(());
+        };
+        if why != CoordError::MemtableFull {
+            return Err(StoreError::Coord(why));
+        }
+        self.make_room()?;
+        // Proof hint: what a batch weighs at most.
+        let _weight = batch.weight();
+        self.accept(batch)?;
+        Ok(())
+    }
+
+    // Applies a batch, if the memtable has room for it.
+    fn accept(&mut self, batch: &Batch) -> Result<(), CoordError>
+        ensures ok { OnOk result ((write_fault self.old batch.now ≡ None) × Accepts self.old batch.now self.new) }
+        ensures err { OnErr result (self.new ≡ self.old) }
+        ensures refused { IfErr result (Refuses CoordError.OutOfMemory (write_fault self.old batch.now)) }
+    {
+        self.coord.write(batch)?;
+        Ok(())
+    }
+
+    // Empties the memtable, so that each batch has room, and runs the compactions that are due.
+    fn make_room(&mut self) -> Result<(), StoreError>
+        ensures ok { OnOk result (EmptiesMemtable self.old self.new) }
+        ensures keeps { Keeps self.old self.new }
+        ensures refused { IfErr result (OfCoord (RoomRefuses self.old self.new)) }
+    {
+        self.flush()?;
+        self.compact(u64::MAX)?;
+        Ok(())
+    }
+
+    /// Brings all that the store holds into the vault, if something is not there yet. If it is refused, the store holds what it
+    /// held.
+    pub fn flush(&mut self) -> Result<(), StoreError>
+        ensures ok { OnOk result (Stores self.old self.new) }
+        ensures err { OnErr result (Keeps self.old self.new) }
+        ensures empty { OnOk result (EmptiesMemtable self.old self.new) }
+        ensures refused { IfErr result (OfCoord (StoreFlushRefuses self.old self.new)) }
+        ensures failures { self.old.failures ≤ self.new.failures }
+    {
+        let Err(why) = self.coord.flush() else {
+            return Ok(());
+        };
+        if why == CoordError::NothingToFlush {
+            return Ok(());
+        }
+        Err(StoreError::Coord(why))
+    }
+}
