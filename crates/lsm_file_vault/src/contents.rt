@@ -26,7 +26,7 @@ pub struct Contents {
 }
 
 impl Contents {
-    /// Reads the folder at `path`. It writes, cuts and locks nothing. A folder without a file of edits has none.
+    /// Reads the folder at `path`. It writes, cuts and locks nothing. A folder without a file of edits has none, and no table.
     ///
     /// Damaged edits and a file of a name that no vault gives are errors. Damaged tables and torn bytes are reported.
     pub fn read<R: Files + AllocGlobal + Clone + Drop>(
@@ -36,7 +36,9 @@ impl Contents {
         let alloc = files.alloc();
         let mut tables = Tables::new(alloc);
         let mut damaged_tables = Vec::new(alloc);
-        for number in table_numbers(files, path)? {
+        let numbers = table_numbers(files, path)?;
+        let has_tables = !numbers.is_empty();
+        for number in numbers {
             match table_of(files, path, number)? {
                 Some(table) => {
                     tables.insert(number, table)?;
@@ -44,7 +46,7 @@ impl Contents {
                 None => damaged_tables.push(number)?,
             }
         }
-        let found = edits_of(files, path)?;
+        let found = edits_of(files, path, has_tables)?;
         Ok(Contents {
             tables,
             damaged_tables,
@@ -89,8 +91,12 @@ fn table_of<R: Files + AllocGlobal>(
     Ok(only_frame(bytes)?)
 }
 
-// The edits.
-fn edits_of<R: Files + AllocGlobal>(files: &R, path: &str) -> Result<EditsFile, OpenError> {
+// The edits. Tables without a file of edits are refused.
+fn edits_of<R: Files + AllocGlobal>(
+    files: &R,
+    path: &str,
+    has_tables: bool,
+) -> Result<EditsFile, OpenError> {
     let alloc = files.alloc();
     let file = file_path(alloc, path, EDITS)?;
     let exists = fs::exists(files, file.as_str());
@@ -100,6 +106,9 @@ fn edits_of<R: Files + AllocGlobal>(files: &R, path: &str) -> Result<EditsFile, 
         file.as_str(),
         error,
     ))?;
+    if !exists && has_tables {
+        return Err(OpenError::MissingEdits { file });
+    }
     let bytes = if exists {
         read_file(files, file.as_str())?
     } else {

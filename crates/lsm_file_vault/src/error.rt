@@ -31,6 +31,11 @@ pub enum OpenError {
     ForeignFile {
         file: String,
     },
+    /// The folder has tables, and no file of edits: it was there before each of them.
+    #[error("the file {file} is missing, and the folder has tables")]
+    MissingEdits {
+        file: String,
+    },
     /// The table of this number is not what was written.
     #[error("the file {file} is damaged: it does not hold the table {}", .number.number())]
     DamagedTable {

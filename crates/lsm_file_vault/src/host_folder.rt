@@ -24,7 +24,8 @@ pub struct HostFolder<R: Files + AllocGlobal + Drop> {
     edits_file: R::File,
     // How many bytes the edits take in their file.
     edits_bytes: u64,
-    // A refused edit may still stand behind the others, so no other one can follow them.
+    // A refused edit may still stand behind the others, so no other one can follow them, and the tables that it names have to stay as
+    // they are.
     is_broken: bool,
     // Held open for its lock.
     lock: Option<File>,
@@ -65,8 +66,17 @@ impl<R: Files + AllocGlobal + Drop> HostFolder<R> {
         })
     }
 
+    // Refuses a change if a refused edit may still stand in its file: until the folder is opened again.
+    fn refuse_if_broken(&self) -> io::Result<()> {
+        if self.is_broken {
+            return Err(ErrorKind::Other.into());
+        }
+        Ok(())
+    }
+
     // Writes a table beside its file, and gives it the file's name once it is whole on the disk.
     fn write_table(&self, number: FileNumber, table: &[u8]) -> io::Result<()> {
+        self.refuse_if_broken()?;
         let alloc = self.files.alloc();
         let path = self.path.as_str();
         let mut header = BytesMut::new(alloc);
@@ -83,6 +93,7 @@ impl<R: Files + AllocGlobal + Drop> HostFolder<R> {
 
     // Removes a table's file, if there is one.
     fn remove_file(&self, number: FileNumber) -> io::Result<()> {
+        self.refuse_if_broken()?;
         let path = self.path.as_str();
         let named = table_path(self.files.alloc(), path, number)?;
         match fs::remove_file(&self.files, named.as_str()) {
@@ -96,9 +107,7 @@ impl<R: Files + AllocGlobal + Drop> HostFolder<R> {
     fn write_edit(&mut self, edit: &[u8]) -> io::Result<()>
         ensures { self.new.notes ≡ self.old.notes }
     {
-        if self.is_broken {
-            return Err(ErrorKind::Other.into());
-        }
+        self.refuse_if_broken()?;
         let mut framed = BytesMut::new(self.files.alloc());
         frame_header(&mut framed, edit)?;
         framed.extend_from_slice(edit)?;

@@ -24,8 +24,8 @@ where
 /// Opens the vault in the folder at `path`, and makes the folder if there is none; the folder above it has to be there. Torn bytes
 /// behind the edits are cut off. No other process can open it until the vault is dropped or this process ends.
 ///
-/// Of several reasons against it the first one in this order is reported: `NotAFolder`, `ForeignFile`, `Busy`, `DamagedEdits`,
-/// `DamagedTable`. Then nothing was changed but that the folder was made and, if no file is foreign, its lock.
+/// Of several reasons against it the first one in this order is reported: `NotAFolder`, `ForeignFile`, `Busy`, `MissingEdits`,
+/// `DamagedEdits`, `DamagedTable`. Then nothing was changed but that the folder was made and, if no file is foreign, its lock.
 pub fn open(rt: &HostRuntime, path: &str) -> Result<Opened<HostRuntime>, OpenError>
     ensures failures { IfOk result (λ opened. ⟦<FileVault<HostFolder<HostRuntime>> as Vault>⟧.failures opened.vault ≡ 0) }
 {

@@ -187,6 +187,10 @@ fn errors_have_texts(rt: HostRuntime) -> Result<(), Fail> {
             "the file s/f does not belong to a store",
         ),
         (
+            OpenError::MissingEdits { file: name()? },
+            "the file s/f is missing, and the folder has tables",
+        ),
+        (
             OpenError::DamagedTable {
                 file: name()?,
                 number: seven(),

@@ -179,3 +179,19 @@ fn a_foreign_file_is_named(rt: HostRuntime) -> Result<(), Fail> {
     fs::remove_dir_all(&rt, path)?;
     Ok(())
 }
+
+#[test]
+fn tables_without_edits_are_refused(rt: HostRuntime) -> Result<(), Fail> {
+    let path = "lsm_file_vault_no_edits";
+    let edits = "lsm_file_vault_no_edits/edits";
+    folder(&rt, path, edits)?;
+    fs::remove_file(&rt, edits)?;
+    let is_refused = match open(&rt, path) {
+        Ok(_opened) => false,
+        Err(OpenError::MissingEdits { file }) => file.as_str() == edits,
+        Err(error) => return Err(error.into()),
+    };
+    assert!(rt; is_refused);
+    fs::remove_dir_all(&rt, path)?;
+    Ok(())
+}
