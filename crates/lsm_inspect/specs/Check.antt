@@ -1,0 +1,88 @@
+-- Whether the tables of a store are what the records of its files say (RocksDB: DB::VerifyChecksum; LevelDB: leveldbutil dump).
+use Rattle.std.specs.Prelude.{◌≡◌, ℕ, ◌⊎◌, Bool, true, false, not, List, [], ◌∷◌, Option, None, Some, Err, length, filter, nat_eq}
+use Rattle.std.specs.List.{list_any}
+use Rattle.std.specs.FinMap as map
+use Rattle.lsm_key.specs.Sets.{IsIn}
+use Rattle.lsm_key.specs.declared.refused.Refused.{Refused}
+use Rattle.lsm_key.specs.declared.refused.Refused.TheVariants as refused
+use Rattle.lsm_table.specs.Tables.{IsTable, Opened, smallest_key, largest_key}
+use Rattle.lsm_table.specs.TableReading.{read_table}
+use Rattle.lsm_edit.specs.declared.file.FileMeta.{FileMeta}
+use Rattle.lsm_edit.specs.Served.{IsAsRecorded}
+use Rattle.lsm_edit.specs.Version.{has_number}
+use Rattle.lsm_versions.specs.Kept.{Kept}
+use Rattle.lsm_versions.specs.Manifest.{Folds}
+use Rattle.lsm_versions.specs.Opening.{manifest_version}
+use Rattle.lsm_inspect.specs.declared.error.InspectError.{InspectError}
+use Rattle.lsm_inspect.specs.declared.error.InspectError.TheVariants.{OutOfMemory, BadManifest, Write}
+use Rattle.lsm_inspect.specs.declared.damage.Damage.{Damage}
+use Rattle.lsm_inspect.specs.declared.damage.Damage.TheVariants.{NotWhole, Missing, WrongLength, NotATable, WrongCount, WrongKeys}
+use Rattle.lsm_inspect.specs.declared.damage.Finding.{Finding}
+
+-- the number is one of these
+abbrev pub is_among : List ℕ → ℕ → Bool
+is_among numbers n = list_any (λ m. nat_eq m n) numbers
+
+-- the file's table is there, as its record says
+abbrev pub HasTable : Kept → FileMeta → Type 0
+HasTable kept f = (t : Opened) × (map.get kept f.number ≡ Some t.bytes) × IsAsRecorded f t
+
+-- and no damaged file of the folder has its number
+pub record IsWhole (kept : Kept) (damaged : List ℕ) (f : FileMeta) : Type 0 where
+  pub table : HasTable kept f
+  pub undamaged : is_among damaged f.number ≡ false
+
+-- a table is not as the file's record says
+abbrev pub IsMismatch : FileMeta → Opened → Damage → Type 0
+IsMismatch f t (WrongLength recorded found) = (recorded ≡ f.bytes) × (found ≡ length t.bytes) × (recorded ≡ found → ⊥)
+IsMismatch f t (WrongCount recorded found) = (recorded ≡ f.entries) × (found ≡ length t.entries) × (recorded ≡ found → ⊥)
+IsMismatch f t WrongKeys = f.smallest ≡ smallest_key t.entries → f.largest ≡ largest_key t.entries → ⊥
+IsMismatch f t NotWhole = ⊥
+IsMismatch f t Missing = ⊥
+IsMismatch f t (NotATable fault) = ⊥
+
+-- the table under the file's number is not as its record says
+pub record HasMismatch (kept : Kept) (f : FileMeta) (d : Damage) : Type 0 where
+  pub opened : Opened
+  pub there : map.get kept f.number ≡ Some opened.bytes
+  pub table : IsTable opened.bytes opened.entries
+  pub mismatch : IsMismatch f opened d
+
+-- this is wrong with the file's table
+abbrev pub IsDamage : Kept → List ℕ → FileMeta → Damage → Type 0
+IsDamage kept damaged f NotWhole = is_among damaged f.number ≡ true
+IsDamage kept damaged f Missing = map.get kept f.number ≡ None
+IsDamage kept damaged f (NotATable fault) = (bytes : List ℕ) × (map.get kept f.number ≡ Some bytes) × (read_table bytes ≡ Err fault)
+IsDamage kept damaged f (WrongLength recorded found) = HasMismatch kept f (WrongLength recorded found)
+IsDamage kept damaged f (WrongCount recorded found) = HasMismatch kept f (WrongCount recorded found)
+IsDamage kept damaged f WrongKeys = HasMismatch kept f WrongKeys
+
+-- a refusal for what is wrong with the file's table, or for want of memory
+abbrev pub RefusesTable : Kept → List ℕ → FileMeta → Refused Damage → Type 0
+RefusesTable kept damaged f refused.OutOfMemory = Unit {0}
+RefusesTable kept damaged f (refused.Fault d) = IsDamage kept damaged f d
+
+-- the finding names the file, and is true of it
+pub record IsFinding (kept : Kept) (damaged : List ℕ) (f : FileMeta) (x : Finding) : Type 0 where
+  pub file : x.file ≡ f.number
+  pub damage : IsDamage kept damaged f x.damage
+
+-- each finding is true of one of the files, and each of them without a finding is whole
+pub record Finds (kept : Kept) (damaged : List ℕ) (files : List FileMeta) (found : List Finding) : Type 0 where
+  pub each : (x : Finding) → IsIn x found → (f : FileMeta) × IsIn f files × IsFinding kept damaged f x
+  pub all : (f : FileMeta) → IsIn f files → IsWhole kept damaged f ⊎ ((x : Finding) × IsIn x found × IsFinding kept damaged f x)
+
+-- those of the numbers that no file has
+abbrev pub unneeded_numbers : List FileMeta → List ℕ → List ℕ
+unneeded_numbers files numbers = filter (λ n. not (list_any (has_number n) files)) numbers
+
+-- the item, if there is one
+abbrev pub items_of : {X : Type 0} → Option X → List X
+items_of None = []
+items_of (Some x) = x ∷ []
+
+-- a check of these edits is refused, for this reason
+abbrev pub CheckRefuses : List (List ℕ) → InspectError → Type 0
+CheckRefuses texts BadManifest = Folds texts (manifest_version texts) → ⊥
+CheckRefuses texts OutOfMemory = Unit {0}
+CheckRefuses texts (Write why) = ⊥

@@ -1,0 +1,89 @@
+//! Small stores in folders, and what is printed of them.
+
+use lsm_file_vault::{Contents, open};
+use lsm_inspect::{check, dump};
+use lsm_store::{Options, Store, StoreError};
+use lsm_vault::Vault;
+use std::alloc::Global;
+use std::fs;
+use std::io::ErrorKind;
+use std::test::Fail;
+
+// The calls without their promises, which a test that runs does not need: so its proof is short.
+
+fn opened<V: Vault + Drop>(alloc: Global, vault: V) -> Result<Store<V>, Fail> {
+    match Store::open(alloc, vault, Options::default()) {
+        Ok(store) => Ok(store),
+        Err((why, _vault)) => Err(why)?,
+    }
+}
+
+fn put<V: Vault>(store: &mut Store<V>, key: &[u8], value: &[u8]) -> Result<(), StoreError> {
+    store.put(key, value)
+}
+
+fn delete<V: Vault>(store: &mut Store<V>, key: &[u8]) -> Result<(), StoreError> {
+    store.delete(key)
+}
+
+fn flush<V: Vault>(store: &mut Store<V>) -> Result<(), StoreError> {
+    store.flush()
+}
+
+/// The path of a table's file.
+pub fn table_path(alloc: Global, path: &str, number: u64) -> Result<String, Fail> {
+    Ok(format!(in alloc; "{path}/{number:020}.table")?)
+}
+
+/// Removes the folder that an earlier run may have left.
+pub fn remove(rt: &HostRuntime, path: &str) -> Result<(), Fail> {
+    match fs::remove_dir_all(rt, path) {
+        Err(error) if error.kind() != ErrorKind::NotFound => Err(error)?,
+        _ => Ok(()),
+    }
+}
+
+/// A store in a new folder, of two files: a put and a deletion in the first, a put in the second.
+pub fn make_store(rt: &HostRuntime, path: &str) -> Result<(), Fail> {
+    remove(rt, path)?;
+    let mut store = opened(rt.alloc(), open(rt, path)?.vault)?;
+    put(&mut store, b"a", b"1")?;
+    delete(&mut store, b"b c")?;
+    flush(&mut store)?;
+    put(&mut store, b"a", b"")?;
+    flush(&mut store)?;
+    drop(store);
+    Ok(())
+}
+
+/// Adds a byte to a file.
+pub fn put_byte(rt: &HostRuntime, file: &str) -> Result<(), Fail> {
+    let mut bytes = fs::read(rt, file)?;
+    bytes.push(0)?;
+    fs::write(rt, file, bytes.as_slice())?;
+    Ok(())
+}
+
+/// The bytes with another one at this place.
+pub fn with_byte_changed(alloc: Global, bytes: &[u8], at: usize) -> Result<Vec<u8>, Fail> {
+    let mut changed = bytes.to_vec(alloc)?;
+    if let Some(byte) = changed.get_mut(at) {
+        *byte = byte.wrapping_add(1);
+    }
+    Ok(changed)
+}
+
+/// What a check of the folder prints.
+pub fn checked(rt: &HostRuntime, path: &str) -> Result<String, Fail> {
+    let contents = Contents::read(rt, path)?;
+    let report = check(rt.alloc(), &contents)?;
+    Ok(format!(in rt.alloc(); "{report}")?)
+}
+
+/// What a dump of the folder prints.
+pub fn dumped(rt: &HostRuntime, path: &str) -> Result<Vec<u8>, Fail> {
+    let contents = Contents::read(rt, path)?;
+    let mut out = Vec::new(rt.alloc());
+    dump(rt.alloc(), &contents, &mut out)?;
+    Ok(out)
+}
