@@ -6,3 +6,4 @@ pub mod JoinedText
 pub mod KnownStreams
 pub mod RunSteps
 pub mod StoppedRuns
+pub mod SessionSteps

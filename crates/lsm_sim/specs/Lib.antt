@@ -7,3 +7,4 @@ pub mod Script
 pub mod Lines
 pub mod Replies
 pub mod Runs
+pub mod Sessions

@@ -1,5 +1,6 @@
 //! The program `lsmsim`: runs a script of events against a store and its nodes, and prints each reply or draws what happened;
-//! explores all short schedules; or runs a store that threads share.
+//! explores all short schedules; runs a store that threads share; answers commands to a store that keeps its data in a folder; or checks
+//! or dumps such a folder.
 #![tactic(auto)]
 
 mod batch;
@@ -11,6 +12,7 @@ mod explore;
 mod fault;
 mod follow;
 mod followers;
+mod inspect;
 mod jobs;
 mod lines;
 mod listing;
@@ -22,6 +24,7 @@ mod run;
 mod scan;
 mod schedule;
 mod script;
+mod session;
 mod streams;
 #[cfg(test)]
 mod tests;
@@ -33,8 +36,10 @@ mod words;
 use draw::draw_script;
 use error::{FAILED, REFUSED, RunError, code_of};
 use explore::explore_schedules;
+use inspect::{check_folder, dump_folder};
 use options::{Subcommand, subcommand_of};
 use run::run_script;
+use session::run_session;
 use std::io::ErrorKind;
 use std::process::ExitCode;
 use std::rt::Env;
@@ -88,6 +93,9 @@ fn main(rt: HostRuntime) -> ExitCode {
         Subcommand::Draw(limits) => draw_script(rt.alloc(), reader, writer, limits).map(|()| true),
         Subcommand::Explore(exploration) => explore_schedules(&rt, writer, exploration),
         Subcommand::Threads => show_threads(&rt, rt.alloc(), writer).map(|()| true),
+        Subcommand::Store(place) => return run_session(&rt, place),
+        Subcommand::Check(folder) => return check_folder(&rt, folder),
+        Subcommand::Dump(folder) => return dump_folder(&rt, folder),
     };
     match done {
         Ok(true) => ExitCode::SUCCESS,

@@ -4,6 +4,7 @@ ghost use Rattle.std.specs.Prelude.{◌≡◌, ◌↔◌, IfSome, IsSome, unwrap
 ghost use Rattle.lsm_key.specs.Limits.{AreLimits};
 ghost use Rattle.lsm_key.specs.declared.limits.TheConstants.{DEFAULT_L0, DEFAULT_BASE, DEFAULT_BLOCK};
 
+use crate::session::Place;
 use clap::error::ErrorKind;
 use clap::{Arg, ArgMatches, Command, Error, value_parser};
 use lsm_key::{DEFAULT_BASE, DEFAULT_BLOCK, DEFAULT_L0, Limits};
@@ -18,9 +19,24 @@ const BASE_HELP: &str =
 const BLOCK_HELP: &str =
     "A block of a table is closed once it has this many bytes, 1 to 16777216 [default: 4096]";
 
+const STORE_COMMANDS: &str = "\
+Commands, one a line:
+  put K V, del K              Write an operation: 'seq S'
+  batch put K V del K ..      Write operations together: 'seq F-L'
+  get K [@E.N]                'value V' or 'none', latest or at a snapshot
+  scan LO HI LIMIT [@E.N]     The first keys from LO up to HI: 'range C K=V ..'
+  snap, release E.N           'snapshot E.N at S', 'released E.N'
+  flush                       Bring all operations into the folder: 'flushed S'
+  compact                     Run the compactions that are due: 'compacted', or 'compacted but for what exceeds the job limits'
+  show c                      The files of each level
+  stats                       'stats last S flushed S', and of each level with files ' L0 N files B bytes E entries'
+Words stand between spaces; %41 is the byte of that hexadecimal number, and \"\" the empty text. A call that is refused prints
+'refused' and why. A faulty line is reported on standard error and skipped; the exit status is then 2. What is not flushed is
+flushed when the input ends.";
+
 /// What a command line asks for.
 #[derive(Drop)]
-pub(crate) enum Subcommand {
+pub(crate) enum Subcommand<'a> {
     /// Run a script, and print a line for each reply.
     Run(Limits),
     /// Run a script, and draw its events and messages.
@@ -29,6 +45,12 @@ pub(crate) enum Subcommand {
     Explore(Exploration),
     /// Run a store that threads share, and print what they found.
     Threads,
+    /// Answer commands to the store of a folder.
+    Store(Place<'a>),
+    /// Verify the files of a folder.
+    Check(&'a str),
+    /// Print the entries of the store of a folder.
+    Dump(&'a str),
 }
 
 /// What to explore.
@@ -126,6 +148,47 @@ fn threads<'a>(alloc: Global) -> Command<'a> {
     )
 }
 
+/// The folder of a store.
+fn dir<'a>(alloc: Global, help: &'a str) -> Arg<'a> {
+    Arg::new(alloc, "dir")
+        .long("dir")
+        .value_name("PATH")
+        .help(help)
+        .required(true)
+}
+
+/// `check`, with its option.
+fn check<'a>(alloc: Global) -> Result<Command<'a>, AllocError> {
+    Command::new(alloc, "check")
+        .about(
+            "Verify each file of a store's folder, change nothing, and print a line for each level",
+        )
+        .arg(dir(alloc, "The folder that keeps the data"))
+}
+
+/// `dump`, with its option.
+fn dump<'a>(alloc: Global) -> Result<Command<'a>, AllocError> {
+    Command::new(alloc, "dump")
+        .about("Print each entry of the store that a folder keeps, and change nothing")
+        .arg(dir(alloc, "The folder that keeps the data"))
+}
+
+/// `store`, with its options.
+fn store<'a>(alloc: Global) -> Result<Command<'a>, AllocError> {
+    Command::new(alloc, "store")
+        .about(
+            "Answer commands from standard input, line by line, to a store that keeps its data in a folder",
+        )
+        .after_help(STORE_COMMANDS)
+        .arg(dir(
+            alloc,
+            "The folder that keeps the data; made if there is none",
+        ))?
+        .arg(l0(alloc))?
+        .arg(base(alloc))?
+        .arg(block(alloc))
+}
+
 /// The command line that the program takes.
 fn command<'a>(alloc: Global) -> Result<Command<'a>, AllocError> {
     Command::new(alloc, "lsmsim")
@@ -137,7 +200,10 @@ fn command<'a>(alloc: Global) -> Result<Command<'a>, AllocError> {
         .subcommand(run(alloc)?)?
         .subcommand(draw(alloc)?)?
         .subcommand(explore(alloc)?)?
-        .subcommand(threads(alloc))
+        .subcommand(threads(alloc))?
+        .subcommand(store(alloc)?)?
+        .subcommand(check(alloc)?)?
+        .subcommand(dump(alloc)?)
 }
 
 /// The limits of these numbers, each its default if it is not given, or `None` if one is outside its range.
@@ -177,10 +243,21 @@ fn exploration_in(options: &ArgMatches<'_>) -> Option<Exploration> {
     })
 }
 
+/// The folder and the limits that the options of `store` ask for.
+fn place_in<'a>(options: &ArgMatches<'a>) -> Option<Place<'a>> {
+    Some(Place {
+        folder: options.get_str("dir")?,
+        limits: limits_in(options)?,
+    })
+}
+
 /// The subcommand, or `None` if a limit is outside its range.
-fn subcommand_in(matches: &ArgMatches<'_>) -> Option<Subcommand> {
+fn subcommand_in<'a>(matches: &ArgMatches<'a>) -> Option<Subcommand<'a>> {
     match matches.subcommand()? {
         ("explore", options) => Some(Subcommand::Explore(exploration_in(options)?)),
+        ("store", options) => Some(Subcommand::Store(place_in(options)?)),
+        ("check", options) => Some(Subcommand::Check(options.get_str("dir")?)),
+        ("dump", options) => Some(Subcommand::Dump(options.get_str("dir")?)),
         ("threads", _) => Some(Subcommand::Threads),
         ("draw", options) => Some(Subcommand::Draw(limits_in(options)?)),
         (_, options) => Some(Subcommand::Run(limits_in(options)?)),
@@ -188,7 +265,10 @@ fn subcommand_in(matches: &ArgMatches<'_>) -> Option<Subcommand> {
 }
 
 /// The subcommand that the words after the program's name ask for. Every other line, help too, is an error of `clap`.
-pub(crate) fn subcommand_of<'a>(alloc: Global, words: &'a [String]) -> Result<Subcommand, Error> {
+pub(crate) fn subcommand_of<'a>(
+    alloc: Global,
+    words: &'a [String],
+) -> Result<Subcommand<'a>, Error> {
     let mut command = command(alloc)?;
     let matches = command.try_get_matches_from_mut(words)?;
     match subcommand_in(&matches) {

@@ -194,7 +194,7 @@ fn asked(
 
 /// The events of a line.
 #[tactic(auto, unfolding(crate::specs::Script::events_of_words))]
-fn events_in(alloc: Global, line: &[u8]) -> Result<Vec<Event>, Refused<Reason>>
+pub(crate) fn events_in(alloc: Global, line: &[u8]) -> Result<Vec<Event>, Refused<Reason>>
     ensures { Gives (λ events. map event_of events.items) result (events_of_words (words line.now)) }
 {
     let mut words = Words::new(line);

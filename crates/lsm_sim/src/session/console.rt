@@ -1,0 +1,120 @@
+//! Where a session's commands come from, and where its answers go.
+
+use crate::error::RunError;
+use crate::streams::write_all;
+use crate::text::write_text;
+use lsm_key::MAX_BATCH_WEIGHT;
+use std::alloc::Global;
+use std::io::{BufRead, BufReader, ErrorKind, Read, Write};
+
+/// The longest line that is taken. In bytes: a batch weighs more than its words have before they are escaped, and an escaped byte takes
+/// three.
+const MAX_LINE_BYTES: usize = 3 * MAX_BATCH_WEIGHT;
+
+/// How much is read at once, and how many bytes of answers are kept back while more lines wait. In bytes.
+const BUFFER_BYTES: usize = 65_536;
+
+/// What was found in place of the next line.
+#[derive(Clone, Copy, Debug, PartialEq, Eq)]
+pub(crate) enum Found {
+    /// A line.
+    Line,
+    /// A line of more than `MAX_LINE_BYTES`, which was skipped.
+    TooLong,
+    /// The end of the input.
+    End,
+}
+
+/// Commands in, and answers out. An answer is written before a command is waited for.
+#[derive(Drop)]
+pub(crate) struct Console<R: Read + Drop, W: Write + Drop> {
+    reader: BufReader<R>,
+    writer: W,
+    // A person types the commands.
+    has_prompt: bool,
+    /// Answers that are not written yet.
+    pub(crate) out: Vec<u8>,
+}
+
+impl<R: Read + Drop, W: Write + Drop> Console<R, W> {
+    pub(crate) fn new(
+        alloc: Global,
+        reader: R,
+        writer: W,
+        has_prompt: bool,
+    ) -> Result<Console<R, W>, RunError> {
+        // Nothing but memory is wanted to make one.
+        let reader = BufReader::with_capacity(alloc, BUFFER_BYTES, reader).map_err(
+            |_| RunError::OutOfMemory,
+        )?;
+        Ok(Console {
+            reader,
+            writer,
+            has_prompt,
+            out: Vec::new(alloc),
+        })
+    }
+
+    /// Reads the next line, without its end. If none has come yet, the answers so far are written first.
+    pub(crate) fn read_line(&mut self, line: &mut Vec<u8>) -> Result<Found, RunError> {
+        if self.has_prompt {
+            write_text(&mut self.out, "> ")?;
+        }
+        if !self.reader.buffer().contains(&b'\n') || self.out.len() >= BUFFER_BYTES {
+            self.write_out()?;
+        }
+        read_line(&mut self.reader, line)
+    }
+
+    /// Writes the answers so far.
+    pub(crate) fn write_out(&mut self) -> Result<(), RunError> {
+        write_all(&mut self.writer, &self.out)?;
+        self.out.clear();
+        self.writer.flush().map_err(|_| RunError::WriteFault)
+    }
+
+    /// Ends the output: after a prompt with a line of its own.
+    pub(crate) fn end(&mut self) -> Result<(), RunError> {
+        if self.has_prompt {
+            write_text(&mut self.out, "\n")?;
+        }
+        self.write_out()
+    }
+}
+
+// Reads a line.
+fn read_line<R: BufRead>(reader: &mut R, line: &mut Vec<u8>) -> Result<Found, RunError> {
+    line.clear();
+    let mut found = Found::End;
+    for _ in 0..u64::MAX {
+        let piece = match reader.fill_buf() {
+            Ok(piece) => piece,
+            Err(error) if error.kind() == ErrorKind::Interrupted => continue,
+            Err(_) => return Err(RunError::ReadFault),
+        };
+        if piece.is_empty() {
+            return Ok(found);
+        }
+        let end = piece.iter().position(|byte| *byte == b'\n');
+        let len = end.unwrap_or(piece.len());
+        found = extend(line, &piece[..len], found)?;
+        match end {
+            Some(at) => {
+                reader.consume(at + 1);
+                return Ok(found);
+            }
+            None => reader.consume(len),
+        }
+    }
+    Err(RunError::ReadFault)
+}
+
+// Adds a piece to a line, or drops the line if it is too long with it.
+fn extend(line: &mut Vec<u8>, piece: &[u8], found: Found) -> Result<Found, RunError> {
+    if found == Found::TooLong || piece.len() > MAX_LINE_BYTES.saturating_sub(line.len()) {
+        line.clear();
+        return Ok(Found::TooLong);
+    }
+    line.extend_from_slice(piece)?;
+    Ok(Found::Line)
+}
