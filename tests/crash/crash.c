@@ -1,0 +1,305 @@
+// Preloaded into a program that keeps its data in the folder CRASH_FOLDER: stops it at one of its calls that change files there, or
+// lets such a call fail. Calls are counted from 1: open for writing, write, fsync and fdatasync, rename, unlink, ftruncate, mkdir.
+//
+//   CRASH_TELL=FILE     writes a letter for each call: o w s r u t m
+//   CRASH_AT=N          the process stops in place of call N, and CRASH_WAY says what of its earlier calls the disk has:
+//       kept            all of them
+//       half            all of them, and half of this write
+//       lost            those that were synced: what a file had at its sync, and the names that the folder had at its own
+//       torn            as lost, but this write is half done, and its file has what was written
+//       names           as lost, but files have what was written
+//       contents        as lost, but the folder has the names that were given
+//       mixed           of each name and of each file's bytes either, by CRASH_SEED; a file's end may be zeros
+//   FAIL_AT=N           call N fails with FAIL_ERRNO; a write then takes half of its bytes if FAIL_HALF=1, and the next call fails
+//   FAIL_COUNT=C        so do the C - 1 calls after it
+#define _GNU_SOURCE
+#include <dirent.h>
+#include <errno.h>
+#include <fcntl.h>
+#include <limits.h>
+#include <stdarg.h>
+#include <stdint.h>
+#include <stdio.h>
+#include <stdlib.h>
+#include <string.h>
+#include <sys/stat.h>
+#include <sys/syscall.h>
+#include <sys/uio.h>
+#include <unistd.h>
+
+#define FDS 1024
+#define FILES 4096
+#define NAMES 512
+#define HEAD_BYTES 16
+
+struct bytes { unsigned char *at; size_t len; };
+// A file: what it had when it was synced, and what it had when its last name was removed.
+struct file { struct bytes synced, last; int is_gone; };
+struct name { char text[64]; int file; };
+struct names { struct name of[NAMES]; int count; };
+
+static char folder[PATH_MAX], way[16];
+static long crash_at, fail_at, fail_count, calls;
+static int fail_errno, fail_half, tell_fd = -1, is_made = 0, is_made_synced = 1, torn_file = -1;
+static uint64_t seed;
+static struct file files[FILES];
+static int file_count;
+static struct names now, synced;
+static int file_of[FDS]; // the file of a descriptor and 1, or 0
+
+static uint64_t drawn(uint64_t below) {
+    seed = seed * 6364136223846793005ull + 1442695040888963407ull;
+    return below ? (seed >> 33) % below : 0;
+}
+
+static const char *name_in(const char *path) { // the name of a file in the folder, or none
+    size_t len = strlen(folder);
+    if (strncmp(path, folder, len) != 0 || path[len] != '/') return NULL;
+    path += len + 1;
+    return strchr(path, '/') || strcmp(path, "..") == 0 || strcmp(path, ".") == 0 ? NULL : path;
+}
+
+static struct name *found(struct names *in, const char *text) {
+    for (int i = 0; i < in->count; i++) if (strcmp(in->of[i].text, text) == 0) return &in->of[i];
+    return NULL;
+}
+
+static void gives(struct names *in, const char *text, int file) {
+    struct name *it = found(in, text);
+    if (!it) { if (in->count == NAMES) abort(); it = &in->of[in->count++]; }
+    snprintf(it->text, sizeof it->text, "%s", text);
+    it->file = file;
+}
+
+static void takes(struct names *in, const char *text) {
+    struct name *it = found(in, text);
+    if (it) *it = in->of[--in->count];
+}
+
+static struct bytes content(int at, const char *path) {
+    struct bytes all = {NULL, 0};
+    int fd = syscall(SYS_openat, at, path, O_RDONLY | O_CLOEXEC, 0);
+    struct stat it;
+    if (fd < 0 || syscall(SYS_fstat, fd, &it) != 0) return all;
+    all.at = malloc(it.st_size + 1);
+    while (all.len < (size_t)it.st_size) {
+        long got = syscall(SYS_read, fd, all.at + all.len, it.st_size - all.len);
+        if (got <= 0) break;
+        all.len += got;
+    }
+    syscall(SYS_close, fd);
+    return all;
+}
+
+static struct bytes of_name(const char *text) {
+    char path[PATH_MAX + 80];
+    snprintf(path, sizeof path, "%s/%s", folder, text);
+    return content(AT_FDCWD, path);
+}
+
+static int new_file(struct bytes synced_bytes) {
+    if (file_count == FILES) abort();
+    files[file_count].synced = synced_bytes;
+    return file_count++;
+}
+
+static __attribute__((constructor)) void start(void) {
+    const char *it;
+    snprintf(folder, sizeof folder, "%s", (it = getenv("CRASH_FOLDER")) ? it : "/nowhere");
+    snprintf(way, sizeof way, "%s", (it = getenv("CRASH_WAY")) ? it : "kept");
+    crash_at = (it = getenv("CRASH_AT")) ? atol(it) : 0;
+    fail_at = (it = getenv("FAIL_AT")) ? atol(it) : 0;
+    fail_count = (it = getenv("FAIL_COUNT")) ? atol(it) : 1;
+    fail_errno = (it = getenv("FAIL_ERRNO")) ? atoi(it) : EIO;
+    fail_half = getenv("FAIL_HALF") != NULL;
+    seed = (it = getenv("CRASH_SEED")) ? strtoull(it, NULL, 10) : 1;
+    if ((it = getenv("CRASH_TELL"))) tell_fd = syscall(SYS_openat, AT_FDCWD, it, O_WRONLY | O_CREAT | O_TRUNC, 0644);
+    DIR *all = opendir(folder);
+    is_made = all != NULL;
+    for (struct dirent *entry; all && (entry = readdir(all));)
+        if (entry->d_name[0] != '.') gives(&now, entry->d_name, new_file(of_name(entry->d_name)));
+    if (all) closedir(all);
+    synced = now;
+}
+
+// What the disk has of a file whose bytes are these when the process stops.
+static struct bytes survives(int number, struct bytes last) {
+    struct bytes old = files[number].synced;
+    if (strcmp(way, "names") == 0 || number == torn_file) return last;
+    if (strcmp(way, "mixed") != 0) return old;
+    size_t cut = drawn(last.len + 1), len = drawn(2) ? last.len : cut > old.len ? cut : old.len;
+    int zeros = drawn(2);
+    // A part of a frame's header and then zeros is not tried: lsm_file_vault does not promise to know it for a torn one.
+    if (zeros && cut > old.len && cut < old.len + HEAD_BYTES) cut = old.len;
+    struct bytes mix = {malloc(len + 1), len};
+    for (size_t i = 0; i < len; i++)
+        mix.at[i] = i < cut && i < last.len ? last.at[i] : i < old.len ? old.at[i] : zeros || i >= last.len ? 0 : last.at[i];
+    return mix;
+}
+
+static void rewrite(struct names *in) { // gives the folder these names, and their files what survives
+    static struct bytes left[NAMES];
+    for (int i = 0; i < in->count; i++) {
+        struct file *it = &files[in->of[i].file];
+        struct bytes last = it->last;
+        for (int j = 0; j < now.count && !it->is_gone; j++) if (now.of[j].file == in->of[i].file) last = of_name(now.of[j].text);
+        left[i] = survives(in->of[i].file, last);
+    }
+    for (int i = 0; i < now.count; i++) {
+        char path[PATH_MAX + 80];
+        snprintf(path, sizeof path, "%s/%s", folder, now.of[i].text);
+        syscall(SYS_unlink, path);
+    }
+    if (!is_made_synced) { syscall(SYS_rmdir, folder); return; }
+    for (int i = 0; i < in->count; i++) {
+        char path[PATH_MAX + 80];
+        snprintf(path, sizeof path, "%s/%s", folder, in->of[i].text);
+        int fd = syscall(SYS_openat, AT_FDCWD, path, O_WRONLY | O_CREAT | O_TRUNC, 0644);
+        for (size_t at = 0; at < left[i].len;) {
+            long done = syscall(SYS_write, fd, left[i].at + at, left[i].len - at);
+            if (done <= 0) abort();
+            at += done;
+        }
+    }
+}
+
+static void stop(void) {
+    static struct names mixed;
+    crash_at = 0;
+    if (is_made && strcmp(way, "kept") != 0 && strcmp(way, "half") != 0) {
+        if (strcmp(way, "mixed") == 0) {
+            for (int i = 0; i < synced.count; i++) if (!found(&now, synced.of[i].text) && drawn(2)) gives(&mixed, synced.of[i].text, synced.of[i].file);
+            for (int i = 0; i < now.count; i++) {
+                struct name *was = found(&synced, now.of[i].text);
+                if (drawn(2)) gives(&mixed, now.of[i].text, now.of[i].file);
+                else if (was) gives(&mixed, was->text, was->file);
+            }
+            is_made_synced = is_made_synced || drawn(2);
+        }
+        rewrite(strcmp(way, "mixed") == 0 ? &mixed : strcmp(way, "contents") == 0 ? &now : &synced);
+    }
+    syscall(SYS_exit_group, 137);
+}
+
+// Counts a call; whether it fails. If the process stops here, this does not come back.
+static int fails(char kind) {
+    calls++;
+    if (tell_fd >= 0) syscall(SYS_write, tell_fd, &kind, 1);
+    if (calls == crash_at) stop();
+    if (fail_at == 0 || calls < fail_at || calls >= fail_at + fail_count) return 0;
+    errno = fail_errno;
+    return 1;
+}
+
+static int opened(int dir, const char *path, int flags, mode_t mode) {
+    const char *text = name_in(path);
+    int writes = text && (flags & O_ACCMODE) != O_RDONLY;
+    if (writes && fails('o')) return -1;
+    int fd = syscall(SYS_openat, dir, path, flags, mode);
+    if (fd < 0 || fd >= FDS) return fd;
+    file_of[fd] = 0;
+    if (!writes) return fd;
+    struct name *it = found(&now, text);
+    // The bytes that a truncation takes away stay on the disk until the file is synced.
+    int number = it ? it->file : new_file((struct bytes){NULL, 0});
+    if (!it) gives(&now, text, number);
+    file_of[fd] = number + 1;
+    return fd;
+}
+
+static mode_t mode_in(int flags, va_list rest) { return flags & O_CREAT ? va_arg(rest, int) : 0; }
+#define OPEN(name) int name(const char *path, int flags, ...) { va_list rest; va_start(rest, flags); mode_t mode = mode_in(flags, rest); va_end(rest); return opened(AT_FDCWD, path, flags, mode); }
+#define OPENAT(name) int name(int dir, const char *path, int flags, ...) { va_list rest; va_start(rest, flags); mode_t mode = mode_in(flags, rest); va_end(rest); return opened(dir, path, flags, mode); }
+OPEN(open) OPEN(open64) OPENAT(openat) OPENAT(openat64)
+
+int close(int fd) {
+    if (fd >= 0 && fd < FDS) file_of[fd] = 0;
+    return syscall(SYS_close, fd);
+}
+
+ssize_t write(int fd, const void *bytes, size_t n) {
+    if (fd < 0 || fd >= FDS || !file_of[fd]) return syscall(SYS_write, fd, bytes, n);
+    int is_half = calls + 1 == crash_at && (strcmp(way, "half") == 0 || strcmp(way, "torn") == 0 || strcmp(way, "mixed") == 0);
+    if (is_half) {
+        syscall(SYS_write, fd, bytes, n / 2);
+        if (strcmp(way, "torn") == 0) torn_file = file_of[fd] - 1;
+    }
+    if (fail_half && calls + 1 == fail_at && n > 1) {
+        calls++, fail_at++;
+        return syscall(SYS_write, fd, bytes, n / 2);
+    }
+    if (fails('w')) return -1;
+    return syscall(SYS_write, fd, bytes, n);
+}
+
+ssize_t writev(int fd, const struct iovec *parts, int count) {
+    if (fd < 0 || fd >= FDS || !file_of[fd]) return syscall(SYS_writev, fd, parts, count);
+    for (int i = 0; i < count; i++) if (parts[i].iov_len) return write(fd, parts[i].iov_base, parts[i].iov_len);
+    return 0;
+}
+
+// Nothing is brought to a real disk: what counts is what this file notes.
+static int sync_one(int fd) {
+    struct stat it, of_folder;
+    char above[PATH_MAX + 4];
+    if (syscall(SYS_fstat, fd, &it) != 0) return -1;
+    if (fails('s')) return -1;
+    if (fd < FDS && file_of[fd]) {
+        char path[64];
+        snprintf(path, sizeof path, "/proc/self/fd/%d", fd);
+        files[file_of[fd] - 1].synced = content(AT_FDCWD, path);
+        return 0;
+    }
+    snprintf(above, sizeof above, "%s/..", folder);
+    if (stat(folder, &of_folder) == 0 && it.st_ino == of_folder.st_ino && it.st_dev == of_folder.st_dev) synced = now;
+    if (stat(above, &of_folder) == 0 && it.st_ino == of_folder.st_ino && it.st_dev == of_folder.st_dev) is_made_synced = 1;
+    return 0;
+}
+int fsync(int fd) { return sync_one(fd); }
+int fdatasync(int fd) { return sync_one(fd); }
+
+static void gone(const char *text) { // keeps the bytes of a file that loses its name
+    struct name *it = found(&now, text);
+    if (!it) return;
+    files[it->file].last = of_name(text);
+    files[it->file].is_gone = 1;
+}
+
+int rename(const char *from, const char *to) {
+    const char *old = name_in(from), *new = name_in(to);
+    if (!old || !new) return syscall(SYS_rename, from, to);
+    if (fails('r')) return -1;
+    struct name *it = found(&now, old);
+    if (it) gone(new);
+    int done = syscall(SYS_rename, from, to), file = it ? it->file : -1;
+    if (done == 0 && it) { takes(&now, old); gives(&now, new, file); }
+    return done;
+}
+
+int unlink(const char *path) {
+    const char *text = name_in(path);
+    if (!text) return syscall(SYS_unlink, path);
+    if (fails('u')) return -1;
+    gone(text);
+    int done = syscall(SYS_unlink, path);
+    if (done == 0) takes(&now, text);
+    return done;
+}
+int unlinkat(int dir, const char *path, int flags) {
+    return dir == AT_FDCWD && !flags ? unlink(path) : syscall(SYS_unlinkat, dir, path, flags);
+}
+
+static int cut(int fd, off_t n) {
+    if (fd >= 0 && fd < FDS && file_of[fd] && fails('t')) return -1;
+    return syscall(SYS_ftruncate, fd, n);
+}
+int ftruncate(int fd, off_t n) { return cut(fd, n); }
+int ftruncate64(int fd, off_t n) { return cut(fd, n); }
+
+int mkdir(const char *path, mode_t mode) {
+    if (strcmp(path, folder) != 0) return syscall(SYS_mkdir, path, mode);
+    if (fails('m')) return -1;
+    int done = syscall(SYS_mkdir, path, mode);
+    if (done == 0) is_made = 1, is_made_synced = 0;
+    return done;
+}

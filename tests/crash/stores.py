@@ -1,0 +1,166 @@
+"""A store's program in a folder, asked line by line, and the model of what the store holds."""
+import os
+import pathlib
+import select
+import shlex
+import subprocess
+
+TOP = pathlib.Path(__file__).resolve().parents[2]
+PROGRAM = shlex.split(os.environ.get("PROGRAM", str(TOP / "crates/lsm_sim/out/lsm_sim")))
+# Small, so that compactions come.
+LIMITS = ["--l0", "2", "--base", "1000", "--block", "256"]
+# How long an answer may take, in seconds.
+PATIENCE = 60
+SCAN = 'scan "" ~ 1000'
+
+
+class Wrong(Exception):
+    """What a store does and should not."""
+
+
+def command(folder, *words):
+    return [*PROGRAM, *(words or ("store",)), "--dir", str(folder), *(LIMITS if not words else [])]
+
+
+class Session:
+    """The program over a folder. `ways` are variables of crash.c, of which the shim is preloaded if there is one."""
+
+    def __init__(self, folder, shim=None, **ways):
+        env = dict(os.environ)
+        if ways:
+            env |= {"LD_PRELOAD": str(shim), "CRASH_FOLDER": str(folder)} | {k: str(v) for k, v in ways.items()}
+        pipe = subprocess.PIPE
+        self.process = subprocess.Popen(command(folder), stdin=pipe, stdout=pipe, stderr=pipe, env=env)
+        self.answers = b""
+
+    def ask(self, line):
+        """The answer to a line, or None if the process ends before it."""
+        try:
+            self.process.stdin.write(line.encode() + b"\n")
+            self.process.stdin.flush()
+        except BrokenPipeError:
+            return None
+        while b"\n" not in self.answers:
+            if not select.select([self.process.stdout], [], [], PATIENCE)[0]:
+                self.process.kill()
+                raise Wrong(f"no answer to {line}")
+            more = os.read(self.process.stdout.fileno(), 1 << 20)
+            if not more:
+                return None
+            self.answers += more
+        answer, _, self.answers = self.answers.partition(b"\n")
+        return answer.decode()
+
+    def end(self):
+        """Ends the input, and returns the status and what standard error has."""
+        try:
+            self.process.stdin.close()
+        except BrokenPipeError:
+            pass
+        self.process.stdin = None
+        _, said = self.process.communicate(timeout=PATIENCE)
+        return self.process.returncode, said.decode(errors="replace").strip()
+
+
+def pairs_in(answer):
+    """The pairs of the line of a scan."""
+    words = (answer or "").split(" ")
+    if words[0] != "range" or int(words[1]) != len(words) - 2:
+        raise Wrong(f"a scan is answered {answer}")
+    return dict(it.split("=", 1) for it in words[2:])
+
+
+def after(pairs, line):
+    """What a store that has these pairs has once a write is made."""
+    words, pairs = line.split(" "), dict(pairs)
+    if words[0] == "batch":
+        words = words[1:]
+    while words:
+        if words[0] == "put":
+            pairs[words[1]], words = words[2], words[3:]
+        else:
+            pairs.pop(words[1], None)
+            words = words[2:]
+    return pairs
+
+
+class Model:
+    """What a store held after each write that it accepted, and how many of these outlive its process."""
+
+    def __init__(self, pairs=None, may_refuse=False):
+        self.states = [pairs or {}]
+        self.stored = 0
+        self.may_refuse = may_refuse
+
+    def note(self, line, answer):
+        """Takes what a line was answered. A line without an answer may have been done."""
+        is_write = line.split(" ")[0] in ("put", "del", "batch")
+        if is_write and (answer is None or answer.startswith("seq ")):
+            self.states.append(after(self.states[-1], line))
+        elif line == "flush" and answer is not None and answer.startswith("flushed "):
+            self.stored = len(self.states) - 1
+        elif answer is not None and not self.is_right(line, answer):
+            raise Wrong(f"{line} is answered {answer}")
+
+    def is_right(self, line, answer):
+        word = line.split(" ")[0]
+        starts = {"compact": "compacted", "scan": "range", "put": "seq", "del": "seq", "batch": "seq", "flush": "flushed"}
+        return answer.startswith(starts[word]) or (self.may_refuse and answer.startswith("refused "))
+
+    def allows(self, pairs):
+        """Whether a store may hold these once it is opened again: what it held after a write, with all that are stored."""
+        return pairs in self.states[self.stored:]
+
+
+def run(session, lines, model):
+    """Asks all lines, as long as they are answered, and notes the answers. Returns whether all were."""
+    for line in lines:
+        answer = session.ask(line)
+        model.note(line, answer)
+        if answer is None:
+            return False
+    return True
+
+
+def opened(folder, model):
+    """Opens a folder twice: it shows what the model allows, takes a write in between, and loses nothing of it."""
+    session = Session(folder)
+    first = session.ask(SCAN)
+    if first is None:
+        raise Wrong("the folder is not opened: {1} (status {0})".format(*session.end()))
+    first = pairs_in(first)
+    if not model.allows(first):
+        raise Wrong(f"it holds {told(first)} and not one of the last {len(model.states) - model.stored} states: {told(model.states[model.stored])} to {told(model.states[-1])}")
+    more = Model(first)
+    run(session, ["put zz 1", "flush", "put zz 2", "flush"], more)
+    end_of(session)
+    session = Session(folder)
+    second = pairs_in(session.ask(SCAN))
+    end_of(session)
+    if second != more.states[-1]:
+        raise Wrong(f"at its second opening it holds {told(second)}, and not {told(more.states[-1])}")
+    checked(folder)
+    return first
+
+
+def end_of(session):
+    status, said = session.end()
+    if status != 0:
+        raise Wrong(f"status {status}: {said}")
+
+
+def told(pairs):
+    return "{" + ", ".join(f"{key}={value[:6]}" for key, value in sorted(pairs.items())) + "}"
+
+
+def has_check():
+    """Whether the program can check a folder."""
+    return subprocess.run([*PROGRAM, "check", "--help"], capture_output=True, timeout=PATIENCE).returncode == 0
+
+
+def checked(folder):
+    """Asks the program whether the folder has damage, if it can tell."""
+    if os.environ.get("CRASH_CAN_CHECK") == "1":
+        done = subprocess.run(command(folder, "check"), capture_output=True, text=True, timeout=PATIENCE)
+        if done.returncode != 0 or "no damage" not in done.stdout:
+            raise Wrong(f"check says {done.stdout.strip()} {done.stderr.strip()}")
