@@ -5,6 +5,7 @@ use lsm_edit::ApplyError;
 use lsm_key::{KeyError, Refused};
 use lsm_merge::MergeError;
 use lsm_pick::PickError;
+use lsm_store::StoreError;
 use lsm_table::TableError;
 use lsm_versions::OpenError;
 use std::alloc::{AllocError, AllocFailed};
@@ -32,6 +33,14 @@ pub(crate) const STREAM: TimingError = TimingError::Plain(
 
 pub(crate) const NO_ACCOUNT: TimingError = TimingError::Plain(
     "the system does not tell the memory of the process",
+);
+
+pub(crate) const NO_FOLDER: TimingError = TimingError::Plain(
+    "the folder of the store was not opened",
+);
+
+pub(crate) const USED_FOLDER: TimingError = TimingError::Plain(
+    "the folder of the store is there already",
 );
 
 pub(crate) const GONE: TimingError = TimingError::Plain("a table was not served");
@@ -118,6 +127,15 @@ impl From<CoordError> for TimingError {
         match why {
             CoordError::OutOfMemory => OUT_OF_MEMORY,
             why => TimingError::Coord(why),
+        }
+    }
+}
+
+impl From<StoreError> for TimingError {
+    fn from(why: StoreError) -> TimingError {
+        match why {
+            StoreError::Key(why) => TimingError::from(why),
+            StoreError::Coord(why) => TimingError::from(why),
         }
     }
 }

@@ -86,6 +86,27 @@ const SCAN: Form = Form {
     third: None,
 };
 
+const STORE_FILL: Form = Form {
+    name: "store_fill",
+    about: "Put entries into a new store by its front door, which flushes and merges inside its calls",
+    number: ENTRIES,
+    other: Some(BATCH),
+    third: None,
+};
+
+const DURABLE: Form = Form {
+    name: "durable",
+    about: "Fill a store in the new folder lsm_timing.store, open it again, and get random keys",
+    number: ENTRIES,
+    other: Some(Number {
+        id: "M",
+        most: MAX_ENTRIES,
+        need: Need::Always,
+        help: "How many gets",
+    }),
+    third: None,
+};
+
 const CHURN: Form = Form {
     name: "churn",
     about: "Put and delete keys in random order, four times as often as there are keys, and scan what is left",
@@ -240,10 +261,12 @@ const READS: Form = Form {
 };
 
 /// All commands but `all`.
-pub(crate) const FORMS: [Form; 16] = [
+pub(crate) const FORMS: [Form; 18] = [
     FILL,
+    STORE_FILL,
     GET,
     SCAN,
+    DURABLE,
     CHURN,
     PAUSES,
     MEMORY_FILL,

@@ -6,10 +6,12 @@ mod batches;
 mod bench;
 mod churn;
 mod clock;
+mod durable;
 mod error;
 mod figure;
 mod fill;
 mod forms;
+mod front;
 mod globals;
 mod keys;
 mod memory;
@@ -71,6 +73,8 @@ fn run<R: Threads + Wait + Sync>(rt: &R, bench: Bench, task: Task) -> Result<(),
         Task::Fill { entries, batch } => fill::time_fill(bench, entries, batch),
         Task::Get { entries, reads } => reads::time_gets(bench, entries, reads),
         Task::Scan { entries, scans } => reads::time_scans(bench, entries, scans),
+        Task::StoreFill { entries, batch } => front::time_store_fill(bench, entries, batch),
+        Task::Durable { entries, reads } => durable::time_durable(bench, entries, reads),
         Task::Churn { operations } => churn::time_churn(bench, operations),
         Task::Pauses { entries, batch } => pauses::time_pauses(bench, entries, batch),
         Task::MemoryFill { entries } => memory::tell_filled(bench, entries),

@@ -33,6 +33,16 @@ pub(crate) enum Task {
         entries: u64,
         scans: Option<u64>,
     },
+    /// A fill by the front door.
+    StoreFill {
+        entries: u64,
+        batch: u64,
+    },
+    /// A fill of a folder, its opening, and gets.
+    Durable {
+        entries: u64,
+        reads: u64,
+    },
     Churn {
         operations: u64,
     },
@@ -172,6 +182,22 @@ fn task_in(name: &str, found: &ArgMatches<'_>) -> Option<Task> {
             lines: number_in(found, "LINES"),
         }),
         "all" => Some(Task::All),
+        _ => front_in(name, found),
+    }
+}
+
+// A task that goes by the front door of the library.
+fn front_in(name: &str, found: &ArgMatches<'_>) -> Option<Task> {
+    let entries = number_in(found, "N");
+    match name {
+        "store_fill" => Some(Task::StoreFill {
+            entries,
+            batch: number_in(found, "BATCH"),
+        }),
+        "durable" => Some(Task::Durable {
+            entries,
+            reads: number_in(found, "M"),
+        }),
         _ => shared_in(name, found),
     }
 }

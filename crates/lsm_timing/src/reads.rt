@@ -69,7 +69,8 @@ fn get_absent(
     Ok(checksum)
 }
 
-fn with_value(checksum: u64, value: Option<Bytes>) -> u64 {
+/// A checksum with the answer to a get in it.
+pub(crate) fn with_value(checksum: u64, value: Option<Bytes>) -> u64 {
     match value {
         Some(value) => with_bytes(checksum, &value),
         None => with_number(checksum, 1),
