@@ -1,9 +1,7 @@
-//! Tests of `lsm_store` by its public calls: compactions with what they hide, a store's calls, and each allocation of one failing.
+//! Tests of `lsm_store` by its public calls: compactions with what they hide, and each allocation of one failing.
 //!
 //! They are a crate of their own, so that `lsm_store` is proved once. It has no code beside them.
 #![tactic(auto)]
 
-#[cfg(test)]
-mod stores;
 #[cfg(test)]
 mod tests;
