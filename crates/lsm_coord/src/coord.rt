@@ -13,12 +13,14 @@ mod write;
 
 use crate::frozen::Frozen;
 use crate::snapshot::Snapshot;
+use bytes::Bytes;
 pub use flush::Flushed;
 pub use install::{Install, InstallError};
 use lsm_claim::ClaimBook;
-use lsm_key::{Limits, Seq};
+use lsm_key::{Limits, MAX_JOB_LEVEL, Seq};
 use lsm_mem::Memtable;
-use lsm_vault::Vault;
+use lsm_pick::is_due;
+use lsm_vault::{Vault, VaultError};
 use lsm_versions::{OpenError, VersionSet};
 use std::alloc::Global;
 use std::marker::Model;
@@ -56,7 +58,10 @@ impl<V: Vault> Model for Coord<V> {
 }
 
 impl<V: Vault> Coord<V> {
-    ghost use Rattle.std.specs.Prelude.{◌≡◌, ◌≤◌, [], IfErr, IfOk};
+    ghost use Rattle.std.specs.Prelude.{◌≡◌, ◌≤◌, ◌&&◌, [], IfErr, IfOk, nat_le};
+    ghost use Rattle.lsm_key.specs.declared.limits.TheConstants.{MAX_JOB_LEVEL};
+    ghost use Rattle.lsm_pick.specs.Due.{is_due};
+    ghost use Rattle.lsm_vault.specs.Failures.{CountsFailures};
     ghost use Rattle.lsm_versions.specs.Opening.{CountsRefusal, MayHaveDropped, OpenRefuses};
     ghost use Rattle.lsm_coord.specs.Model.Changes.{after_stop};
     ghost use Rattle.lsm_coord.specs.Model.State.{State, first_state};
@@ -116,6 +121,22 @@ impl<V: Vault> Coord<V> {
         ensures { result ≡ self.now.last }
     {
         self.newest
+    }
+
+    /// Whether a level needs compaction. The deepest one, which has none below it, never does.
+    pub fn is_due(&self, level: u8) -> bool
+        ensures { result ≡ (nat_le level MAX_JOB_LEVEL && is_due self.now.limits self.now.served.version.files level) }
+    {
+        level <= MAX_JOB_LEVEL && is_due(&self.limits, self.versions.version().files(), level)
+    }
+
+    /// The edits of the manifest, from the first on, as the vault has them. They share the bytes.
+    pub fn edits(&mut self) -> Result<Vec<Bytes>, VaultError>
+        ensures ok { IfOk result (λ edits. edits.items ≡ self.old.edits) }
+        ensures same { self.new ≡ record self.old { failures = self.new.failures } }
+        ensures counted { CountsFailures result self.old.failures self.new.failures }
+    {
+        self.versions.edits()
     }
 
     /// Ends it, and hands the vault back. All that was not flushed is lost, and all claims are stale.

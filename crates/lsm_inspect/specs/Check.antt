@@ -24,12 +24,12 @@ abbrev pub is_among : List ℕ → ℕ → Bool
 is_among numbers n = list_any (λ m. nat_eq m n) numbers
 
 -- the file's table is there, as its record says
-abbrev pub HasTable : Kept → FileMeta → Type 0
-HasTable kept f = (t : Opened) × (map.get kept f.number ≡ Some t.bytes) × IsAsRecorded f t
+abbrev pub HasRecordedTable : Kept → FileMeta → Type 0
+HasRecordedTable kept f = (t : Opened) × (map.get kept f.number ≡ Some t.bytes) × IsAsRecorded f t
 
 -- and no damaged file of the folder has its number
 pub record IsWhole (kept : Kept) (damaged : List ℕ) (f : FileMeta) : Type 0 where
-  pub table : HasTable kept f
+  pub table : HasRecordedTable kept f
   pub undamaged : is_among damaged f.number ≡ false
 
 -- a table is not as the file's record says

@@ -9,7 +9,7 @@ use lsm_edit::FileMeta;
 use lsm_key::Limits;
 
 /// Whether the level needs compaction. The deepest one, which has none below it, never does.
-pub(crate) fn is_due(limits: &Limits, files: &[FileMeta], level: u8) -> bool
+pub fn is_due(limits: &Limits, files: &[FileMeta], level: u8) -> bool
     requires { level ≤ MAX_JOB_LEVEL }
     ensures { result ≡ is_due limits.now files.now level }
 {

@@ -15,6 +15,7 @@ mod reach;
 mod rule;
 mod want;
 
+pub use due::is_due;
 pub use error::PickError;
 pub use laws::a_candidate_proposes_one_want;
 pub use rule::pick;

@@ -6,3 +6,4 @@ pub mod Compactions
 pub mod CompactionAnswers
 pub mod StoreSteps
 pub mod StoreCompactions
+pub mod RangeParts

@@ -2,3 +2,4 @@ pub mod Compacting
 pub mod Errors
 pub mod Store
 pub mod Stats
+pub mod Ranges

@@ -88,8 +88,8 @@ CanRead snapshots None = Unit {0}
 CanRead snapshots (Some id) = IsSome (snapshot_at snapshots id)
 
 -- the value that the operations which a read sees leave of a key
-abbrev pub Reads : CoordValue → List ℕ → Option SnapId → Option (List ℕ) → Type 0
-Reads c key at value =
+abbrev pub ReadsValue : CoordValue → List ℕ → Option SnapId → Option (List ℕ) → Type 0
+ReadsValue c key at value =
     (writes : List Op) (snapshots : List Snapshot) → Holds c writes snapshots
     → CanRead snapshots at × (value ≡ answer writes (seen_count writes snapshots at) key)
 
@@ -103,6 +103,12 @@ ReadsRange c lo hi at limit pairs =
 abbrev pub OfCoord : (CoordError → Type 0) → StoreError → Type 0
 OfCoord reason (Coord e) = reason e
 OfCoord reason (Key e) = ⊥
+
+-- why the edits of the vault are not read: memory runs out, or the device fails
+abbrev pub EditsRefuse : CoordValue → CoordValue → CoordError → Type 0
+EditsRefuse old new coord.OutOfMemory = Unit {0}
+EditsRefuse old new coord.Device = old.failures < new.failures
+EditsRefuse old new e = ⊥
 
 -- ---- flushes and compactions before a write
 

@@ -13,10 +13,12 @@ mod error;
 mod options;
 mod stats;
 mod store;
+mod written;
 
 pub use compact::{compact_once, result_of};
 pub use due::Due;
 pub use error::StoreError;
 pub use options::Options;
 pub use stats::{LevelStats, stats_of};
-pub use store::Store;
+pub use store::{Range, Store};
+pub use written::Written;

@@ -1,6 +1,7 @@
 //! The store: the front door of the library.
 
 mod compact;
+mod range;
 mod read;
 mod snapshots;
 mod write;
@@ -9,6 +10,7 @@ use crate::Options;
 use lsm_coord::Coord;
 use lsm_vault::Vault;
 use lsm_versions::OpenError;
+pub use range::Range;
 use std::alloc::Global;
 use std::marker::Model;
 

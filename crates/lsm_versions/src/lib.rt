@@ -16,6 +16,6 @@ mod retired;
 mod version_set;
 
 pub use error::OpenError;
-pub use opening::replay;
+pub use opening::{edit_of, replay};
 pub use retired::Retired;
 pub use version_set::VersionSet;

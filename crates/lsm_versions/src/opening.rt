@@ -2,12 +2,13 @@
 
 ghost use Rattle.std.specs.Prelude.{◌≡◌, ◌≤◌, IfErr, IfNone, IfOk, IfSome};
 ghost use Rattle.std.specs.FinMap as map;
+ghost use Rattle.std.specs.Option.{option_to_list};
 ghost use Rattle.lsm_table.specs.Tables.{Opened};
 ghost use Rattle.lsm_edit.specs.declared.edit.Edit.{Edit};
-ghost use Rattle.lsm_edit.specs.Edit.{IsSpelledEdit};
+ghost use Rattle.lsm_edit.specs.Edit.{IsSpelledEdit, read_edit};
 ghost use Rattle.lsm_edit.specs.Served.{AreAsRecorded, IsAsRecorded, placed_of};
 ghost use Rattle.lsm_vault.specs.Failures.{CountsFailures};
-ghost use Rattle.lsm_versions.specs.Manifest.{Folds, edits_from};
+ghost use Rattle.lsm_versions.specs.Manifest.{Folds, edits_from, ok_items};
 ghost use Rattle.lsm_versions.specs.Opening.{ArePlacesKept, CountsRefusal, IsLacking, LacksTable, OpenRefuses, Recovers, manifest_version};
 
 use crate::OpenError;
@@ -64,7 +65,8 @@ pub fn replay(alloc: Global, edits: &[Bytes]) -> Result<Option<Version>, AllocEr
 }
 
 /// The edit that the bytes encode, if they encode one.
-pub(crate) fn edit_of(alloc: Global, text: &Bytes) -> Result<Option<Edit>, AllocError>
+pub fn edit_of(alloc: Global, text: &Bytes) -> Result<Option<Edit>, AllocError>
+    ensures read { IfOk result (λ o. option_to_list o ≡ ok_items (read_edit text.now)) }
     ensures some { IfOk result (λ o. IfSome o (IsSpelledEdit text.now)) }
     ensures none { IfOk result (λ o. IfNone o ((e : Edit) → IsSpelledEdit text.now e → ⊥)) }
 {

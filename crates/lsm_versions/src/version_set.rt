@@ -184,6 +184,15 @@ impl<V: Vault> VersionSet<V> {
         }
     }
 
+    /// The edits of the manifest, from the first on, as the vault has them. They share the bytes.
+    pub fn edits(&mut self) -> Result<Vec<Bytes>, VaultError>
+        ensures ok { IfOk result (λ edits. edits.items ≡ self.old.edits) }
+        ensures same { self.new ≡ record self.old { failures = self.new.failures } }
+        ensures counted { CountsFailures result self.old.failures self.new.failures }
+    {
+        self.vault.edits()
+    }
+
     /// The edit that makes the version after this one, from the floor on. It is within the grammar.
     pub fn edit_after(&self, number: VersionNumber) -> Result<Edit, AllocError>
         requires from { self.now.floor ≤ number + 1 }

@@ -9,7 +9,7 @@ use Rattle.lsm_claim.specs.Book.{BookValue}
 use Rattle.lsm_coord.specs.declared.dispatcher.Dispatcher.{Dispatcher}
 use Rattle.lsm_coord.specs.declared.dispatcher.Dispatcher.TheVariants.{Idle, Busy}
 use Rattle.lsm_coord.specs.Contract.Desks.{dispatcher_of}
-use Rattle.lsm_world.specs.History.{History, Holds, AreClaims}
+use Rattle.lsm_world.specs.History.{History, HoldsClaim, AreClaims}
 
 -- ---- one element in the place of another
 
@@ -80,7 +80,7 @@ one_at xs i j x y a b same = same_Some x y (sym a ∙ subst (λ (k : ℕ). slice
 -- ---- a claim that a dispatcher lets go
 
 -- a book without this claim
-pub claims_let_go : (h : History) (old new : BookValue) (desk : List Dispatcher) (place : ℕ) (claim : LiveJob) → Holds desk place claim → ((j : LiveJob) → IsIn j new.live → IsIn j old.live) → ((j : LiveJob) → IsIn j new.live → j.id ≡ claim.id → ⊥)
+pub claims_let_go : (h : History) (old new : BookValue) (desk : List Dispatcher) (place : ℕ) (claim : LiveJob) → HoldsClaim desk place claim → ((j : LiveJob) → IsIn j new.live → IsIn j old.live) → ((j : LiveJob) → IsIn j new.live → j.id ≡ claim.id → ⊥)
     → AreClaims h old desk → AreClaims h new (slice_set desk place Idle)
 claims_let_go h old new desk place claim held before gone are = record {
   four = as_many_after desk place Idle ∙ are.four;
@@ -92,5 +92,5 @@ claims_let_go h old new desk place claim held before gone are = record {
   one = λ a b j k x y. are.one a b j k (held_before a j x) (held_before b k y);
 }
   where
-    held_before : (p : ℕ) (j : LiveJob) → Holds (slice_set desk place Idle) p j → Holds desk p j
+    held_before : (p : ℕ) (j : LiveJob) → HoldsClaim (slice_set desk place Idle) p j → HoldsClaim desk p j
     held_before p j now = elim (get_set_cases desk place p Idle (Busy j) now) [ inl here ↦ absurd (idle_holds_none j here.1) | inr there ↦ there.1 ]

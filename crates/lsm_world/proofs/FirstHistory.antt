@@ -25,7 +25,7 @@ use Rattle.lsm_coord.specs.Model.State.{Version, empty_version, first_state}
 use Rattle.lsm_coord.proofs.VersionsStay.{first_sound}
 use Rattle.lsm_follow.specs.Followers.{FollowerValue, new_follower}
 use Rattle.lsm_work.specs.Workers.{TaskValue, WorkerValue}
-use Rattle.lsm_world.specs.History.{History, Holds, IsFollowerOf, IsHistory, IsNetwork, IsTaskOf, AreFiles, AreFilesOf, first_indices}
+use Rattle.lsm_world.specs.History.{History, HoldsClaim, IsFollowerOf, IsHistory, IsNetwork, IsTaskOf, AreFiles, AreFilesOf, first_indices}
 use Rattle.lsm_world.specs.Nodes.{NetworkValue, NodesValue, number_of, up_store}
 use Rattle.lsm_world.specs.Schedules.{AreNew, first_followers, idle_worker}
 use Rattle.lsm_world.specs.Shown.{ShowsStore}
@@ -70,7 +70,7 @@ module _ (c : CoordValue) (shown : Shows c first_state) (fit : IsFit c) where
 -- ---- the nodes
 
 -- no dispatcher of a new desk holds a claim
-none_held : (place : ℕ) (claim : LiveJob) → Holds new_desk place claim → ⊥
+none_held : (place : ℕ) (claim : LiveJob) → HoldsClaim new_desk place claim → ⊥
 none_held zero claim held = absurd cc
 none_held (suc zero) claim held = absurd cc
 none_held (suc (suc zero)) claim held = absurd cc
@@ -109,8 +109,8 @@ first_history due n is fit = record {
   network = first_network (first_of n.core) n.network (files_first n.core is.shown fit).all is.workers is.followers is.messages;
 }
   where
-    at_first : (place : ℕ) (claim : LiveJob) → Holds n.desk place claim → Holds new_desk place claim
-    at_first place claim held = subst (λ (desk : List Dispatcher). Holds desk place claim) is.desk held
+    at_first : (place : ℕ) (claim : LiveJob) → HoldsClaim n.desk place claim → HoldsClaim new_desk place claim
+    at_first place claim held = subst (λ (desk : List Dispatcher). HoldsClaim desk place claim) is.desk held
 
 -- ---- what it shows
 

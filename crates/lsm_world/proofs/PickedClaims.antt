@@ -21,7 +21,7 @@ use Rattle.lsm_coord.specs.Contract.Picking.{IsPicked}
 use Rattle.lsm_coord.specs.Contract.Sound.{IsSound, KeepsSound}
 use Rattle.lsm_coord.specs.Contract.Value.{CoordValue}
 use Rattle.lsm_coord.proofs.GiveBackSteps.{same_name}
-use Rattle.lsm_world.specs.History.{History, IsHistory, IsFileOf, IsKnown, Holds, AreFiles, AreJobs, AreClaims, WasGiven}
+use Rattle.lsm_world.specs.History.{History, IsHistory, IsFileOf, IsKnown, HoldsClaim, AreFiles, AreJobs, AreClaims, WasGiven}
 use Rattle.lsm_world.specs.Nodes.{NodesValue}
 use Rattle.lsm_world.proofs.DeskPlaces.{as_many_after, get_set_cases, get_set_here, get_set_there, idle_holds_none, one_at, same_claim}
 use Rattle.lsm_world.proofs.GrowingHistory.{Grows, Keeps, goes_on, same_edits}
@@ -121,11 +121,11 @@ module _ (h : History) (old new : CoordValue) (claim : LiveJob) (job : JobParts)
       after = slice_set desk place (Busy claim)
 
       -- a dispatcher that held a claim still holds it
-      held_still : (p : ℕ) (j : LiveJob) → Holds desk p j → Holds after p j
+      held_still : (p : ℕ) (j : LiveJob) → HoldsClaim desk p j → HoldsClaim after p j
       held_still p j held = get_set_there desk place p (Busy claim) (λ same. idle_holds_none j (one_at desk place p Idle (Busy j) idle held same)) ∙ held
 
       -- no claim that was held has this name
-      not_held : (p : ℕ) (j : LiveJob) → Holds desk p j → j.id ≡ claim.id → ⊥
+      not_held : (p : ℕ) (j : LiveJob) → HoldsClaim desk p j → j.id ≡ claim.id → ⊥
       not_held p j held same =
           let of = claims.picked p j held in
           other_name of.0.id (jobs.given of.0 of.1) (of.2 ∙ same ∙ sym name_is)

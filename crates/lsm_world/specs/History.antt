@@ -105,15 +105,15 @@ pub record AreJobs (h : History) (c : CoordValue) : Type 0 where
   pub sound : (j : JobParts) → IsIn j h.jobs → holds c.book j.id ≡ true → IsSound c j
 
 -- the dispatcher at this place of a desk, from 0, holds this claim
-abbrev pub Holds : List Dispatcher → ℕ → LiveJob → Type 0
-Holds desk place claim = slice_get desk place ≡ Some (Busy claim)
+abbrev pub HoldsClaim : List Dispatcher → ℕ → LiveJob → Type 0
+HoldsClaim desk place claim = slice_get desk place ≡ Some (Busy claim)
 
 -- Each live claim is held by one of four dispatchers, each claim that is held is that of a job, and no two dispatchers hold one.
 pub record AreClaims (h : History) (book : BookValue) (desk : List Dispatcher) : Type 0 where
   pub four : length desk ≡ 4
-  pub live : (claim : LiveJob) → IsIn claim book.live → (place : ℕ) × Holds desk place claim
-  pub picked : (place : ℕ) (claim : LiveJob) → Holds desk place claim → (j : JobParts) × IsIn j h.jobs × (j.id ≡ claim.id)
-  pub one : (a b : ℕ) (claim other : LiveJob) → Holds desk a claim → Holds desk b other → claim.id ≡ other.id → a ≡ b
+  pub live : (claim : LiveJob) → IsIn claim book.live → (place : ℕ) × HoldsClaim desk place claim
+  pub picked : (place : ℕ) (claim : LiveJob) → HoldsClaim desk place claim → (j : JobParts) × IsIn j h.jobs × (j.id ≡ claim.id)
+  pub one : (a b : ℕ) (claim other : LiveJob) → HoldsClaim desk a claim → HoldsClaim desk b other → claim.id ≡ other.id → a ≡ b
 
 -- ---- workers
 

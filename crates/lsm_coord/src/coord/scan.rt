@@ -32,15 +32,14 @@ impl<V: Vault> Coord<V> {
     /// ascending, each with its value. Shares the bytes. It stops at its limit: O(log n) to
     /// begin, and O(log s) for each entry returned or skipped, of s memtables, tables of level 0 and deeper levels.
     pub fn scan(
-        &mut self,
+        &self,
         lo: &[u8],
         hi: &[u8],
         at: Option<SnapId>,
         limit: u64,
     ) -> Result<Vec<(Bytes, Bytes)>, CoordError>
-        ensures step { Follows self.old (Scan lo.now hi.now at limit) (scan_reply result) self.new }
-        ensures same { self.new ≡ self.old }
-        ensures refused { IfErr result (ScanRefuses self.old at) }
+        ensures step { Follows self.now (Scan lo.now hi.now at limit) (scan_reply result) self.now }
+        ensures refused { IfErr result (ScanRefuses self.now at) }
     {
         let Some(point) = self.point_of(at) else {
             return Err(CoordError::NoSnapshot);
