@@ -1,0 +1,56 @@
+//! The quick start of the library: writes to a store in the folder `data`, reads from it, and keeps it for the next run.
+#![tactic(auto)]
+
+use anyhow::Error;
+use bytes::Bytes;
+use lsm_coord::SnapId;
+use lsm_file_vault::{FileVault, HostFolder};
+use lsm_key::{Batch, Op};
+use lsm_store::{Options, Store};
+use std::alloc::{AllocError, Global};
+
+/// A store in a folder.
+type FolderStore = Store<FileVault<HostFolder<HostRuntime>>>;
+
+fn main(rt: HostRuntime) -> Result<(), Error> {
+    let mut store = open(&rt, "data")?;
+    let before = write(rt.alloc(), &mut store)?;
+    read(&rt, &mut store, before)?;
+    store.flush()?; // from here on, all of it outlives the process
+    Ok(())
+}
+
+fn open(rt: &HostRuntime, folder: &str) -> Result<FolderStore, Error> {
+    let vault = lsm_file_vault::open(rt, folder)?.vault;
+    let opened = Store::open(rt.alloc(), vault, Options::default());
+    Ok(opened.map_err(|(why, _vault)| why)?)
+}
+
+fn write(alloc: Global, store: &mut FolderStore) -> Result<SnapId, Error> {
+    store.put(b"apple", b"red")?;
+    let before = store.snapshot()?;
+    let mut batch = Batch::new(alloc);
+    batch.push(Op::Delete(Bytes::from_static(b"apple")))?;
+    batch.push(Op::Put(Bytes::from_static(b"pear"), Bytes::from_static(b"green")))?;
+    store.write(&batch)?; // all of it or nothing
+    Ok(before)
+}
+
+fn read(rt: &HostRuntime, store: &mut FolderStore, before: SnapId) -> Result<(), Error> {
+    if let Some(value) = store.get(b"apple", Some(before))? {
+        println!(rt; "apple was {}", text(rt.alloc(), &value)?)?;
+    }
+    for pair in store.range(b"a", b"z", None)? {
+        let (key, value) = pair?;
+        println!(rt;
+            "{} is {}",
+            text(rt.alloc(), &key)?,
+            text(rt.alloc(), &value)?
+        )?;
+    }
+    Ok(())
+}
+
+fn text(alloc: Global, bytes: &Bytes) -> Result<String, AllocError> {
+    String::from_utf8_lossy(alloc, bytes.as_slice())
+}
