@@ -1,0 +1,4 @@
+pub mod Ahead
+pub mod Headers
+pub mod Words
+pub mod Bulks

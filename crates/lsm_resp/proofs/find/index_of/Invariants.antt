@@ -1,0 +1,6 @@
+-- none of the bytes so far is the wanted one
+use Rattle.std.proofs.Common.{◌≡◌, ℕ, ◌<◌, get_or}
+use Rattle.lsm_resp.proofs.find.index_of.Given as goal
+
+abbrev pub invariant-loop-i : goal.invariant-loop-i
+invariant-loop-i l = (k : ℕ) → k < l.i → get_or l.bytes k 0 ≡ l.wanted → ⊥

@@ -1,0 +1,3 @@
+pub mod Wire
+pub mod Requests
+pub mod Pieces

@@ -1,0 +1,94 @@
+//! Bulk strings: the words of a request.
+
+ghost use Rattle.std.specs.Prelude.{◌≡◌, ◌+◌, ◌≤◌, IfOk, IfSome, OnSome, length};
+ghost use Rattle.lsm_resp.specs.declared.limits.TheConstants.{MAX_WORD_BYTES};
+ghost use Rattle.lsm_resp.specs.Pieces.{FindsBulk, FindsBulks, FindsBytes};
+
+use crate::header::read_header;
+use crate::{MAX_REQUEST_BYTES, MAX_WORD_BYTES, ParseError, ProtocolFault};
+use std::alloc::Global;
+
+/// A word, and how many bytes its bulk string has.
+#[derive(Clone, Copy, Debug)]
+pub(crate) struct Bulk<'a> {
+    pub(crate) word: &'a [u8],
+    pub(crate) len: usize,
+}
+
+/// Words, and how many bytes their bulk strings have.
+#[derive(Debug, Drop)]
+pub(crate) struct Bulks<'a> {
+    pub(crate) words: Vec<&'a [u8]>,
+    pub(crate) len: usize,
+}
+
+/// So many bytes, with a line end behind them, or `None` if not all of it has come.
+fn read_bytes(input: &[u8], len: usize) -> Result<Option<&[u8]>, ProtocolFault>
+    requires { len ≤ MAX_WORD_BYTES }
+    ensures found { FindsBytes input.now len result }
+    ensures within { IfOk result (λ found. OnSome found (len + 2 ≤ length input.now)) }
+    ensures len { IfOk result (λ found. IfSome found (λ bytes. length bytes.now ≡ len)) }
+{
+    if input.len() < len + 2 {
+        return Ok(None);
+    }
+    if input[len] != b'\r' || input[len + 1] != b'\n' {
+        return Err(ProtocolFault::NoLineEnd);
+    }
+    let (bytes, _) = input.split_at(len);
+    Ok(Some(bytes))
+}
+
+/// The bulk string ahead, or `None` if not all of it has come.
+pub(crate) fn read_bulk(input: &[u8]) -> Result<Option<Bulk<'_>>, ProtocolFault>
+    ensures found { FindsBulk input.now result }
+    ensures within { IfOk result (λ found. IfSome found (λ bulk. bulk.len ≤ length input.now)) }
+    ensures short { IfOk result (λ found. IfSome found (λ bulk. length bulk.word.now ≤ MAX_WORD_BYTES)) }
+{
+    if !input.is_empty() && input[0] != b'$' {
+        return Err(ProtocolFault::NoBulk);
+    }
+    let Some(header) = read_header(input)? else {
+        return Ok(None);
+    };
+    if header.number > MAX_WORD_BYTES {
+        return Err(ProtocolFault::WordTooLong);
+    }
+    let (_, rest) = input.split_at(header.len);
+    let Some(word) = read_bytes(rest, header.number)? else {
+        return Ok(None);
+    };
+    Ok(Some(Bulk {
+        word,
+        len: header.len + (header.number + 2),
+    }))
+}
+
+/// The `count` bulk strings ahead, or `None` if not all of them have come.
+pub(crate) fn read_bulks(
+    alloc: Global,
+    input: &[u8],
+    count: usize,
+) -> Result<Option<Bulks<'_>>, ParseError>
+    ensures found { FindsBulks input.now count result }
+    ensures within { IfOk result (λ found. IfSome found (λ bulks. bulks.len ≤ length input.now)) }
+{
+    let mut words = Vec::new(alloc);
+    let mut len = 0;
+    let mut total = 0;
+    for _done in 0..count {
+        let (_, rest) = input.split_at(len);
+        let Some(bulk) = read_bulk(rest)? else {
+            return Ok(None);
+        };
+        total += bulk.word.len();
+        if total > MAX_REQUEST_BYTES {
+            return Err(ParseError::Protocol(ProtocolFault::RequestTooLong));
+        }
+        let Ok(()) = words.push(bulk.word) else {
+            return Err(ParseError::OutOfMemory);
+        };
+        len += bulk.len;
+    }
+    Ok(Some(Bulks { words, len }))
+}

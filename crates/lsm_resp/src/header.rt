@@ -1,0 +1,64 @@
+//! Lines that announce how many words or bytes follow: a mark, decimal digits, and a line end.
+
+ghost use Rattle.std.specs.Prelude.{◌≤◌, ◌↔◌, IfOk, IfSome, IsTrue, OnSome, length};
+ghost use Rattle.lsm_resp.specs.Pieces.{FindsHeader, IsPlainNumber, ReadsNumber};
+
+use crate::ProtocolFault;
+use crate::find::index_of;
+use crate::limits::MAX_HEADER_BYTES;
+
+/// A number, and how many bytes spell it with its mark and its line end.
+#[derive(Clone, Copy, Debug, PartialEq, Eq)]
+pub(crate) struct Header {
+    pub(crate) number: usize,
+    pub(crate) len: usize,
+}
+
+/// The number that decimal digits spell, below 2^64: without a sign, and with no zero in front.
+pub fn read_number(digits: &[u8]) -> Option<u64>
+    ensures read { ReadsNumber digits.now result }
+    ensures plain { OnSome result (IsPlainNumber digits.now) }
+{
+    if !is_plain(digits) {
+        return None;
+    }
+    match str::from_utf8(digits) {
+        Err(_) => None,
+        Ok(text) => text.parse().ok(),
+    }
+}
+
+/// Whether neither a sign nor a zero stands before other digits.
+fn is_plain(digits: &[u8]) -> bool
+    ensures { IsTrue result ↔ IsPlainNumber digits.now }
+{
+    digits.len() == 1 || (!digits.is_empty() && digits[0] > b'0')
+}
+
+/// What the line ahead announces, or `None` if its end has not come. The mark is not looked at.
+pub(crate) fn read_header(input: &[u8]) -> Result<Option<Header>, ProtocolFault>
+    ensures found { FindsHeader input.now result }
+    ensures within { IfOk result (λ found. IfSome found (λ header. header.len ≤ length input.now)) }
+{
+    let Some((_, rest)) = input.split_first() else {
+        return Ok(None);
+    };
+    let at = index_of(rest, b'\r');
+    if at >= MAX_HEADER_BYTES {
+        return Err(ProtocolFault::BadLength);
+    }
+    if rest.len() < at + 2 {
+        return Ok(None);
+    }
+    if rest[at + 1] != b'\n' {
+        return Err(ProtocolFault::BadLength);
+    }
+    let (digits, _) = rest.split_at(at);
+    match read_number(digits) {
+        None => Err(ProtocolFault::BadLength),
+        Some(number) => Ok(Some(Header {
+            number: number as usize,
+            len: at + 3,
+        })),
+    }
+}

@@ -1,0 +1,7 @@
+pub mod Commands
+pub mod Errors
+pub mod Arguments
+pub mod Figures
+pub mod Answers
+pub mod Serving
+pub mod ServingSteps

@@ -1,0 +1,79 @@
+-- The replies to a stream of requests (Redis serialization protocol specification, RESP2: pipelining; Redis commands reference: QUIT).
+use Rattle.std.specs.Prelude.{◌≡◌, ◌⊎◌, ℕ, List, [], ◌∷◌, ◌++◌, Option, Some, Result, Ok, Err, All, codes, map, nat_eq, ◌||◌, if◌then◌else◌}
+use Rattle.std.specs.Io.KnownBytes.{Appends}
+use Rattle.std.specs.List.{flat_map}
+use Rattle.lsm_coord.specs.Contract.Value.{CoordValue}
+use Rattle.lsm_resp.specs.declared.reply.Reply.TheVariants as reply
+use Rattle.lsm_resp.specs.Requests.{AreWords}
+use Rattle.lsm_stream.specs.Streams.{AppendsPart}
+use Rattle.lsm_resp.specs.Wire.{reply_bytes, request_bytes}
+use Rattle.lsm_serve.specs.declared.answer.Answer.{Answer}
+use Rattle.lsm_serve.specs.declared.answer.Answer.TheVariants.{Refused, Reply}
+use Rattle.lsm_serve.specs.declared.command.Command.TheVariants as command
+use Rattle.lsm_serve.specs.declared.error.ServeError.{ServeError}
+use Rattle.lsm_serve.specs.declared.error.ServeError.TheVariants.{OutOfMemory, Protocol, Stream, Truncated}
+use Rattle.lsm_serve.specs.Answers.{AnswersRequest}
+use Rattle.lsm_serve.specs.Commands.{IsCalled}
+
+-- ---- one request
+
+-- in a line a space stands for a line end
+abbrev pub in_line : ℕ → ℕ
+in_line byte = if nat_eq byte 13 || nat_eq byte 10 then 32 else byte
+
+abbrev pub error_text : List ℕ → List ℕ
+error_text text = codes "ERR " ++ map in_line text
+
+-- the bytes of an answer: a refusal is an error line of `ERR` and a text
+abbrev pub IsReplyTo : Answer → List ℕ → Type 0
+IsReplyTo (Reply reply) bytes = bytes ≡ reply_bytes reply
+IsReplyTo (Refused why) bytes = (text : List ℕ) × (bytes ≡ reply_bytes (reply.Error (error_text text)))
+
+-- the bytes that a request gets: those of its answer, and none if it has no words
+abbrev pub RepliesTo : CoordValue → List (List ℕ) → List ℕ → CoordValue → Type 0
+RepliesTo old [] bytes new = (bytes ≡ []) × (new ≡ old)
+RepliesTo old (name ∷ args) bytes new = (answer : Answer) × AnswersRequest old (name ∷ args) answer new × IsReplyTo answer bytes
+
+-- QUIT, which takes no argument
+abbrev pub EndsStream : List (List ℕ) → Type 0
+EndsStream (name ∷ []) = IsCalled name command.Quit
+EndsStream words = ⊥
+
+-- ---- a stream of requests
+
+-- the replies to requests in turn, to each by what those before it left: a QUIT is the last that is answered
+abbrev pub RepliesInTurn : CoordValue → List (List (List ℕ)) → List ℕ → CoordValue → Type 0
+RepliesInTurn old [] bytes new = (bytes ≡ []) × (new ≡ old)
+RepliesInTurn old (request ∷ requests) bytes new =
+    (first : List ℕ) × (mid : CoordValue) × RepliesTo old request first mid
+    × ((EndsStream request × (bytes ≡ first) × (new ≡ mid))
+    ⊎ ((EndsStream request → ⊥) × (rest : List ℕ) × RepliesInTurn mid requests rest new × (bytes ≡ first ++ rest)))
+
+-- a reader that tells its bytes has these requests left, each within the limits, and nothing else
+pub record AreAhead (known : Option (List ℕ)) (requests : List (List (List ℕ))) : Type 0 where
+  pub bytes_are : known ≡ Some (flat_map request_bytes requests)
+  pub fit : All AreWords requests
+
+-- the first requests are answered, and a beginning of the replies is written
+pub record RepliesToSome (old : CoordValue) (requests : List (List (List ℕ))) (held holds : Option (List ℕ)) (new : CoordValue) : Type 0 where
+  pub done : List (List (List ℕ))
+  pub left : List (List (List ℕ))
+  pub bytes : List ℕ
+  pub parted : requests ≡ done ++ left
+  pub replies : RepliesInTurn old done bytes new
+  pub written : AppendsPart held holds bytes
+
+-- no requests are a reason to end: only the streams and memory are
+abbrev pub IsNoFault : ServeError → Type 0
+IsNoFault (Protocol fault) = ⊥
+IsNoFault Truncated = ⊥
+IsNoFault (Stream why) = Unit {0}
+IsNoFault OutOfMemory = Unit {0}
+
+abbrev pub ServesSome : CoordValue → List (List (List ℕ)) → Option (List ℕ) → Option (List ℕ) → ServeError → CoordValue → Type 0
+ServesSome old requests held holds why new = RepliesToSome old requests held holds new × IsNoFault why
+
+-- the replies to all requests are written, or to the first ones
+abbrev pub ServesRequests : {A : Type 0} → CoordValue → List (List (List ℕ)) → Option (List ℕ) → Option (List ℕ) → Result A ServeError → CoordValue → Type 0
+ServesRequests old requests held holds (Ok done) new = (bytes : List ℕ) × RepliesInTurn old requests bytes new × Appends held holds bytes
+ServesRequests old requests held holds (Err why) new = ServesSome old requests held holds why new

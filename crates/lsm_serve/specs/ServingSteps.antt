@@ -1,0 +1,68 @@
+-- How far a stream of requests is served, step by step.
+use Rattle.std.specs.Prelude.{◌≡◌, ◌⊎◌, ℕ, ◌≤◌, Bool, true, false, List, [], ◌∷◌, ◌++◌, Option, Result, Ok, Err, All, drop, length}
+use Rattle.std.specs.Io.KnownBytes.{Appends}
+use Rattle.std.specs.List.{flat_map}
+use Rattle.lsm_coord.specs.Contract.Value.{CoordValue}
+use Rattle.lsm_resp.specs.Requests.{AreWords}
+use Rattle.lsm_resp.specs.Wire.{request_bytes}
+use Rattle.lsm_serve.specs.declared.answer.Answer.{Answer}
+use Rattle.lsm_serve.specs.declared.error.ServeError.{ServeError}
+use Rattle.lsm_serve.specs.declared.serving.Reached.{Reached}
+use Rattle.lsm_serve.specs.declared.serving.Reached.TheVariants.{Quit, Waits}
+use Rattle.lsm_serve.specs.Serving.{EndsStream, IsReplyTo, RepliesInTurn, RepliesTo, ServesSome}
+
+-- ---- one request
+
+-- a reply is appended
+abbrev pub WritesReply : Answer → List ℕ → List ℕ → Type 0
+WritesReply answer old new = (bytes : List ℕ) × IsReplyTo answer bytes × (new ≡ old ++ bytes)
+
+abbrev pub IsLast : Bool → List (List ℕ) → Type 0
+IsLast true request = EndsStream request
+IsLast false request = EndsStream request → ⊥
+
+-- a request is answered and its reply appended, and it is the last one or not; or memory runs out before it is answered, or after it
+abbrev pub AnswersOne : {E : Type 0} → CoordValue → List (List ℕ) → List ℕ → List ℕ → Result Bool E → CoordValue → Type 0
+AnswersOne old request out_old out_new (Ok is_last) new = (bytes : List ℕ) × RepliesTo old request bytes new × (out_new ≡ out_old ++ bytes) × IsLast is_last request
+AnswersOne old request out_old out_new (Err e) new = (new ≡ old) ⊎ ((bytes : List ℕ) × RepliesInTurn old (request ∷ []) bytes new)
+
+-- ---- requests so far
+
+-- the first requests are answered, none of them a QUIT, and whatever comes of those that follow completes the replies
+pub record RepliesSoFar (old : CoordValue) (requests left : List (List (List ℕ))) (bytes : List ℕ) (now : CoordValue) : Type 0 where
+  pub done : List (List (List ℕ))
+  pub parted : requests ≡ done ++ left
+  pub fit : All AreWords left
+  pub completes : (more : List (List (List ℕ))) (rest : List ℕ) (new : CoordValue) → RepliesInTurn now more rest new → RepliesInTurn old (done ++ more) (bytes ++ rest) new
+
+-- of the replies a first part is written and the rest is kept
+pub record AreSent (held holds : Option (List ℕ)) (bytes out : List ℕ) : Type 0 where
+  pub sent : List ℕ
+  pub kept : bytes ≡ sent ++ out
+  pub written : Appends held holds sent
+
+-- the requests that are not answered yet lie ahead
+pub record ServedSoFar (old : CoordValue) (requests : List (List (List ℕ))) (held : Option (List ℕ)) (now : CoordValue) (ahead : List ℕ) (out : List ℕ) (holds : Option (List ℕ)) : Type 0 where
+  pub left : List (List (List ℕ))
+  pub bytes : List ℕ
+  pub answered : RepliesSoFar old requests left bytes now
+  pub are_ahead : ahead ≡ flat_map request_bytes left
+  pub sent : AreSent held holds bytes out
+
+-- all are answered, up to a QUIT
+abbrev pub ServedAll : CoordValue → List (List (List ℕ)) → Option (List ℕ) → CoordValue → List ℕ → Option (List ℕ) → Type 0
+ServedAll old requests held now out holds = (bytes : List ℕ) × RepliesInTurn old requests bytes now × AreSent held holds bytes out
+
+-- what comes of an input with bytes that are still to come: it waits for these, unless nothing of a request is left; or a QUIT is reached
+abbrev pub ServedTo : CoordValue → List (List (List ℕ)) → Option (List ℕ) → CoordValue → List ℕ → List ℕ → List ℕ → Option (List ℕ) → Reached → Type 0
+ServedTo old requests held now input later out holds (Waits at) = ServedSoFar old requests held now (drop at input ++ later) out holds × (later ≡ [] → drop at input ≡ [])
+ServedTo old requests held now input later out holds Quit = ServedAll old requests held now out holds
+
+abbrev pub ServesInput : CoordValue → List (List (List ℕ)) → Option (List ℕ) → CoordValue → List ℕ → List ℕ → List ℕ → Option (List ℕ) → Result Reached ServeError → Type 0
+ServesInput old requests held new input later out holds (Ok reached) = ServedTo old requests held new input later out holds reached
+ServesInput old requests held new input later out holds (Err why) = ServesSome old requests held holds why new
+
+-- how far requests can be answered
+abbrev pub IsReachable : List ℕ → Reached → Type 0
+IsReachable input (Waits at) = at ≤ length input
+IsReachable input Quit = Unit {0}

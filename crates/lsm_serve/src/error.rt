@@ -1,0 +1,72 @@
+//! Why serving ends before the input does.
+
+use lsm_resp::{ParseError, ProtocolFault};
+use lsm_stream::StreamError;
+use std::alloc::{AllocError, AllocFailed};
+use thiserror::Error;
+
+/// Why serving ends before the input does, or at its end.
+#[derive(Clone, Copy, Debug, PartialEq, Eq, Error)]
+pub enum ServeError {
+    /// The input is no request within the limits. That was answered.
+    #[error("protocol error: {0}")]
+    Protocol(ProtocolFault),
+    /// The input ends within a request.
+    #[error("the input ends within a request")]
+    Truncated,
+    /// The input could not be read, or the replies could not be written.
+    #[error("{0}")]
+    Stream(StreamError),
+    #[error("out of memory")]
+    OutOfMemory,
+}
+
+impl From<AllocError> for ServeError {
+    ghost use Rattle.std.specs.Prelude.{◌≡◌};
+    ghost use Rattle.lsm_serve.specs.declared.error.ServeError.TheVariants.{OutOfMemory};
+
+    ghost from_gives = { λ _ e. e ≡ OutOfMemory };
+
+    fn from(_e: AllocError) -> ServeError {
+        ServeError::OutOfMemory
+    }
+}
+
+impl<T: Drop> From<AllocFailed<T>> for ServeError {
+    ghost use Rattle.std.specs.Prelude.{◌≡◌};
+    ghost use Rattle.lsm_serve.specs.declared.error.ServeError.TheVariants.{OutOfMemory};
+
+    ghost from_gives = { λ _ e. e ≡ OutOfMemory };
+
+    fn from(_e: AllocFailed<T>) -> ServeError {
+        ServeError::OutOfMemory
+    }
+}
+
+impl From<ParseError> for ServeError {
+    ghost use Rattle.std.specs.Prelude.{◌≡◌};
+    ghost use Rattle.lsm_serve.specs.Errors.{error_of_parse};
+
+    ghost from_gives = { λ why e. e ≡ error_of_parse why };
+
+    fn from(why: ParseError) -> ServeError {
+        match why {
+            ParseError::OutOfMemory => ServeError::OutOfMemory,
+            ParseError::Protocol(fault) => ServeError::Protocol(fault),
+        }
+    }
+}
+
+impl From<StreamError> for ServeError {
+    ghost use Rattle.std.specs.Prelude.{◌≡◌};
+    ghost use Rattle.lsm_serve.specs.Errors.{error_of_stream};
+
+    ghost from_gives = { λ why e. e ≡ error_of_stream why };
+
+    fn from(why: StreamError) -> ServeError {
+        match why {
+            StreamError::OutOfMemory => ServeError::OutOfMemory,
+            _ => ServeError::Stream(why),
+        }
+    }
+}

@@ -1,0 +1,20 @@
+//! A store behind a stream of requests in Redis's protocol, RESP2.
+//!
+//! It promises, for streams that tell their bytes, that the replies to a stream of requests are those of a run of the requests: each by
+//! what the store held after those before it, in their order, up to a `QUIT`. After a fault of a stream or of memory a beginning of them
+//! is written. What is answered to a request is promised for each command, by what the store held and what it holds then, with a
+//! reason of that call for each refusal. Whatever comes is read within limits that hold before memory is taken, and serving ends safely.
+//! The texts of refusals have no clause. It stands on the store, and on the wire.
+#![tactic(auto)]
+
+mod answer;
+mod command;
+mod error;
+mod refusal;
+mod serving;
+
+pub use answer::{Answer, answer_request};
+pub use command::Command;
+pub use error::ServeError;
+pub use refusal::Refusal;
+pub use serving::serve;

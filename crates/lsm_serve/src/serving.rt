@@ -1,0 +1,227 @@
+//! Serving: requests in, replies out.
+
+ghost use Rattle.std.specs.Prelude.{◌≡◌, ◌<◌, ◌≤◌, ◌++◌, ◌↔◌, [], ℕ, List, Option, IfOk, IsTrue, Ok, OnOk, drop, length, vec_len};
+ghost use Rattle.lsm_coord.specs.Contract.Value.{CoordValue};
+ghost use Rattle.lsm_resp.specs.Requests.{words_of};
+ghost use Rattle.lsm_resp.specs.Wire.{reply_bytes};
+ghost use Rattle.lsm_resp.specs.declared.reply.Reply.TheVariants.{Error};
+ghost use Rattle.lsm_serve.specs.declared.answer.Answer.TheVariants.{Refused};
+ghost use Rattle.lsm_serve.specs.Serving.{AreAhead, EndsStream, ServesRequests, error_text, in_line};
+ghost use Rattle.lsm_serve.specs.ServingSteps.{AnswersOne, IsReachable, ServedSoFar, ServesInput, WritesReply};
+
+use crate::answer::{Answer, answer_request, one};
+use crate::{Command, Refusal, ServeError};
+use bytes::Bytes;
+use lsm_resp::{ParseError, Parsed, ProtocolFault, Reply, parse_request, write_reply};
+use lsm_store::Store;
+use lsm_stream::{StreamError, buffer_of, read_more, write_out};
+use lsm_vault::Vault;
+use std::alloc::{AllocError, Global};
+use std::io::{Read, Write};
+
+/// How much is read at once. In bytes.
+const READ_BYTES: usize = 65_536;
+
+/// How many bytes of replies are kept back while more requests have come.
+const KEPT_BYTES: usize = 65_536;
+
+/// How far the requests that have come are answered.
+#[derive(Clone, Copy, Debug, PartialEq, Eq)]
+enum Reached {
+    /// Up to here: what follows is not a whole request yet.
+    Waits(usize),
+    /// A `QUIT` was answered.
+    Quit,
+}
+
+/// Answers the requests of the reader in order, until it ends or a `QUIT` was answered. Replies are written before more input is
+/// waited for. What is no request within the limits is answered with an error, and ends it. The store is not flushed.
+pub fn serve<V: Vault, R: Read, W: Write>(
+    alloc: Global,
+    store: &mut Store<V>,
+    reader: &mut R,
+    writer: &mut W,
+) -> Result<(), ServeError>
+    ensures { (requests : List (List (List ℕ))) → AreAhead (R.remaining reader.old) requests → ServesRequests store.old requests (W.contents writer.old) (W.contents writer.new) result store.new }
+{
+    let mut chunk = buffer_of(alloc, READ_BYTES)?;
+    serve_through(alloc, store, reader, writer, &mut chunk)
+}
+
+/// The same, by reads into a chunk that has room.
+fn serve_through<V: Vault, R: Read, W: Write>(
+    alloc: Global,
+    store: &mut Store<V>,
+    reader: &mut R,
+    writer: &mut W,
+    chunk: &mut [u8],
+) -> Result<(), ServeError>
+    requires { 0 < length chunk.old }
+    ensures { (requests : List (List (List ℕ))) → AreAhead (R.remaining reader.old) requests → ServesRequests store.old requests (W.contents writer.old) (W.contents writer.new) result store.new }
+{
+    let mut input = Vec::new(alloc);
+    let mut out = Vec::new(alloc);
+    for _ in 0..u64::MAX {
+        let reached = answer_all(alloc, store, &input, writer, &mut out)?;
+        write_out(writer, &mut out)?;
+        let Reached::Waits(at) = reached else {
+            return Ok(());
+        };
+        drop_front(&mut input, at);
+        if !read_more(reader, chunk, &mut input)? {
+            return end_of(&input);
+        }
+    }
+    Err(ServeError::Stream(StreamError::ReadFault))
+}
+
+/// How it ends at the end of the input: well, if nothing of a request is left.
+fn end_of(input: &[u8]) -> Result<(), ServeError>
+    ensures { input.now ≡ [] → result ≡ Ok tt }
+{
+    if input.is_empty() {
+        Ok(())
+    } else {
+        Err(ServeError::Truncated)
+    }
+}
+
+fn drop_front(input: &mut Vec<u8>, len: usize)
+    requires { len ≤ vec_len input.old }
+    ensures { input.new.items ≡ drop len input.old.items }
+{
+    let _ = input.drain(..len);
+}
+
+/// Answers the requests that have come whole.
+fn answer_all<V: Vault, W: Write>(
+    alloc: Global,
+    store: &mut Store<V>,
+    input: &[u8],
+    writer: &mut W,
+    out: &mut Vec<u8>,
+) -> Result<Reached, ServeError>
+    ensures reach { IfOk result (IsReachable input.now) }
+    ensures served { (old : CoordValue) (requests : List (List (List ℕ))) (held : Option (List ℕ)) (later : List ℕ) → ServedSoFar old requests held store.old (input.now ++ later) out.old.items (W.contents writer.old) → ServesInput old requests held store.new input.now later out.new.items (W.contents writer.new) result }
+{
+    let mut at = 0;
+    for _ in 0..u64::MAX {
+        let (_, rest) = input.split_at(at);
+        match parse_request(alloc, rest) {
+            Ok(Parsed::Partial) => return Ok(Reached::Waits(at)),
+            Ok(Parsed::Request(words, len)) => {
+                at += len;
+                if answer_to(alloc, store, &words, out)? {
+                    return Ok(Reached::Quit);
+                }
+            }
+            Err(ParseError::OutOfMemory) => return Err(ServeError::OutOfMemory),
+            Err(ParseError::Protocol(fault)) => return Err(fail(alloc, writer, out, fault)),
+        }
+        if out.len() >= KEPT_BYTES {
+            write_out(writer, out)?;
+        }
+    }
+    Err(ServeError::Stream(StreamError::ReadFault))
+}
+
+/// Appends the reply to a request, an empty one having none. Returns whether it was a `QUIT`.
+fn answer_to<V: Vault>(
+    alloc: Global,
+    store: &mut Store<V>,
+    words: &[&[u8]],
+    out: &mut Vec<u8>,
+) -> Result<bool, AllocError>
+    ensures { AnswersOne store.old (words_of words.now) out.old.items out.new.items result store.new }
+{
+    if words.is_empty() {
+        return Ok(false);
+    }
+    let is_last = ends_stream(words);
+    let answer = answer_request(alloc, store, words)?;
+    write_answer(alloc, out, &answer)?;
+    Ok(is_last)
+}
+
+/// Whether it is a `QUIT` without arguments.
+fn ends_stream(words: &[&[u8]]) -> bool
+    ensures { IsTrue result ↔ EndsStream (words_of words.now) }
+{
+    match one(words) {
+        Some(name) => Command::Quit.is_called(name),
+        None => false,
+    }
+}
+
+fn write_answer(alloc: Global, out: &mut Vec<u8>, answer: &Answer) -> Result<(), AllocError>
+    ensures { OnOk result (WritesReply answer.now out.old.items out.new.items) }
+{
+    match answer {
+        Answer::Reply(reply) => write_reply(out, reply),
+        Answer::Refused(why) => write_refusal(alloc, out, *why),
+    }
+}
+
+/// An error reply: `ERR`, and why.
+fn write_refusal(alloc: Global, out: &mut Vec<u8>, why: Refusal) -> Result<(), AllocError>
+    ensures { OnOk result (WritesReply (Refused why) out.old.items out.new.items) }
+{
+    let text = format!(in alloc; "{why}")?;
+    write_error(alloc, out, text.as_bytes())
+}
+
+/// An error line: `ERR`, and a text.
+fn write_error(alloc: Global, out: &mut Vec<u8>, text: &[u8]) -> Result<(), AllocError>
+    ensures { OnOk result (out.new.items ≡ out.old.items ++ reply_bytes (Error (error_text text.now))) }
+{
+    let line = error_line(alloc, text)?;
+    write_reply(out, &Reply::Error(Bytes::from_vec(line)?))
+}
+
+/// `ERR` and a text, in one line.
+fn error_line(alloc: Global, text: &[u8]) -> Result<Vec<u8>, AllocError>
+    ensures { IfOk result (λ line. line.items ≡ error_text text.now) }
+{
+    let mut line = Vec::new(alloc);
+    line.extend_from_slice(b"ERR ")?;
+    for byte in text {
+        line.push(in_line(*byte))?;
+    }
+    Ok(line)
+}
+
+/// A byte as it stands in a line: a space for a line end.
+fn in_line(byte: u8) -> u8
+    ensures { result ≡ in_line byte }
+{
+    if byte == b'\r' || byte == b'\n' {
+        b' '
+    } else {
+        byte
+    }
+}
+
+/// Answers what is no request, as far as that can be done. Returns why serving ends.
+fn fail<W: Write>(
+    alloc: Global,
+    writer: &mut W,
+    out: &mut Vec<u8>,
+    fault: ProtocolFault,
+) -> ServeError {
+    match write_fault(alloc, writer, out, fault) {
+        Ok(()) => ServeError::Protocol(fault),
+        Err(error) => error,
+    }
+}
+
+fn write_fault<W: Write>(
+    alloc: Global,
+    writer: &mut W,
+    out: &mut Vec<u8>,
+    fault: ProtocolFault,
+) -> Result<(), ServeError> {
+    let text = format!(in alloc; "Protocol error: {fault}")?;
+    write_error(alloc, out, text.as_bytes())?;
+    write_out(writer, out)?;
+    Ok(())
+}
