@@ -1,0 +1,6 @@
+mod HandedJobs
+mod HeldClaims
+mod KeptSteps
+mod SettledResults
+mod TakenResults
+mod TurnSteps

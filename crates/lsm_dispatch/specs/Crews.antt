@@ -1,0 +1,79 @@
+-- The workers of a coordinator and the claims of the jobs that they have (RocksDB wiki, Remote Compaction: the primary waits for each job that it handed out).
+use Rattle.std.specs.Prelude.{◌≡◌, ℕ, ◌-◌, Bool, true, false, List, [], ◌∷◌, Option, None, Some, get_or, slice_set, flat_map, nat_le, if◌then◌else◌}
+use Rattle.std.specs.List.{list_any}
+use Rattle.lsm_key.specs.Sets.{IsIn}
+use Rattle.lsm_claim.specs.declared.job.JobId.{JobId}
+use Rattle.lsm_claim.specs.declared.job.LiveJob.{LiveJob}
+use Rattle.lsm_claim.specs.Book.{BookValue}
+use Rattle.lsm_coord.specs.Contract.Calls.{after_give_back}
+use Rattle.lsm_coord.specs.Contract.Value.{CoordValue}
+use Rattle.lsm_dispatch.specs.declared.crew.WorkerState.{WorkerState}
+use Rattle.lsm_dispatch.specs.declared.crew.WorkerState.TheVariants.{Gone, Idle, Busy}
+
+-- ---- a worker
+
+-- the job that it has
+abbrev pub busy_job : WorkerState → Option LiveJob
+busy_job Gone = None
+busy_job Idle = None
+busy_job (Busy job) = Some job
+
+-- the name of the job, if it has one
+abbrev pub busy_claim : WorkerState → List JobId
+busy_claim Gone = []
+busy_claim Idle = []
+busy_claim (Busy job) = job.id ∷ []
+
+abbrev pub is_busy : WorkerState → Bool
+is_busy Gone = false
+is_busy Idle = false
+is_busy (Busy job) = true
+
+-- its job has this name
+abbrev pub IsBusyWith : WorkerState → JobId → Type 0
+IsBusyWith Gone id = ⊥
+IsBusyWith Idle id = ⊥
+IsBusyWith (Busy job) id = job.id ≡ id
+
+-- ---- four workers
+
+-- a worker is idle at first if it is one of so many
+abbrev pub start_state : ℕ → ℕ → WorkerState
+start_state count number = if nat_le number count then Idle else Gone
+
+abbrev pub new_crew : ℕ → List WorkerState
+new_crew count = start_state count 1 ∷ start_state count 2 ∷ start_state count 3 ∷ start_state count 4 ∷ []
+
+-- the worker of an index, which counts from 1
+abbrev pub state_of : List WorkerState → ℕ → WorkerState
+state_of crew index = get_or crew (index - 1) Gone
+
+-- in another state
+abbrev pub with_state : List WorkerState → ℕ → WorkerState → List WorkerState
+with_state crew index state = slice_set crew (index - 1) state
+
+-- the names of the jobs that the workers have
+abbrev pub busy_claims : List WorkerState → List JobId
+busy_claims crew = flat_map busy_claim crew
+
+abbrev pub has_busy : List WorkerState → Bool
+has_busy crew = list_any is_busy crew
+
+-- each live job is one that a worker has
+abbrev pub CrewHolds : BookValue → List WorkerState → Type 0
+CrewHolds book crew = (j : LiveJob) → IsIn j book.live → IsIn j.id (busy_claims crew)
+
+-- the jobs of these names are live no more, and no other one is new
+abbrev pub Ends : BookValue → List JobId → BookValue → Type 0
+Ends old ids new = (j : LiveJob) → IsIn j new.live → IsIn j old.live × (IsIn j.id ids → ⊥)
+
+-- a coordinator after a worker has left this state: the claim that it had is given back
+abbrev pub after_leaving : CoordValue → WorkerState → CoordValue
+after_leaving c Gone = c
+after_leaving c Idle = c
+after_leaving c (Busy job) = after_give_back c job.id
+
+-- and after all workers have left theirs, one after another
+abbrev pub after_all_leave : CoordValue → List WorkerState → CoordValue
+after_all_leave c [] = c
+after_all_leave c (s ∷ ss) = after_all_leave (after_leaving c s) ss

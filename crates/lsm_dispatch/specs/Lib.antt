@@ -1,0 +1,4 @@
+pub mod Crews
+pub mod Dispatching
+pub mod Letters
+pub mod Turns

@@ -1,0 +1,161 @@
+-- A dispatch in turns: it hands out jobs and takes letters, one after another, until nothing is left to do or it stops for a reason (RocksDB wiki, Remote Compaction: the host decides where a job runs and how its bytes travel).
+use Rattle.std.specs.Prelude.{◌≡◌, ◌⊎◌, ℕ, ◌<◌, ◌≤◌, true, false, List, [], ◌∷◌, ◌++◌, Option, None, Some, IfSome}
+use Rattle.std.specs.List.{flat_map}
+use Rattle.std.specs.Io.KnownBytes.{Appends, Consumes, IsAtEnd}
+use Rattle.lsm_key.specs.declared.limits.TheConstants.{MAX_NODES}
+use Rattle.lsm_msg.specs.declared.message.Message.{Message}
+use Rattle.lsm_msg.specs.Messages.{IsSpelled, sized}
+use Rattle.lsm_frame.specs.declared.error.PipeError.{PipeError}
+use Rattle.lsm_frame.specs.declared.error.PipeError.TheVariants as pipe
+use Rattle.lsm_frame.specs.Frames.{FrameRefuses, SendRefuses, framed}
+use Rattle.lsm_coord.specs.declared.error.CoordError.{CoordError}
+use Rattle.lsm_coord.specs.Contract.Serving.{answer_message}
+use Rattle.lsm_coord.specs.Contract.Value.{CoordValue}
+use Rattle.lsm_store.specs.declared.due.Due.TheVariants as due
+use Rattle.lsm_dispatch.specs.declared.crew.WorkerState.{WorkerState}
+use Rattle.lsm_dispatch.specs.declared.crew.WorkerState.TheVariants.{Gone, Idle}
+use Rattle.lsm_dispatch.specs.declared.error.DispatchError.{DispatchError}
+use Rattle.lsm_dispatch.specs.declared.error.DispatchError.TheVariants as error
+use Rattle.lsm_dispatch.specs.declared.letter.Letter.{Letter}
+use Rattle.lsm_dispatch.specs.declared.letter.Letter.TheVariants as letter
+use Rattle.lsm_dispatch.specs.Crews.{after_leaving, has_busy, state_of, with_state}
+use Rattle.lsm_dispatch.specs.Dispatching.{ActRefuses, ActsOn, HandsOut, IsDue, IsNoneDue, JobRefuses}
+use Rattle.lsm_dispatch.specs.Letters.{IsLetter, NoLetter}
+
+-- ---- turns
+
+-- a turn: the worker of this number gets a job, if it is idle and one is due, or the bytes of a frame come; and the message that is
+-- sent, if one is
+pub data Turn : Type 0 where
+  Hands : (index : ℕ) (sent : Option Message) → Turn
+  Takes : (payload : List ℕ) (sent : Option Message) → Turn
+
+-- what a letter does, and what is answered: a question is answered, a result taken; the claim of a worker that goes or comes is given back
+abbrev pub TakesLetter : List WorkerState → CoordValue → Letter → Option Message → List WorkerState → CoordValue → Type 0
+TakesLetter crew old (letter.Message m) sent crew_new new = ActsOn crew old m.src m.body crew_new new × (sent ≡ answer_message old m m.body)
+TakesLetter crew old (letter.Gone index) sent crew_new new = (crew_new ≡ with_state crew index Gone) × (new ≡ after_leaving old (state_of crew index)) × (sent ≡ None)
+TakesLetter crew old (letter.There index) sent crew_new new = (crew_new ≡ with_state crew index Idle) × (new ≡ after_leaving old (state_of crew index)) × (sent ≡ None)
+
+abbrev pub IsTurn : List WorkerState → CoordValue → Turn → List WorkerState → CoordValue → Type 0
+IsTurn crew old (Hands index sent) crew_new new = HandsOut crew old index crew_new new sent
+IsTurn crew old (Takes payload sent) crew_new new = (l : Letter) × IsLetter payload l × TakesLetter crew old l sent crew_new new
+
+-- one after another
+abbrev pub TurnsThrough : List WorkerState → CoordValue → List Turn → List WorkerState → CoordValue → Type 0
+TurnsThrough crew old [] crew_new new = (crew_new ≡ crew) × (new ≡ old)
+TurnsThrough crew old (t ∷ ts) crew_new new = (crew_mid : List WorkerState) × (mid : CoordValue) × IsTurn crew old t crew_mid mid × TurnsThrough crew_mid mid ts crew_new new
+
+-- the frame that is read in a turn
+abbrev pub bytes_read : Turn → List ℕ
+bytes_read (Hands index sent) = []
+bytes_read (Takes payload sent) = sized payload
+
+abbrev pub one_or_none : Option Message → List Message
+one_or_none None = []
+one_or_none (Some m) = m ∷ []
+
+-- the message that is sent in a turn
+abbrev pub sent_in : Turn → List Message
+sent_in (Hands index sent) = one_or_none sent
+sent_in (Takes payload sent) = one_or_none sent
+
+-- A dispatch goes on: what a reader loses is the frames of the letters that it takes, and what a writer gets is the frames of the messages that
+-- it sends, each of them a job that was picked for its worker, or an answer.
+pub record RunsOver (crew : List WorkerState) (old : CoordValue) (was left held holds : Option (List ℕ)) (crew_new : List WorkerState) (new : CoordValue) : Type 0 where
+  pub turns : List Turn
+  pub through : TurnsThrough crew old turns crew_new new
+  pub read : Consumes was left (flat_map bytes_read turns)
+  pub written : Appends held holds (framed (flat_map sent_in turns))
+
+-- each worker that is idle was asked, and no compaction is due that it may have
+abbrev pub NoneWaits : List WorkerState → CoordValue → Type 0
+NoneWaits crew c = (index : ℕ) → 1 ≤ index → index ≤ MAX_NODES → state_of crew index ≡ Idle → IsNoneDue c
+
+-- a worker has a job; or nothing has changed, and the worker of this number was not idle, or no compaction is due
+abbrev pub Asks : ℕ → List WorkerState → CoordValue → List WorkerState → CoordValue → Type 0
+Asks number crew old crew_new new = (has_busy crew_new ≡ true) ⊎ ((crew_new ≡ crew) × (new ≡ old) × (state_of crew number ≡ Idle → IsNoneDue old))
+
+-- the same of all workers before this number
+abbrev pub AsksBefore : ℕ → List WorkerState → CoordValue → List WorkerState → CoordValue → Type 0
+AsksBefore number crew old crew_new new =
+    (has_busy crew_new ≡ true) ⊎ ((crew_new ≡ crew) × (new ≡ old) × ((index : ℕ) → 1 ≤ index → index < number → state_of crew index ≡ Idle → IsNoneDue old))
+
+-- it went on until no worker had a job, and none was due for an idle one
+pub record RunEnds (crew : List WorkerState) (old : CoordValue) (was left held holds : Option (List ℕ)) (new : CoordValue) : Type 0 where
+  pub crew_new : List WorkerState
+  pub runs : RunsOver crew old was left held holds crew_new new
+  pub none : has_busy crew_new ≡ false
+  pub asked : NoneWaits crew_new new
+
+-- ---- why it stops
+
+-- these bytes come next
+abbrev pub ComesNext : Option (List ℕ) → List ℕ → Type 0
+ComesNext known bytes = IfSome known (λ all. (rest : List ℕ) × (all ≡ bytes ++ rest))
+
+-- the message that the next turn sends
+pub record IsNextSent (crew : List WorkerState) (c : CoordValue) (known : Option (List ℕ)) (m : Message) : Type 0 where
+  pub turn : Turn
+  pub crew_new : List WorkerState
+  pub new : CoordValue
+  pub is : IsTurn crew c turn crew_new new
+  pub comes : ComesNext known (bytes_read turn)
+  pub sends : sent_in turn ≡ m ∷ []
+
+-- a whole frame comes next, and its bytes are no letter
+abbrev pub IsNoLetter : List ℕ → Type 0
+IsNoLetter all = (payload : List ℕ) × (rest : List ℕ) × (all ≡ sized payload ++ rest) × NoLetter payload pipe.NotMessage
+
+-- why the next letter is not read
+abbrev pub LetterRefuses : Option (List ℕ) → PipeError → Type 0
+LetterRefuses known pipe.NotMessage = IfSome known IsNoLetter
+LetterRefuses known e = FrameRefuses known e
+
+-- a letter is waited for only while a worker has a job; that a read fails is said at any time
+abbrev pub ReadStops : List WorkerState → Option (List ℕ) → PipeError → Type 0
+ReadStops crew known pipe.ReadFault = Unit {0}
+ReadStops crew known e = (has_busy crew ≡ true) × LetterRefuses known e
+
+-- no message is sent unless a turn sends it
+abbrev pub WriteStops : List WorkerState → CoordValue → Option (List ℕ) → PipeError → Type 0
+WriteStops crew c known e = (m : Message) × IsNextSent crew c known m × SendRefuses m e
+
+-- the next job is not picked for an idle worker
+abbrev pub PickStops : List WorkerState → CoordValue → CoordError → Type 0
+PickStops crew c e = (index : ℕ) × (state_of crew index ≡ Idle) × JobRefuses c e
+
+-- the message that comes next ends in an error
+pub record ActStops (crew : List WorkerState) (c : CoordValue) (known : Option (List ℕ)) (e : CoordError) : Type 0 where
+  pub payload : List ℕ
+  pub next : Message
+  pub new : CoordValue
+  pub comes : ComesNext known (sized payload)
+  pub spelled : IsSpelled payload next
+  pub refuses : ActRefuses crew c next.src next.body e new
+
+-- Why a dispatch stops at this point, by what is left of its input then. If it was not a send that failed, nothing more was written.
+abbrev pub TurnStops : List WorkerState → CoordValue → Option (List ℕ) → Option (List ℕ) → Option (List ℕ) → DispatchError → Type 0
+TurnStops crew c known holds last (error.Pipe e) = WriteStops crew c known e ⊎ (ReadStops crew known e × (last ≡ holds))
+TurnStops crew c known holds last (error.Coord e) = (PickStops crew c e ⊎ ActStops crew c known e) × (last ≡ holds)
+TurnStops crew c known holds last error.EndsEarly = IsAtEnd known × (has_busy crew ≡ true) × (last ≡ holds)
+TurnStops crew c known holds last error.NoWorker = ⊥
+
+-- it stops for this reason after some turns
+pub record RunStops (crew : List WorkerState) (old : CoordValue) (was held last : Option (List ℕ)) (e : DispatchError) : Type 0 where
+  pub crew_new : List WorkerState
+  pub new : CoordValue
+  pub left : Option (List ℕ)
+  pub holds : Option (List ℕ)
+  pub runs : RunsOver crew old was left held holds crew_new new
+  pub stops : TurnStops crew_new new left holds last e
+
+-- why a message is not sent, if there is one
+abbrev pub OneRefuses : Option Message → DispatchError → Type 0
+OneRefuses sent e = (m : Message) × (sent ≡ Some m) × (why : PipeError) × SendRefuses m why × (e ≡ error.Pipe why)
+
+-- Why a dispatch ends early: it stopped; or all its turns were done, and a compaction was due then for which there was no worker, or what is
+-- due could not be told.
+abbrev pub DispatchRefuses : List WorkerState → CoordValue → Option (List ℕ) → Option (List ℕ) → Option (List ℕ) → Option (List ℕ) → CoordValue → DispatchError → Type 0
+DispatchRefuses crew old was left held last new error.NoWorker = (at : CoordValue) × RunEnds crew old was left held last at × IsDue at new due.More
+DispatchRefuses crew old was left held last new (error.Coord e) = RunStops crew old was held last (error.Coord e) ⊎ ((at : CoordValue) × RunEnds crew old was left held last at × JobRefuses at e)
+DispatchRefuses crew old was left held last new e = RunStops crew old was held last e

@@ -1,0 +1,41 @@
+//! Why a dispatch ends before everything is compacted.
+
+ghost use Rattle.std.specs.Prelude.{◌≡◌};
+ghost use Rattle.lsm_dispatch.specs.declared.error.DispatchError.TheVariants as dispatch;
+
+use lsm_coord::CoordError;
+use lsm_frame::PipeError;
+use thiserror::Error;
+
+/// Why a dispatch ends before everything is compacted. No claim is left, and what was installed stays.
+#[derive(Clone, Copy, Debug, PartialEq, Eq, Error)]
+pub enum DispatchError {
+    /// The pipe failed, or what came over it is no message.
+    #[error("{0}")]
+    Pipe(PipeError),
+    /// The coordinator refuses a call.
+    #[error("{0}")]
+    Coord(CoordError),
+    /// A compaction is due, and no worker is there to make it.
+    #[error("no worker is left, and a compaction is due")]
+    NoWorker,
+    /// The input ends while a worker has a job.
+    #[error("the input ends while a worker has a job")]
+    EndsEarly,
+}
+
+impl From<PipeError> for DispatchError {
+    ghost from_gives = { λ why e. e ≡ dispatch.Pipe why };
+
+    fn from(why: PipeError) -> DispatchError {
+        DispatchError::Pipe(why)
+    }
+}
+
+impl From<CoordError> for DispatchError {
+    ghost from_gives = { λ why e. e ≡ dispatch.Coord why };
+
+    fn from(why: CoordError) -> DispatchError {
+        DispatchError::Coord(why)
+    }
+}

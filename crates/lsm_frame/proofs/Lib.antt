@@ -1,0 +1,2 @@
+mod FrameReading
+mod WorkSteps
