@@ -1,0 +1,6 @@
+mod EditsInTurn
+mod ElementReading
+mod JobOutcomes
+mod JobTables
+mod NoTable
+mod ResultTables
