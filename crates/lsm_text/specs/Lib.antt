@@ -1,0 +1,8 @@
+pub mod Text
+pub mod Numbers
+pub mod Tokens
+pub mod Nodes
+pub mod Deliveries
+pub mod Script
+pub mod Lines
+pub mod Replies

@@ -1,0 +1,38 @@
+//! The commands of followers.
+
+ghost use Rattle.lsm_key.specs.Reading.{Gives};
+ghost use Rattle.lsm_world.specs.Events.{event_of};
+ghost use Rattle.lsm_text.specs.Text.{words};
+ghost use Rattle.lsm_text.specs.Script.{ask, read};
+
+use crate::fault::Reason;
+use crate::names::read_index;
+use crate::schedule::indexed;
+use crate::token::key_or_value;
+use crate::words::Words;
+use lsm_key::Refused;
+use lsm_world::Event;
+use std::alloc::Global;
+
+/// `ask I`
+pub fn ask(mut args: Words<'_>) -> Result<Event, Refused<Reason>>
+    ensures { Gives event_of result (ask (words args.entry.rest.now)) }
+{
+    let (Some(word), None) = (args.next(), args.next()) else {
+        return Err(Refused::Fault(Reason::WrongWordCount));
+    };
+    let follower = indexed(read_index(word))?;
+    Ok(Event::Ask(follower))
+}
+
+/// `read I K`
+pub fn read(alloc: Global, mut args: Words<'_>) -> Result<Event, Refused<Reason>>
+    ensures { Gives event_of result (read (words args.entry.rest.now)) }
+{
+    let (Some(word), Some(key), None) = (args.next(), args.next(), args.next()) else {
+        return Err(Refused::Fault(Reason::WrongWordCount));
+    };
+    let follower = indexed(read_index(word))?;
+    let key = key_or_value(alloc, key)?;
+    Ok(Event::Read(follower, key))
+}

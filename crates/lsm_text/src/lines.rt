@@ -1,0 +1,156 @@
+//! The lines that replies print.
+
+ghost use Rattle.std.specs.Prelude.{◌≡◌, ◌++◌, OnOk};
+ghost use Rattle.lsm_text.specs.Lines.{wrote_text, froze_text, flushed_text, snapped_text, released_text, got_text, pair_text, scanned_text};
+ghost use Rattle.lsm_text.specs.Replies.{text_of, line};
+
+use crate::followers::{
+    write_advanced, write_read, write_restarted_follower, write_trimmed, write_waiting,
+};
+use crate::jobs::{
+    write_collecting, write_installed, write_merged, write_messages, write_opened, write_picked,
+    write_restarted, write_returned, write_served, write_stale,
+};
+use crate::listing::write_shown;
+use crate::refusals::write_refused;
+use crate::text::{write_bytes, write_line_end, write_name, write_number, write_text};
+use bytes::Bytes;
+use lsm_coord::{Flushed, SnapId};
+use lsm_key::{FileNumber, Seq, VersionNumber};
+use lsm_world::Reply;
+use std::alloc::{AllocError, Global};
+
+/// `seq F`, or `seq F-L` if F and L differ
+fn write_wrote(out: &mut Vec<u8>, first: Seq, last: Seq) -> Result<(), AllocError>
+    ensures { OnOk result (out.new.items ≡ out.old.items ++ wrote_text first last) }
+{
+    write_text(out, "seq ")?;
+    write_number(out, first.number())?;
+    if first.number() == last.number() {
+        return Ok(());
+    }
+    write_text(out, "-")?;
+    write_number(out, last.number())
+}
+
+/// `version N flushed S file F`
+fn write_flushed(
+    out: &mut Vec<u8>,
+    number: VersionNumber,
+    seq: Seq,
+    file: FileNumber,
+) -> Result<(), AllocError>
+    ensures { OnOk result (out.new.items ≡ out.old.items ++ flushed_text number seq file) }
+{
+    write_text(out, "version ")?;
+    write_number(out, number.number())?;
+    write_text(out, " flushed ")?;
+    write_number(out, seq.number())?;
+    write_text(out, " file ")?;
+    write_number(out, file.number())
+}
+
+/// `frozen S`
+fn write_froze(out: &mut Vec<u8>, seq: Seq) -> Result<(), AllocError>
+    ensures { OnOk result (out.new.items ≡ out.old.items ++ froze_text seq) }
+{
+    write_text(out, "frozen ")?;
+    write_number(out, seq.number())
+}
+
+/// `snapshot E.N at S`
+fn write_snapped(out: &mut Vec<u8>, id: SnapId, seq: Seq) -> Result<(), AllocError>
+    ensures { OnOk result (out.new.items ≡ out.old.items ++ snapped_text id seq) }
+{
+    write_text(out, "snapshot ")?;
+    write_name(out, id.epoch, id.number)?;
+    write_text(out, " at ")?;
+    write_number(out, seq.number())
+}
+
+/// `released E.N`
+fn write_released(out: &mut Vec<u8>, id: SnapId) -> Result<(), AllocError>
+    ensures { OnOk result (out.new.items ≡ out.old.items ++ released_text id) }
+{
+    write_text(out, "released ")?;
+    write_name(out, id.epoch, id.number)
+}
+
+/// `value V`, or `none`
+pub fn write_got(out: &mut Vec<u8>, value: &Option<Bytes>) -> Result<(), AllocError>
+    ensures { OnOk result (out.new.items ≡ out.old.items ++ got_text value.now) }
+{
+    match value {
+        None => write_text(out, "none"),
+        Some(value) => {
+            write_text(out, "value ")?;
+            write_bytes(out, value.as_slice())
+        }
+    }
+}
+
+/// ` K=V`
+fn write_pair(out: &mut Vec<u8>, pair: &(Bytes, Bytes)) -> Result<(), AllocError>
+    ensures { OnOk result (out.new.items ≡ out.old.items ++ pair_text pair.now) }
+{
+    write_text(out, " ")?;
+    write_bytes(out, pair.0.as_slice())?;
+    write_text(out, "=")?;
+    write_bytes(out, pair.1.as_slice())
+}
+
+/// `range C`, and ` K=V` for each of the C pairs
+fn write_scanned(out: &mut Vec<u8>, pairs: &[(Bytes, Bytes)]) -> Result<(), AllocError>
+    ensures { OnOk result (out.new.items ≡ out.old.items ++ scanned_text pairs.now) }
+{
+    write_text(out, "range ")?;
+    write_number(out, pairs.len() as u64)?;
+    for pair in pairs {
+        write_pair(out, pair)?;
+    }
+    Ok(())
+}
+
+/// The text of a reply.
+fn write_reply(alloc: Global, out: &mut Vec<u8>, reply: &Reply) -> Result<(), AllocError>
+    ensures { OnOk result (out.new.items ≡ out.old.items ++ text_of reply.now) }
+{
+    match reply {
+        Reply::Wrote(first, last) => write_wrote(out, *first, *last),
+        Reply::Froze(seq) => write_froze(out, *seq),
+        Reply::Flushed(Flushed { number, seq, file }) => write_flushed(out, *number, *seq, *file),
+        Reply::Snapped(id, seq) => write_snapped(out, *id, *seq),
+        Reply::Released(id) => write_released(out, *id),
+        Reply::Got(value) => write_got(out, value),
+        Reply::Scanned(pairs) => write_scanned(out, pairs.as_slice()),
+        Reply::Shown(shown) => write_shown(alloc, out, shown),
+        Reply::Picked(job, sent) => write_picked(out, job, *sent),
+        Reply::Idle => write_text(out, "idle"),
+        Reply::Returned(id) => write_returned(out, *id),
+        Reply::StaleClaim(id) => write_stale(out, *id),
+        Reply::Served(sent) => write_served(out, *sent),
+        Reply::Installed(number, files) => write_installed(out, *number, files.as_slice()),
+        Reply::Ignored => write_text(out, "ignored"),
+        Reply::Collecting(missing, sent) => write_collecting(out, *missing, *sent),
+        Reply::Merged(sent) => write_merged(out, *sent),
+        Reply::Dropped => write_text(out, "dropped"),
+        Reply::Restarted(epoch, number, last) => write_opened(out, *epoch, *number, *last),
+        Reply::RestartedWorker(worker) => write_restarted(out, *worker),
+        Reply::Trimmed(floor, files) => write_trimmed(out, *floor, files.as_slice()),
+        Reply::Asked(sent) => write_messages(out, *sent),
+        Reply::ReadAt(number, value) => write_read(out, *number, value),
+        Reply::Waiting(missing, sent) => write_waiting(out, *missing, *sent),
+        Reply::Advanced(number) => write_advanced(out, *number),
+        Reply::Current => write_text(out, "current"),
+        Reply::RestartedFollower(follower) => write_restarted_follower(out, *follower),
+        Reply::Refused(refusal) => write_refused(out, *refusal),
+    }
+}
+
+/// The line of a reply.
+pub fn write_line(alloc: Global, out: &mut Vec<u8>, reply: &Reply) -> Result<(), AllocError>
+    ensures { OnOk result (out.new.items ≡ out.old.items ++ line reply.now) }
+{
+    write_reply(alloc, out, reply)?;
+    write_line_end(out)
+}

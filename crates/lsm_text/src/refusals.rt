@@ -1,0 +1,85 @@
+//! The lines of refusals.
+
+ghost use Rattle.std.specs.Prelude.{◌≡◌, ◌++◌, OnOk};
+ghost use Rattle.lsm_coord.specs.Contract.Replies.{refusal_of};
+ghost use Rattle.lsm_coord.specs.Contract.Seats.{open_refusal};
+ghost use Rattle.lsm_coord.specs.Model.Rules.{key_refusal};
+ghost use Rattle.lsm_world.specs.Replies.{why_of};
+ghost use Rattle.lsm_text.specs.Lines.{name_of, refused_text};
+
+use crate::text::write_text;
+use lsm_coord::CoordError;
+use lsm_key::KeyError;
+use lsm_versions::OpenError;
+use lsm_world::Refusal;
+use std::alloc::AllocError;
+
+/// The name of a refusal of a batch.
+fn key_name(error: KeyError) -> &'static str
+    ensures { result.now ≡ name_of (key_refusal error) }
+{
+    match error {
+        KeyError::EmptyKey => "EmptyKey",
+        KeyError::KeyTooLong => "KeyTooLong",
+        KeyError::ValueTooLong => "ValueTooLong",
+        KeyError::BatchFull => "BatchFull",
+        KeyError::OutOfMemory => "OutOfMemory",
+    }
+}
+
+/// The name of a refusal of the coordinator.
+fn coord_name(error: CoordError) -> &'static str
+    ensures { result.now ≡ name_of (refusal_of error) }
+{
+    match error {
+        CoordError::BadManifest => "BadManifest",
+        CoordError::MissingTable => "MissingTable",
+        CoordError::Device => "Device",
+        CoordError::SequenceExhausted => "SequenceExhausted",
+        CoordError::FrozenWaiting => "FrozenWaiting",
+        CoordError::NothingToFreeze => "NothingToFreeze",
+        CoordError::NothingToFlush => "NothingToFlush",
+        CoordError::TooManySnapshots => "TooManySnapshots",
+        CoordError::NoSnapshot => "NoSnapshot",
+        CoordError::WrongJob => "WrongJob",
+        CoordError::BadResult => "BadResult",
+        CoordError::MemtableFull => "MemtableFull",
+        CoordError::EmptyBatch => "EmptyBatch",
+        CoordError::BookFull => "BookFull",
+        CoordError::TooWide => "TooWide",
+        CoordError::BadFloor => "BadFloor",
+        CoordError::NumbersExhausted => "NumbersExhausted",
+        CoordError::OutOfMemory => "OutOfMemory",
+    }
+}
+
+/// The name of a refusal of an opening.
+fn open_name(error: OpenError) -> &'static str
+    ensures { result.now ≡ name_of (open_refusal error) }
+{
+    match error {
+        OpenError::OutOfMemory => "OutOfMemory",
+        OpenError::BadManifest => "BadManifest",
+        OpenError::MissingTable => "MissingTable",
+        OpenError::Device => "Device",
+        OpenError::NumbersExhausted => "NumbersExhausted",
+    }
+}
+
+/// `refused Name`
+pub fn write_refused(out: &mut Vec<u8>, refusal: Refusal) -> Result<(), AllocError>
+    ensures { OnOk result (out.new.items ≡ out.old.items ++ refused_text (why_of refusal)) }
+{
+    write_text(out, "refused ")?;
+    match refusal {
+        Refusal::Key(error) => write_text(out, key_name(error)),
+        Refusal::Coord(error) => write_text(out, coord_name(error)),
+        Refusal::Open(error) => write_text(out, open_name(error)),
+        Refusal::Down => write_text(out, "Down"),
+        Refusal::Busy => write_text(out, "Busy"),
+        Refusal::NoClaim => write_text(out, "NoClaim"),
+        Refusal::OldEpoch => write_text(out, "OldEpoch"),
+        Refusal::NoMessage => write_text(out, "NoMessage"),
+        Refusal::OutOfMemory => write_text(out, "OutOfMemory"),
+    }
+}

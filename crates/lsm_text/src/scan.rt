@@ -1,0 +1,67 @@
+//! The command `scan`.
+
+ghost use Rattle.std.specs.Prelude.{Ok, None};
+ghost use Rattle.lsm_key.specs.Reading.{Gives};
+ghost use Rattle.lsm_world.specs.Events.{event_of};
+ghost use Rattle.lsm_text.specs.Text.{words};
+ghost use Rattle.lsm_text.specs.Script.{number_or_fault, name_or_fault, reading_at, scan, scan_at, some_name};
+
+use crate::fault::Reason;
+use crate::names::reading_at;
+use crate::number::read_number;
+use crate::script::named;
+use crate::token::key_or_value;
+use crate::words::Words;
+use lsm_coord::ScanRange;
+use lsm_key::Refused;
+use lsm_world::Event;
+use std::alloc::Global;
+
+/// `scan LO HI LIMIT`, or `scan LO HI LIMIT @E.N`
+pub fn scan(alloc: Global, mut args: Words<'_>) -> Result<Event, Refused<Reason>>
+    ensures { Gives event_of result (scan (words args.entry.rest.now)) }
+{
+    let (Some(lo), Some(hi), Some(limit)) = (args.next(), args.next(), args.next()) else {
+        return Err(Refused::Fault(Reason::WrongWordCount));
+    };
+    match (args.next(), args.next()) {
+        (None, _) => scan_now(alloc, lo, hi, limit),
+        (Some(name), None) => scan_then(alloc, lo, hi, limit, name),
+        (Some(_), Some(_)) => Err(Refused::Fault(Reason::WrongWordCount)),
+    }
+}
+
+// At the latest sequence.
+fn scan_now(alloc: Global, lo: &[u8], hi: &[u8], limit: &[u8]) -> Result<Event, Refused<Reason>>
+    ensures { Gives event_of result (scan_at lo.now hi.now limit.now (Ok None)) }
+{
+    let lo = key_or_value(alloc, lo)?;
+    let hi = key_or_value(alloc, hi)?;
+    let limit = counted(read_number(limit))?;
+    let at = None;
+    Ok(Event::Scan(ScanRange { lo, hi, at, limit }))
+}
+
+// At the snapshot of this name.
+fn scan_then(
+    alloc: Global,
+    lo: &[u8],
+    hi: &[u8],
+    limit: &[u8],
+    name: &[u8],
+) -> Result<Event, Refused<Reason>>
+    ensures { Gives event_of result (scan_at lo.now hi.now limit.now (some_name (name_or_fault (reading_at name.now)))) }
+{
+    let lo = key_or_value(alloc, lo)?;
+    let hi = key_or_value(alloc, hi)?;
+    let limit = counted(read_number(limit))?;
+    let at = Some(named(reading_at(name))?);
+    Ok(Event::Scan(ScanRange { lo, hi, at, limit }))
+}
+
+/// The number that a word must be.
+pub fn counted(number: Option<u64>) -> Result<u64, Refused<Reason>>
+    ensures { Gives (λ n. n) result (number_or_fault number) }
+{
+    number.ok_or(Refused::Fault(Reason::BadNumber))
+}
