@@ -1,6 +1,7 @@
 -- A run continues by one step.
 use Rattle.std.proofs.Common.{◌≡◌, List, [], ◌∷◌, ◌++◌, Option, IfSome, Some, None, Result, Ok, Err, OnOk, refl, sym, ap, subst, ◌∙◌, map, append_assoc, append-nil, ℕ}
 use Rattle.std.specs.Io.KnownBytes.{Appends, Keeps}
+use Rattle.std.proofs.KnownBytes.{Appends-kept, Appends-trans}
 use Rattle.lsm_coord.specs.Model.State.{first_state}
 use Rattle.lsm_key.specs.declared.limits.Limits.{Limits}
 use Rattle.lsm_world.specs.declared.event.Event.{Event}
@@ -12,10 +13,9 @@ use Rattle.lsm_world.specs.Replies.{reply_of}
 use Rattle.lsm_world.specs.Schedules.{WorldValue, IsNew}
 use Rattle.lsm_world.specs.Shown.{FollowsStore}
 use Rattle.lsm_world.proofs.RunningSchedules.{asked_none, asked_more, runs_none, runs_more}
-use Rattle.lsm_sim.specs.Replies.{line, lines}
+use Rattle.lsm_text.specs.Replies.{line, lines}
 use Rattle.lsm_sim.specs.Runs.{Happens, Prints, PrintsScript}
-use Rattle.lsm_sim.specs.Script.{script}
-use Rattle.lsm_sim.proofs.KnownStreams.{Appends-then, Appends-keep}
+use Rattle.lsm_text.specs.Script.{script}
 
 pub happens_none : (n : StoreValue) → Happens n [] [] n
 happens_none n = record { asked = asked_none n; runs = runs_none n }
@@ -53,7 +53,7 @@ IsSoFar-written old now events was held after held2 out bytes out2 so whole wrot
   replies = so.replies;
   happens = so.happens;
   done = so.done ++ out;
-  wrote = Appends-then was held after so.done out so.wrote (subst (λ (x : List ℕ). Appends held after x) whole wrote);
+  wrote = Appends-trans was held after so.done out so.wrote (subst (λ (x : List ℕ). Appends held after x) whole wrote);
   text = so.text ∙ sym (append-nil (so.done ++ out));
 })
 
@@ -61,7 +61,7 @@ pub IsSoFar-end : (old now : StoreValue) (events rest all : List Event) (was hel
 IsSoFar-end old now events rest all was held last out parts end so none keeps =
     let text : lines so.replies ≡ so.done = so.text ∙ ap (λ (t : List ℕ). so.done ++ t) none ∙ append-nil so.done in
     let whole : events ≡ all = sym (append-nil events) ∙ ap (λ (es : List Event). events ++ es) (sym end) ∙ parts in
-    (so.replies, subst (λ (es : List Event). Happens old es so.replies now) whole so.happens, rw text (Appends-keep was held last so.done so.wrote keeps))
+    (so.replies, subst (λ (es : List Event). Happens old es so.replies now) whole so.happens, rw text (Appends-kept was held last so.done so.wrote keeps))
 
 pub on_ok : {A E : Type 0} (r : Result A E) (P : Type 0) → P → OnOk r P
 on_ok (Ok x) P p = p
@@ -78,7 +78,3 @@ pub prints_script : (limits : Limits) (first : WorldValue) (last : StoreValue) (
 prints_script limits first last events bytes None was held new says read ran = tt
 prints_script limits first last events bytes (Some xs) was held new says read ran =
     (events, ap script (sym read) ∙ says, lines ran.0, happens_prints limits first last events ran.0 new ran.1, ran.2)
-
-pub OnOk-weaker : {A E : Type 0} (r : Result A E) (P Q : Type 0) → (P → Q) → OnOk r P → OnOk r Q
-OnOk-weaker (Ok x) P Q f p = f p
-OnOk-weaker (Err e) P Q f p = tt

@@ -2,6 +2,7 @@
 use Rattle.std.proofs.Common.{◌≡◌, ◌⊎◌, inl, inr, ℕ, ◌+◌, List, [], ◌++◌, Option, Some, None, IfSome, Result, Ok, Err, OnErr, IfErr, refl, sym, ap, subst, ◌∙◌, length, take, map}
 use Rattle.std.proofs.Math.Seq.{take-append-add, take-append_seam}
 use Rattle.std.specs.Io.KnownBytes.{Appends, Keeps}
+use Rattle.std.proofs.KnownBytes.{Appends-kept, Appends-nil, Appends-trans}
 use Rattle.lsm_key.specs.declared.limits.Limits.{Limits}
 use Rattle.lsm_world.specs.declared.event.Event.{Event}
 use Rattle.lsm_world.specs.Events.{event_of}
@@ -9,10 +10,9 @@ use Rattle.lsm_world.specs.Nodes.{StoreValue}
 use Rattle.lsm_world.specs.Schedules.{WorldValue, IsNew}
 use Rattle.lsm_sim.specs.declared.error.RunError.{RunError}
 use Rattle.lsm_sim.specs.declared.error.RunError.TheVariants.{WriteFault, OutOfMemory}
-use Rattle.lsm_sim.specs.Replies.{lines}
+use Rattle.lsm_text.specs.Replies.{lines}
 use Rattle.lsm_sim.specs.Runs.{Happens, HappensInPart, PrintsAPart, StopsFor}
-use Rattle.lsm_sim.specs.Script.{script}
-use Rattle.lsm_sim.proofs.KnownStreams.{Appends-none, Appends-then, Appends-keep}
+use Rattle.lsm_text.specs.Script.{script}
 use Rattle.lsm_sim.proofs.RunSteps.{IsSoFar, happens_prints}
 
 pub on_err : {A E : Type 0} (r : Result A E) (P : Type 0) → P → OnErr r P
@@ -26,15 +26,11 @@ IsSoFar-stops old now events rest all was held last out bytes parts so whole wro
     let more : Appends held last (take k out) = subst (λ (x : List ℕ). Appends held last (take k x)) whole wrote.1 in
     let text : so.done ++ take k out ≡ take (length so.done + k) (lines so.replies) = sym (ap (take (length so.done + k)) so.text ∙ take-append-add so.done out k) in
     let first : events ≡ take (length events) all = sym (ap (take (length events)) (sym parts) ∙ take-append_seam events rest) in
-    (length events, so.replies, length so.done + k, subst (λ (es : List Event). Happens old es so.replies now) first so.happens, subst (λ (x : List ℕ). Appends was last x) text (Appends-then was held last so.done (take k out) so.wrote more))
+    (length events, so.replies, length so.done + k, subst (λ (es : List Event). Happens old es so.replies now) first so.happens, subst (λ (x : List ℕ). Appends was last x) text (Appends-trans was held last so.done (take k out) so.wrote more))
 
 -- of what waits nothing was written
 pub IsSoFar-halts : (old now : StoreValue) (events rest all : List Event) (was held last : Option (List ℕ)) (out : List ℕ) → events ++ rest ≡ all → IsSoFar old now events was held out → Keeps held last → HappensInPart old all now was last
-IsSoFar-halts old now events rest all was held last out parts so keeps = IsSoFar-stops old now events rest all was held last out out parts so refl (0, Appends-keep held held last [] (Appends-none held) keeps)
-
-pub Keeps-same : (a : Option (List ℕ)) → Keeps a a
-Keeps-same None = tt
-Keeps-same (Some xs) = refl
+IsSoFar-halts old now events rest all was held last out parts so keeps = IsSoFar-stops old now events rest all was held last out out parts so refl (0, Appends-kept held held last [] (Appends-nil held) keeps)
 
 -- a part of what happens to a new store prints a part of what its script says
 pub prints_a_part : (limits : Limits) (first : WorldValue) (last : StoreValue) (events : List Event) (bytes : List ℕ) (known was held : Option (List ℕ)) → IsNew limits first → script bytes ≡ Ok (map event_of events) → IfSome known (λ xs. bytes ≡ xs) → HappensInPart first.nodes events last was held → IfSome known (λ xs. PrintsAPart limits xs was held)

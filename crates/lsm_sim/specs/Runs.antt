@@ -5,11 +5,13 @@ use Rattle.lsm_coord.specs.Model.Run.{RunOfNew}
 use Rattle.lsm_key.specs.declared.limits.Limits.{Limits}
 use Rattle.lsm_key.specs.declared.refused.Refused.{Refused}
 use Rattle.lsm_key.specs.declared.refused.Refused.TheVariants as refused
-use Rattle.lsm_sim.specs.declared.fault.Fault.{Fault}
+use Rattle.lsm_text.specs.declared.fault.Fault.{Fault}
 use Rattle.lsm_sim.specs.declared.error.RunError.{RunError}
 use Rattle.lsm_sim.specs.declared.error.RunError.TheVariants.{Script, ReadFault, WriteFault, OutOfMemory}
-use Rattle.lsm_sim.specs.Replies.{lines}
-use Rattle.lsm_sim.specs.Script.{script}
+use Rattle.lsm_text.specs.Replies.{lines}
+use Rattle.lsm_text.specs.Script.{script}
+use Rattle.lsm_stream.specs.declared.error.StreamError.{StreamError}
+use Rattle.lsm_stream.specs.declared.error.StreamError.TheVariants as stream
 use Rattle.lsm_world.specs.declared.event.Event.{Event}
 use Rattle.lsm_world.specs.declared.reply.Reply.{Reply}
 use Rattle.lsm_world.specs.Events.{event_of}
@@ -21,6 +23,12 @@ use Rattle.lsm_world.specs.Schedules.{WorldValue, IsNew, AskedAll, RunsTo}
 abbrev pub run_error_of : Refused Fault → RunError
 run_error_of refused.OutOfMemory = OutOfMemory
 run_error_of (refused.Fault fault) = Script fault.line fault.reason
+
+-- the error of a script that can't be read, or whose lines can't be written
+abbrev pub run_error_of_stream : StreamError → RunError
+run_error_of_stream stream.ReadFault = ReadFault
+run_error_of_stream stream.WriteFault = WriteFault
+run_error_of_stream stream.OutOfMemory = OutOfMemory
 
 -- the exit status of an error (the store's own)
 abbrev pub exit_status : RunError → ℕ

@@ -1,5 +1,5 @@
 -- What a store answers to an event of a script, and what it holds then (LevelDB, db.h: Put, Delete, Write, Get, NewIterator, GetSnapshot, ReleaseSnapshot).
-use Rattle.std.specs.Prelude.{◌≡◌, ℕ, ◌+◌, Bool, true, false, List, Some, None, length}
+use Rattle.std.specs.Prelude.{◌≡◌, ℕ, ◌+◌, Bool, true, false, List, Some, length}
 use Rattle.lsm_key.specs.declared.op.Op.{Op}
 use Rattle.lsm_key.specs.Faults.{Refuses}
 use Rattle.lsm_key.specs.Limits.{batch_fault}
@@ -9,7 +9,7 @@ use Rattle.lsm_coord.specs.Contract.Calls.{GetRefuses, ScanRefuses, release_faul
 use Rattle.lsm_coord.specs.Contract.Value.{CoordValue}
 use Rattle.lsm_store.specs.declared.error.StoreError.{StoreError}
 use Rattle.lsm_store.specs.declared.error.StoreError.TheVariants as store
-use Rattle.lsm_store.specs.Store.{Accepts, AddsSnapshot, DropsSnapshot, Holds, IsLatestSequence, Keeps, Reads, ReadsRange, StoreFlushRefuses, Stores, WriteRefuses, stored_count}
+use Rattle.lsm_store.specs.Store.{Accepts, AddsSnapshot, DropsSnapshot, Holds, IsLatestSequence, Keeps, ReadsRange, ReadsValue, StoreFlushRefuses, Stores, WriteRefuses, stored_count}
 use Rattle.lsm_world.specs.declared.event.Event.{Event}
 use Rattle.lsm_world.specs.declared.event.Event.TheVariants as event
 use Rattle.lsm_world.specs.declared.refusal.Refusal.{Refusal}
@@ -43,20 +43,20 @@ HaveNextSequences old ops first last =
 
 -- What is answered to an event, by what the store held and holds: what was told is so, and a refusal has a reason of that call and
 -- loses nothing.
-abbrev pub Answers : CoordValue → Event → Answer → CoordValue → Type 0
-Answers old (event.Write ops) (Reply (reply.Wrote first last)) new = Accepts old ops new × HaveNextSequences old ops first last
-Answers old (event.Write ops) (Reply (reply.Refused (why.Key e))) new = (batch_fault ops ≡ Some e) × (new ≡ old)
-Answers old (event.Write ops) (Reply (reply.Refused (why.Coord e))) new = WriteRefuses old ops new (store.Coord e) × Keeps old new
-Answers old event.Flush (Stored last) new = Stores old new × (last ≡ stored_count new)
-Answers old event.Flush (Reply (reply.Refused (why.Coord e))) new = StoreFlushRefuses old new e × Keeps old new
-Answers old event.Snap (Reply (reply.Snapped id last)) new = AddsSnapshot old id new × IsLatestSequence new last
-Answers old event.Snap (Reply (reply.Refused (why.Coord e))) new = Refuses error.OutOfMemory (snapshot_fault old) e × (new ≡ old)
-Answers old (event.Release id) (Reply (reply.Released which)) new = (which ≡ id) × DropsSnapshot old id new
-Answers old (event.Release id) (Reply (reply.Refused (why.Coord e))) new = (release_fault old id ≡ Some e) × (new ≡ old)
-Answers old (event.Get key at) (Reply (reply.Got value)) new = Reads old key at value × (new ≡ old)
-Answers old (event.Get key at) (Reply (reply.Refused (why.Coord e))) new = GetRefuses old key at e × (new ≡ old)
-Answers old (event.Scan range) (Reply (reply.Scanned pairs)) new = ReadsRange old range.lo range.hi range.at range.limit pairs × (new ≡ old)
-Answers old (event.Scan range) (Reply (reply.Refused (why.Coord e))) new = ScanRefuses old range.at e × (new ≡ old)
-Answers old event.Show (Reply (reply.Shown version)) new = ListsVersion old.served.version version × (new ≡ old)
-Answers old event.Show (Reply (reply.Refused why.OutOfMemory)) new = new ≡ old
-Answers old e answer new = ⊥
+abbrev pub AnswersEvent : CoordValue → Event → Answer → CoordValue → Type 0
+AnswersEvent old (event.Write ops) (Reply (reply.Wrote first last)) new = Accepts old ops new × HaveNextSequences old ops first last
+AnswersEvent old (event.Write ops) (Reply (reply.Refused (why.Key e))) new = (batch_fault ops ≡ Some e) × (new ≡ old)
+AnswersEvent old (event.Write ops) (Reply (reply.Refused (why.Coord e))) new = WriteRefuses old ops new (store.Coord e) × Keeps old new
+AnswersEvent old event.Flush (Stored last) new = Stores old new × (last ≡ stored_count new)
+AnswersEvent old event.Flush (Reply (reply.Refused (why.Coord e))) new = StoreFlushRefuses old new e × Keeps old new
+AnswersEvent old event.Snap (Reply (reply.Snapped id last)) new = AddsSnapshot old id new × IsLatestSequence new last
+AnswersEvent old event.Snap (Reply (reply.Refused (why.Coord e))) new = Refuses error.OutOfMemory (snapshot_fault old) e × (new ≡ old)
+AnswersEvent old (event.Release id) (Reply (reply.Released which)) new = (which ≡ id) × DropsSnapshot old id new
+AnswersEvent old (event.Release id) (Reply (reply.Refused (why.Coord e))) new = (release_fault old id ≡ Some e) × (new ≡ old)
+AnswersEvent old (event.Get key at) (Reply (reply.Got value)) new = ReadsValue old key at value × (new ≡ old)
+AnswersEvent old (event.Get key at) (Reply (reply.Refused (why.Coord e))) new = GetRefuses old key at e × (new ≡ old)
+AnswersEvent old (event.Scan range) (Reply (reply.Scanned pairs)) new = ReadsRange old range.lo range.hi range.at range.limit pairs × (new ≡ old)
+AnswersEvent old (event.Scan range) (Reply (reply.Refused (why.Coord e))) new = ScanRefuses old range.at e × (new ≡ old)
+AnswersEvent old event.Show (Reply (reply.Shown version)) new = ListsVersion old.served.version version × (new ≡ old)
+AnswersEvent old event.Show (Reply (reply.Refused why.OutOfMemory)) new = new ≡ old
+AnswersEvent old e answer new = ⊥

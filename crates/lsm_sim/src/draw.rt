@@ -1,12 +1,11 @@
 //! Drawing a script.
 
 use crate::error::RunError;
-use crate::lines::write_line;
 use crate::run::new_world;
-use crate::script::parse;
-use crate::streams::{read_all, write_all};
 use lsm_draw::{Chart, write_svg};
 use lsm_key::Limits;
+use lsm_stream::{read_all, write_out};
+use lsm_text::{parse, write_line};
 use lsm_vault::MemoryVault;
 use lsm_world::{Event, World};
 use std::alloc::{AllocError, Global};
@@ -27,8 +26,7 @@ pub fn draw_script<R: Read, W: Write>(
     world.close();
     let mut picture = Vec::new(alloc);
     write_svg(&mut picture, &charted?).map_err(|_| RunError::OutOfMemory)?;
-    write_all(writer, &picture)?;
-    writer.flush().map_err(|_| RunError::WriteFault)
+    Ok(write_out(writer, &mut picture)?)
 }
 
 /// Runs the events in order.

@@ -3,16 +3,12 @@
 ghost use Rattle.std.specs.Prelude.{◌≡◌};
 ghost use Rattle.lsm_sim.specs.Runs.{exit_status};
 
-use crate::fault::{Fault, Reason};
+use lsm_commands::{FAILED, REFUSED};
 use lsm_key::Refused;
+use lsm_stream::StreamError;
+use lsm_text::{Fault, Reason};
 use std::alloc::{AllocError, AllocFailed};
 use thiserror::Error;
-
-/// The exit status if the arguments or the script are refused.
-pub const REFUSED: u8 = 2;
-
-/// The exit status after a read or write fault, if memory runs out, or after a wrong answer.
-pub const FAILED: u8 = 1;
 
 /// Why a script was not run to its end.
 #[derive(Clone, Copy, Debug, PartialEq, Eq, Error)]
@@ -63,6 +59,21 @@ impl From<Refused<Fault>> for RunError {
         match refused {
             Refused::OutOfMemory => RunError::OutOfMemory,
             Refused::Fault(fault) => RunError::Script(fault.line, fault.reason),
+        }
+    }
+}
+
+impl From<StreamError> for RunError {
+    ghost use Rattle.std.specs.Prelude.{◌≡◌};
+    ghost use Rattle.lsm_sim.specs.Runs.{run_error_of_stream};
+
+    ghost from_gives = { λ why e. e ≡ run_error_of_stream why };
+
+    fn from(why: StreamError) -> RunError {
+        match why {
+            StreamError::ReadFault => RunError::ReadFault,
+            StreamError::WriteFault => RunError::WriteFault,
+            StreamError::OutOfMemory => RunError::OutOfMemory,
         }
     }
 }

@@ -1,11 +1,11 @@
 //! Exploring schedules.
 
 use crate::error::RunError;
-use crate::lines::write_line;
 use crate::options::Exploration;
-use crate::streams::write_all;
 use lsm_explore::{Progress, Report, Settings, Wrong, explore};
 use lsm_script::ScriptLine;
+use lsm_stream::write_out;
+use lsm_text::write_line;
 use std::alloc::{AllocError, Global};
 use std::io::Write;
 use std::rt::Clock;
@@ -82,9 +82,8 @@ pub(crate) fn explore_schedules<R: Threads + Sync + Eprint + Clock + AllocGlobal
     };
     let report = explore(rt, alloc, settings, &bar)?;
     let _ = rt.eprintln("");
-    let text = report_text(alloc, &report, exploration.limits.l0)?;
-    write_all(writer, text.as_slice())?;
-    writer.flush().map_err(|_| RunError::WriteFault)?;
+    let mut text = report_text(alloc, &report, exploration.limits.l0)?;
+    write_out(writer, &mut text)?;
     Ok(report.wrong == 0)
 }
 

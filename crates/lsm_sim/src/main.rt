@@ -3,40 +3,21 @@
 //! or dumps such a folder.
 #![tactic(auto)]
 
-mod batch;
-mod command;
-mod deliver;
 mod draw;
 mod error;
 mod explore;
-mod fault;
-mod follow;
-mod followers;
-mod inspect;
-mod jobs;
-mod lines;
-mod listing;
-mod names;
-mod number;
 mod options;
-mod refusals;
 mod run;
-mod scan;
-mod schedule;
-mod script;
 mod session;
-mod streams;
 #[cfg(test)]
 mod tests;
-mod text;
 mod threads;
-mod token;
-mod words;
+mod workers;
 
 use draw::draw_script;
-use error::{FAILED, REFUSED, RunError, code_of};
+use error::{RunError, code_of};
 use explore::explore_schedules;
-use inspect::{check_folder, dump_folder};
+use lsm_commands::{FAILED, Place, REFUSED, check_folder, dump_folder, serve_folder, serve_memory};
 use options::{Subcommand, subcommand_of};
 use run::run_script;
 use session::run_session;
@@ -45,6 +26,7 @@ use std::process::ExitCode;
 use std::rt::Env;
 use std::{env, io};
 use threads::show_threads;
+use workers::{dispatch_to, work_as};
 
 /// Reports the error on standard error.
 fn fail(rt: &impl Eprint, error: RunError) -> ExitCode {
@@ -96,6 +78,12 @@ fn main(rt: HostRuntime) -> ExitCode {
         Subcommand::Store(place) => return run_session(&rt, place),
         Subcommand::Check(folder) => return check_folder(&rt, folder),
         Subcommand::Dump(folder) => return dump_folder(&rt, folder),
+        Subcommand::Serve(Some(folder), limits) => {
+            return serve_folder(&rt, Place { folder, limits });
+        }
+        Subcommand::Serve(None, limits) => return serve_memory(&rt, limits),
+        Subcommand::Work(number) => return work_as(&rt, number),
+        Subcommand::Dispatch(place, number) => return dispatch_to(&rt, place, number),
     };
     match done {
         Ok(true) => ExitCode::SUCCESS,

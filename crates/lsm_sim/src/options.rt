@@ -4,9 +4,9 @@ ghost use Rattle.std.specs.Prelude.{◌≡◌, ◌↔◌, IfSome, IsSome, unwrap
 ghost use Rattle.lsm_key.specs.Limits.{AreLimits};
 ghost use Rattle.lsm_key.specs.declared.limits.TheConstants.{DEFAULT_L0, DEFAULT_BASE, DEFAULT_BLOCK};
 
-use crate::session::Place;
 use clap::error::ErrorKind;
 use clap::{Arg, ArgMatches, Command, Error, value_parser};
+use lsm_commands::Place;
 use lsm_key::{DEFAULT_BASE, DEFAULT_BLOCK, DEFAULT_L0, Limits};
 use std::alloc::{AllocError, Global};
 
@@ -29,7 +29,7 @@ Commands, one a line:
   flush                       Bring all operations into the folder: 'flushed S'
   compact                     Run the compactions that are due: 'compacted', or 'compacted but for what exceeds the job limits'
   show c                      The files of each level
-  stats                       'stats last S flushed S', and of each level with files ' L0 N files B bytes E entries'
+  stats                       The sequences, what each level has and whether it is due, and how much was written to tables
 Words stand between spaces; %41 is the byte of that hexadecimal number, and \"\" the empty text. A call that is refused prints
 'refused' and why. A faulty line is reported on standard error and skipped; the exit status is then 2. What is not flushed is
 flushed when the input ends.";
@@ -51,6 +51,12 @@ pub(crate) enum Subcommand<'a> {
     Check(&'a str),
     /// Print the entries of the store of a folder.
     Dump(&'a str),
+    /// Answer requests of Redis clients, to the store of a folder or to a new one in memory.
+    Serve(Option<&'a str>, Limits),
+    /// Merge the jobs that come, as the worker of this index.
+    Work(u8),
+    /// Have the compactions of a folder's store made by so many workers.
+    Dispatch(Place<'a>, u8),
 }
 
 /// What to explore.
@@ -189,6 +195,52 @@ fn store<'a>(alloc: Global) -> Result<Command<'a>, AllocError> {
         .arg(block(alloc))
 }
 
+/// `serve`, with its options.
+fn serve<'a>(alloc: Global) -> Result<Command<'a>, AllocError> {
+    let dir = dir(
+        alloc,
+        "The folder that keeps the data; without it the store is in memory",
+    );
+    Command::new(alloc, "serve")
+        .about("Answer requests of Redis clients (RESP2) from standard input")
+        .arg(dir.required(false))?
+        .arg(l0(alloc))?
+        .arg(base(alloc))?
+        .arg(block(alloc))
+}
+
+/// `worker`, with its option.
+fn worker<'a>(alloc: Global) -> Result<Command<'a>, AllocError> {
+    let index = Arg::new(alloc, "index")
+        .long("index")
+        .value_name("N")
+        .help("Which worker it is, 1 to 4 [default: 1]")
+        .value_parser(value_parser!(u64).range(1..=4));
+    Command::new(alloc, "worker")
+        .about(
+            "Merge the jobs that come as messages on standard input, and send the results on standard output",
+        )
+        .arg(index)
+}
+
+/// `dispatch`, with its options.
+fn dispatch<'a>(alloc: Global) -> Result<Command<'a>, AllocError> {
+    let workers = Arg::new(alloc, "workers")
+        .long("workers")
+        .value_name("N")
+        .help("How many workers there are, 1 to 4 [default: 2]")
+        .value_parser(value_parser!(u64).range(1..=4));
+    Command::new(alloc, "dispatch")
+        .about(
+            "Have the compactions of a folder's store made by workers behind standard input and output",
+        )
+        .arg(dir(alloc, "The folder that keeps the data"))?
+        .arg(workers)?
+        .arg(l0(alloc))?
+        .arg(base(alloc))?
+        .arg(block(alloc))
+}
+
 /// The command line that the program takes.
 fn command<'a>(alloc: Global) -> Result<Command<'a>, AllocError> {
     Command::new(alloc, "lsmsim")
@@ -203,7 +255,10 @@ fn command<'a>(alloc: Global) -> Result<Command<'a>, AllocError> {
         .subcommand(threads(alloc))?
         .subcommand(store(alloc)?)?
         .subcommand(check(alloc)?)?
-        .subcommand(dump(alloc)?)
+        .subcommand(dump(alloc)?)?
+        .subcommand(serve(alloc)?)?
+        .subcommand(dispatch(alloc)?)?
+        .subcommand(worker(alloc)?)
 }
 
 /// The limits of these numbers, each its default if it is not given, or `None` if one is outside its range.
@@ -251,6 +306,12 @@ fn place_in<'a>(options: &ArgMatches<'a>) -> Option<Place<'a>> {
     })
 }
 
+/// The number of an option that tells a worker, or how many there are.
+fn workers_in(options: &ArgMatches<'_>, name: &str, default: u64) -> Option<u8> {
+    let number = options.get_one(name).unwrap_or(default);
+    u8::try_from(number).ok()
+}
+
 /// The subcommand, or `None` if a limit is outside its range.
 fn subcommand_in<'a>(matches: &ArgMatches<'a>) -> Option<Subcommand<'a>> {
     match matches.subcommand()? {
@@ -258,6 +319,12 @@ fn subcommand_in<'a>(matches: &ArgMatches<'a>) -> Option<Subcommand<'a>> {
         ("store", options) => Some(Subcommand::Store(place_in(options)?)),
         ("check", options) => Some(Subcommand::Check(options.get_str("dir")?)),
         ("dump", options) => Some(Subcommand::Dump(options.get_str("dir")?)),
+        ("serve", options) => Some(Subcommand::Serve(options.get_str("dir"), limits_in(options)?)),
+        ("worker", options) => Some(Subcommand::Work(workers_in(options, "index", 1)?)),
+        ("dispatch", options) => {
+            let workers = workers_in(options, "workers", 2)?;
+            Some(Subcommand::Dispatch(place_in(options)?, workers))
+        }
         ("threads", _) => Some(Subcommand::Threads),
         ("draw", options) => Some(Subcommand::Draw(limits_in(options)?)),
         (_, options) => Some(Subcommand::Run(limits_in(options)?)),

@@ -4,14 +4,13 @@ ghost use Rattle.std.specs.Prelude.{◌≡◌, ◌⊎◌, ◌++◌, ℕ, List, I
 ghost use Rattle.std.specs.Io.KnownBytes.{Appends};
 ghost use Rattle.lsm_world.specs.declared.reply.Reply.{Reply};
 ghost use Rattle.lsm_world.specs.Schedules.{IsNew};
-ghost use Rattle.lsm_sim.specs.Replies.{lines};
+ghost use Rattle.lsm_text.specs.Replies.{lines};
 ghost use Rattle.lsm_sim.specs.Runs.{Happens, HappensInPart, PrintsScript, StopsFor};
 
 use crate::error::RunError;
-use crate::lines::write_line;
-use crate::script::parse;
-use crate::streams::{read_all, write_all};
 use lsm_key::Limits;
+use lsm_stream::{read_all, write_all};
+use lsm_text::{parse, write_line};
 use lsm_vault::MemoryVault;
 use lsm_world::{Event, World};
 use std::alloc::{AllocError, Global};

@@ -1,33 +1,17 @@
-//! What no contract says: that calls succeed, and streams that fail. What scripts print, the texts of their faults among it, is
+//! What no contract says: that a run succeeds, and streams that fail. What scripts print, the texts of their faults among it, is
 //! tested by the program itself.
 
 use crate::error::RunError;
 use crate::run::run_script;
-use crate::script::parse;
 use lsm_key::Limits;
 use std::alloc::Global;
 use std::io;
 use std::io::{Read, Write};
-use std::test::Fail;
 
 /// A script of two commands, and what it prints.
 const SCRIPT: &[u8] = b"put a 1\nget a\n";
 
 const LINES: &[u8] = b"seq 1\nvalue 1\n";
-
-#[test]
-fn every_command_is_read(rt: HostRuntime) -> Result<(), Fail> {
-    let script =
-        "\n # of nothing\n\tput a\t%41%7e\r\n#\nput \"\" \"\nflush\ndel %25\nget a=b\nshow c\nfreeze\nsnap\nrelease 1.2\nget a @0.18446744073709551615\nscan a b 3\npick 1\ngiveup 4\ndeliver 7\ndeliver 18446744073709551614-18446744073709551615\nrestart w2\nrestart c\nask 1\nread 4 \"\"\nshow f2\nrestart f3\ntrim 0";
-    let Ok(events) = parse(rt.alloc(), script.as_bytes()) else {
-        return Err(Fail::from("a fault"));
-    };
-    let text = format!(in rt.alloc(); "{events:?}")?;
-    let wanted =
-        "[Write(Items { vec: [Put(b\"a\", b\"A~\")] }), Write(Items { vec: [Put(b\"\", b\"\\\"\")] }), Flush, Write(Items { vec: [Delete(b\"%\")] }), Get(b\"a=b\", None), Show, Freeze, Snap, Release(SnapId { epoch: 1, number: 2 }), Get(b\"a\", Some(SnapId { epoch: 0, number: 18446744073709551615 })), Scan(ScanRange { lo: b\"a\", hi: b\"b\", at: None, limit: 3 }), Pick(NodeIndex { number: 1 }), GiveUp(NodeIndex { number: 4 }), Deliver(7), Deliver(18446744073709551614), Deliver(18446744073709551615), RestartWorker(NodeIndex { number: 2 }), RestartCoordinator, Ask(NodeIndex { number: 1 }), Read(NodeIndex { number: 4 }, b\"\"), ShowFollower(NodeIndex { number: 2 }), RestartFollower(NodeIndex { number: 3 }), Trim(VersionNumber { number: 0 })]";
-    assert!(rt; text.as_str() == wanted);
-    Ok(())
-}
 
 /// Returns a byte of a script at a time, and fails after `left` bytes.
 #[derive(Drop)]

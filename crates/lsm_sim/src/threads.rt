@@ -1,10 +1,8 @@
 //! A store that threads share.
 
 use crate::error::RunError;
-use crate::followers::write_read;
-use crate::listing::write_shown;
-use crate::streams::write_all;
-use crate::text::{write_bytes, write_line_end, write_number, write_text};
+use lsm_stream::write_out;
+use lsm_text::{write_bytes, write_line_end, write_number, write_read, write_shown, write_text};
 use lsm_threads::{FollowerRead, ThreadsError, ThreadsReport, run_threads};
 use std::alloc::{AllocError, Global};
 use std::io::Write;
@@ -25,8 +23,7 @@ pub fn show_threads<R: Threads + Wait + Sync, W: Write>(
     };
     let mut out = Vec::new(alloc);
     write_report(alloc, &mut out, &report)?;
-    write_all(writer, &out)?;
-    writer.flush().map_err(|_| RunError::WriteFault)
+    Ok(write_out(writer, &mut out)?)
 }
 
 // A line for the claims, one for the version, and one for each read.

@@ -3,7 +3,7 @@
 ghost use Rattle.std.specs.Prelude.{◌≡◌, IfNone, IfSome, is_some};
 ghost use Rattle.lsm_world.specs.declared.event.Event.TheVariants.{Flush, Get, Release, Scan, Show, Snap, Write};
 ghost use Rattle.lsm_sim.specs.declared.session.answer.Answer.TheVariants.{Reply as InReply};
-ghost use Rattle.lsm_sim.specs.Sessions.{Answers, is_of_store, refusal_of};
+ghost use Rattle.lsm_sim.specs.Sessions.{AnswersEvent, is_of_store, refusal_of};
 
 use bytes::Bytes;
 use lsm_coord::{ScanRange, ShownVersion, SnapId};
@@ -22,14 +22,14 @@ pub(crate) enum Answer {
     Stored(Seq),
 }
 
-/// Answers an event, or does nothing if a store has no such event.
+/// AnswersEvent an event, or does nothing if a store has no such event.
 pub(crate) fn answer_event<V: Vault>(
     alloc: Global,
     store: &mut Store<V>,
     event: Event,
 ) -> Option<Answer>
     ensures own { is_some result ≡ is_of_store event }
-    ensures answers { IfSome result (λ answer. Answers store.old event answer store.new) }
+    ensures answers { IfSome result (λ answer. AnswersEvent store.old event answer store.new) }
     ensures other { IfNone result (store.new ≡ store.old) }
 {
     match event {
@@ -56,7 +56,7 @@ pub(crate) fn refusal_of(why: StoreError) -> Refusal
 
 // Writes operations as one batch.
 fn write<V: Vault>(store: &mut Store<V>, ops: Vec<Op>) -> Reply
-    ensures { Answers store.old (Write ops.items) (InReply result) store.new }
+    ensures { AnswersEvent store.old (Write ops.items) (InReply result) store.new }
 {
     match Batch::from_vec(ops) {
         Err(why) => Reply::Refused(Refusal::Key(why)),
@@ -65,7 +65,7 @@ fn write<V: Vault>(store: &mut Store<V>, ops: Vec<Op>) -> Reply
 }
 
 fn write_batch<V: Vault>(store: &mut Store<V>, batch: &Batch) -> Reply
-    ensures { Answers store.old (Write batch.now) (InReply result) store.new }
+    ensures { AnswersEvent store.old (Write batch.now) (InReply result) store.new }
 {
     let before = store.latest_sequence();
     match store.write(batch) {
@@ -80,7 +80,7 @@ fn write_batch<V: Vault>(store: &mut Store<V>, batch: &Batch) -> Reply
 }
 
 fn flush<V: Vault>(store: &mut Store<V>) -> Answer
-    ensures { Answers store.old Flush result store.new }
+    ensures { AnswersEvent store.old Flush result store.new }
 {
     match store.flush() {
         Err(why) => Answer::Reply(Reply::Refused(refusal_of(why))),
@@ -89,7 +89,7 @@ fn flush<V: Vault>(store: &mut Store<V>) -> Answer
 }
 
 fn snapshot<V: Vault>(store: &mut Store<V>) -> Reply
-    ensures { Answers store.old Snap (InReply result) store.new }
+    ensures { AnswersEvent store.old Snap (InReply result) store.new }
 {
     match store.snapshot() {
         Err(why) => Reply::Refused(refusal_of(why)),
@@ -98,7 +98,7 @@ fn snapshot<V: Vault>(store: &mut Store<V>) -> Reply
 }
 
 fn release<V: Vault>(store: &mut Store<V>, id: SnapId) -> Reply
-    ensures { Answers store.old (Release id) (InReply result) store.new }
+    ensures { AnswersEvent store.old (Release id) (InReply result) store.new }
 {
     match store.release(id) {
         Err(why) => Reply::Refused(refusal_of(why)),
@@ -107,7 +107,7 @@ fn release<V: Vault>(store: &mut Store<V>, id: SnapId) -> Reply
 }
 
 fn get<V: Vault>(store: &mut Store<V>, key: &Bytes, at: Option<SnapId>) -> Reply
-    ensures { Answers store.old (Get key.now at) (InReply result) store.new }
+    ensures { AnswersEvent store.old (Get key.now at) (InReply result) store.new }
 {
     match store.get(key.as_slice(), at) {
         Err(why) => Reply::Refused(refusal_of(why)),
@@ -116,7 +116,7 @@ fn get<V: Vault>(store: &mut Store<V>, key: &Bytes, at: Option<SnapId>) -> Reply
 }
 
 fn scan<V: Vault>(store: &mut Store<V>, range: &ScanRange) -> Reply
-    ensures { Answers store.old (Scan range.now) (InReply result) store.new }
+    ensures { AnswersEvent store.old (Scan range.now) (InReply result) store.new }
 {
     match store.scan(&range.lo, &range.hi, range.at, range.limit) {
         Err(why) => Reply::Refused(refusal_of(why)),
@@ -126,7 +126,7 @@ fn scan<V: Vault>(store: &mut Store<V>, range: &ScanRange) -> Reply
 
 // Lists the current version.
 fn show<V: Vault>(alloc: Global, store: &mut Store<V>) -> Reply
-    ensures { Answers store.old Show (InReply result) store.new }
+    ensures { AnswersEvent store.old Show (InReply result) store.new }
 {
     match ShownVersion::of(alloc, store.show()) {
         Err(_) => Reply::Refused(Refusal::OutOfMemory),

@@ -1,17 +1,27 @@
 //! The command `compact`.
 
 use super::answer::refusal_of;
-use super::screen::Screen;
-use crate::refusals::write_refused;
-use crate::text::write_text;
+use lsm_commands::Screen;
 use lsm_store::{Due, Store, StoreError};
+use lsm_text::{write_refused, write_text};
 use lsm_vault::Vault;
 use std::alloc::AllocError;
+use std::fmt;
+
+/// How many compactions were made, as it is shown.
+#[derive(Clone, Copy)]
+struct Compactions(u64);
+
+impl fmt::Display for Compactions {
+    fn fmt<W: fmt::Write>(&self, f: &mut fmt::Formatter<W>) -> fmt::Result {
+        write!(f, "compactions {}", self.0)
+    }
+}
 
 /// Runs the compactions that are due, shows how many were made, and writes what is still due.
-pub(crate) fn compact<R: Eprint, V: Vault>(
+pub(crate) fn compact<V: Vault>(
     store: &mut Store<V>,
-    screen: &Screen<'_, R>,
+    screen: &Screen<'_>,
     out: &mut Vec<u8>,
 ) -> Result<(), AllocError> {
     match compact_all(store, screen) {
@@ -22,10 +32,7 @@ pub(crate) fn compact<R: Eprint, V: Vault>(
 }
 
 // Compactions, one after another, until no level needs one.
-fn compact_all<R: Eprint, V: Vault>(
-    store: &mut Store<V>,
-    screen: &Screen<'_, R>,
-) -> Result<Due, StoreError> {
+fn compact_all<V: Vault>(store: &mut Store<V>, screen: &Screen<'_>) -> Result<Due, StoreError> {
     let mut due = Ok(Due::More);
     let mut count = 0;
     for made in 1..u64::MAX {
@@ -34,8 +41,10 @@ fn compact_all<R: Eprint, V: Vault>(
             break;
         }
         count = made;
-        screen.show_compactions(count);
+        screen.show(&Compactions(count));
     }
-    screen.end_compactions(count);
+    if count > 0 {
+        screen.end_line();
+    }
     due
 }

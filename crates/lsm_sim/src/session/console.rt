@@ -1,9 +1,9 @@
 //! Where a session's commands come from, and where its answers go.
 
 use crate::error::RunError;
-use crate::streams::write_all;
-use crate::text::write_text;
 use lsm_key::MAX_BATCH_WEIGHT;
+use lsm_stream::write_out;
+use lsm_text::write_text;
 use std::alloc::Global;
 use std::io::{BufRead, BufReader, ErrorKind, Read, Write};
 
@@ -68,9 +68,7 @@ impl<R: Read + Drop, W: Write + Drop> Console<R, W> {
 
     /// Writes the answers so far.
     pub(crate) fn write_out(&mut self) -> Result<(), RunError> {
-        write_all(&mut self.writer, &self.out)?;
-        self.out.clear();
-        self.writer.flush().map_err(|_| RunError::WriteFault)
+        Ok(write_out(&mut self.writer, &mut self.out)?)
     }
 
     /// Ends the output: after a prompt with a line of its own.

@@ -1,9 +1,7 @@
 //! What a line asks of a store: a command of scripts, or one that only a session has.
 
-use crate::fault::Reason;
-use crate::script::events_in;
-use crate::words::Words;
 use lsm_key::Refused;
+use lsm_text::{Reason, Words, events_in};
 use lsm_world::Event;
 use std::alloc::Global;
 use thiserror::Error;
@@ -31,6 +29,15 @@ pub(crate) enum LineFault {
     /// It is longer than any command within the limits.
     #[error("too long")]
     TooLong,
+}
+
+/// A line that is not done, as it is reported.
+#[derive(Clone, Copy, Debug, PartialEq, Eq, Error)]
+#[error("line {number}: {fault}")]
+pub(crate) struct FaultyLine {
+    /// From 1.
+    pub(crate) number: u64,
+    pub(crate) fault: LineFault,
 }
 
 /// What a line asks, or `None` if it has no command.

@@ -3,24 +3,23 @@
 use super::answer::{Answer, answer_event};
 use super::compact::compact;
 use super::console::{Console, Found};
-use super::request::{LineFault, Request, request_in};
-use super::screen::Screen;
-use super::stats::write_stats;
+use super::request::{FaultyLine, LineFault, Request, request_in};
+use super::stats::stats;
 use crate::error::RunError;
-use crate::lines::write_line;
-use crate::text::{write_line_end, write_number, write_text};
+use lsm_commands::Screen;
 use lsm_key::Refused;
 use lsm_store::Store;
+use lsm_text::{write_line, write_line_end, write_number, write_text};
 use lsm_vault::Vault;
 use std::alloc::{AllocError, Global};
 use std::io::{Read, Write};
 
 /// Answers the lines of the console until they end, and reports those that are faulty. Returns whether none was.
-pub(crate) fn talk<P: Eprint, R: Read + Drop, W: Write + Drop, V: Vault>(
+pub(crate) fn talk<R: Read + Drop, W: Write + Drop, V: Vault>(
     alloc: Global,
     store: &mut Store<V>,
     console: &mut Console<R, W>,
-    screen: &Screen<'_, P>,
+    screen: &Screen<'_>,
 ) -> Result<bool, RunError> {
     let mut line = Vec::new(alloc);
     let mut are_right = true;
@@ -35,7 +34,7 @@ pub(crate) fn talk<P: Eprint, R: Read + Drop, W: Write + Drop, V: Vault>(
             Err(Refused::OutOfMemory) => return Err(RunError::OutOfMemory),
             Err(Refused::Fault(fault)) => {
                 are_right = false;
-                screen.report_line(number, fault);
+                screen.report(&FaultyLine { number, fault });
             }
         }
     }
@@ -44,11 +43,11 @@ pub(crate) fn talk<P: Eprint, R: Read + Drop, W: Write + Drop, V: Vault>(
 }
 
 // Writes the line that answers a line, or says why there is none.
-fn answer_line<P: Eprint, V: Vault>(
+fn answer_line<V: Vault>(
     alloc: Global,
     store: &mut Store<V>,
     line: &[u8],
-    screen: &Screen<'_, P>,
+    screen: &Screen<'_>,
     out: &mut Vec<u8>,
 ) -> Result<(), Refused<LineFault>> {
     match request_in(alloc, line)? {
@@ -58,7 +57,7 @@ fn answer_line<P: Eprint, V: Vault>(
             Ok(write_line_end(out)?)
         }
         Some(Request::Stats) => {
-            write_stats(out, store)?;
+            stats(store, out)?;
             Ok(write_line_end(out)?)
         }
         Some(Request::Event(event)) => match answer_event(alloc, store, event) {

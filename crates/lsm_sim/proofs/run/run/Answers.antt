@@ -1,9 +1,9 @@
 use Rattle.std.proofs.Common.{◌++◌, [], refl, sym, ◌∙◌, rules}
+use Rattle.std.proofs.KnownBytes.{Appends-nil, Keeps-refl}
 use Rattle.std.proofs.lemmas.List.{nil_from_length}
-use Rattle.lsm_sim.specs.Replies.{line}
-use Rattle.lsm_sim.proofs.KnownStreams.{Appends-none}
+use Rattle.lsm_text.specs.Replies.{line}
 use Rattle.lsm_sim.proofs.RunSteps.{happens_none, IsSoFar-step, IsSoFar-written, IsSoFar-end, done_more, on_ok}
-use Rattle.lsm_sim.proofs.StoppedRuns.{on_err, Keeps-same, IsSoFar-stops, IsSoFar-halts}
+use Rattle.lsm_sim.proofs.StoppedRuns.{on_err, IsSoFar-stops, IsSoFar-halts}
 use Rattle.lsm_sim.proofs.run.run.Goals as goal
 
 pub loop-event-init : goal.loop-event-init
@@ -13,7 +13,7 @@ loop-event-init g c = record {
     replies = [];
     happens = happens_none c.args.world.now.nodes;
     done = [];
-    wrote = Appends-none (g.W.Write.contents c.args.writer.now);
+    wrote = Appends-nil (g.W.Write.contents c.args.writer.now);
     text = rw c.new-out.ensures.items refl;
   };
 }
@@ -43,7 +43,7 @@ returns-in_err-write_line-clause-err g c =
     let out = c.loop-event.out.items ++ line c.step-reply.result in
     let all = done_more c.loop-event.yielded c.loop-event.event-iterator.rest.items c.next.new.self.rest.items c.args.events.items c.in-Some.event c.loop-event.invariant.all c.in-Some.ensures.steps.0 in
     let so = IsSoFar-step c.args.world.now.nodes c.loop-event.world.nodes c.step-reply.new.self.nodes c.loop-event.yielded c.in-Some.event c.step-reply.result was held c.loop-event.out.items out c.loop-event.invariant.so c.step-reply.ensures.asks c.step-reply.ensures.step refl in
-    on_err c.from_residual.result _ (IsSoFar-halts c.args.world.now.nodes c.step-reply.new.self.nodes _ c.next.new.self.rest.items c.args.events.items was held held out all so (Keeps-same held))
+    on_err c.from_residual.result _ (IsSoFar-halts c.args.world.now.nodes c.step-reply.new.self.nodes _ c.next.new.self.rest.items c.args.events.items was held held out all so (Keeps-refl held))
 
 pub returns-in_err-write_all-clause-err : goal.returns-in_err-write_all-clause-err
 returns-in_err-write_all-clause-err g c =

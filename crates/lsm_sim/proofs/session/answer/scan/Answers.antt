@@ -1,4 +1,5 @@
+use Rattle.std.proofs.Common.{refl}
 use Rattle.lsm_sim.proofs.session.answer.scan.Goals as goal
 
 pub returns-in-Ok : goal.returns-in-Ok
-returns-in-Ok g c = rw (← c.deref.ensures, ← c.deref-2.ensures, c.from_vec.ensures) (c.in-Ok.ensures.ok, c.in-Ok.ensures.same)
+returns-in-Ok g c = rw (← c.deref.ensures, ← c.deref-2.ensures, c.from_vec.ensures) (c.in-Ok.ensures.ok, refl)

@@ -1,0 +1,46 @@
+//! Why a command fails.
+
+use lsm_inspect::InspectError;
+use lsm_store::StoreError;
+use thiserror::Error;
+
+/// The exit status if the arguments, a script or a line are refused.
+pub const REFUSED: u8 = 2;
+
+/// The exit status after a read or write fault, if memory runs out, or after a wrong answer.
+pub const FAILED: u8 = 1;
+
+/// Why a command fails.
+#[derive(Debug, Drop, Error)]
+pub enum CommandError {
+    /// The folder is not opened.
+    #[error("{0}")]
+    Folder(lsm_file_vault::OpenError),
+    /// The folder has no valid store.
+    #[error("the store is not opened: {0}")]
+    Store(lsm_versions::OpenError),
+    /// The folder has no valid edits, or memory ran out, or its entries could not be written.
+    #[error("{0}")]
+    Data(InspectError),
+    /// Standard input could not be read.
+    #[error("read fault")]
+    ReadFault,
+    /// Standard output or standard error could not be written.
+    #[error("write fault")]
+    WriteFault,
+    /// Operations since the last flush are lost.
+    #[error("error: not flushed: {0}")]
+    NotFlushed(StoreError),
+}
+
+impl From<lsm_file_vault::OpenError> for CommandError {
+    fn from(why: lsm_file_vault::OpenError) -> CommandError {
+        CommandError::Folder(why)
+    }
+}
+
+impl From<InspectError> for CommandError {
+    fn from(why: InspectError) -> CommandError {
+        CommandError::Data(why)
+    }
+}

@@ -1,0 +1,89 @@
+//! The folder of a store.
+
+ghost use Rattle.std.specs.Prelude.{◌≡◌, [], IfOk};
+
+use crate::inspect::report_findings;
+use crate::{CommandError, Screen};
+use lsm_coord::Coord;
+use lsm_file_vault::{FileVault, HostFolder};
+use lsm_key::Limits;
+use lsm_store::{Options, Store};
+use std::process::ExitCode;
+
+/// A vault in a folder.
+pub type FolderVault = FileVault<HostFolder<HostRuntime>>;
+
+/// A store in a folder.
+pub type FolderStore = Store<FolderVault>;
+
+/// Where a store keeps its data, and how it is kept.
+#[derive(Clone, Copy)]
+pub struct Place<'a> {
+    /// The path of the folder.
+    pub folder: &'a str,
+    pub limits: Limits,
+}
+
+impl Place<'_> {
+    /// Opens the folder, and the store that it has. Bytes that are cut off are reported.
+    pub fn open(self, rt: &HostRuntime, screen: &Screen<'_>) -> Result<FolderStore, CommandError> {
+        let vault = self.open_vault(rt, screen)?;
+        let options = Options {
+            limits: self.limits,
+        };
+        match Store::open(rt.alloc(), vault, options) {
+            Ok(store) => {
+                screen.show_opened(store.latest_sequence(), store.show().files.len());
+                Ok(store)
+            }
+            Err((why, _vault)) => Err(CommandError::Store(why)),
+        }
+    }
+
+    /// The same, but the coordinator of the store, whose compactions are made elsewhere.
+    pub(crate) fn open_coord(
+        self,
+        rt: &HostRuntime,
+        screen: &Screen<'_>,
+    ) -> Result<Coord<FolderVault>, CommandError>
+        ensures { IfOk result (λ coord. coord.book.live ≡ []) }
+    {
+        let vault = self.open_vault(rt, screen)?;
+        match Coord::open(rt.alloc(), vault, self.limits) {
+            Ok(coord) => Ok(coord),
+            Err((why, _vault)) => Err(CommandError::Store(why)),
+        }
+    }
+
+    // Opens the folder.
+    fn open_vault(
+        self,
+        rt: &HostRuntime,
+        screen: &Screen<'_>,
+    ) -> Result<FolderVault, CommandError> {
+        screen.show_opening(self.folder);
+        let opened = lsm_file_vault::open(rt, self.folder)?;
+        if opened.cut_bytes > 0 {
+            screen.report_cut(opened.cut_bytes);
+        }
+        Ok(opened.vault)
+    }
+
+    /// Reports why the folder is not opened, and if its store is refused, each file whose table is not as its record says. Returns the
+    /// exit status.
+    pub fn fail(self, rt: &HostRuntime, screen: &Screen<'_>, error: &CommandError) -> ExitCode {
+        let status = screen.fail(error);
+        if matches!(error, CommandError::Store(_)) {
+            report_findings(rt, self.folder, screen);
+        }
+        status
+    }
+}
+
+/// Flushes a store at the end of a command. Returns the exit status of the command, unless the flush is refused.
+pub fn flush_at_end(store: &mut FolderStore, screen: &Screen<'_>, status: ExitCode) -> ExitCode {
+    match store.flush() {
+        Ok(()) => status,
+        Err(why) => screen.fail(&CommandError::NotFlushed(why)),
+    }
+}

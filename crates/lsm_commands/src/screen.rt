@@ -1,0 +1,83 @@
+//! What a command shows on standard error: why it fails, and on a terminal how far it has come.
+
+use crate::FAILED;
+use lsm_key::Seq;
+use std::fmt::Display;
+use std::io::IsTerminal;
+use std::process::ExitCode;
+
+/// Standard error.
+pub struct Screen<'a> {
+    rt: &'a HostRuntime,
+    is_terminal: bool,
+}
+
+impl Drop for Screen<'_> {
+    fn drop(self) {
+        let Screen {
+            rt: _,
+            is_terminal: _,
+        } = self;
+    }
+}
+
+impl<'a> Screen<'a> {
+    pub fn new(rt: &'a HostRuntime) -> Screen<'a> {
+        Screen {
+            rt,
+            is_terminal: rt.stderr().is_terminal(),
+        }
+    }
+
+    /// Reports an error, and returns the exit status after it.
+    pub fn fail<E: Display>(&self, error: &E) -> ExitCode {
+        self.report(error);
+        ExitCode::from(FAILED)
+    }
+
+    /// Reports something in a line of its own.
+    pub fn report<E: Display>(&self, what: &E) {
+        let _ = eprintln!(self.rt; "{what}");
+    }
+
+    /// Shows how far a command has come, on a terminal alone, in a line that the next one is written over.
+    pub fn show<E: Display>(&self, what: &E) {
+        if self.is_terminal {
+            let _ = eprint!(self.rt; "\r{what}");
+        }
+    }
+
+    /// Ends the line of what was shown.
+    pub fn end_line(&self) {
+        if self.is_terminal {
+            let _ = self.rt.eprintln("");
+        }
+    }
+
+    /// Shows that a folder is being opened.
+    pub(crate) fn show_opening(&self, folder: &str) {
+        if self.is_terminal {
+            let _ = eprint!(self.rt; "opening {folder} .. ");
+        }
+    }
+
+    /// Shows that a folder is being checked.
+    pub(crate) fn show_checking(&self, folder: &str) {
+        if self.is_terminal {
+            let _ = eprintln!(self.rt; "checking {folder} ..");
+        }
+    }
+
+    /// Shows what an opened store has.
+    pub(crate) fn show_opened(&self, last: Seq, files: usize) {
+        if self.is_terminal {
+            let last = last.number();
+            let _ = eprintln!(self.rt; "{last} operations, {files} files");
+        }
+    }
+
+    /// Reports that bytes were cut off which a stop in the middle of a write had left.
+    pub(crate) fn report_cut(&self, bytes: u64) {
+        let _ = eprintln!(self.rt; "{bytes} bytes of an unfinished write were cut off");
+    }
+}

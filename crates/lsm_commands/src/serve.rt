@@ -1,0 +1,40 @@
+//! The command `serve`: requests of Redis clients.
+
+use crate::{CommandError, Place, Screen, check_streams, flush_at_end};
+use lsm_key::Limits;
+use lsm_serve::serve;
+use lsm_store::{Options, Store};
+use lsm_vault::{MemoryVault, Vault};
+use std::io;
+use std::process::ExitCode;
+
+/// Answers the requests of standard input on standard output, to the store of a folder, until the input ends, and flushes the store.
+pub fn serve_folder(rt: &HostRuntime, place: Place<'_>) -> ExitCode {
+    let screen = Screen::new(rt);
+    if let Err(error) = check_streams(rt) {
+        return screen.fail(&error);
+    }
+    let mut store = match place.open(rt, &screen) {
+        Ok(store) => store,
+        Err(error) => return place.fail(rt, &screen, &error),
+    };
+    let status = serve_from(rt, &mut store, &screen);
+    flush_at_end(&mut store, &screen, status)
+}
+
+/// The same, to a new store in memory, which is lost at the end.
+pub fn serve_memory(rt: &HostRuntime, limits: Limits) -> ExitCode {
+    let screen = Screen::new(rt);
+    let vault = MemoryVault::new(rt.alloc());
+    match Store::open(rt.alloc(), vault, Options { limits }) {
+        Ok(mut store) => serve_from(rt, &mut store, &screen),
+        Err((why, _vault)) => screen.fail(&CommandError::Store(why)),
+    }
+}
+
+fn serve_from<V: Vault>(rt: &HostRuntime, store: &mut Store<V>, screen: &Screen<'_>) -> ExitCode {
+    match serve(rt.alloc(), store, &mut rt.reader(), &mut io::writer(rt)) {
+        Ok(()) => ExitCode::SUCCESS,
+        Err(error) => screen.fail(&error),
+    }
+}

@@ -1,0 +1,19 @@
+//! The command `worker`: jobs that come over a pipe.
+
+use crate::{Screen, check_streams};
+use lsm_msg::NodeIndex;
+use std::io;
+use std::process::ExitCode;
+
+/// Merges the jobs that come as messages on standard input, and writes the messages that it sends to standard output, until the
+/// input ends.
+pub fn work(rt: &HostRuntime, index: NodeIndex) -> ExitCode {
+    let screen = Screen::new(rt);
+    if let Err(error) = check_streams(rt) {
+        return screen.fail(&error);
+    }
+    match lsm_frame::work(rt.alloc(), index, &mut rt.reader(), &mut io::writer(rt)) {
+        Ok(()) => ExitCode::SUCCESS,
+        Err(error) => screen.fail(&error),
+    }
+}
