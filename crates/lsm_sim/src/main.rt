@@ -9,8 +9,6 @@ mod explore;
 mod options;
 mod run;
 mod session;
-#[cfg(test)]
-mod tests;
 mod threads;
 mod workers;
 
