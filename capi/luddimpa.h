@@ -1,4 +1,5 @@
-/* Luddimpa's formats and its merge, for C and whatever calls C: read a value in a table, check a table, check a list of edits, merge a job.
+/* Luddimpa's formats and its merge, for C and whatever calls C: read a value in a table, check a table, check a list of edits, check a
+ * message, merge a job.
  *
  * Each function is proved to answer as its contract says (crates/luddimpa/src), whatever the bytes are: it ends, reads nothing but what it is
  * given, and writes nothing but `out`. It keeps nothing between calls and hands out no pointer. docs/FORMATS.md has the formats.
@@ -22,7 +23,7 @@ extern "C" {
 
 /* What a call answers: the field `status`. */
 enum luddimpa_status {
-    LUDDIMPA_OK = 0,             /* what was asked for is there: a value, a table, edits that apply, a merge */
+    LUDDIMPA_OK = 0,             /* what was asked for is there: a value, a table, edits that apply, a message, a merge */
     LUDDIMPA_DELETED = 1,        /* get: the newest entry of the key, up to the sequence, is a deletion */
     LUDDIMPA_ABSENT = 2,         /* get: the table has no entry of the key up to the sequence */
     LUDDIMPA_OUT_OF_MEMORY = 3,  /* malloc gave none; the same call may be made again */
@@ -34,7 +35,8 @@ enum luddimpa_status {
     LUDDIMPA_NOT_A_JOB = 9,      /* merge: the bytes are no message (see `fault`), or one that takes no job to a worker (`fault` is 0) */
     LUDDIMPA_WRONG_TABLE = 10,   /* merge: at the place `table` stands no table that is as the job's input there, or bytes stand behind the last */
     LUDDIMPA_SAME_ENTRY = 11,    /* merge: two tables share an entry's key and sequence */
-    LUDDIMPA_TOO_LARGE = 12      /* merge: the message of the result would have more than 1,073,741,824 bytes */
+    LUDDIMPA_TOO_LARGE = 12,     /* merge: the message of the result would have more than 1,073,741,824 bytes */
+    LUDDIMPA_NOT_A_MESSAGE = 13  /* message: the bytes are no message; `fault` says what is wrong */
 };
 
 /* What is wrong with bytes: the field `fault`, the first fault in the order of docs/FORMATS.md. */
@@ -94,6 +96,14 @@ struct luddimpa_checked_edits {
  * first one to version 0. The answer tells of the version that they make, up to the first that does not apply.
  * OK, CUT_SHORT, NOT_AN_EDIT, DOES_NOT_APPLY, OUT_OF_MEMORY. */
 struct luddimpa_checked_edits luddimpa_edits_check(const uint8_t *edits, size_t edits_length);
+
+struct luddimpa_checked_message {
+    uint32_t status;
+    uint32_t fault; /* of a message that is none */
+};
+
+/* Checks that bytes are a message, all of them. What the tables in it say is not looked at. OK, NOT_A_MESSAGE, OUT_OF_MEMORY. */
+struct luddimpa_checked_message luddimpa_message_check(const uint8_t *message, size_t message_length);
 
 struct luddimpa_merged_job {
     uint32_t status;

@@ -114,7 +114,7 @@ static void expect_room(const uint8_t *out, size_t room, bool is_ok, size_t leng
     held = 0;
 }
 
-/* ---- the four calls, each over its two runs of bytes */
+/* ---- the five calls, each over its two runs of bytes */
 
 static size_t room;
 static uint64_t at_sequence = LUDDIMPA_LATEST;
@@ -154,6 +154,18 @@ static uint32_t check_edits(const struct bytes *edits, const struct bytes *none)
     return status;
 }
 
+static struct luddimpa_checked_message checked_message;
+
+static uint32_t check_message(const struct bytes *message, const struct bytes *none) {
+    (void)none;
+    checked_message = luddimpa_message_check(lent(first, message), message->length);
+    uint32_t status = checked_message.status;
+    expect(status == LUDDIMPA_OK || status == LUDDIMPA_NOT_A_MESSAGE || status == LUDDIMPA_OUT_OF_MEMORY, "a status that message does not have");
+    expect((status == LUDDIMPA_NOT_A_MESSAGE) == (checked_message.fault != LUDDIMPA_NO_FAULT), "no message without a fault");
+    expect(held == 0, "memory was not given back");
+    return status;
+}
+
 static struct luddimpa_merged_job merged_job;
 
 static uint32_t merge(const struct bytes *job, const struct bytes *tables) {
@@ -180,6 +192,9 @@ static const char *const edits_hex =
     "00000029 0000000000000001 03 0000000000000000 0000000000000001 0000000000000001 00000000 00000000"
     "00000040 0000000000000002 01 0000000000000001 0000000000000001 0000000000000002 00000000 00000001"
     "0000000000000001 00 000161 000161 00000030 00000001";
+/* Follower 1 asks what comes after version 0. Worker 1 made no table of job 1.1. */
+static const char *const ask_hex = "4c534d4d 01 06 0201 0000 0000000000000000";
+static const char *const result_hex = "4c534d4d 01 05 0101 0000 0000000000000001 0000000000000001 00000000";
 /* A job of worker 1, from level 0 on: of the table above; of it and the deletion; of it twice. */
 #define JOB(count, inputs) "4c534d4d 01 01 0000 0101 0000000000000001 0000000000000001 00 00001000 00" count inputs "00000000"
 #define PUT(number) number "00 000161 000161 00000030 00000001"
@@ -246,6 +261,28 @@ static void try_edits(void) {
     tell("a list of edits and its faults");
 }
 
+static bool is_fault(const struct bytes *message, uint32_t fault) {
+    return check_message(message, NULL) == LUDDIMPA_NOT_A_MESSAGE && checked_message.fault == fault;
+}
+
+static void try_messages(void) {
+    struct bytes ask = of(ask_hex), job = of(job_hex), result = of(result_hex), none = {0}, changed = ask;
+    expect(check_message(&ask, NULL) == LUDDIMPA_OK && check_message(&job, NULL) == LUDDIMPA_OK && check_message(&result, NULL) == LUDDIMPA_OK, "the messages");
+    expect(is_fault(&none, LUDDIMPA_TRUNCATED), "no bytes");
+    changed.length--;
+    expect(is_fault(&changed, LUDDIMPA_TRUNCATED), "without its last byte");
+    changed.length += 2;
+    expect(is_fault(&changed, LUDDIMPA_TRAILING_BYTES), "with a byte more");
+    static const struct { size_t at; uint8_t byte; uint32_t fault; } changes[] = {
+        {0, 0, LUDDIMPA_BAD_MAGIC}, {4, 2, LUDDIMPA_BAD_VERSION}, {5, 10, LUDDIMPA_BAD_KIND}, {6, 3, LUDDIMPA_BAD_FIELD}};
+    for (size_t i = 0; i < sizeof changes / sizeof *changes; i++) {
+        changed = ask;
+        changed.at[changes[i].at] = changes[i].byte;
+        expect(is_fault(&changed, changes[i].fault), "a changed byte");
+    }
+    tell("messages and their faults");
+}
+
 static void try_merges(void) {
     struct bytes job = of(job_hex), two = of(two_hex), twice = of(twice_hex), none = {0};
     struct bytes table = listed(put_hex, NULL), both = listed(put_hex, deletion_hex), same = listed(put_hex, put_hex);
@@ -263,7 +300,7 @@ static void try_merges(void) {
     expect(merge(&job, &none) == LUDDIMPA_WRONG_TABLE && merged_job.table == 0, "no table");
     expect(merge(&two, &same) == LUDDIMPA_WRONG_TABLE && merged_job.table == 1, "another table");
     expect(merge(&job, &same) == LUDDIMPA_WRONG_TABLE && merged_job.table == 1, "one table more");
-    struct bytes ask = of("4c534d4d 01 06 0201 0000 0000000000000000");
+    struct bytes ask = of(ask_hex);
     expect(merge(&ask, &table) == LUDDIMPA_NOT_A_JOB && merged_job.fault == LUDDIMPA_NO_FAULT, "another message");
     ask.at[4] = 2;
     expect(merge(&ask, &table) == LUDDIMPA_NOT_A_JOB && merged_job.fault == LUDDIMPA_BAD_VERSION, "another version");
@@ -324,7 +361,7 @@ int main(void) {
     setvbuf(stdout, NULL, _IOLBF, 0);
     first = pages_of(), second = pages_of(), third = pages_of();
     held = 0;
-    try_gets(), try_tables(), try_edits(), try_merges();
+    try_gets(), try_tables(), try_edits(), try_messages(), try_merges();
 
     struct bytes table = of(put_hex), deletion = of(deletion_hex), key = of("61"), edits = of(edits_hex), none = {0};
     struct bytes job = of(job_hex), list = listed(put_hex, NULL), two = of(two_hex), both = listed(put_hex, deletion_hex);
@@ -337,6 +374,10 @@ int main(void) {
     spoil(check_edits, &edits, &none, true);
     starve(check_edits, &edits, &none, LUDDIMPA_OK);
     say("luddimpa_edits_check");
+    struct bytes ask = of(ask_hex), result = of(result_hex);
+    spoil(check_message, &ask, &none, true), spoil(check_message, &job, &none, true), spoil(check_message, &result, &none, true);
+    starve(check_message, &ask, &none, LUDDIMPA_OK), starve(check_message, &job, &none, LUDDIMPA_OK), starve(check_message, &result, &none, LUDDIMPA_OK);
+    say("luddimpa_message_check");
     spoil(merge, &job, &list, true), spoil(merge, &list, &job, false), spoil(merge, &two, &both, true), spoil(merge, &both, &two, false);
     starve(merge, &job, &list, LUDDIMPA_OK), starve(merge, &two, &both, LUDDIMPA_OK);
     say("luddimpa_merge");

@@ -9,7 +9,7 @@ use Rattle.lsm_edit.specs.declared.version.ApplyError.TheVariants as apply
 use Rattle.lsm_msg.specs.declared.fault.MsgFault.{MsgFault}
 use Rattle.lsm_msg.specs.declared.fault.MsgFault.TheVariants as message
 use Rattle.luddimpa.specs.declared.status.Status.{Status}
-use Rattle.luddimpa.specs.declared.status.Status.TheVariants.{Ok, Deleted, Absent, OutOfMemory, NoSequence, NotATable, CutShort, NotAnEdit, DoesNotApply, NotAJob, WrongTable, SameEntry, TooLarge}
+use Rattle.luddimpa.specs.declared.status.Status.TheVariants.{Ok, Deleted, Absent, OutOfMemory, NoSequence, NotATable, CutShort, NotAnEdit, DoesNotApply, NotAJob, WrongTable, SameEntry, TooLarge, NotAMessage}
 
 abbrev pub status_code : Status → ℕ
 status_code Ok = 0
@@ -25,6 +25,7 @@ status_code NotAJob = 9
 status_code WrongTable = 10
 status_code SameEntry = 11
 status_code TooLarge = 12
+status_code NotAMessage = 13
 
 -- ---- what is wrong with bytes; 0 is nothing
 

@@ -1,18 +1,15 @@
 //! Merging a job.
 
-ghost use Rattle.std.specs.Prelude.{◌≡◌, IfOk, Ok};
-ghost use Rattle.lsm_key.specs.Reading.{Gives};
-ghost use Rattle.lsm_msg.specs.declared.message.Message.{Message};
+ghost use Rattle.std.specs.Prelude.{◌≡◌};
 ghost use Rattle.lsm_msg.specs.Messages.{IsSpelled};
-ghost use Rattle.lsm_msg.specs.MessageReading.{read_message};
 ghost use Rattle.luddimpa.specs.declared.merged_job.JobMerge.{JobMerge};
 ghost use Rattle.luddimpa.specs.JobMerges.{MergesBody, MergesJob, merged_of};
 
 use crate::merged_job::{JobMerge, MergedJob};
 use crate::merging::merge_for;
-use bytes::Bytes;
-use lsm_key::{Refused, know_slice};
-use lsm_msg::{Body, MAX_MESSAGE_BYTES, Message, MsgError, MsgFault, Node, NodeIndex, decode};
+use crate::opening::read_message;
+use lsm_key::Refused;
+use lsm_msg::{Body, Message, Node, NodeIndex};
 use std::alloc::Global;
 
 /// Merges a job as the worker does whom the message takes it to: `tables` are those of its inputs in their order, each behind its length
@@ -63,18 +60,4 @@ fn merge_body(
         Body::Job(job) => merge_for(alloc, index, job, tables, out),
         _ => JobMerge::NotAJob,
     }
-}
-
-// The message that the bytes encode, in a copy; they are not copied if they are too many for a message.
-#[tactic(auto, unfolding(lsm_msg::specs::MessageReading::read_message))]
-fn read_message(alloc: Global, bytes: &[u8]) -> Result<Message, MsgError>
-    ensures found { IfOk result (λ m. IsSpelled bytes.now m) }
-    ensures only { (m : Message) → IsSpelled bytes.now m → Gives (λ x. x) result (Ok m) }
-    ensures exact { Gives (λ x. x) result (read_message bytes.now) }
-{
-    know_slice(bytes);
-    if bytes.len() > MAX_MESSAGE_BYTES {
-        return Err(Refused::Fault(MsgFault::TooLarge));
-    }
-    decode(alloc, Bytes::copy_from_slice(alloc, bytes)?)
 }

@@ -2,8 +2,8 @@
 
 ghost use Rattle.std.specs.Prelude.{◌≡◌};
 ghost use Rattle.luddimpa.specs.JobMerges.{merge_status, merged_of, tables_refusal};
-ghost use Rattle.luddimpa.specs.Statuses.{message_fault_code};
 
+use crate::message_fault::message_fault_code;
 use crate::status::Status;
 use lsm_key::Refused;
 use lsm_msg::MsgFault;
@@ -80,19 +80,5 @@ fn status_of(merge: JobMerge) -> Status
         JobMerge::SameEntry => Status::SameEntry,
         JobMerge::TooLarge => Status::TooLarge,
         JobMerge::OutOfMemory => Status::OutOfMemory,
-    }
-}
-
-fn message_fault_code(fault: MsgFault) -> u32
-    ensures { result ≡ message_fault_code fault }
-{
-    match fault {
-        MsgFault::Truncated => 1,
-        MsgFault::BadMagic => 2,
-        MsgFault::BadVersion => 3,
-        MsgFault::BadKind => 4,
-        MsgFault::BadField => 5,
-        MsgFault::TrailingBytes => 9,
-        MsgFault::TooLarge => 10,
     }
 }

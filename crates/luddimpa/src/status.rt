@@ -6,7 +6,7 @@ ghost use Rattle.luddimpa.specs.Statuses.{status_code};
 /// What a call answers: the first that holds.
 #[derive(Clone, Copy)]
 pub(crate) enum Status {
-    /// What was asked for is there: a value, a table, a list of edits that apply, a merge.
+    /// What was asked for is there: a value, a table, a list of edits that apply, a message, a merge.
     Ok,
     /// The key is deleted.
     Deleted,
@@ -32,6 +32,8 @@ pub(crate) enum Status {
     SameEntry,
     /// The result is too large for a message.
     TooLarge,
+    /// The bytes are no message.
+    NotAMessage,
 }
 
 impl Status {
@@ -53,6 +55,7 @@ impl Status {
             Status::WrongTable => 10,
             Status::SameEntry => 11,
             Status::TooLarge => 12,
+            Status::NotAMessage => 13,
         }
     }
 }
