@@ -1,4 +1,4 @@
-//! Jobs at each edge of their rules, and what is the same as what.
+//! Jobs, bodies and messages by their public calls, and what is the same as what.
 
 mod bytes_of;
 
@@ -15,55 +15,6 @@ const ID: JobId = JobId {
     epoch: 1,
     number: 4,
 };
-
-// A key of the greatest length, and one byte more than a key may have.
-static LONGEST: [u8; 1024] = [97; 1024];
-
-static LONG: [u8; 1025] = [97; 1025];
-
-// A job's level, its inputs by number and level, and whether it may have them: they must be of its level or the next,
-// one of its level, with ascending numbers.
-const INPUTS: [(u8, &[(u64, u8)], bool); 10] = [
-    (0, &[(1, 0)], true),
-    (5, &[(1, 6), (2, 5)], true),
-    (0, &[], false),
-    (0, &[(1, 1)], false),
-    (0, &[(1, 0), (2, 2)], false),
-    (1, &[(1, 0), (2, 1)], false),
-    (6, &[(1, 6)], false),
-    (0, &[(2, 0), (1, 0)], false),
-    (0, &[(1, 0), (1, 1)], false),
-    (0, &[(0, 0)], false),
-];
-
-// Points, and whether a job may have them.
-const POINTS: [(&[u32], bool); 4] = [
-    (&[], true),
-    (&[0, 1], true),
-    (&[1, 1], false),
-    (&[1, 3, 2], false),
-];
-
-// The ends of a deeper range, and whether a job may have it.
-const RANGES: [(&[u8], &[u8], bool); 5] = [
-    (b"a", b"a", true),
-    (b"b", b"a", false),
-    (b"", b"a", false),
-    (&LONGEST, b"b", true),
-    (&LONG, b"b", false),
-];
-
-// An epoch, a job number and a block target, and whether a job may have them.
-const NAMES: [(u64, u64, u32, bool); 8] = [
-    (1, 1, 1, true),
-    (0, 1, 1, false),
-    (1, 0, 1, false),
-    (1, 1, 0, false),
-    ((1 << 63) - 1, (1 << 63) - 1, 16_777_216, true),
-    (1 << 63, 1, 1, false),
-    (1, 1 << 63, 1, false),
-    (1, 1, 16_777_217, false),
-];
 
 // A file of the keys from a to c.
 fn file(number: u64, level: u8) -> FileMeta {
@@ -128,35 +79,6 @@ fn job(alloc: Global) -> Result<Job, Fail> {
     Ok(Job::new(parts(alloc)?).ok_or("no job")?)
 }
 
-// Whether a job may have these inputs.
-fn takes_inputs(alloc: Global, level: u8, files: &[(u64, u8)]) -> Result<bool, AllocError> {
-    let mut parts = parts(alloc)?;
-    parts.level = level;
-    parts.inputs = inputs_of(alloc, files)?;
-    Ok(Job::new(parts).is_some())
-}
-
-// Whether a job may have these points.
-fn takes_points(alloc: Global, numbers: &[u32]) -> Result<bool, AllocError> {
-    let mut parts = parts(alloc)?;
-    parts.points = points_of(alloc, numbers)?;
-    Ok(Job::new(parts).is_some())
-}
-
-// Whether a job may have this range among its deeper ones.
-fn takes_range(alloc: Global, lo: &'static [u8], hi: &'static [u8]) -> Result<bool, Fail> {
-    let mut parts = parts(alloc)?;
-    parts.deeper.push(range(lo, hi))?;
-    Ok(parts.is_job())
-}
-
-// Whether a job may have `count` deeper ranges.
-fn takes_deeper(alloc: Global, count: u32) -> Result<bool, AllocError> {
-    let mut parts = parts(alloc)?;
-    parts.deeper = deeper_of(alloc, count)?;
-    Ok(parts.is_job())
-}
-
 #[test]
 fn a_job_lends_what_it_was_made_of(rt: HostRuntime) -> Result<(), Fail> {
     see_parts(&rt, &job(rt.alloc())?);
@@ -176,76 +98,6 @@ fn has_inputs(job: &Job, first: u64, second: u64) -> bool {
         [one, other] => one.number == first && other.number == second,
         _ => false,
     }
-}
-
-#[test]
-fn inputs_are_of_two_levels_and_rise(rt: HostRuntime) -> Result<(), Fail> {
-    for (level, files, want) in INPUTS {
-        let taken = takes_inputs(rt.alloc(), level, files)?;
-        assert!(rt; taken == want, "{files:?} at {level}");
-    }
-    Ok(())
-}
-
-#[test]
-fn a_job_has_at_most_1024_inputs(rt: HostRuntime) -> Result<(), Fail> {
-    let mut files = Vec::new(rt.alloc());
-    for number in 1..1025 {
-        files.push((number, 0))?;
-    }
-    assert!(rt; takes_inputs(rt.alloc(), 0, &files)?);
-    files.push((1025, 0))?;
-    assert!(rt; !takes_inputs(rt.alloc(), 0, &files)?);
-    Ok(())
-}
-
-#[test]
-fn points_rise(rt: HostRuntime) -> Result<(), Fail> {
-    for (numbers, want) in POINTS {
-        let taken = takes_points(rt.alloc(), numbers)?;
-        assert!(rt; taken == want, "{numbers:?}");
-    }
-    Ok(())
-}
-
-#[test]
-fn a_job_has_at_most_64_points(rt: HostRuntime) -> Result<(), Fail> {
-    let mut points = Vec::new(rt.alloc());
-    for number in 0..64 {
-        points.push(number)?;
-    }
-    assert!(rt; takes_points(rt.alloc(), &points)?);
-    points.push(64)?;
-    assert!(rt; !takes_points(rt.alloc(), &points)?);
-    Ok(())
-}
-
-#[test]
-fn ranges_have_their_ends_in_order(rt: HostRuntime) -> Result<(), Fail> {
-    for (lo, hi, want) in RANGES {
-        let taken = takes_range(rt.alloc(), lo, hi)?;
-        assert!(rt; taken == want, "{lo:?} to {hi:?}");
-    }
-    Ok(())
-}
-
-#[test]
-fn a_job_has_at_most_65_536_deeper_ranges(rt: HostRuntime) -> Result<(), Fail> {
-    for (count, want) in [(65_536, true), (65_537, false)] {
-        assert!(rt; takes_deeper(rt.alloc(), count)? == want);
-    }
-    Ok(())
-}
-
-#[test]
-fn a_job_has_a_name_and_a_block_target(rt: HostRuntime) -> Result<(), Fail> {
-    let mut parts = parts(rt.alloc())?;
-    for (epoch, number, block, want) in NAMES {
-        parts.id = JobId { epoch, number };
-        parts.block = block;
-        assert!(rt; parts.is_job() == want, "{epoch}.{number} {block}");
-    }
-    Ok(())
 }
 
 // The same job without deeper files.
