@@ -10,7 +10,7 @@ PROGRAM = shlex.split(os.environ.get("PROGRAM", str(TOP / "crates/lsm_sim/out/ls
 # Small, so that compactions come.
 LIMITS = ["--l0", "2", "--base", "1000", "--block", "256"]
 # How long an answer may take, in seconds.
-PATIENCE = 60
+PATIENCE = 180
 SCAN = 'scan "" ~ 1000'
 
 

@@ -24,7 +24,7 @@ SPARED = 8
 
 def run(program, library, row, at):
     environment = {**os.environ, "FAIL_AT": str(at), "LD_PRELOAD": library}
-    ended = subprocess.run([program, "run", *row.options], input=row.script, capture_output=True, env=environment, timeout=60, check=False)
+    ended = subprocess.run([program, "run", *row.options], input=row.script, capture_output=True, env=environment, timeout=180, check=False)
     return ended.stdout.decode(), ended.stderr.decode(), ended.returncode
 
 

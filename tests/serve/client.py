@@ -3,7 +3,7 @@ import socket
 import subprocess
 
 # How long an answer may take, in seconds.
-PATIENCE = 60
+PATIENCE = 180
 
 
 class Refusal(Exception):
