@@ -1,12 +1,14 @@
 //! What a folder holds, as it is read.
 
 use crate::edits_file::{EditsFile, read_edits};
+use crate::error::called;
 use crate::frame::only_frame;
 use crate::names::{EDITS, FileKind, file_path, kind_of, table_path};
 use crate::{FileCall, OpenError};
 use bytes::Bytes;
 use lsm_key::{FileNumber, Refused};
 use lsm_vault::Tables;
+use std::alloc::Global;
 use std::fs;
 use std::rt::Files;
 
@@ -39,12 +41,7 @@ impl Contents {
         let numbers = table_numbers(files, path)?;
         let has_tables = !numbers.is_empty();
         for number in numbers {
-            match table_of(files, path, number)? {
-                Some(table) => {
-                    tables.insert(number, table)?;
-                }
-                None => damaged_tables.push(number)?,
-            }
+            add_table(files, path, number, &mut tables, &mut damaged_tables)?;
         }
         let found = edits_of(files, path, has_tables)?;
         Ok(Contents {
@@ -65,19 +62,43 @@ pub(crate) fn table_numbers<R: Files + AllocGlobal + Clone + Drop>(
     let alloc = files.alloc();
     let mut numbers = Vec::new(alloc);
     let listed = fs::read_dir(files, path);
-    let entries = listed.map_err(|error| OpenError::io(alloc, FileCall::List, path, error))?;
+    let entries = called(alloc, FileCall::List, path, listed)?;
     for entry in entries {
-        let entry = entry.map_err(|error| OpenError::io(alloc, FileCall::List, path, error))?;
-        match kind_of(entry.file_name()) {
-            FileKind::Table(number) => numbers.push(number)?,
-            FileKind::Edits | FileKind::NewTable | FileKind::Lock => {}
-            FileKind::Foreign => {
-                let file = file_path(alloc, path, entry.file_name())?;
-                return Err(OpenError::ForeignFile { file });
-            }
+        let entry = called(alloc, FileCall::List, path, entry)?;
+        if let Some(number) = number_of(alloc, path, entry.file_name())? {
+            numbers.push(number)?;
         }
     }
     Ok(numbers)
+}
+
+// The number of the table whose file has this name, or none if it is another file of a vault.
+fn number_of(alloc: Global, path: &str, name: &str) -> Result<Option<FileNumber>, OpenError> {
+    match kind_of(name) {
+        FileKind::Table(number) => Ok(Some(number)),
+        FileKind::Edits | FileKind::NewTable | FileKind::Lock => Ok(None),
+        FileKind::Foreign => {
+            let file = file_path(alloc, path, name)?;
+            Err(OpenError::ForeignFile { file })
+        }
+    }
+}
+
+// Reads the table of this number, and adds it to the tables, or its number to those of the damaged ones.
+fn add_table<R: Files + AllocGlobal>(
+    files: &R,
+    path: &str,
+    number: FileNumber,
+    tables: &mut Tables,
+    damaged_tables: &mut Vec<FileNumber>,
+) -> Result<(), OpenError> {
+    match table_of(files, path, number)? {
+        Some(table) => {
+            tables.insert(number, table)?;
+        }
+        None => damaged_tables.push(number)?,
+    }
+    Ok(())
 }
 
 // The table of this number, or none if its file is damaged.
@@ -100,12 +121,7 @@ fn edits_of<R: Files + AllocGlobal>(
     let alloc = files.alloc();
     let file = file_path(alloc, path, EDITS)?;
     let exists = fs::exists(files, file.as_str());
-    let exists = exists.map_err(|error| OpenError::io(
-        alloc,
-        FileCall::Read,
-        file.as_str(),
-        error,
-    ))?;
+    let exists = called(alloc, FileCall::Read, file.as_str(), exists)?;
     if !exists && has_tables {
         return Err(OpenError::MissingEdits { file });
     }
@@ -125,6 +141,6 @@ fn edits_of<R: Files + AllocGlobal>(
 fn read_file<R: Files + AllocGlobal>(files: &R, file: &str) -> Result<Bytes, OpenError> {
     let alloc = files.alloc();
     let read = fs::read(files, file);
-    let bytes = read.map_err(|error| OpenError::io(alloc, FileCall::Read, file, error))?;
+    let bytes = called(alloc, FileCall::Read, file, read)?;
     Ok(Bytes::from_vec(bytes)?)
 }

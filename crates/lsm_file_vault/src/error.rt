@@ -89,6 +89,19 @@ impl OpenError {
     }
 }
 
+/// What a call on the file or folder at this path returned, its error as the one of an opening.
+pub(crate) fn called<T>(
+    alloc: Global,
+    call: FileCall,
+    path: &str,
+    returned: io::Result<T>,
+) -> Result<T, OpenError> {
+    match returned {
+        Ok(value) => Ok(value),
+        Err(error) => Err(OpenError::io(alloc, call, path, error)),
+    }
+}
+
 impl From<AllocError> for OpenError {
     fn from(_e: AllocError) -> OpenError {
         OpenError::OutOfMemory

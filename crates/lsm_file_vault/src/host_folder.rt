@@ -2,11 +2,13 @@
 
 ghost use Rattle.std.specs.Prelude.{◌≡◌, IfOk};
 
+use crate::error::called;
 use crate::frame::write_header;
 use crate::names::{EDITS, NEW_TABLE, file_path, table_path};
 use crate::{Change, Contents, FileCall, Folder, Notes, OpenError};
 use bytes::{Bytes, BytesMut};
 use lsm_key::FileNumber;
+use std::alloc::Global;
 use std::fs::{self, File, OpenFile, OpenOptions};
 use std::io::{self, ErrorKind, Seek, SeekFrom, Write};
 use std::rt::Files;
@@ -44,20 +46,11 @@ impl<R: Files + AllocGlobal + Drop> HostFolder<R> {
         ensures tables { IfOk result (λ folder. ⟦<HostFolder<R> as Folder>⟧.tables folder ≡ contents.now.tables) }
         ensures edits { IfOk result (λ folder. ⟦<HostFolder<R> as Folder>⟧.edits folder ≡ contents.now.edits.items) }
     {
-        let alloc = files.alloc();
-        let file = file_path(alloc, path, EDITS)?;
-        let edits_file = open_edits(&files, file.as_str())?;
-        if contents.torn_bytes > 0 {
-            let cut = edits_file.set_len(contents.edits_bytes);
-            cut.map_err(|error| OpenError::io(alloc, FileCall::Cut, file.as_str(), error))?;
-        }
-        let synced = edits_file.sync_all();
-        synced.map_err(|error| OpenError::io(alloc, FileCall::Sync, file.as_str(), error))?;
-        let synced = sync_folder(&files, path);
-        synced.map_err(|error| OpenError::io(alloc, FileCall::Sync, path, error))?;
+        let edits_file = ready_edits(&files, path, contents)?;
+        let path = String::from_str(files.alloc(), path)?;
         Ok(HostFolder {
-            path: String::from_str(alloc, path)?,
             files,
+            path,
             edits_file,
             edits_bytes: contents.edits_bytes,
             is_broken: false,
@@ -77,16 +70,9 @@ impl<R: Files + AllocGlobal + Drop> HostFolder<R> {
     // Writes a table beside its file, and gives it the file's name once it is whole on the disk.
     fn write_table(&self, number: FileNumber, table: &[u8]) -> io::Result<()> {
         self.refuse_if_broken()?;
-        let alloc = self.files.alloc();
         let path = self.path.as_str();
-        let mut header = BytesMut::new(alloc);
-        frame_header(&mut header, table)?;
-        let new = file_path(alloc, path, NEW_TABLE)?;
-        let mut file = fs::create(&self.files, new.as_str())?;
-        file.write_all(header.as_slice())?;
-        file.write_all(table)?;
-        file.sync_all()?;
-        let named = table_path(alloc, path, number)?;
+        let new = write_new(&self.files, path, table)?;
+        let named = table_path(self.files.alloc(), path, number)?;
         fs::rename(&self.files, new.as_str(), named.as_str())?;
         sync_folder(&self.files, path)
     }
@@ -108,9 +94,7 @@ impl<R: Files + AllocGlobal + Drop> HostFolder<R> {
         ensures { self.new.notes ≡ self.old.notes }
     {
         self.refuse_if_broken()?;
-        let mut framed = BytesMut::new(self.files.alloc());
-        frame_header(&mut framed, edit)?;
-        framed.extend_from_slice(edit)?;
+        let framed = framed_edit(self.files.alloc(), edit)?;
         let written = self.write_at_end(framed.as_slice());
         match written {
             Ok(()) => self.edits_bytes = self.edits_bytes.saturating_add(framed.len() as u64),
@@ -137,12 +121,66 @@ impl<R: Files + AllocGlobal + Drop> HostFolder<R> {
     }
 }
 
+// The file of the edits, made if there is none, without what a stop has left behind the last edit.
+fn ready_edits<R: Files + AllocGlobal>(
+    files: &R,
+    path: &str,
+    contents: &Contents,
+) -> Result<R::File, OpenError> {
+    let alloc = files.alloc();
+    let name = file_path(alloc, path, EDITS)?;
+    let file = open_edits(files, name.as_str())?;
+    cut_torn(alloc, &file, name.as_str(), contents)?;
+    called(alloc, FileCall::Sync, path, sync_folder(files, path))?;
+    Ok(file)
+}
+
 // Opens the file of the edits, and makes it if there is none.
 fn open_edits<R: Files + AllocGlobal>(files: &R, file: &str) -> Result<R::File, OpenError> {
     let mut options = OpenOptions::new();
     options.read(true).write(true).create(true);
     let opened = options.open(files, file);
-    opened.map_err(|error| OpenError::io(files.alloc(), FileCall::Open, file, error))
+    called(files.alloc(), FileCall::Open, file, opened)
+}
+
+// Cuts off what a stop has left behind the last edit, and syncs the file.
+fn cut_torn(
+    alloc: Global,
+    file: &impl OpenFile,
+    name: &str,
+    contents: &Contents,
+) -> Result<(), OpenError> {
+    if contents.torn_bytes > 0 {
+        let cut = file.set_len(contents.edits_bytes);
+        called(alloc, FileCall::Cut, name, cut)?;
+    }
+    called(alloc, FileCall::Sync, name, file.sync_all())
+}
+
+// Writes the frame of a table to a file beside those of the others, and returns its path.
+fn write_new<R: Files + AllocGlobal>(files: &R, path: &str, table: &[u8]) -> io::Result<String> {
+    let alloc = files.alloc();
+    let mut header = BytesMut::new(alloc);
+    frame_header(&mut header, table)?;
+    let new = file_path(alloc, path, NEW_TABLE)?;
+    write_file(files, new.as_str(), header.as_slice(), table)?;
+    Ok(new)
+}
+
+// Writes a file of a table under this name, and syncs it.
+fn write_file(files: &impl Files, name: &str, header: &[u8], table: &[u8]) -> io::Result<()> {
+    let mut file = fs::create(files, name)?;
+    file.write_all(header)?;
+    file.write_all(table)?;
+    file.sync_all()
+}
+
+// The frame of an edit.
+fn framed_edit(alloc: Global, edit: &[u8]) -> io::Result<BytesMut> {
+    let mut framed = BytesMut::new(alloc);
+    frame_header(&mut framed, edit)?;
+    framed.extend_from_slice(edit)?;
+    Ok(framed)
 }
 
 // Appends the header of a frame of these bytes. More than a frame can hold is refused.
@@ -155,7 +193,7 @@ fn frame_header(out: &mut BytesMut, bytes: &[u8]) -> io::Result<()> {
 }
 
 // Syncs the folder's list of files.
-fn sync_folder(files: &impl Files, path: &str) -> io::Result<()> {
+pub(crate) fn sync_folder(files: &impl Files, path: &str) -> io::Result<()> {
     fs::open(files, path)?.sync_all()
 }
 

@@ -3,11 +3,13 @@
 ghost use Rattle.std.specs.Prelude.{◌≡◌, IfOk};
 
 use crate::contents::table_numbers;
+use crate::error::called;
+use crate::host_folder::sync_folder;
 use crate::names::{LOCK, file_path, table_path};
 use crate::{Contents, FileCall, FileVault, Folder, HostFolder, OpenError};
 use lsm_vault::Vault;
 use std::alloc::Global;
-use std::fs::{self, File, OpenFile, OpenOptions, TryLockError};
+use std::fs::{self, File, OpenOptions, TryLockError};
 use std::rt::Files;
 
 /// A vault that was opened, and what was found.
@@ -63,16 +65,25 @@ fn open_contents<R: Files + AllocGlobal + Clone + Drop>(
     ensures failures { IfOk result (λ opened. ⟦<FileVault<HostFolder<R>> as Vault>⟧.failures opened.vault ≡ 0) }
 {
     let alloc = files.alloc();
-    let contents = Contents::read(&files, path)?;
-    if let Some(number) = contents.damaged_tables.first() {
-        let number = *number;
-        let file = table_path(alloc, path, number)?;
-        return Err(OpenError::DamagedTable { file, number });
-    }
+    let contents = whole_contents(&files, path)?;
     let folder = HostFolder::new(files, path, &contents, lock)?;
     let cut_bytes = contents.torn_bytes;
     let vault = FileVault::new(alloc, folder, contents.tables, contents.edits);
     Ok(Opened { vault, cut_bytes })
+}
+
+// What the folder holds. A damaged table is refused.
+fn whole_contents<R: Files + AllocGlobal + Clone + Drop>(
+    files: &R,
+    path: &str,
+) -> Result<Contents, OpenError> {
+    let contents = Contents::read(files, path)?;
+    if let Some(number) = contents.damaged_tables.first() {
+        let number = *number;
+        let file = table_path(files.alloc(), path, number)?;
+        return Err(OpenError::DamagedTable { file, number });
+    }
+    Ok(contents)
 }
 
 // Whether the folder is there.
@@ -97,10 +108,10 @@ fn create_folder<R: Files + AllocGlobal>(files: &R, path: &str) -> Result<(), Op
         return Ok(());
     }
     let created = fs::create_dir(files, path);
-    created.map_err(|error| OpenError::io(alloc, FileCall::Create, path, error))?;
+    called(alloc, FileCall::Create, path, created)?;
     let above = file_path(alloc, path, "..")?;
-    let synced = fs::open(files, above.as_str()).and_then(|folder| folder.sync_all());
-    synced.map_err(|error| OpenError::io(alloc, FileCall::Sync, above.as_str(), error))
+    let synced = sync_folder(files, above.as_str());
+    called(alloc, FileCall::Sync, above.as_str(), synced)
 }
 
 // Takes the folder for this process, until the file is dropped.
@@ -112,7 +123,7 @@ fn lock(rt: &HostRuntime, path: &str) -> Result<File, OpenError> {
         .write(true)
         .create(true)
         .open(rt, name.as_str());
-    let file = opened.map_err(|error| OpenError::io(alloc, FileCall::Open, name.as_str(), error))?;
+    let file = called(alloc, FileCall::Open, name.as_str(), opened)?;
     match file.try_lock() {
         Ok(()) => Ok(file),
         Err(error) => Err(not_locked(alloc, path, name.as_str(), error)),
@@ -124,11 +135,11 @@ fn lock_shared(rt: &HostRuntime, path: &str) -> Result<Option<File>, OpenError> 
     let alloc = rt.alloc();
     let name = file_path(alloc, path, LOCK)?;
     let exists = fs::exists(rt, name.as_str());
-    if !exists.map_err(|error| OpenError::io(alloc, FileCall::Open, name.as_str(), error))? {
+    if !called(alloc, FileCall::Open, name.as_str(), exists)? {
         return Ok(None);
     }
     let opened = fs::open(rt, name.as_str());
-    let file = opened.map_err(|error| OpenError::io(alloc, FileCall::Open, name.as_str(), error))?;
+    let file = called(alloc, FileCall::Open, name.as_str(), opened)?;
     match file.try_lock_shared() {
         Ok(()) => Ok(Some(file)),
         Err(error) => Err(not_locked(alloc, path, name.as_str(), error)),
