@@ -1,7 +1,8 @@
 // Preloaded into a program that keeps its data in the folder CRASH_FOLDER: stops it at one of its calls that change files there, or
 // lets such a call fail. Calls are counted from 1: open for writing, write, fsync and fdatasync, rename, unlink, ftruncate, mkdir.
+// Calls that only read there are counted apart: open, read, list, statx.
 //
-//   CRASH_TELL=FILE     writes a letter for each call: o w s r u t m
+//   CRASH_TELL=FILE     writes a letter for each call: o w s r u t m, and x for each that only reads
 //   CRASH_AT=N          the process stops in place of call N, and CRASH_WAY says what of its earlier calls the disk has:
 //       kept            all of them
 //       half            all of them, and half of this write
@@ -12,6 +13,7 @@
 //       mixed           of each name and of each file's bytes either, by CRASH_SEED; a file's end may be zeros
 //   FAIL_AT=N           call N fails with FAIL_ERRNO; a write then takes half of its bytes if FAIL_HALF=1, and the next call fails
 //   FAIL_COUNT=C        so do the C - 1 calls after it
+//   FAIL_READ_AT=N      call N of those that only read fails with FAIL_ERRNO
 #define _GNU_SOURCE
 #include <dirent.h>
 #include <errno.h>
@@ -39,13 +41,14 @@ struct name { char text[64]; int file; };
 struct names { struct name of[NAMES]; int count; };
 
 static char folder[PATH_MAX], way[16];
-static long crash_at, fail_at, fail_count, calls;
+static long crash_at, fail_at, fail_count, calls, fail_read_at, reads;
 static int fail_errno, fail_half, tell_fd = -1, is_made = 0, is_made_synced = 1, torn_file = -1;
 static uint64_t seed;
 static struct file files[FILES];
 static int file_count;
 static struct names now, synced;
 static int file_of[FDS]; // the file of a descriptor and 1, or 0
+static int is_read[FDS]; // whether a descriptor reads the folder or a file there
 
 static uint64_t drawn(uint64_t below) {
     seed = seed * 6364136223846793005ull + 1442695040888963407ull;
@@ -112,6 +115,7 @@ static __attribute__((constructor)) void start(void) {
     fail_count = (it = getenv("FAIL_COUNT")) ? atol(it) : 1;
     fail_errno = (it = getenv("FAIL_ERRNO")) ? atoi(it) : EIO;
     fail_half = getenv("FAIL_HALF") != NULL;
+    fail_read_at = (it = getenv("FAIL_READ_AT")) ? atol(it) : 0;
     seed = (it = getenv("CRASH_SEED")) ? strtoull(it, NULL, 10) : 1;
     if ((it = getenv("CRASH_TELL"))) tell_fd = syscall(SYS_openat, AT_FDCWD, it, O_WRONLY | O_CREAT | O_TRUNC, 0644);
     DIR *all = opendir(folder);
@@ -191,13 +195,23 @@ static int fails(char kind) {
     return 1;
 }
 
+// Counts a call that only reads; whether it fails.
+static int read_fails(void) {
+    reads++;
+    if (tell_fd >= 0) syscall(SYS_write, tell_fd, "x", 1);
+    if (reads != fail_read_at) return 0;
+    errno = fail_errno;
+    return 1;
+}
+
 static int opened(int dir, const char *path, int flags, mode_t mode) {
     const char *text = name_in(path);
-    int writes = text && (flags & O_ACCMODE) != O_RDONLY;
-    if (writes && fails('o')) return -1;
+    int writes = text && (flags & O_ACCMODE) != O_RDONLY, only_reads = !writes && (text || strcmp(path, folder) == 0);
+    if ((writes && fails('o')) || (only_reads && read_fails())) return -1;
     int fd = syscall(SYS_openat, dir, path, flags, mode);
     if (fd < 0 || fd >= FDS) return fd;
     file_of[fd] = 0;
+    is_read[fd] = only_reads;
     if (!writes) return fd;
     struct name *it = found(&now, text);
     // The bytes that a truncation takes away stay on the disk until the file is synced.
@@ -213,8 +227,16 @@ static mode_t mode_in(int flags, va_list rest) { return flags & O_CREAT ? va_arg
 OPEN(open) OPEN(open64) OPENAT(openat) OPENAT(openat64)
 
 int close(int fd) {
-    if (fd >= 0 && fd < FDS) file_of[fd] = 0;
+    if (fd >= 0 && fd < FDS) file_of[fd] = is_read[fd] = 0;
     return syscall(SYS_close, fd);
+}
+
+static int reads_in(int fd) { return fd >= 0 && fd < FDS && is_read[fd]; }
+ssize_t read(int fd, void *to, size_t n) { return reads_in(fd) && read_fails() ? -1 : syscall(SYS_read, fd, to, n); }
+ssize_t getdents64(int fd, void *to, size_t n) { return reads_in(fd) && read_fails() ? -1 : syscall(SYS_getdents64, fd, to, n); }
+int statx(int dir, const char *path, int flags, unsigned mask, struct statx *to) {
+    int is_there = *path ? name_in(path) != NULL || strcmp(path, folder) == 0 : reads_in(dir);
+    return is_there && read_fails() ? -1 : syscall(SYS_statx, dir, path, flags, mask, to);
 }
 
 ssize_t write(int fd, const void *bytes, size_t n) {
