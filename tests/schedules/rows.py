@@ -115,6 +115,8 @@ def restart(batch, count):
     return [
         *snapshots,
         ("snap", "refused TooManySnapshots"),
+        ("release 1.1", "released 1.1"),
+        ("snap", "snapshot 1.65 at 0"),
         (batch, f"seq 1-{count}"),
         (batch, f"seq {count + 1}-{2 * count}"),
         ("del k", "refused MemtableFull"),
