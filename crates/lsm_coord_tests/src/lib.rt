@@ -1,6 +1,7 @@
-//! Tests of the coordinator by its public calls: worked examples, vaults that fail, and the texts of refusals.
+//! Tests of `lsm_coord` by its public calls, of what no script shows: results that are no outputs of their job, copies, and the texts of
+//! refusals. Writes, reads, flushes, snapshots, jobs, restarts, trims and what followers are told are scripts (`tests/schedules/rows`).
 //!
-//! They are a crate of their own, so that the coordinator is proved once. It has no code beside them.
+//! They are a crate of their own, so that `lsm_coord` is proved once. It has no code beside them.
 #![tactic(auto)]
 
 #[cfg(test)]

@@ -1,0 +1,150 @@
+//! Results that are no outputs of their job, and then one that is.
+
+use bytes::Bytes;
+use lsm_claim::{Claim, JobId};
+use lsm_coord::{Coord, CoordError, Desk, Install, InstallError, Seat};
+use lsm_key::{Batch, DEFAULT_BLOCK, Items, Limits, Op};
+use lsm_msg::{JobResult, NodeIndex};
+use lsm_vault::MemoryVault;
+use std::alloc::{AllocError, Global};
+use std::process::Abort;
+use std::test::Fail;
+
+type Store = Coord<MemoryVault>;
+
+/// What became of a result.
+#[derive(Clone, Copy, Debug, PartialEq)]
+enum Became {
+    /// Its tables are in the version of this number.
+    Installed(u64),
+    Kept(InstallError),
+    Other,
+}
+
+/// The deletion of a at sequence 2 and its put at sequence 1.
+const MERGED: &[u8] =
+    b"LSMT\x01\0\0\x10\0\0\0\0\x02\0\0\0\x01\0\0\0\x1f\0\x01a\0\0\0\0\0\0\x01\x01\0\x01a\0\0\0\0\0\0\x02\0\0\0\0\0\0\x01a\0\0\0\0\0\0\x01\x01\0\0\0\x011";
+
+/// The same without its last byte.
+const CUT: &[u8] =
+    b"LSMT\x01\0\0\x10\0\0\0\0\x02\0\0\0\x01\0\0\0\x1f\0\x01a\0\0\0\0\0\0\x01\x01\0\x01a\0\0\0\0\0\0\x02\0\0\0\0\0\0\x01a\0\0\0\0\0\0\x01\x01\0\0\0\x01";
+
+/// The same under the block target 16,777,216.
+const OTHER_TARGET: &[u8] =
+    b"LSMT\x01\x01\0\0\0\0\0\0\x02\0\0\0\x01\0\0\0\x1f\0\x01a\0\0\0\0\0\0\x01\x01\0\x01a\0\0\0\0\0\0\x02\0\0\0\0\0\0\x01a\0\0\0\0\0\0\x01\x01\0\0\0\x011";
+
+/// A put of b at sequence 1.
+const OF_B: &[u8] =
+    b"LSMT\x01\0\0\x10\0\0\0\0\x01\0\0\0\x01\0\0\0\x10\0\x01b\0\0\0\0\0\0\x01\x01\0\x01b\0\0\0\0\0\0\x01\x01\0\0\0\x011";
+
+const BAD: Became = Became::Kept(InstallError::BadResult);
+
+/// Results of the job of both files: the job's number, the tables, and what becomes of them. The right one is that of a merge without
+/// snapshots, which keeps nothing.
+const RESULTS: [(u64, &[&[u8]], Became); 6] = [
+    (1, &[OF_B], BAD),
+    (1, &[CUT], BAD),
+    (1, &[MERGED, MERGED], BAD),
+    (1, &[OTHER_TARGET], BAD),
+    (2, &[], Became::Kept(InstallError::WrongJob)),
+    (1, &[], Became::Installed(4)),
+];
+
+/// Writes an operation and flushes it.
+fn flush(alloc: Global, coord: &mut Store, op: Op) -> Result<(), Fail> {
+    let mut batch = Batch::new(alloc);
+    batch.push(op)?;
+    coord.write(&batch)?;
+    coord.flush()?;
+    Ok(())
+}
+
+/// A store with two files: a put of a and its deletion.
+fn store_of_two(alloc: Global) -> Result<Store, Fail> {
+    let limits = Limits::new(2, 10_485_760, DEFAULT_BLOCK).ok_or("no limits")?;
+    let Ok(mut coord) = Coord::open(alloc, MemoryVault::new(alloc), limits) else {
+        return Err(AllocError.into());
+    };
+    let key = Bytes::from_static(b"a");
+    flush(alloc, &mut coord, Op::Put(key, Bytes::from_static(b"1")))?;
+    flush(alloc, &mut coord, Op::Delete(Bytes::from_static(b"a")))?;
+    Ok(coord)
+}
+
+/// Lets a dispatcher hold a claim. One that it held before is given back.
+fn hold(coord: &mut Store, desk: &mut Desk, index: NodeIndex, claim: Claim) {
+    match desk.hold(index, claim) {
+        None => {}
+        Some(before) => {
+            coord.give_back(before);
+        }
+    }
+}
+
+/// Picks a job, whose claim the dispatcher holds then.
+fn pick(coord: &mut Store, desk: &mut Desk, index: NodeIndex) -> Result<(), CoordError> {
+    match coord.pick()? {
+        None => {}
+        Some((claim, _job)) => hold(coord, desk, index, claim),
+    }
+    Ok(())
+}
+
+/// Installs a result under the claim that the dispatcher holds, which it holds again if that is handed back.
+fn install(coord: &mut Store, desk: &mut Desk, index: NodeIndex, made: &JobResult) -> Became {
+    let Some(claim) = desk.take(index) else {
+        return Became::Other;
+    };
+    match coord.install(claim, made) {
+        Install::Done(number, _files) => Became::Installed(number.number()),
+        Install::Kept(claim, why) => {
+            hold(coord, desk, index, claim);
+            Became::Kept(why)
+        }
+        Install::Stale(_job, _epoch) => Became::Other,
+    }
+}
+
+/// The result of a job of this number with these tables.
+fn result_of(
+    alloc: Global,
+    number: u64,
+    tables: &[&'static [u8]],
+) -> Result<JobResult, AllocError> {
+    let mut list = Items::new(alloc);
+    for table in tables {
+        list.push(Bytes::from_static(table))?;
+    }
+    let job = JobId { epoch: 1, number };
+    Ok(JobResult { job, tables: list })
+}
+
+fn see(
+    rt: &impl Abort,
+    alloc: Global,
+    seat: &mut Seat<MemoryVault>,
+    desk: &mut Desk,
+) -> Result<(), Fail> {
+    let index = NodeIndex::new(1).ok_or("no such node")?;
+    let Seat::Up(coord) = seat else {
+        return Err("no coordinator".into());
+    };
+    pick(coord, desk, index)?;
+    for (number, tables, wanted) in RESULTS {
+        let became = install(coord, desk, index, &result_of(alloc, number, tables)?);
+        if became == Became::Kept(InstallError::OutOfMemory) {
+            return Err(AllocError.into());
+        }
+        assert!(rt; became == wanted, "{wanted:?}, and not {became:?}");
+    }
+    Ok(())
+}
+
+#[test]
+fn results_that_are_no_outputs_are_kept_back(rt: HostRuntime) -> Result<(), Fail> {
+    let mut seat = Seat::Up(store_of_two(rt.alloc())?);
+    let mut desk = Desk::new();
+    let seen = see(&rt, rt.alloc(), &mut seat, &mut desk);
+    desk.close(&mut seat);
+    seen
+}
