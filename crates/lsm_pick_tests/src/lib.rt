@@ -1,6 +1,6 @@
-//! Tests of `lsm_pick` by its public calls: levels that are due, closures that grow by steps, limits of a job, and the texts of refusals.
+//! Tests of `lsm_pick` by its public calls, of what no script shows: the texts of refusals. Picks are scripts (`tests/schedules/rows`).
 //!
-//! They are a crate of their own, so that the picker is proved once. It has no code beside them.
+//! They are a crate of their own, so that `lsm_pick` is proved once. It has no code beside them.
 #![tactic(auto)]
 
 #[cfg(test)]
