@@ -1,10 +1,6 @@
-//! Merges, most of tables whose keys and values have one letter.
+//! Merges of tables whose keys and values have one letter.
 
-mod outputs;
-mod plain;
-mod random;
 mod refusals;
-mod slow;
 mod walks;
 
 ghost use Rattle.std.specs.Prelude.{IfOk};
@@ -13,7 +9,7 @@ ghost use Rattle.lsm_key.specs.Entries.{IsEntry};
 use bytes::Bytes;
 use lsm_claim::JobId;
 use lsm_edit::FileMeta;
-use lsm_key::{DEFAULT_BLOCK, Entry, InternalKey, Items, KeyRange, Kind, Seq};
+use lsm_key::{DEFAULT_BLOCK, Entry, InternalKey, Items, Kind, Seq};
 use lsm_merge::{MergeError, merge};
 use lsm_msg::{Job, JobParts};
 use lsm_table::{BuildError, Table, TableBuilder};
@@ -107,59 +103,22 @@ fn outputs_of(alloc: Global, tables: &[Table], job: &Job) -> Result<Vec<Bytes>, 
 }
 
 /// The job of these inputs.
-fn job_of(
-    alloc: Global,
-    files: Vec<FileMeta>,
-    points: &[u16],
-    deeper: &[(u8, u8)],
-) -> Result<Job, Fail> {
+fn job_of(alloc: Global, files: Vec<FileMeta>, points: &[u16]) -> Result<Job, Fail> {
     let mut seqs = Items::new(alloc);
     for point in points {
         seqs.push(Seq::new(u64::from(*point)))?;
     }
-    let mut ranges = Items::new(alloc);
-    for (lo, hi) in deeper {
-        let lo = Bytes::copy_from_slice(alloc, &[*lo])?;
-        let hi = Bytes::copy_from_slice(alloc, &[*hi])?;
-        ranges.push(KeyRange { lo, hi })?;
-    }
-    job_at(DEFAULT_BLOCK, files, seqs, ranges)
-}
-
-/// The job of these inputs at a block target.
-fn job_at(
-    block: u32,
-    files: Vec<FileMeta>,
-    points: Items<Seq>,
-    deeper: Items<KeyRange>,
-) -> Result<Job, Fail> {
+    let id = JobId {
+        epoch: 1,
+        number: 1,
+    };
     let parts = JobParts {
-        id: JobId {
-            epoch: 1,
-            number: 1,
-        },
+        id,
         level: 0,
-        block,
-        points,
+        block: DEFAULT_BLOCK,
+        points: seqs,
         inputs: Items::from_vec(files),
-        deeper,
+        deeper: Items::new(alloc),
     };
     Ok(Job::new(parts).ok_or("no job")?)
-}
-
-/// The entries of an output as rows.
-fn rows_in(alloc: Global, output: Bytes) -> Result<Vec<Row>, Fail> {
-    rows_of(alloc, &Table::open(alloc, output)?)
-}
-
-fn rows_of(alloc: Global, table: &Table) -> Result<Vec<Row>, Fail> {
-    let mut rows = Vec::new(alloc);
-    let entries = table.entries(alloc)?;
-    for entry in &entries {
-        let key = *entry.ikey.key.as_slice().first().ok_or("no key")?;
-        let seq = u16::try_from(entry.ikey.seq.number())?;
-        let value = entry.value.as_slice().first().copied();
-        rows.push(Row { key, seq, value })?;
-    }
-    Ok(rows)
 }

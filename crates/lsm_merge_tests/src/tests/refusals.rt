@@ -61,7 +61,7 @@ fn refusal(alloc: Global, keys: &[u8], change: Change) -> Result<Option<MergeErr
         let first = changed(files.remove(0), change);
         files.insert(0, first)?;
     }
-    let job = job_of(alloc, files, &[], &[])?;
+    let job = job_of(alloc, files, &[])?;
     why_not(alloc, &tables_of(alloc, keys)?, &job)
 }
 
@@ -89,7 +89,7 @@ fn refusal_beside(alloc: Global, second: Row) -> Result<Option<MergeError>, Fail
     let mut tables = Vec::new(alloc);
     tables.push(table_of(alloc, &[put(b'a', 1, b'1')])?)?;
     tables.push(table_of(alloc, &[second])?)?;
-    let job = job_of(alloc, files_of(alloc, &tables)?, &[], &[])?;
+    let job = job_of(alloc, files_of(alloc, &tables)?, &[])?;
     why_not(alloc, &tables, &job)
 }
 

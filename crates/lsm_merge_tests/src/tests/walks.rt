@@ -40,7 +40,7 @@ fn walked(alloc: Global, rows: [&[Row]; 2], points: &[u16]) -> Result<Three, Fai
         tables.push(table_of(alloc, list)?)?;
     }
     let files = files_of(alloc, &tables)?;
-    let job: Job = job_of(alloc, files, points, &[])?;
+    let job: Job = job_of(alloc, files, points)?;
     let cursors = cursors_of(alloc, &tables)?;
     let mut walk = Walk::new(alloc, cursors, &job)?;
     let first = next_place(&mut walk);
@@ -79,7 +79,7 @@ fn a_shared_entry_is_refused_from_then_on(rt: HostRuntime) -> Result<(), Fail> {
 #[test]
 fn a_walk_over_no_cursor_has_ended(rt: HostRuntime) -> Result<(), Fail> {
     let table = table_of(rt.alloc(), &[put(b'a', 1, b'x')])?;
-    let job = job_of(rt.alloc(), files_of(rt.alloc(), &[table])?, &[], &[])?;
+    let job = job_of(rt.alloc(), files_of(rt.alloc(), &[table])?, &[])?;
     let mut walk = Walk::new(rt.alloc(), Vec::new(rt.alloc()), &job)?;
     let first = next_place(&mut walk);
     drop(walk);
