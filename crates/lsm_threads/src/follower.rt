@@ -108,7 +108,9 @@ fn hand_over<R: Wait>(
     ensures sound { IfSome result (λ r. All IsMessage r.1.items) }
 {
     let message = receive(rt, alloc, from)?;
-    match follower.on_message(&message) {
+    let made = follower.on_message(&message);
+    drop(message);
+    match made {
         Ok(made) => Some(made),
         Err(_) => None,
     }

@@ -44,6 +44,29 @@ impl<'a, V: Vault, J: Start, N: Witness + Drop, R: Wait> ChannelLink<'a, V, J, N
             from,
         }
     }
+
+    // Sends the worker a job, and says whether it did.
+    fn hand_out(&self, job: Job) -> bool {
+        let message = Message::to_worker(self.worker, job);
+        let is_sent = send(self.rt, self.alloc, &self.to, &message);
+        drop(message);
+        is_sent
+    }
+
+    // Waits for a message: the result of this job, or a question, which it answers. None if nothing more can come.
+    fn next_result(&self, id: JobId) -> Option<Option<JobResult>>
+        ensures { IfSome result (λ found. IfSome found (λ made. made.job ≡ id)) }
+    {
+        let message = receive(self.rt, self.alloc, &self.from)?;
+        match result_of(message, id) {
+            Ok(made) => Some(Some(made)),
+            Err(asked) => {
+                let is_answered = answer(self.rt, self.alloc, self.hub, &asked, &self.to);
+                drop(asked);
+                if is_answered { Some(None) } else { None }
+            }
+        }
+    }
 }
 
 impl<V: Vault, J: Start, N: Witness + Drop, R: Wait> Link for ChannelLink<'_, V, J, N, R> {
@@ -51,22 +74,12 @@ impl<V: Vault, J: Start, N: Witness + Drop, R: Wait> Link for ChannelLink<'_, V,
         ensures { IfSome result (λ made. made.job ≡ job.id) }
     {
         let id = job.id();
-        if !send(
-            self.rt,
-            self.alloc,
-            &self.to,
-            &Message::to_worker(self.worker, job),
-        ) {
+        if !self.hand_out(job) {
             return None;
         }
         for _ in self.rt.forever() {
-            let message = receive(self.rt, self.alloc, &self.from)?;
-            let asked = match result_of(message, id) {
-                Ok(made) => return Some(made),
-                Err(asked) => asked,
-            };
-            if !answer(self.rt, self.alloc, self.hub, &asked, &self.to) {
-                return None;
+            if let Some(made) = self.next_result(id)? {
+                return Some(made);
             }
         }
         unreachable!()

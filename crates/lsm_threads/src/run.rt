@@ -13,7 +13,7 @@ use follow::follow;
 use lsm_coord::{Coord, ShownVersion};
 use lsm_edit::Served;
 use lsm_key::{DEFAULT_BASE, DEFAULT_BLOCK, Limits, VersionNumber};
-use lsm_nodes::{Hub, PARTS, Start, Witness};
+use lsm_nodes::{Hub, PARTS, Start, Tally, Witness};
 use lsm_readers::{LogName, NewLog};
 use lsm_vault::{MemoryVault, Vault};
 use merge::merge;
@@ -85,14 +85,44 @@ fn over_hub<
     requires idle { coord.book.live ≡ [] }
     requires log { log ≡ J.log }
 {
-    let (hub, mut tally) = Hub::<V, J, N>::new(alloc, coord, blank);
-    fill(rt, alloc, &hub, &mut tally)?;
-    let mut tally = merge(rt, alloc, &hub, tally)?;
+    let (hub, tally) = Hub::<V, J, N>::new(alloc, coord, blank);
+    let (tally, report) = in_turn(rt, alloc, &hub, tally, log)?;
+    match hub.close(tally) {
+        Ok(history) => {
+            drop(history);
+            Ok(report)
+        }
+        Err(back) => {
+            drop(back);
+            Err(ThreadsError::ReadFault)
+        }
+    }
+}
+
+// The writes, the dispatchers and the follower, one after another.
+fn in_turn<
+    V: Vault + Send,
+    J: Start + LogName + Send + Sync,
+    N: Witness + Drop + Send,
+    R: Threads + Wait + Sync,
+>(
+    rt: &R,
+    alloc: Global,
+    hub: &Hub<V, J, N>,
+    tally: Tally<J>,
+    log: NewLog,
+) -> Result<(Tally<J>, ThreadsReport), ThreadsError>
+    requires parts { tally.parts ≡ PARTS }
+    requires log { log ≡ J.log }
+{
+    let mut tally = tally;
+    fill(rt, alloc, hub, &mut tally)?;
+    let mut tally = merge(rt, alloc, hub, tally)?;
     let shown = match hub.show(rt, &mut tally) {
         Ok(shown) => shown,
         Err(why) => return Err(reason_of(why)),
     };
-    let reads = follow(rt, alloc, &hub, shown.number, log)?;
+    let reads = follow(rt, alloc, hub, shown.number, log)?;
     let report = ThreadsReport {
         picked: tally.picked(),
         installed: tally.installed(),
@@ -101,8 +131,5 @@ fn over_hub<
         shown,
         reads,
     };
-    match hub.close(tally) {
-        Ok(_history) => Ok(report),
-        Err(_) => Err(ThreadsError::ReadFault),
-    }
+    Ok((tally, report))
 }

@@ -21,12 +21,27 @@ pub fn serve_loop<V: Vault, J: Start, N: Witness + Drop, R: Wait>(
     to: Sender<Bytes>,
 ) {
     for _ in rt.forever() {
-        let Some(message) = receive(rt, alloc, &from) else {
-            break;
-        };
-        if !answer(rt, alloc, hub, &message, &to) {
+        if !serve_next(rt, alloc, hub, &from, &to) {
             break;
         }
+    }
+}
+
+// Waits for a message, and answers it. Says whether the loop goes on.
+fn serve_next<V: Vault, J: Start, N: Witness + Drop, R: Wait>(
+    rt: &R,
+    alloc: Global,
+    hub: &Hub<V, J, N>,
+    from: &Receiver<Bytes>,
+    to: &Sender<Bytes>,
+) -> bool {
+    match receive(rt, alloc, from) {
+        Some(message) => {
+            let is_answered = answer(rt, alloc, hub, &message, to);
+            drop(message);
+            is_answered
+        }
+        None => false,
     }
 }
 
@@ -41,7 +56,11 @@ pub(crate) fn answer<V: Vault, J: Start, N: Witness + Drop, R: Wait>(
     requires { IsMessage message.now }
 {
     match hub.serve(rt, message) {
-        Ok(Some(answer)) => send(rt, alloc, to, &answer),
+        Ok(Some(answer)) => {
+            let is_sent = send(rt, alloc, to, &answer);
+            drop(answer);
+            is_sent
+        }
         Ok(None) => true,
         Err(_) => false,
     }

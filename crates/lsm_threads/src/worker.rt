@@ -17,15 +17,28 @@ pub fn worker_loop<R: Wait>(
     to: Sender<Bytes>,
 ) -> Worker {
     for _ in rt.forever() {
-        let Some(message) = receive(rt, alloc, &from) else {
-            break;
-        };
-        let Ok((change, sent)) = worker.on_message(&message) else {
-            break;
-        };
-        if !send_all(rt, alloc, &to, sent.as_slice()) || change == WorkChange::Dropped {
+        if !turn(rt, alloc, &mut worker, &from, &to) {
             break;
         }
     }
     worker
+}
+
+// Waits for a message, hands it to the worker, and sends what it answers. Says whether the loop goes on.
+fn turn<R: Wait>(
+    rt: &R,
+    alloc: Global,
+    worker: &mut Worker,
+    from: &Receiver<Bytes>,
+    to: &Sender<Bytes>,
+) -> bool {
+    let Some(message) = receive(rt, alloc, from) else {
+        return false;
+    };
+    let made = worker.on_message(&message);
+    drop(message);
+    let Ok((change, sent)) = made else {
+        return false;
+    };
+    send_all(rt, alloc, to, sent.as_slice()) && change != WorkChange::Dropped
 }

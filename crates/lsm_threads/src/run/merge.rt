@@ -1,6 +1,6 @@
 //! Two dispatchers, each with a worker.
 
-ghost use Rattle.std.specs.Prelude.{◌≡◌, ◌≤◌, IfOk, IfSome};
+ghost use Rattle.std.specs.Prelude.{◌≡◌, ◌+◌, ◌≤◌, IfOk, IfSome};
 
 use super::ThreadsError;
 use crate::dispatcher::dispatch_with_worker;
@@ -23,10 +23,7 @@ pub(super) fn merge<
     ensures { IfOk result (λ t. t.parts ≡ PARTS) }
 {
     let mut tally = tally;
-    let Some(one) = NodeIndex::new(1) else {
-        return Err(ThreadsError::ReadFault);
-    };
-    let Some(two) = NodeIndex::new(2) else {
+    let Some((one, two)) = workers() else {
         return Err(ThreadsError::ReadFault);
     };
     if tally.picked() > 0 {
@@ -35,16 +32,31 @@ pub(super) fn merge<
     let first = tally.split();
     let second = tally.split();
     let (first, second) = both(rt, alloc, hub, (one, first), (two, second));
-    let Some(first) = first else {
+    let Some(tally) = merged(tally, first) else {
         return Err(ThreadsError::OutOfMemory);
     };
-    let Some(second) = second else {
-        return Err(ThreadsError::OutOfMemory);
-    };
-    if tally.merge(first).is_err() || tally.merge(second).is_err() {
-        return Err(ThreadsError::OutOfMemory);
+    match merged(tally, second) {
+        Some(tally) => Ok(tally),
+        None => Err(ThreadsError::OutOfMemory),
     }
-    Ok(tally)
+}
+
+fn workers() -> Option<(NodeIndex, NodeIndex)> {
+    Some((NodeIndex::new(1)?, NodeIndex::new(2)?))
+}
+
+// The tally with that of a dispatcher merged into it. None if there is no other one, or no memory.
+fn merged<J: Start>(tally: Tally<J>, other: Option<Tally<J>>) -> Option<Tally<J>>
+    requires tally { (tally.parts ≤ PARTS) × (tally.picked ≤ 1) }
+    requires other { IfSome other (λ t. (t.parts ≡ 1) × (t.picked ≤ 1)) }
+    ensures { IfSome result (λ t. (t.parts ≡ tally.parts + 1) × (t.picked ≤ tally.picked + 1)) }
+{
+    let mut tally = tally;
+    let other = other?;
+    match tally.merge(other) {
+        Ok(()) => Some(tally),
+        Err(_) => None,
+    }
 }
 
 fn both<
