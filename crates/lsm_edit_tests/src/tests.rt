@@ -1,8 +1,7 @@
-//! Edits as the format's worked examples have them, and each refusal by its name.
+//! Edits as the format's worked examples have them, field by field. Their faults, and which edits apply, are in tests/bytes.
 
 mod bases;
 mod cursors;
-mod installs;
 mod served;
 mod versions;
 
@@ -10,10 +9,9 @@ ghost use Rattle.std.specs.Prelude.{IfOk};
 ghost use Rattle.lsm_edit.specs.Edit.{IsEdit};
 
 use bytes::Bytes;
-use installs::INSTALL;
-use lsm_edit::{Edit, EditKind, FileMeta, FormatFault, Served, decode_edit, encode_edit};
+use lsm_edit::{Edit, EditKind, FileMeta, Version, decode_edit, encode_edit};
 use lsm_key::{Items, Refused, Seq};
-use std::alloc::Global;
+use std::alloc::{AllocError, Global};
 use std::test::Fail;
 
 // The first edit of every store.
@@ -36,48 +34,77 @@ const FLUSH: [u8; 64] = [
     0, 1, 0x61, 0, 1, 0x61, 0, 0, 0, 0x30, 0, 0, 0, 1,
 ];
 
-// What each fault is found by: a length of the flush, a place and its byte.
-const FAULTS: [(usize, usize, u8, FormatFault); 30] = [
-    (64, 7, 0, FormatFault::BadField),
-    (64, 0, 0x80, FormatFault::BadField),
-    (64, 8, 0, FormatFault::BadField),
-    (64, 8, 2, FormatFault::BadField),
-    (64, 8, 3, FormatFault::BadField),
-    (64, 8, 4, FormatFault::BadField),
-    (64, 9, 1, FormatFault::BadField),
-    (64, 24, 0, FormatFault::BadField),
-    (64, 17, 0x80, FormatFault::BadField),
-    (64, 32, 0, FormatFault::BadField),
-    (64, 25, 0x80, FormatFault::BadField),
-    (64, 36, 1, FormatFault::BadField),
-    (64, 40, 0, FormatFault::BadField),
-    (64, 40, 2, FormatFault::BadField),
-    (64, 48, 0, FormatFault::BadField),
-    (64, 41, 0x80, FormatFault::BadField),
-    (64, 49, 1, FormatFault::BadField),
-    (64, 49, 7, FormatFault::BadField),
-    (64, 51, 0, FormatFault::BadField),
-    (64, 50, 4, FormatFault::BadField),
-    (64, 51, 2, FormatFault::Truncated),
-    (64, 52, 0x62, FormatFault::BadField),
-    (64, 54, 0, FormatFault::BadField),
-    (64, 59, 0, FormatFault::BadField),
-    (64, 56, 2, FormatFault::BadField),
-    (64, 63, 0, FormatFault::BadField),
-    (7, 0, 0x80, FormatFault::Truncated),
-    (8, 7, 0, FormatFault::BadField),
-    (9, 8, 4, FormatFault::BadField),
-    (63, 59, 0, FormatFault::BadField),
+// Two files of level 0 become two of level 1: of the key a, and of the key b.
+const INSTALL: [u8; 103] = [
+    0, 0, 0, 0, 0, 0, 0, 4, 2, //
+    0, 0, 0, 0, 0, 0, 0, 2, //
+    0, 0, 0, 0, 0, 0, 0, 1, //
+    0, 0, 0, 0, 0, 0, 0, 5, //
+    0, 0, 0, 2, //
+    0, 0, 0, 0, 0, 0, 0, 1, //
+    0, 0, 0, 0, 0, 0, 0, 2, //
+    0, 0, 0, 2, //
+    0, 0, 0, 0, 0, 0, 0, 3, 1, //
+    0, 1, 0x61, 0, 1, 0x61, 0, 0, 0, 0x30, 0, 0, 0, 1, //
+    0, 0, 0, 0, 0, 0, 0, 4, 1, //
+    0, 1, 0x62, 0, 1, 0x62, 0, 0, 0, 0x30, 0, 0, 0, 1,
 ];
 
-// The fault of the bytes as an edit, or none.
-fn fault_of(alloc: Global, bytes: &[u8]) -> Result<Option<FormatFault>, Fail> {
-    match decode_edit(alloc, Bytes::copy_from_slice(alloc, bytes)?) {
-        Ok(_) => Ok(None),
-        Err(Refused::Fault(fault)) => Ok(Some(fault)),
-        Err(Refused::OutOfMemory) => Err("out of memory")?,
-    }
+// What an edit says: the files that go by number, those that come by number, level and key.
+#[derive(Clone, Copy)]
+struct Said {
+    number: u64,
+    kind: EditKind,
+    flushed: u32,
+    epoch: u64,
+    next_file: u64,
+    removed: &'static [u64],
+    added: &'static [(u64, u8, &'static [u8])],
 }
+
+// The keys of the files.
+const A: &[u8] = b"a";
+
+const B: &[u8] = b"b";
+
+const EDITS: [(&[u8], Said); 3] = [
+    (
+        &EPOCH,
+        Said {
+            number: 1,
+            kind: EditKind::Epoch,
+            flushed: 0,
+            epoch: 1,
+            next_file: 1,
+            removed: &[],
+            added: &[],
+        },
+    ),
+    (
+        &FLUSH,
+        Said {
+            number: 2,
+            kind: EditKind::Flush,
+            flushed: 1,
+            epoch: 1,
+            next_file: 2,
+            removed: &[],
+            added: &[(1, 0, A)],
+        },
+    ),
+    (
+        &INSTALL,
+        Said {
+            number: 4,
+            kind: EditKind::Install,
+            flushed: 2,
+            epoch: 1,
+            next_file: 5,
+            removed: &[1, 2],
+            added: &[(3, 1, A), (4, 1, B)],
+        },
+    ),
+];
 
 // The edit that the bytes encode.
 fn edit_of(alloc: Global, bytes: &[u8]) -> Result<Edit, Fail>
@@ -95,15 +122,6 @@ fn is_spelled(alloc: Global, bytes: &[u8], wanted: &Edit) -> Result<bool, Fail> 
     let edit = edit_of(alloc, bytes)?;
     let written = encode_edit(alloc, &edit)?;
     Ok(edit.same(wanted) && written.as_slice() == bytes)
-}
-
-// The bytes are refused as an edit, or are its one encoding.
-fn is_refused_or_spelled(alloc: Global, bytes: &[u8]) -> Result<bool, Fail> {
-    match decode_edit(alloc, Bytes::copy_from_slice(alloc, bytes)?) {
-        Ok(edit) => Ok(encode_edit(alloc, &edit)?.as_slice() == bytes),
-        Err(Refused::Fault(_)) => Ok(true),
-        Err(Refused::OutOfMemory) => Err("out of memory")?,
-    }
 }
 
 // A copy with some of its bytes changed.
@@ -133,94 +151,39 @@ fn meta_of(number: u64, level: u8, key: &'static [u8]) -> FileMeta {
     }
 }
 
-#[test]
-fn the_first_edit_of_a_store(rt: HostRuntime) -> Result<(), Fail> {
-    let alloc = rt.alloc();
-    let wanted = Edit {
-        number: 1,
-        kind: EditKind::Epoch,
-        flushed: Seq::ZERO,
-        epoch: 1,
-        next_file: 1,
-        removed: Items::new(alloc),
-        added: Items::new(alloc),
-    };
-    assert!(rt; is_spelled(alloc, &EPOCH, &wanted)?);
-    let served = Served::new(alloc);
-    let edit = Edit::epoch(alloc, served.version());
-    assert!(rt; edit.same(&wanted));
-    Ok(())
-}
-
-#[test]
-fn the_edit_of_a_flush(rt: HostRuntime) -> Result<(), Fail> {
-    let alloc = rt.alloc();
+// The edit that says this.
+fn edit_saying(alloc: Global, said: Said) -> Result<Edit, AllocError> {
+    let mut removed = Items::new(alloc);
+    for number in said.removed {
+        removed.push(*number)?;
+    }
     let mut added = Items::new(alloc);
-    added.push(meta_of(1, 0, b"a"))?;
-    let wanted = Edit {
-        number: 2,
-        kind: EditKind::Flush,
-        flushed: Seq::new(1),
-        epoch: 1,
-        next_file: 2,
-        removed: Items::new(alloc),
+    for (number, level, key) in said.added {
+        added.push(meta_of(*number, *level, *key))?;
+    }
+    Ok(Edit {
+        number: said.number,
+        kind: said.kind,
+        flushed: Seq::new(u64::from(said.flushed)),
+        epoch: said.epoch,
+        next_file: said.next_file,
+        removed,
         added,
-    };
-    assert!(rt; is_spelled(alloc, &FLUSH, &wanted)?);
-    Ok(())
+    })
 }
 
 #[test]
-fn a_beginning_is_truncated(rt: HostRuntime) -> Result<(), Fail> {
-    for bytes in [EPOCH.as_slice(), FLUSH.as_slice(), INSTALL.as_slice()] {
-        for len in 0..bytes.len() {
-            let fault = fault_of(rt.alloc(), &bytes[..len])?;
-            assert!(rt; fault == Some(FormatFault::Truncated), "at {len}");
-        }
+fn edits_are_their_bytes(rt: HostRuntime) -> Result<(), Fail> {
+    for (bytes, wanted) in EDITS {
+        let wanted = edit_saying(rt.alloc(), wanted)?;
+        assert!(rt; is_spelled(rt.alloc(), bytes, &wanted)?, "{bytes:?}");
     }
     Ok(())
 }
 
 #[test]
-fn a_byte_more_trails(rt: HostRuntime) -> Result<(), Fail> {
-    for (bytes, kind, fault) in [
-        (EPOCH.as_slice(), 3, FormatFault::TrailingBytes),
-        (EPOCH.as_slice(), 4, FormatFault::BadField),
-        (FLUSH.as_slice(), 1, FormatFault::TrailingBytes),
-        (FLUSH.as_slice(), 4, FormatFault::BadField),
-    ] {
-        let mut long = changed(rt.alloc(), bytes, &[(8, kind)])?;
-        long.push(0)?;
-        assert!(rt; fault_of(rt.alloc(), &long)? == Some(fault));
-    }
-    Ok(())
-}
-
-#[test]
-fn each_fault_of_an_edit(rt: HostRuntime) -> Result<(), Fail> {
-    for (len, at, byte, fault) in FAULTS {
-        let mut bytes = changed(rt.alloc(), &FLUSH, &[(at, byte)])?;
-        bytes.truncate(len);
-        let found = fault_of(rt.alloc(), &bytes)?;
-        assert!(rt; found == Some(fault), "at {len} {at} {byte}");
-    }
-    Ok(())
-}
-
-#[test]
-fn a_change_is_refused_or_another_edit(rt: HostRuntime) -> Result<(), Fail> {
-    for bytes in [EPOCH.as_slice(), FLUSH.as_slice()] {
-        let mut bytes = Vec::from_slice(rt.alloc(), bytes)?;
-        for i in 0..64 * 255 {
-            let (at, change) = (i / 255, i % 255 + 1);
-            if let Some(place) = bytes.get_mut(at) {
-                *place ^= change as u8;
-                assert!(rt; is_refused_or_spelled(rt.alloc(), &bytes)?, "at {at}");
-            }
-            if let Some(place) = bytes.get_mut(at) {
-                *place ^= change as u8;
-            }
-        }
-    }
+fn a_store_begins_with_an_opening(rt: HostRuntime) -> Result<(), Fail> {
+    let edit = Edit::epoch(rt.alloc(), &Version::new(rt.alloc()));
+    assert!(rt; edit.same(&edit_of(rt.alloc(), &EPOCH)?));
     Ok(())
 }
