@@ -5,7 +5,7 @@ ghost use Rattle.std.specs.Prelude.{◌≡◌, [], IfOk};
 use crate::inspect::report_findings;
 use crate::{CommandError, Screen};
 use lsm_coord::Coord;
-use lsm_file_vault::{FileVault, HostFolder};
+use lsm_file_vault::{FileVault, HostFolder, Opened};
 use lsm_key::Limits;
 use lsm_store::{Options, Store};
 use std::process::ExitCode;
@@ -25,13 +25,15 @@ pub struct Place<'a> {
 }
 
 impl Place<'_> {
-    /// Opens the folder, and the store that it has. Bytes that are cut off are reported.
+    /// Opens the folder, and the store that it has. Files that are set aside are reported.
     pub fn open(self, rt: &HostRuntime, screen: &Screen<'_>) -> Result<FolderStore, CommandError> {
-        let vault = self.open_vault(rt, screen)?;
+        let Opened { vault, incidents } = self.open_vault(rt, screen)?;
         let options = Options {
             limits: self.limits,
         };
-        match Store::open(rt.alloc(), vault, options) {
+        let opened = Store::open(rt.alloc(), vault, options);
+        screen.report_incidents(rt.alloc(), &incidents);
+        match opened {
             Ok(store) => {
                 screen.show_opened(store.latest_sequence(), store.show().files.len());
                 Ok(store)
@@ -48,8 +50,10 @@ impl Place<'_> {
     ) -> Result<Coord<FolderVault>, CommandError>
         ensures { IfOk result (λ coord. coord.book.live ≡ []) }
     {
-        let vault = self.open_vault(rt, screen)?;
-        match Coord::open(rt.alloc(), vault, self.limits) {
+        let Opened { vault, incidents } = self.open_vault(rt, screen)?;
+        let opened = Coord::open(rt.alloc(), vault, self.limits);
+        screen.report_incidents(rt.alloc(), &incidents);
+        match opened {
             Ok(coord) => Ok(coord),
             Err((why, _vault)) => Err(CommandError::Store(why)),
         }
@@ -60,13 +64,9 @@ impl Place<'_> {
         self,
         rt: &HostRuntime,
         screen: &Screen<'_>,
-    ) -> Result<FolderVault, CommandError> {
+    ) -> Result<Opened<HostRuntime>, CommandError> {
         screen.show_opening(self.folder);
-        let opened = lsm_file_vault::open(rt, self.folder)?;
-        if opened.cut_bytes > 0 {
-            screen.report_cut(opened.cut_bytes);
-        }
-        Ok(opened.vault)
+        Ok(lsm_file_vault::open(rt, self.folder)?)
     }
 
     /// Reports why the folder is not opened, and if its store is refused, each file whose table is not as its record says. Returns the

@@ -1,7 +1,9 @@
 //! What a command shows on standard error: why it fails, and on a terminal how far it has come.
 
 use crate::FAILED;
+use lsm_file_vault::Incidents;
 use lsm_key::Seq;
+use std::alloc::Global;
 use std::fmt::Display;
 use std::io::IsTerminal;
 use std::process::ExitCode;
@@ -76,8 +78,13 @@ impl<'a> Screen<'a> {
         }
     }
 
-    /// Reports that bytes were cut off which a stop in the middle of a write had left.
-    pub(crate) fn report_cut(&self, bytes: u64) {
-        let _ = eprintln!(self.rt; "{bytes} bytes of an unfinished write were cut off");
+    /// Reports what happened in a folder beside the results of calls.
+    pub(crate) fn report_incidents(&self, alloc: Global, incidents: &Incidents) {
+        for file in incidents.take_set_aside(alloc) {
+            self.report(&file);
+        }
+        if let Some(error) = incidents.take_error() {
+            self.report(&error);
+        }
     }
 }

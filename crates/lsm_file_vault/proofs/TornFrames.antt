@@ -49,5 +49,5 @@ pub torn_front : (bytes : List ℕ) (k : ℕ) → length bytes < 2 ^ 32 → k < 
 torn_front bytes k short lt =
     elim (cases_lt k 16) [
       | inl few ↦ rw (length-take-le k (frame bytes) (omega (arith, lt)), lt-ltb k 16 few) refl
-      | inr enough ↦ third (ltb (length (take k (frame bytes))) 16) (list_all (λ b. b == 0) (take k (frame bytes))) (reaches_end (take k (frame bytes))) (reaches bytes k short enough lt)
+      | inr enough ↦ third (ltb (length (take k (frame bytes))) 16) (list_all (λ b. b == 0) (drop 8 (take k (frame bytes)))) (reaches_end (take k (frame bytes))) (reaches bytes k short enough lt)
     ]

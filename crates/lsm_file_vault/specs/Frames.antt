@@ -59,6 +59,6 @@ claimed rest = from_be_bytes w32 (take 4 rest)
 abbrev pub reaches_end : List ℕ → Bool
 reaches_end rest = from_be_bytes w32 (take 4 (drop 4 rest)) == turned (claimed rest) && nat_le (length rest - 16) (claimed rest)
 
--- what a stop in the middle of the last append may leave, where no frame begins: less than a header, zeros, or a frame that was cut short or has lost bytes
+-- what a stop in the middle of the last append may leave, where no frame begins: less than a header, zeros from the checksum on, or a frame that was cut short or has lost bytes
 abbrev pub is_torn : List ℕ → Bool
-is_torn rest = nat_lt (length rest) 16 || list_all (λ b. b == 0) rest || reaches_end rest
+is_torn rest = nat_lt (length rest) 16 || list_all (λ b. b == 0) (drop 8 rest) || reaches_end rest

@@ -3,7 +3,8 @@
 use crate::edits_file::{EditsFile, read_edits};
 use crate::error::called;
 use crate::frame::only_frame;
-use crate::names::{EDITS, FileKind, file_path, kind_of, table_path};
+use crate::listing::{Listing, list};
+use crate::names::{EDITS, file_path, table_path};
 use crate::{FileCall, OpenError};
 use bytes::Bytes;
 use lsm_key::{FileNumber, Refused};
@@ -23,14 +24,20 @@ pub struct Contents {
     pub edits: Vec<Bytes>,
     /// How many bytes the edits take in their file, with their frames.
     pub edits_bytes: u64,
-    /// How many bytes behind the last edit a stop in the middle of an append has left.
+    /// How many bytes are behind the last edit: what a stop in the middle of an append has left, or a last edit that is damaged.
     pub torn_bytes: u64,
+    /// These bytes.
+    pub(crate) torn: Bytes,
+    /// The names of the files that were set aside, in order.
+    pub lost_files: Vec<String>,
+    /// Whether there is a file that a table was written to before it took its name.
+    pub(crate) has_new: bool,
 }
 
 impl Contents {
     /// Reads the folder at `path`. It writes, cuts and locks nothing. A folder without a file of edits has none, and no table.
     ///
-    /// Damaged edits and a file of a name that no vault gives are errors. Damaged tables and torn bytes are reported.
+    /// Damaged edits and a foreign file are errors. Damaged tables and torn bytes are reported.
     pub fn read<R: Files + AllocGlobal + Clone + Drop>(
         files: &R,
         path: &str,
@@ -38,49 +45,27 @@ impl Contents {
         let alloc = files.alloc();
         let mut tables = Tables::new(alloc);
         let mut damaged_tables = Vec::new(alloc);
-        let numbers = table_numbers(files, path)?;
+        let Listing {
+            numbers,
+            lost_files,
+            has_edits,
+            has_new,
+        } = list(files, path)?;
         let has_tables = !numbers.is_empty();
         for number in numbers {
             add_table(files, path, number, &mut tables, &mut damaged_tables)?;
         }
-        let found = edits_of(files, path, has_tables)?;
+        let found = edits_of(files, path, has_edits, has_tables)?;
         Ok(Contents {
             tables,
             damaged_tables,
             edits: found.edits,
             edits_bytes: found.edits_bytes,
-            torn_bytes: found.torn_bytes,
+            torn_bytes: found.torn.len() as u64,
+            torn: found.torn,
+            lost_files,
+            has_new,
         })
-    }
-}
-
-/// The numbers of the tables in the folder. A file of a name that no vault gives is refused.
-pub(crate) fn table_numbers<R: Files + AllocGlobal + Clone + Drop>(
-    files: &R,
-    path: &str,
-) -> Result<Vec<FileNumber>, OpenError> {
-    let alloc = files.alloc();
-    let mut numbers = Vec::new(alloc);
-    let listed = fs::read_dir(files, path);
-    let entries = called(alloc, FileCall::List, path, listed)?;
-    for entry in entries {
-        let entry = called(alloc, FileCall::List, path, entry)?;
-        if let Some(number) = number_of(alloc, path, entry.file_name())? {
-            numbers.push(number)?;
-        }
-    }
-    Ok(numbers)
-}
-
-// The number of the table whose file has this name, or none if it is another file of a vault.
-fn number_of(alloc: Global, path: &str, name: &str) -> Result<Option<FileNumber>, OpenError> {
-    match kind_of(name) {
-        FileKind::Table(number) => Ok(Some(number)),
-        FileKind::Edits | FileKind::NewTable | FileKind::Lock => Ok(None),
-        FileKind::Foreign => {
-            let file = file_path(alloc, path, name)?;
-            Err(OpenError::ForeignFile { file })
-        }
     }
 }
 
@@ -116,16 +101,15 @@ fn table_of<R: Files + AllocGlobal>(
 fn edits_of<R: Files + AllocGlobal>(
     files: &R,
     path: &str,
+    has_edits: bool,
     has_tables: bool,
 ) -> Result<EditsFile, OpenError> {
     let alloc = files.alloc();
     let file = file_path(alloc, path, EDITS)?;
-    let exists = fs::exists(files, file.as_str());
-    let exists = called(alloc, FileCall::Read, file.as_str(), exists)?;
-    if !exists && has_tables {
+    if !has_edits && has_tables {
         return Err(OpenError::MissingEdits { file });
     }
-    let bytes = if exists {
+    let bytes = if has_edits {
         read_file(files, file.as_str())?
     } else {
         Bytes::new()

@@ -1,6 +1,6 @@
 //! The file of the edits: a frame for each.
 
-ghost use Rattle.std.specs.Prelude.{◌≡◌, Err, IfOk};
+ghost use Rattle.std.specs.Prelude.{◌≡◌, Err, IfOk, drop, length};
 ghost use Rattle.lsm_key.specs.declared.refused.Refused.TheVariants.{Fault};
 ghost use Rattle.lsm_file_vault.specs.EditsFile.{IsDamagedAt, IsEditsFile};
 
@@ -16,13 +16,14 @@ pub(crate) struct EditsFile {
     pub edits: Vec<Bytes>,
     /// How many bytes they take, with their frames.
     pub edits_bytes: u64,
-    /// How many bytes a stop in the middle of an append has left behind them.
-    pub torn_bytes: u64,
+    /// What is behind them: what a stop in the middle of an append may leave.
+    pub torn: Bytes,
 }
 
 /// Reads the edits in the bytes of their file. What can't be left by a stop is a fault: the offset at which it begins.
 pub(crate) fn read_edits(alloc: Global, file: Bytes) -> Result<EditsFile, Refused<u64>>
-    ensures ok { IfOk result (λ found. IsEditsFile file found.edits.items found.edits_bytes found.torn_bytes) }
+    ensures ok { IfOk result (λ found. IsEditsFile file found.edits.items found.edits_bytes (length found.torn)) }
+    ensures torn { IfOk result (λ found. found.torn ≡ drop found.edits_bytes file) }
     ensures fault { (offset : _) → result ≡ Err (Fault offset) → IsDamagedAt file offset }
 {
     let len = file.len();
@@ -32,7 +33,7 @@ pub(crate) fn read_edits(alloc: Global, file: Bytes) -> Result<EditsFile, Refuse
         Ok(EditsFile {
             edits,
             edits_bytes,
-            torn_bytes: rest.len() as u64,
+            torn: rest,
         })
     } else {
         Err(Refused::Fault(edits_bytes))

@@ -57,7 +57,7 @@ pub enum FileCall {
     List,
     Open,
     Read,
-    Cut,
+    Write,
     Sync,
     Lock,
 }
@@ -69,7 +69,7 @@ impl fmt::Display for FileCall {
             FileCall::List => "listed",
             FileCall::Open => "opened",
             FileCall::Read => "read",
-            FileCall::Cut => "cut",
+            FileCall::Write => "written",
             FileCall::Sync => "synced",
             FileCall::Lock => "locked",
         })

@@ -14,6 +14,9 @@ use std::hash::{DefaultHasher, Hasher};
 /// How many bytes of a frame stand before those that it holds.
 pub(crate) const HEAD_BYTES: usize = 16;
 
+// How many of them are its length and the complement.
+const LENGTHS_BYTES: usize = 8;
+
 /// Why bytes do not begin with a frame. Of several reasons the first one in this order of the fields is reported.
 #[derive(Clone, Copy, Debug, PartialEq, Eq)]
 pub enum FrameFault {
@@ -99,7 +102,7 @@ pub(crate) fn is_torn(rest: &[u8]) -> bool
     if rest.len() < HEAD_BYTES {
         return true;
     }
-    are_zeros(rest) || reaches_end(rest)
+    are_zeros(&rest[LENGTHS_BYTES..]) || reaches_end(rest)
 }
 
 // Whether all of these bytes are zero.

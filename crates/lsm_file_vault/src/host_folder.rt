@@ -2,10 +2,11 @@
 
 ghost use Rattle.std.specs.Prelude.{◌≡◌, IfOk};
 
+use crate::aside::{rename_lost_table, write_lost_edits};
 use crate::error::called;
 use crate::frame::write_header;
 use crate::names::{EDITS, NEW_TABLE, file_path, table_path};
-use crate::{Change, Contents, FileCall, Folder, Notes, OpenError};
+use crate::{Change, Contents, FileCall, Folder, Incidents, Notes, OpenError, SetAside};
 use bytes::{Bytes, BytesMut};
 use lsm_key::FileNumber;
 use std::alloc::Global;
@@ -26,22 +27,31 @@ pub struct HostFolder<R: Files + AllocGlobal + Drop> {
     edits_file: R::File,
     // How many bytes the edits take in their file.
     edits_bytes: u64,
+    // The folder was opened with bytes behind the edits, and no edit was appended yet. Until then a table that is removed is set
+    // aside, since those bytes may be of an edit that names it.
+    is_torn: bool,
+    // These bytes, until they are set aside.
+    torn: Bytes,
+    // A table that was never finished is there, until the first append.
+    has_new: bool,
     // A refused edit may still stand behind the others, so no other one can follow them, and the tables that it names have to stay as
     // they are.
     is_broken: bool,
     // Held open for its lock.
     lock: Option<File>,
+    incidents: Incidents,
     notes: Notes,
 }
 
 impl<R: Files + AllocGlobal + Drop> HostFolder<R> {
-    /// The folder at `path` that was found to have these contents, of which what a stop has left behind the last edit is cut off.
-    /// The file of the edits is made if there is none.
+    /// The folder at `path` that was found to have these contents. The file of the edits is made if there is none, and nothing else
+    /// is changed.
     pub(crate) fn new(
         files: R,
         path: &str,
         contents: &Contents,
         lock: Option<File>,
+        incidents: Incidents,
     ) -> Result<HostFolder<R>, OpenError>
         ensures tables { IfOk result (λ folder. ⟦<HostFolder<R> as Folder>⟧.tables folder ≡ contents.now.tables) }
         ensures edits { IfOk result (λ folder. ⟦<HostFolder<R> as Folder>⟧.edits folder ≡ contents.now.edits.items) }
@@ -53,8 +63,12 @@ impl<R: Files + AllocGlobal + Drop> HostFolder<R> {
             path,
             edits_file,
             edits_bytes: contents.edits_bytes,
+            is_torn: contents.torn_bytes > 0,
+            torn: contents.torn.clone()?,
+            has_new: contents.has_new,
             is_broken: false,
             lock,
+            incidents,
             notes: Notes::of(contents),
         })
     }
@@ -62,7 +76,7 @@ impl<R: Files + AllocGlobal + Drop> HostFolder<R> {
     // Refuses a change if a refused edit may still stand in its file: until the folder is opened again.
     fn refuse_if_broken(&self) -> io::Result<()> {
         if self.is_broken {
-            return Err(ErrorKind::Other.into());
+            return Err(io::Error::other("a refused edit may be in the file of the edits"));
         }
         Ok(())
     }
@@ -71,22 +85,38 @@ impl<R: Files + AllocGlobal + Drop> HostFolder<R> {
     fn write_table(&self, number: FileNumber, table: &[u8]) -> io::Result<()> {
         self.refuse_if_broken()?;
         let path = self.path.as_str();
-        let new = write_new(&self.files, path, table)?;
-        let named = table_path(self.files.alloc(), path, number)?;
+        let alloc = self.files.alloc();
+        let new = file_path(alloc, path, NEW_TABLE)?;
+        // A file that is there is not written over: it may be another name of a table's file, as half a renaming leaves it.
+        remove_if_there(&self.files, new.as_str())?;
+        write_table_file(&self.files, new.as_str(), table)?;
+        let named = table_path(alloc, path, number)?;
         fs::rename(&self.files, new.as_str(), named.as_str())?;
         sync_folder(&self.files, path)
     }
 
-    // Removes a table's file, if there is one.
+    // Removes a table's file, if there is one, or sets it aside if an edit that names it may be behind the others.
     fn remove_file(&self, number: FileNumber) -> io::Result<()> {
         self.refuse_if_broken()?;
         let path = self.path.as_str();
         let named = table_path(self.files.alloc(), path, number)?;
-        match fs::remove_file(&self.files, named.as_str()) {
-            Err(error) if error.kind() != ErrorKind::NotFound => return Err(error),
-            _ => {}
+        if self.is_torn {
+            self.set_table_aside(number, named.as_str())?;
+        } else {
+            remove_if_there(&self.files, named.as_str())?;
         }
         sync_folder(&self.files, path)
+    }
+
+    // Renames a table's file, if there is one.
+    fn set_table_aside(&self, number: FileNumber, named: &str) -> io::Result<()> {
+        self.incidents.reserve()?;
+        let renamed = rename_lost_table(&self.files, self.path.as_str(), number, named)?;
+        if let Some(name) = renamed {
+            self.incidents
+                .note_set_aside(SetAside::Table { name, number });
+        }
+        Ok(())
     }
 
     // Writes an edit behind the others. What a refused one may have left is cut off.
@@ -95,12 +125,50 @@ impl<R: Files + AllocGlobal + Drop> HostFolder<R> {
     {
         self.refuse_if_broken()?;
         let framed = framed_edit(self.files.alloc(), edit)?;
+        self.clear_opened()?;
         let written = self.write_at_end(framed.as_slice());
         match written {
-            Ok(()) => self.edits_bytes = self.edits_bytes.saturating_add(framed.len() as u64),
+            Ok(()) => {
+                self.edits_bytes = self.edits_bytes.saturating_add(framed.len() as u64);
+                self.is_torn = false;
+            }
             Err(_) => self.is_broken = self.cut_edits().is_err(),
         }
         written
+    }
+
+    // What an opening leaves to the first append, since it changes nothing itself: what is behind the edits is set aside and cut off,
+    // and a table that was never finished is removed.
+    fn clear_opened(&mut self) -> io::Result<()>
+        ensures { self.new.notes ≡ self.old.notes }
+    {
+        if self.is_torn {
+            self.set_torn_aside()?;
+            self.cut_edits()?;
+        }
+        if self.has_new {
+            let new = file_path(self.files.alloc(), self.path.as_str(), NEW_TABLE)?;
+            remove_if_there(&self.files, new.as_str())?;
+            self.has_new = false;
+        }
+        Ok(())
+    }
+
+    // Keeps what is behind the edits in a file of its own. It is done once, though the append is tried again.
+    fn set_torn_aside(&mut self) -> io::Result<()>
+        ensures { self.new.notes ≡ self.old.notes }
+    {
+        if self.torn.is_empty() {
+            return Ok(());
+        }
+        self.incidents.reserve()?;
+        let torn = self.torn.as_slice();
+        let name = write_lost_edits(&self.files, self.path.as_str(), self.edits_bytes, torn)?;
+        let bytes = torn.len() as u64;
+        self.incidents
+            .note_set_aside(SetAside::Edits { name, bytes });
+        self.torn = Bytes::new();
+        Ok(())
     }
 
     // Writes bytes behind the edits, and syncs them.
@@ -121,7 +189,8 @@ impl<R: Files + AllocGlobal + Drop> HostFolder<R> {
     }
 }
 
-// The file of the edits, made if there is none, without what a stop has left behind the last edit.
+// The file of the edits, made if there is none. The last edit is written again with the same bytes and synced: if its sync has
+// failed before the process ended, it is read from memory and not on the disk, and another sync alone does not bring it there.
 fn ready_edits<R: Files + AllocGlobal>(
     files: &R,
     path: &str,
@@ -129,8 +198,10 @@ fn ready_edits<R: Files + AllocGlobal>(
 ) -> Result<R::File, OpenError> {
     let alloc = files.alloc();
     let name = file_path(alloc, path, EDITS)?;
-    let file = open_edits(files, name.as_str())?;
-    cut_torn(alloc, &file, name.as_str(), contents)?;
+    let mut file = open_edits(files, name.as_str())?;
+    let written = write_last_again(alloc, &mut file, contents);
+    called(alloc, FileCall::Write, name.as_str(), written)?;
+    called(alloc, FileCall::Sync, name.as_str(), file.sync_all())?;
     called(alloc, FileCall::Sync, path, sync_folder(files, path))?;
     Ok(file)
 }
@@ -143,35 +214,55 @@ fn open_edits<R: Files + AllocGlobal>(files: &R, file: &str) -> Result<R::File, 
     called(files.alloc(), FileCall::Open, file, opened)
 }
 
-// Cuts off what a stop has left behind the last edit, and syncs the file.
-fn cut_torn(
+// Writes the last edit where it is already, if there is one.
+fn write_last_again<F: Seek + Write>(
     alloc: Global,
-    file: &impl OpenFile,
-    name: &str,
+    file: &mut F,
     contents: &Contents,
-) -> Result<(), OpenError> {
-    if contents.torn_bytes > 0 {
-        let cut = file.set_len(contents.edits_bytes);
-        called(alloc, FileCall::Cut, name, cut)?;
+) -> io::Result<()> {
+    let Some(last) = contents.edits.last() else {
+        return Ok(());
+    };
+    let framed = framed_edit(alloc, last.as_slice())?;
+    let offset = contents.edits_bytes.saturating_sub(framed.len() as u64);
+    file.seek(SeekFrom::Start(offset))?;
+    file.write_all(framed.as_slice())
+}
+
+// Removes a file, if there is one.
+fn remove_if_there(files: &impl Files, name: &str) -> io::Result<()> {
+    match fs::remove_file(files, name) {
+        Err(error) if error.kind() != ErrorKind::NotFound => Err(error),
+        _ => Ok(()),
     }
-    called(alloc, FileCall::Sync, name, file.sync_all())
 }
 
-// Writes the frame of a table to a file beside those of the others, and returns its path.
-fn write_new<R: Files + AllocGlobal>(files: &R, path: &str, table: &[u8]) -> io::Result<String> {
-    let alloc = files.alloc();
-    let mut header = BytesMut::new(alloc);
+// Writes the frame of a table to a file of this name.
+fn write_table_file<R: Files + AllocGlobal>(files: &R, name: &str, table: &[u8]) -> io::Result<()> {
+    let mut header = BytesMut::new(files.alloc());
     frame_header(&mut header, table)?;
-    let new = file_path(alloc, path, NEW_TABLE)?;
-    write_file(files, new.as_str(), header.as_slice(), table)?;
-    Ok(new)
+    write_file(files, name, header.as_slice(), table)
 }
 
-// Writes a file of a table under this name, and syncs it.
-fn write_file(files: &impl Files, name: &str, header: &[u8], table: &[u8]) -> io::Result<()> {
-    let mut file = fs::create(files, name)?;
-    file.write_all(header)?;
-    file.write_all(table)?;
+/// Makes a file of this name, which no file has, writes two parts to it, and syncs it. If that fails, it is removed.
+pub(crate) fn write_file(
+    files: &impl Files,
+    name: &str,
+    front: &[u8],
+    rest: &[u8],
+) -> io::Result<()> {
+    let mut file = File::create_new(files, name)?;
+    let written = write_parts(&mut file, front, rest);
+    if written.is_err() {
+        let _ = fs::remove_file(files, name);
+    }
+    written
+}
+
+// Writes two parts to a file, and syncs it.
+fn write_parts<F: Write + OpenFile>(file: &mut F, front: &[u8], rest: &[u8]) -> io::Result<()> {
+    file.write_all(front)?;
+    file.write_all(rest)?;
     file.sync_all()
 }
 
@@ -203,7 +294,8 @@ impl<R: Files + AllocGlobal + Drop> Folder for HostFolder<R> {
     ghost edits = { λ f. f.notes.edits };
 
     fn put_table(&mut self, number: FileNumber, table: &Bytes) -> io::Result<()> {
-        self.write_table(number, table.as_slice())?;
+        self.incidents
+            .noting(self.write_table(number, table.as_slice()))?;
         self.notes = self
             .notes
             .after(&Change::TablePut(number, Snapshot::of(table)));
@@ -211,13 +303,14 @@ impl<R: Files + AllocGlobal + Drop> Folder for HostFolder<R> {
     }
 
     fn remove_table(&mut self, number: FileNumber) -> io::Result<()> {
-        self.remove_file(number)?;
+        self.incidents.noting(self.remove_file(number))?;
         self.notes = self.notes.after(&Change::TableRemoved(number));
         Ok(())
     }
 
     fn append_edit(&mut self, edit: &Bytes) -> io::Result<()> {
-        self.write_edit(edit.as_slice())?;
+        let written = self.write_edit(edit.as_slice());
+        self.incidents.noting(written)?;
         self.notes = self.notes.after(&Change::EditAppended(Snapshot::of(edit)));
         Ok(())
     }

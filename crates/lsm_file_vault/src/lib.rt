@@ -1,15 +1,17 @@
 //! The vault in a folder: edits and tables in files, so that a store outlives its process.
 //!
 //! It promises of `FileVault`, over any `Folder`, all that `Vault` does: what it shows is what the calls on its folder leave that
-//! returned `Ok`. It promises of an opening that the edits taken are the frames at the front of their file, and that what is cut off
-//! behind them is what a stop in the middle of an append may leave; anything else is refused by name, and no file is ever deleted but
-//! by a call that removes a table. It stands on `lsm_vault` for the contract and for tables in memory, and on `lsm_key` for fields.
+//! returned `Ok`. It promises of an opening that the edits taken are the frames at the front of their file, and that what is left out
+//! behind them is what a stop in the middle of an append may leave; anything else is refused by name. An opening changes nothing: what
+//! it left out is set aside by the first append, and nothing is deleted but a table that is removed and one that was never finished.
+//! It stands on `lsm_vault` for the contract and for tables in memory, and on `lsm_key` for fields.
 //!
 //! Trusted: that `HostFolder` makes the calls on files that it notes (`host_folder.rt`, since no clause tells of a file); that
 //! `Notes`, which no memory holds and two proofs by hand set, is written by nothing else; that a file which was synced gives back what
 //! was written. Crashes are not modelled.
 #![tactic(auto)]
 
+mod aside;
 mod change;
 mod contents;
 mod edits_file;
@@ -18,7 +20,9 @@ mod file_vault;
 mod folder;
 mod frame;
 mod host_folder;
+mod incidents;
 mod laws;
+mod listing;
 mod names;
 mod notes;
 mod opening;
@@ -30,6 +34,7 @@ pub use file_vault::FileVault;
 pub use folder::Folder;
 pub use frame::FrameFault;
 pub use host_folder::HostFolder;
+pub use incidents::{Incidents, SetAside};
 pub use laws::{a_frame_cut_short_is_torn, a_stop_loses_no_edit, a_written_frame_is_read};
 pub use notes::Notes;
 pub use opening::{Opened, open, open_unlocked, read};

@@ -12,6 +12,9 @@ pub(crate) const NEW_TABLE: &str = "new";
 /// The file that the process which has the folder open has locked.
 pub(crate) const LOCK: &str = "lock";
 
+// How the names of files begin that were set aside.
+const LOST: &str = "lost-";
+
 // How many digits a table's name has: those of the greatest number.
 const DIGITS: usize = 20;
 
@@ -21,6 +24,10 @@ pub(crate) enum FileKind {
     Edits,
     NewTable,
     Lock,
+    /// Set aside: nobody reads it.
+    Lost,
+    /// One that a file system or a desktop may put into any folder.
+    Beside,
     Foreign,
 }
 
@@ -30,6 +37,9 @@ pub(crate) fn kind_of(name: &str) -> FileKind {
         EDITS => FileKind::Edits,
         NEW_TABLE => FileKind::NewTable,
         LOCK => FileKind::Lock,
+        "lost+found" => FileKind::Beside,
+        _ if name.starts_with('.') => FileKind::Beside,
+        _ if name.starts_with(LOST) => FileKind::Lost,
         _ => match number_in(name) {
             Some(number) => FileKind::Table(number),
             None => FileKind::Foreign,
@@ -60,4 +70,31 @@ pub(crate) fn table_path(
 ) -> Result<String, AllocError> {
     let number = number.number();
     format!(in alloc; "{folder}/{number:020}.table")
+}
+
+/// The name under which the bytes behind the last edit are set aside, which begin at this offset. The first copy has the plain name.
+pub(crate) fn lost_edits_name(
+    alloc: Global,
+    offset: u64,
+    copy: u64,
+) -> Result<String, AllocError> {
+    if copy == 1 {
+        format!(in alloc; "{LOST}edits-{offset}")
+    } else {
+        format!(in alloc; "{LOST}edits-{offset}-{copy}")
+    }
+}
+
+/// The name under which the table of this number is set aside. The first copy has the plain name.
+pub(crate) fn lost_table_name(
+    alloc: Global,
+    number: FileNumber,
+    copy: u64,
+) -> Result<String, AllocError> {
+    let number = number.number();
+    if copy == 1 {
+        format!(in alloc; "{LOST}{number}.table")
+    } else {
+        format!(in alloc; "{LOST}{number}-{copy}.table")
+    }
 }

@@ -2,11 +2,11 @@
 
 ghost use Rattle.std.specs.Prelude.{◌≡◌, IfOk};
 
-use crate::contents::table_numbers;
 use crate::error::called;
 use crate::host_folder::sync_folder;
+use crate::listing::list;
 use crate::names::{LOCK, file_path, table_path};
-use crate::{Contents, FileCall, FileVault, Folder, HostFolder, OpenError};
+use crate::{Contents, FileCall, FileVault, Folder, HostFolder, Incidents, OpenError};
 use lsm_vault::Vault;
 use std::alloc::Global;
 use std::fs::{self, File, OpenOptions, TryLockError};
@@ -19,12 +19,15 @@ where
     HostFolder<R>: Folder,
 {
     pub vault: FileVault<HostFolder<R>>,
-    /// How many bytes that a stop in the middle of an append had left behind the last edit were cut off.
-    pub cut_bytes: u64,
+    /// What happens in the folder beside the results of the vault's calls.
+    pub incidents: Incidents,
 }
 
-/// Opens the vault in the folder at `path`, and makes the folder if there is none; the folder above it has to be there. Torn bytes
-/// behind the edits are cut off. No other process can open it until the vault is dropped or this process ends.
+/// Opens the vault in the folder at `path`, and makes the folder if there is none; the folder above it has to be there. No other
+/// process can open it until the vault is dropped or this process ends.
+///
+/// Every file stays as it is: what is behind the last edit is set aside only by the first edit that is appended, and a table that is
+/// removed before is renamed then. So whoever opens a store refuses it, for what was read, before anything was changed.
 ///
 /// Of several reasons against it the first one in this order is reported: `NotAFolder`, `ForeignFile`, `Busy`, `MissingEdits`,
 /// `DamagedEdits`, `DamagedTable`. Then nothing was changed but that the folder was made and, if no file is foreign, its lock.
@@ -32,7 +35,7 @@ pub fn open(rt: &HostRuntime, path: &str) -> Result<Opened<HostRuntime>, OpenErr
     ensures failures { IfOk result (λ opened. ⟦<FileVault<HostFolder<HostRuntime>> as Vault>⟧.failures opened.vault ≡ 0) }
 {
     create_folder(rt, path)?;
-    let _numbers = table_numbers(rt, path)?;
+    let _listing = list(rt, path)?;
     let lock = lock(rt, path)?;
     open_contents(rt.clone()?, path, Some(lock))
 }
@@ -66,10 +69,10 @@ fn open_contents<R: Files + AllocGlobal + Clone + Drop>(
 {
     let alloc = files.alloc();
     let contents = whole_contents(&files, path)?;
-    let folder = HostFolder::new(files, path, &contents, lock)?;
-    let cut_bytes = contents.torn_bytes;
+    let incidents = Incidents::new(alloc)?;
+    let folder = HostFolder::new(files, path, &contents, lock, incidents.share()?)?;
     let vault = FileVault::new(alloc, folder, contents.tables, contents.edits);
-    Ok(Opened { vault, cut_bytes })
+    Ok(Opened { vault, incidents })
 }
 
 // What the folder holds. A damaged table is refused.
