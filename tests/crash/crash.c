@@ -10,10 +10,14 @@
 //       torn            as lost, but this write is half done, and its file has what was written
 //       names           as lost, but files have what was written
 //       contents        as lost, but the folder has the names that were given
-//       mixed           of each name and of each file's bytes either, by CRASH_SEED; a file's end may be zeros
+//       mixed           of each name and of each file's bytes either, by CRASH_SEED; a file's end may be zeros; a name that was renamed may be there too
+//   CRASH_SPOILT=FILE   what the disk has of the edits is written there at the stop, if one of their syncs failed; a process that finds the file begins
+//                       with it, as if it saw by memory what the disk does not have
 //   FAIL_AT=N           call N fails with FAIL_ERRNO; a write then takes half of its bytes if FAIL_HALF=1, and the next call fails
 //   FAIL_COUNT=C        so do the C - 1 calls after it
 //   FAIL_READ_AT=N      call N of those that only read fails with FAIL_ERRNO
+//
+// A sync that fails spoils what it was to bring to the disk: a later one does not bring it unless it is written again.
 #define _GNU_SOURCE
 #include <dirent.h>
 #include <errno.h>
@@ -32,11 +36,10 @@
 #define FDS 1024
 #define FILES 4096
 #define NAMES 512
-#define HEAD_BYTES 16
 
 struct bytes { unsigned char *at; size_t len; };
-// A file: what it had when it was synced, and what it had when its last name was removed.
-struct file { struct bytes synced, last; int is_gone; };
+// A file: what it had when it was synced, what it had when its last name was removed, and which of its bytes a failed sync has spoilt.
+struct file { struct bytes synced, last, spoilt; int is_gone; };
 struct name { char text[64]; int file; };
 struct names { struct name of[NAMES]; int count; };
 
@@ -46,7 +49,7 @@ static int fail_errno, fail_half, tell_fd = -1, is_made = 0, is_made_synced = 1,
 static uint64_t seed;
 static struct file files[FILES];
 static int file_count;
-static struct names now, synced;
+static struct names now, synced, past; // past: names that the folder has had since its sync
 static int file_of[FDS]; // the file of a descriptor and 1, or 0
 static int is_read[FDS]; // whether a descriptor reads the folder or a file there
 
@@ -76,7 +79,9 @@ static void gives(struct names *in, const char *text, int file) {
 
 static void takes(struct names *in, const char *text) {
     struct name *it = found(in, text);
-    if (it) *it = in->of[--in->count];
+    if (!it) return;
+    if (in == &now) gives(&past, text, it->file);
+    *it = in->of[--in->count];
 }
 
 static struct bytes content(int at, const char *path) {
@@ -100,10 +105,57 @@ static struct bytes of_name(const char *text) {
     return content(AT_FDCWD, path);
 }
 
+// A failed sync: where the file differs from what the disk has, no later sync brings it.
+static void spoil(int number, struct bytes seen) {
+    struct file *it = &files[number];
+    struct bytes is = {calloc(seen.len + 1, 1), seen.len};
+    for (size_t i = 0; i < seen.len; i++)
+        is.at[i] = (i < it->spoilt.len && it->spoilt.at[i]) || i >= it->synced.len || it->synced.at[i] != seen.at[i];
+    it->spoilt = is;
+}
+
+// What is written again, or cut off, is no longer spoilt.
+static void mend(int number, size_t from, size_t to) {
+    struct bytes *it = &files[number].spoilt;
+    for (size_t i = from; i < to && i < it->len; i++) it->at[i] = 0;
+}
+
+// What a sync brings to the disk of a file that has these bytes.
+static struct bytes brought(int number, struct bytes seen) {
+    struct file *it = &files[number];
+    struct bytes all = {malloc(seen.len + 1), seen.len};
+    int is_spoilt = 0;
+    for (size_t i = 0; i < seen.len; i++) {
+        int is_old = i < it->spoilt.len && it->spoilt.at[i];
+        all.at[i] = !is_old ? seen.at[i] : i < it->synced.len ? it->synced.at[i] : 0;
+        is_spoilt |= is_old;
+    }
+    while (is_spoilt && all.len > it->synced.len && all.len <= it->spoilt.len && it->spoilt.at[all.len - 1]) all.len--;
+    return all;
+}
+
+static int has_spoilt(int number) {
+    struct bytes it = files[number].spoilt;
+    return it.len && memchr(it.at, 1, it.len) != NULL;
+}
+
 static int new_file(struct bytes synced_bytes) {
     if (file_count == FILES) abort();
     files[file_count].synced = synced_bytes;
     return file_count++;
+}
+
+// The file of a name that is there at the start: that of another name, if it is a link to the same.
+static int file_named(const char *text) {
+    char path[PATH_MAX + 80];
+    struct stat one, other;
+    for (int i = 0; i < now.count; i++) {
+        snprintf(path, sizeof path, "%s/%s", folder, text);
+        if (stat(path, &one) != 0) break;
+        snprintf(path, sizeof path, "%s/%s", folder, now.of[i].text);
+        if (stat(path, &other) == 0 && one.st_ino == other.st_ino && one.st_dev == other.st_dev) return now.of[i].file;
+    }
+    return new_file(of_name(text));
 }
 
 static __attribute__((constructor)) void start(void) {
@@ -121,24 +173,44 @@ static __attribute__((constructor)) void start(void) {
     DIR *all = opendir(folder);
     is_made = all != NULL;
     for (struct dirent *entry; all && (entry = readdir(all));)
-        if (entry->d_name[0] != '.') gives(&now, entry->d_name, new_file(of_name(entry->d_name)));
+        if (entry->d_name[0] != '.') gives(&now, entry->d_name, file_named(entry->d_name));
     if (all) closedir(all);
     synced = now;
+    struct name *edits = found(&now, "edits");
+    struct bytes disk = (it = getenv("CRASH_SPOILT")) ? content(AT_FDCWD, it) : (struct bytes){NULL, 0};
+    if (edits && disk.at) {
+        files[edits->file].synced = disk;
+        spoil(edits->file, of_name("edits"));
+    }
+}
+
+// Leaves what the disk has of the edits to the next process, if a sync of them failed.
+static void leave_spoilt(void) {
+    const char *to = getenv("CRASH_SPOILT");
+    struct name *edits = found(&now, "edits");
+    if (!to || !edits || !has_spoilt(edits->file)) return;
+    struct bytes disk = brought(edits->file, of_name("edits"));
+    int fd = syscall(SYS_openat, AT_FDCWD, to, O_WRONLY | O_CREAT | O_TRUNC, 0644);
+    if (syscall(SYS_write, fd, disk.at, disk.len) != (long)disk.len) abort();
 }
 
 // What the disk has of a file whose bytes are these when the process stops.
 static struct bytes survives(int number, struct bytes last) {
     struct bytes old = files[number].synced;
+    last = brought(number, last);
     if (strcmp(way, "names") == 0 || number == torn_file) return last;
     if (strcmp(way, "mixed") != 0) return old;
     size_t cut = drawn(last.len + 1), len = drawn(2) ? last.len : cut > old.len ? cut : old.len;
     int zeros = drawn(2);
-    // A part of a frame's header and then zeros is not tried: lsm_file_vault does not promise to know it for a torn one.
-    if (zeros && cut > old.len && cut < old.len + HEAD_BYTES) cut = old.len;
     struct bytes mix = {malloc(len + 1), len};
     for (size_t i = 0; i < len; i++)
         mix.at[i] = i < cut && i < last.len ? last.at[i] : i < old.len ? old.at[i] : zeros || i >= last.len ? 0 : last.at[i];
     return mix;
+}
+
+static int named_before(struct names *in, int at) { // an earlier name of the same file, or -1
+    for (int i = 0; i < at; i++) if (in->of[i].file == in->of[at].file) return i;
+    return -1;
 }
 
 static void rewrite(struct names *in) { // gives the folder these names, and their files what survives
@@ -147,7 +219,7 @@ static void rewrite(struct names *in) { // gives the folder these names, and the
         struct file *it = &files[in->of[i].file];
         struct bytes last = it->last;
         for (int j = 0; j < now.count && !it->is_gone; j++) if (now.of[j].file == in->of[i].file) last = of_name(now.of[j].text);
-        left[i] = survives(in->of[i].file, last);
+        if (named_before(in, i) < 0) left[i] = survives(in->of[i].file, last);
     }
     for (int i = 0; i < now.count; i++) {
         char path[PATH_MAX + 80];
@@ -158,6 +230,13 @@ static void rewrite(struct names *in) { // gives the folder these names, and the
     for (int i = 0; i < in->count; i++) {
         char path[PATH_MAX + 80];
         snprintf(path, sizeof path, "%s/%s", folder, in->of[i].text);
+        int other = named_before(in, i);
+        if (other >= 0) {
+            char first[PATH_MAX + 80];
+            snprintf(first, sizeof first, "%s/%s", folder, in->of[other].text);
+            if (syscall(SYS_link, first, path) != 0) abort();
+            continue;
+        }
         int fd = syscall(SYS_openat, AT_FDCWD, path, O_WRONLY | O_CREAT | O_TRUNC, 0644);
         for (size_t at = 0; at < left[i].len;) {
             long done = syscall(SYS_write, fd, left[i].at + at, left[i].len - at);
@@ -178,10 +257,13 @@ static void stop(void) {
                 if (drawn(2)) gives(&mixed, now.of[i].text, now.of[i].file);
                 else if (was) gives(&mixed, was->text, was->file);
             }
+            for (int i = 0; i < past.count; i++)
+                if (!found(&mixed, past.of[i].text) && drawn(4) == 0) gives(&mixed, past.of[i].text, past.of[i].file);
             is_made_synced = is_made_synced || drawn(2);
         }
         rewrite(strcmp(way, "mixed") == 0 ? &mixed : strcmp(way, "contents") == 0 ? &now : &synced);
     }
+    leave_spoilt();
     syscall(SYS_exit_group, 137);
 }
 
@@ -239,19 +321,25 @@ int statx(int dir, const char *path, int flags, unsigned mask, struct statx *to)
     return is_there && read_fails() ? -1 : syscall(SYS_statx, dir, path, flags, mask, to);
 }
 
+static ssize_t written(int fd, const void *bytes, size_t n) {
+    long at = syscall(SYS_lseek, fd, 0, SEEK_CUR), done = syscall(SYS_write, fd, bytes, n);
+    if (at >= 0 && done > 0) mend(file_of[fd] - 1, at, at + done);
+    return done;
+}
+
 ssize_t write(int fd, const void *bytes, size_t n) {
     if (fd < 0 || fd >= FDS || !file_of[fd]) return syscall(SYS_write, fd, bytes, n);
     int is_half = calls + 1 == crash_at && (strcmp(way, "half") == 0 || strcmp(way, "torn") == 0 || strcmp(way, "mixed") == 0);
     if (is_half) {
-        syscall(SYS_write, fd, bytes, n / 2);
+        written(fd, bytes, n / 2);
         if (strcmp(way, "torn") == 0) torn_file = file_of[fd] - 1;
     }
     if (fail_half && calls + 1 == fail_at && n > 1) {
         calls++, fail_at++;
-        return syscall(SYS_write, fd, bytes, n / 2);
+        return written(fd, bytes, n / 2);
     }
     if (fails('w')) return -1;
-    return syscall(SYS_write, fd, bytes, n);
+    return written(fd, bytes, n);
 }
 
 ssize_t writev(int fd, const struct iovec *parts, int count) {
@@ -265,15 +353,18 @@ static int sync_one(int fd) {
     struct stat it, of_folder;
     char above[PATH_MAX + 4];
     if (syscall(SYS_fstat, fd, &it) != 0) return -1;
-    if (fails('s')) return -1;
+    int is_failed = fails('s');
     if (fd < FDS && file_of[fd]) {
         char path[64];
         snprintf(path, sizeof path, "/proc/self/fd/%d", fd);
-        files[file_of[fd] - 1].synced = content(AT_FDCWD, path);
-        return 0;
+        struct bytes seen = content(AT_FDCWD, path);
+        if (is_failed) spoil(file_of[fd] - 1, seen);
+        else files[file_of[fd] - 1].synced = brought(file_of[fd] - 1, seen);
     }
+    if (is_failed) return -1;
+    if (fd < FDS && file_of[fd]) return 0;
     snprintf(above, sizeof above, "%s/..", folder);
-    if (stat(folder, &of_folder) == 0 && it.st_ino == of_folder.st_ino && it.st_dev == of_folder.st_dev) synced = now;
+    if (stat(folder, &of_folder) == 0 && it.st_ino == of_folder.st_ino && it.st_dev == of_folder.st_dev) synced = now, past.count = 0;
     if (stat(above, &of_folder) == 0 && it.st_ino == of_folder.st_ino && it.st_dev == of_folder.st_dev) is_made_synced = 1;
     return 0;
 }
@@ -283,6 +374,7 @@ int fdatasync(int fd) { return sync_one(fd); }
 static void gone(const char *text) { // keeps the bytes of a file that loses its name
     struct name *it = found(&now, text);
     if (!it) return;
+    for (int i = 0; i < now.count; i++) if (&now.of[i] != it && now.of[i].file == it->file) return;
     files[it->file].last = of_name(text);
     files[it->file].is_gone = 1;
 }
@@ -292,7 +384,9 @@ int rename(const char *from, const char *to) {
     if (!old || !new) return syscall(SYS_rename, from, to);
     if (fails('r')) return -1;
     struct name *it = found(&now, old);
-    if (it) gone(new);
+    struct name *there = it ? found(&now, new) : NULL;
+    if (there && there->file == it->file) return syscall(SYS_rename, from, to); // two names of one file stay
+    if (there) gone(new), takes(&now, new), it = found(&now, old);
     int done = syscall(SYS_rename, from, to), file = it ? it->file : -1;
     if (done == 0 && it) { takes(&now, old); gives(&now, new, file); }
     return done;
@@ -312,8 +406,11 @@ int unlinkat(int dir, const char *path, int flags) {
 }
 
 static int cut(int fd, off_t n) {
-    if (fd >= 0 && fd < FDS && file_of[fd] && fails('t')) return -1;
-    return syscall(SYS_ftruncate, fd, n);
+    int is_noted = fd >= 0 && fd < FDS && file_of[fd];
+    if (is_noted && fails('t')) return -1;
+    int done = syscall(SYS_ftruncate, fd, n);
+    if (is_noted && done == 0) mend(file_of[fd] - 1, n, SIZE_MAX);
+    return done;
 }
 int ftruncate(int fd, off_t n) { return cut(fd, n); }
 int ftruncate64(int fd, off_t n) { return cut(fd, n); }

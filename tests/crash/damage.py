@@ -1,9 +1,12 @@
 """The files of a store's folder, damage to them, and folders that are none: what is refused, by which words, with nothing changed.
 
 What lsm_file_vault promises: a changed byte of a table, and one of an edit, is a refusal that names the file. What a stop may leave at
-the very end of the edits is cut off, and standard error says so: a last edit whose checksum is wrong counts as that, since a stop may
-leave its bytes half written. Then the store is that without the last edit.
+the very end of the edits is set aside, and standard error says so: a last edit whose checksum is wrong counts as that, since a stop may
+leave its bytes half written. Then the store is that without the last edit, and nothing is lost: its bytes, and the table that no other
+edit names, are in files of their own, of which none is written over. A store that lacks a table without its last edit, as after a
+compaction, is refused, with each file as it was.
 """
+import os
 import pathlib
 import shutil
 import subprocess
@@ -15,21 +18,29 @@ from stores import PATIENCE, SCAN, Model, Session, Wrong, command, end_of, opene
 LINES = ["put a 1", "put b 2", "flush", "batch put c 3 del a", "flush", "compact", "put d 4", "put a 5", "flush"]
 # What the store holds without the last edit, which is that of the last flush.
 WITHOUT_LAST = {"b": "2", "c": "3"}
+# The last edit of these is that of a compaction.
+COMPACTED = ["put a 1", "flush", "put b 2", "flush", "compact"]
 # A length and its complement: if they are changed, nothing tells where a frame ends.
 LENGTHS = 8
 
 
 def bytes_of(folder):
     """All files of a folder with their bytes; a lock has none that matter."""
-    return {it.name: it.read_bytes() for it in sorted(folder.iterdir()) if it.name != "lock"} if folder.is_dir() else folder.read_bytes()
+    return {it.name: it.read_bytes() for it in sorted(folder.iterdir()) if it.name != "lock" and it.is_file()} if folder.is_dir() else folder.read_bytes()
 
 
-def small_folder(folder):
+def small_folder(folder, lines=LINES):
     session = Session(folder)
-    if not run(session, LINES, model := Model()):
+    if not run(session, lines, model := Model()):
         raise Wrong("a small folder is not filled")
     end_of(session)
     return model.states[-1]
+
+
+def copied(good, room):
+    folder = pathlib.Path(tempfile.mkdtemp(dir=room)) / "store"
+    shutil.copytree(good, folder)
+    return folder
 
 
 def refused(folder, *parts):
@@ -47,25 +58,49 @@ def refused(folder, *parts):
         raise Wrong(f"the folder was changed, and refused: {said}")
 
 
-def cut_off(folder, pairs, count):
-    """The program opens the folder without its last edit, and says how many bytes it cut off."""
+def set_aside(folder, pairs, tables=(), taken=0):
+    """The program opens the folder without what is behind its last edit, which begins where the frames end, and says that it set it aside: the bytes, and
+    these tables. Of each the plain name is taken, and so many more. Nothing else changes but `new`, which goes, and the edits, which go on."""
+    before = bytes_of(folder)
+    offset = end_of_frames(before["edits"])
+    wanted = {name: data for name, data in before.items() if name not in ("edits", "new")}
+    lost = {copy_of(f"lost-edits-{offset}", "", taken): before["edits"][offset:]}
+    lost |= {copy_of(f"lost-{table}", ".table", taken): wanted.pop(f"{table:020}.table") for table in tables}
     session = Session(folder)
     held = pairs_in(session.ask(SCAN))
     status, said = session.end()
-    if status != 0 or held != pairs or said != f"{count} bytes of an unfinished write were cut off":
-        raise Wrong(f"it holds {held}, status {status}, and says {said!r}")
+    if status != 0 or held != pairs or any(name not in said for name in lost):
+        raise Wrong(f"it holds {held}, status {status}, and says {said!r}, without one of {[*lost]}")
+    after = bytes_of(folder)
+    edits = after.pop("edits")
+    if edits[:offset] != before["edits"][:offset] or len(begins(edits[offset:])) != 1:
+        raise Wrong("the edits before are changed, or more than an opening's is behind them")
+    if after != wanted | lost:
+        differ = sorted(name for name in {*after, *wanted, *lost} if after.get(name) != (wanted | lost).get(name))
+        raise Wrong(f"the files {differ} are not as they were, or as they were set aside")
+
+
+def copy_of(front, end, taken):
+    return f"{front}-{taken + 1}{end}" if taken else front + end
+
+
+def end_of_frames(data):
+    """Where the frames end that a file begins with."""
+    for at in range(len(data), -1, -1):
+        try:
+            begins(data[:at])
+            return at
+        except Wrong:
+            continue
 
 
 def try_flip(good, room, name, at, edits):
     """A bit of a byte of a file is turned; which one, goes round with the byte. The edits begin where `edits` says."""
     try:
-        folder = pathlib.Path(tempfile.mkdtemp(dir=room)) / "store"
-        shutil.copytree(good, folder)
-        data = bytearray((folder / name).read_bytes())
-        data[at] ^= 1 << at % 8
-        (folder / name).write_bytes(data)
+        folder = copied(good, room)
+        turn(folder / name, at, at % 8)
         if name == "edits" and at >= edits[-1] + LENGTHS:
-            cut_off(folder, WITHOUT_LAST, len(data) - edits[-1])
+            set_aside(folder, WITHOUT_LAST, [newest_table(good)])
         elif name == "edits":
             refused(folder, f"the file {folder / name} is damaged: the edit at offset {max(it for it in edits if it <= at)} is not whole")
         else:
@@ -74,6 +109,42 @@ def try_flip(good, room, name, at, edits):
         return ""
     except Exception as error:
         return f"{name}, byte {at}: {error}"
+
+
+def turn(file, at, bit):
+    data = bytearray(file.read_bytes())
+    data[at] ^= 1 << bit
+    file.write_bytes(data)
+
+
+def newest_table(folder):
+    return int(max(folder.glob("*.table")).stem)
+
+
+def try_last(good, room, at, bit, is_flush):
+    """A bit of the last edit is turned: that of a flush, or that of a compaction, whose inputs are gone."""
+    try:
+        folder, edits = copied(good, room), begins((good / "edits").read_bytes())
+        turn(folder / "edits", at, bit)
+        if at < edits[-1] + LENGTHS:
+            refused(folder, f"the file {folder / 'edits'} is damaged: the edit at offset {edits[-1]} is not whole")
+        elif is_flush:
+            set_aside(folder, WITHOUT_LAST, [newest_table(good)])
+        else:
+            refused(folder, "a file's table is missing or not as recorded")
+        shutil.rmtree(folder.parent)
+        return ""
+    except Exception as error:
+        return f"byte {at}, bit {bit} of the edits: {error}"
+
+
+def last_flips(pool, room, good, is_flush):
+    data = (good / "edits").read_bytes()
+    places, bits = zip(*((at, bit) for at in range(begins(data)[-1], len(data)) for bit in range(8)))
+    count = len(places)
+    wrong = [it for it in pool.map(try_last, [good] * count, [room] * count, places, bits, [is_flush] * count, chunksize=16) if it]
+    what = "flush" if is_flush else "compaction"
+    return not wrong, f"each of {count} bits of the last edit turned, of a {what}", f"{len(wrong)} wrong; first {wrong[:3]}"
 
 
 def flips(pool, room, good):
@@ -96,16 +167,44 @@ def layout(_room, good, _held):
 
 
 def cuts(room, good, held):
-    """The file of the edits ends inside its last edit, or in zeros."""
-    edits = (good / "edits").read_bytes()
+    """The file of the edits ends inside its last edit, or there and in zeros to where it ended, or in zeros."""
+    edits, table = (good / "edits").read_bytes(), newest_table(good)
     last = begins(edits)[-1]
-    ends = [(edits[:at], WITHOUT_LAST, at - last) for at in range(last + 1, len(edits))]
-    for data, pairs, count in ends + [(edits + bytes(count), held, count) for count in (1, 15, 17, 4096)]:
-        folder = pathlib.Path(tempfile.mkdtemp(dir=room)) / "store"
-        shutil.copytree(good, folder)
+    ends = [(edits[:at], WITHOUT_LAST, [table]) for at in range(last + 1, len(edits))]
+    ends += [(edits[:at] + bytes(len(edits) - at), WITHOUT_LAST, [table]) for at in range(last, len(edits)) if any(edits[at:])]
+    for data, pairs, tables in ends + [(edits + bytes(count), held, []) for count in (1, 15, 17, 4096)]:
+        folder = copied(good, room)
         (folder / "edits").write_bytes(data)
-        cut_off(folder, pairs, count)
+        set_aside(folder, pairs, tables)
         opened(folder, Model(pairs))
+
+
+def names_taken(room, good, _held):
+    """What was set aside before is not written over, whatever it is."""
+    edits, table = (good / "edits").read_bytes(), newest_table(good)
+    for taken in range(1, 4):
+        folder = copied(good, room)
+        turn(folder / "edits", len(edits) - 1, 0)
+        for copy in range(taken):
+            (folder / copy_of(f"lost-edits-{begins(edits)[-1]}", "", copy)).write_text("mine")
+            (folder / copy_of(f"lost-{table}", ".table", copy)).write_text("mine too")
+        set_aside(folder, WITHOUT_LAST, [table], taken)
+        opened(folder, Model(WITHOUT_LAST))
+
+
+def half_renamed(room, good, held):
+    """`new` is another name of a table's file, before an opening, and before a flush of a store that is open."""
+    for table in sorted(good.glob("*.table")):
+        folder = copied(good, room)
+        os.link(folder / table.name, folder / "new")
+        opened(folder, Model(held))
+        folder = copied(good, room)
+        session = Session(folder)
+        session.ask(SCAN)
+        os.link(folder / table.name, folder / "new")
+        run(session, ["put y 1", "flush"], model := Model(held))
+        end_of(session)
+        opened(folder, Model(model.states[-1]))
 
 
 def missing_table(room, good, _held):
@@ -132,11 +231,38 @@ def foreign_file(room, good, _held):
         refused(folder, f"the file {folder / name} does not belong to a store")
 
 
+def files_beside(room, good, held):
+    """What file systems and desktops make is passed over where a store is, and else foreign. What was set aside never is foreign."""
+    folder = copied(good, room)
+    (folder / "lost+found").mkdir()
+    for name in (".hidden", "..data", "lost-", "lost-2.table", "lost-things"):
+        (folder / name).write_text("mine")
+    opened(folder, Model(held))
+    kept = bytes_of(folder)
+    if not (folder / "lost+found").is_dir() or any(kept.get(name) != b"mine" for name in (".hidden", "..data", "lost-", "lost-2.table", "lost-things")):
+        raise Wrong("files beside those of a store are changed")
+    for name in ("lost+found", ".hidden"):
+        folder = room / f"beside.{name}"
+        folder.mkdir()
+        (folder / name).mkdir()
+        refused(folder, f"the file {folder / name} does not belong to a store")
+
+
 def half_a_table(room, good, held):
-    """What a stop leaves of a table before it has its name is written over."""
+    """What a stop leaves of a table before it has its name is removed by an opening, if it is not refused."""
     folder = room / "half"
     shutil.copytree(good, folder)
     (folder / "new").write_text("half a tab")
+    newest = folder / f"{newest_table(good):020}.table"
+    data = newest.read_bytes()
+    newest.unlink()
+    refused(folder, "missing")
+    newest.write_bytes(data)
+    session = Session(folder)
+    session.ask(SCAN)
+    if (folder / "new").exists():
+        raise Wrong("half a table stays")
+    end_of(session)
     opened(folder, Model(held))
 
 
@@ -175,13 +301,17 @@ def tried(pool, room, _shim):
     """Tries all damage, and gives of each whether it was right, what it is, and why not."""
     good = room / "small"
     held = small_folder(good)
-    results = [flips(pool, room, good)]
+    small_folder(room / "compacted", COMPACTED)
+    results = [flips(pool, room, good), last_flips(pool, room, good, True), last_flips(pool, room, room / "compacted", False)]
     for what, it in [
         ("files as documented", layout),
         ("edits that end in the middle or in zeros", cuts),
+        ("names of what is set aside that are taken", names_taken),
+        ("a new table that is another name of a table", half_renamed),
         ("a missing table", missing_table),
         ("tables without edits", missing_edits),
         ("a foreign file", foreign_file),
+        ("files that are no vault's beside it", files_beside),
         ("half a table", half_a_table),
         ("a file in place of a folder", no_folder),
         ("a folder in use", in_use),

@@ -1,5 +1,7 @@
 //! What happens in a folder beside the results of calls.
 
+ghost use Rattle.std.specs.Prelude.{◌≡◌};
+
 use lsm_key::FileNumber;
 use std::alloc::{AllocError, Global};
 use std::sync::{Arc, Mutex};
