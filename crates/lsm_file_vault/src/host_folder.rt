@@ -56,6 +56,7 @@ impl<R: Files + AllocGlobal + Drop> HostFolder<R> {
         ensures tables { IfOk result (λ folder. ⟦<HostFolder<R> as Folder>⟧.tables folder ≡ contents.now.tables) }
         ensures edits { IfOk result (λ folder. ⟦<HostFolder<R> as Folder>⟧.edits folder ≡ contents.now.edits.items) }
     {
+        let torn = contents.torn.clone()?;
         let edits_file = ready_edits(&files, path, contents)?;
         let path = String::from_str(files.alloc(), path)?;
         Ok(HostFolder {
@@ -64,7 +65,7 @@ impl<R: Files + AllocGlobal + Drop> HostFolder<R> {
             edits_file,
             edits_bytes: contents.edits_bytes,
             is_torn: contents.torn_bytes > 0,
-            torn: contents.torn.clone()?,
+            torn,
             has_new: contents.has_new,
             is_broken: false,
             lock,

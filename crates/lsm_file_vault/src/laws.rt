@@ -1,6 +1,6 @@
 //! What frames keep. The functions do nothing: each is the proof of its contract.
 
-ghost use Rattle.std.specs.Prelude.{◌≡◌, ℕ, ◌<◌, ◌^◌, true, List, ◌++◌, length, slice_index, take, Ok};
+ghost use Rattle.std.specs.Prelude.{◌≡◌, ℕ, ◌+◌, ◌<◌, ◌≤◌, ◌^◌, true, List, ◌++◌, length, replicate, slice_index, take, Ok};
 ghost use Rattle.lsm_file_vault.specs.EditsFile.{AllFit, IsEditsFile};
 ghost use Rattle.lsm_file_vault.specs.Frames.{frame, frame_at, frames, is_torn};
 
@@ -19,6 +19,12 @@ pub fn a_written_frame_is_read(bytes: &[u8], rest: &[u8])
 /// What a stop in the middle of an append leaves of a frame, a beginning of it, is torn.
 pub fn a_frame_cut_short_is_torn()
     ensures { (bytes : List ℕ) (k : ℕ) → length bytes < 2 ^ 32 → k < length (frame bytes) → is_torn (take k (frame bytes)) ≡ true }
+{}
+
+/// What a power cut may leave of a frame whose file has its whole length already, a beginning of it and zeros, is torn.
+pub fn a_frame_cut_before_zeros_is_torn()
+    ensures { (bytes : List ℕ) (k n : ℕ) → length bytes < 2 ^ 32 → k < length (frame bytes) → k + n ≤ length (frame bytes)
+        → is_torn (take k (frame bytes) ++ replicate n 0) ≡ true }
 {}
 
 /// A stop in the middle of an append loses nothing that was appended before: what then stands in the file is read as the edits

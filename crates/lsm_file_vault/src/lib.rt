@@ -35,6 +35,9 @@ pub use folder::Folder;
 pub use frame::FrameFault;
 pub use host_folder::HostFolder;
 pub use incidents::{Incidents, SetAside};
-pub use laws::{a_frame_cut_short_is_torn, a_stop_loses_no_edit, a_written_frame_is_read};
+pub use laws::{
+    a_frame_cut_before_zeros_is_torn, a_frame_cut_short_is_torn, a_stop_loses_no_edit,
+    a_written_frame_is_read,
+};
 pub use notes::Notes;
 pub use opening::{Opened, open, open_unlocked, read};

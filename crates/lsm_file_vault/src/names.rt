@@ -73,11 +73,7 @@ pub(crate) fn table_path(
 }
 
 /// The name under which the bytes behind the last edit are set aside, which begin at this offset. The first copy has the plain name.
-pub(crate) fn lost_edits_name(
-    alloc: Global,
-    offset: u64,
-    copy: u64,
-) -> Result<String, AllocError> {
+pub(crate) fn lost_edits_name(alloc: Global, offset: u64, copy: u64) -> Result<String, AllocError> {
     if copy == 1 {
         format!(in alloc; "{LOST}edits-{offset}")
     } else {

@@ -73,7 +73,7 @@ fn calls_on_files_have_texts(rt: HostRuntime) -> Result<(), Fail> {
         (FileCall::List, "listed"),
         (FileCall::Open, "opened"),
         (FileCall::Read, "read"),
-        (FileCall::Cut, "cut"),
+        (FileCall::Write, "written"),
         (FileCall::Sync, "synced"),
         (FileCall::Lock, "locked"),
     ] {
