@@ -44,7 +44,7 @@ def copied(good, room):
 
 
 def refused(folder, *parts):
-    """The program does not open the folder: status 1, a line or two that have these parts, and nothing changed."""
+    """The program does not open the folder: status 1, one to three lines that have these parts, and nothing changed."""
     before = bytes_of(folder)
     session = Session(folder)
     answer = session.ask(SCAN)
@@ -52,7 +52,7 @@ def refused(folder, *parts):
     if answer is not None or status != 1:
         raise Wrong(f"it is opened: {answer} (status {status}, {said})")
     lacks = [it for it in parts if str(it) not in said]
-    if lacks or len(said.splitlines()) not in (1, 2):
+    if lacks or len(said.splitlines()) not in (1, 2, 3):
         raise Wrong(f"it says {said!r}, without {lacks}")
     if bytes_of(folder) != before:
         raise Wrong(f"the folder was changed, and refused: {said}")
