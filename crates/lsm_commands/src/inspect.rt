@@ -17,20 +17,20 @@ pub fn check_folder(rt: &HostRuntime, folder: &str) -> ExitCode {
     }
 }
 
-/// Prints the entries of the store of a folder.
+/// Prints the entries of the store of a folder, and reports what is damaged there. The exit status is 0 only if nothing is.
 pub fn dump_folder(rt: &HostRuntime, folder: &str) -> ExitCode {
-    match print_entries(rt, folder) {
-        Ok(()) => ExitCode::SUCCESS,
-        Err(error) => Screen::new(rt).fail(&error),
+    let screen = Screen::new(rt);
+    match print_entries(rt, folder, &screen) {
+        Ok(true) => ExitCode::SUCCESS,
+        Ok(false) => ExitCode::from(FAILED),
+        Err(error) => screen.fail(&error),
     }
 }
 
-/// Reports each file whose table is not as its record says, if the folder can be read.
-pub(crate) fn report_findings(rt: &HostRuntime, folder: &str, screen: &Screen<'_>) {
+/// Reports what is damaged in a folder, if it can be read.
+pub(crate) fn report_faults(rt: &HostRuntime, folder: &str, screen: &Screen<'_>) {
     if let Ok(report) = report_of(rt, folder) {
-        for finding in report.findings {
-            screen.report(&finding);
-        }
+        screen.report_lines(&report.faults());
     }
 }
 
@@ -47,8 +47,14 @@ fn print_report(rt: &HostRuntime, folder: &str, screen: &Screen<'_>) -> Result<b
     Ok(report.is_whole())
 }
 
-fn print_entries(rt: &HostRuntime, folder: &str) -> Result<(), CommandError> {
+// The same, of the entries.
+fn print_entries(
+    rt: &HostRuntime,
+    folder: &str,
+    screen: &Screen<'_>,
+) -> Result<bool, CommandError> {
     let contents = read(rt, folder)?;
-    dump(rt.alloc(), &contents, io::writer(rt))?;
-    Ok(())
+    let report = dump(rt.alloc(), &contents, io::writer(rt))?;
+    screen.report_lines(&report.faults());
+    Ok(report.is_whole())
 }

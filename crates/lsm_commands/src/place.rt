@@ -2,7 +2,7 @@
 
 ghost use Rattle.std.specs.Prelude.{◌≡◌, [], IfOk};
 
-use crate::inspect::report_findings;
+use crate::inspect::report_faults;
 use crate::{CommandError, Screen};
 use lsm_coord::Coord;
 use lsm_file_vault::{FileVault, HostFolder, Opened};
@@ -69,12 +69,11 @@ impl Place<'_> {
         Ok(lsm_file_vault::open(rt, self.folder)?)
     }
 
-    /// Reports why the folder is not opened, and if its store is refused, each file whose table is not as its record says. Returns the
-    /// exit status.
+    /// Reports why the folder is not opened, and if its store is refused, what is damaged there. Returns the exit status.
     pub fn fail(self, rt: &HostRuntime, screen: &Screen<'_>, error: &CommandError) -> ExitCode {
         let status = screen.fail(error);
         if matches!(error, CommandError::Store(_)) {
-            report_findings(rt, self.folder, screen);
+            report_faults(rt, self.folder, screen);
         }
         status
     }

@@ -42,6 +42,11 @@ impl<'a> Screen<'a> {
         let _ = eprintln!(self.rt; "{what}");
     }
 
+    /// Reports lines, each with its end.
+    pub(crate) fn report_lines<E: Display>(&self, what: &E) {
+        let _ = eprint!(self.rt; "{what}");
+    }
+
     /// Shows how far a command has come, on a terminal alone, in a line that the next one is written over.
     pub fn show<E: Display>(&self, what: &E) {
         if self.is_terminal {

@@ -86,3 +86,15 @@ abbrev pub CheckRefuses : List (List ℕ) → InspectError → Type 0
 CheckRefuses texts BadManifest = Folds texts (manifest_version texts) → ⊥
 CheckRefuses texts OutOfMemory = Unit {0}
 CheckRefuses texts (Write why) = ⊥
+
+-- entries that are known are not written, for this reason
+abbrev pub IsWriteError : InspectError → Type 0
+IsWriteError BadManifest = ⊥
+IsWriteError OutOfMemory = Unit {0}
+IsWriteError (Write why) = Unit {0}
+
+-- a dump of these edits is refused, for this reason
+abbrev pub DumpRefuses : List (List ℕ) → InspectError → Type 0
+DumpRefuses texts (Write why) = Unit {0}
+DumpRefuses texts BadManifest = CheckRefuses texts BadManifest
+DumpRefuses texts OutOfMemory = CheckRefuses texts OutOfMemory

@@ -27,6 +27,7 @@ pub fn check(alloc: Global, contents: &Contents) -> Result<Report, InspectError>
     ensures torn { IfOk result (λ r. r.torn_bytes ≡ contents.now.torn_bytes) }
     ensures refused { IfErr result (CheckRefuses contents.now.edits.items) }
 {
+    let lost_files = contents.lost_files.clone()?;
     let version = version_of(alloc, contents)?;
     let findings = findings_of(alloc, contents, version.files())?;
     let unneeded = unneeded_of(&version, contents.tables.numbers(alloc)?);
@@ -38,6 +39,7 @@ pub fn check(alloc: Global, contents: &Contents) -> Result<Report, InspectError>
         unneeded,
         damaged_unneeded,
         torn_bytes: contents.torn_bytes,
+        lost_files,
     })
 }
 

@@ -1,11 +1,16 @@
 //! The entries of a store, as text.
 
-use crate::checking::version_of;
+ghost use Rattle.std.specs.Prelude.{◌≡◌, IfErr, IfOk};
+ghost use Rattle.std.specs.FinMap as map;
+ghost use Rattle.lsm_versions.specs.Manifest.{Folds};
+ghost use Rattle.lsm_inspect.specs.Check.{DumpRefuses, Finds, IsWriteError, unneeded_numbers};
+
+use crate::checking::check;
 use crate::table::table_of;
-use crate::{Finding, InspectError};
+use crate::{InspectError, Report};
 use lsm_edit::FileMeta;
 use lsm_file_vault::Contents;
-use lsm_key::{EntryRef, FileNumber, Kind, NUM_LEVELS, Refused};
+use lsm_key::{EntryRef, Kind, NUM_LEVELS, Refused};
 use lsm_script::Word;
 use lsm_table::Table;
 use std::alloc::Global;
@@ -13,16 +18,36 @@ use std::fmt;
 use std::io::{self, BufWriter, Write};
 
 /// Writes a line for each entry of the version that the edits make: level by level, the files of a level by number, the entries of
-/// a file in the order of its table. For a file whose table is not as its record says its finding is written instead.
+/// a file in the order of its table. A file whose table is not as its record says is left out. Returns what a check finds.
 pub fn dump<W: Write + Drop>(
     alloc: Global,
     contents: &Contents,
     out: W,
-) -> Result<(), InspectError> {
-    let version = version_of(alloc, contents)?;
+) -> Result<Report, InspectError>
+    ensures version { IfOk result (λ r. Folds contents.now.edits.items r.version) }
+    ensures found { IfOk result (λ r. Finds contents.now.tables contents.now.damaged_tables.items r.version.files r.findings.items) }
+    ensures unneeded { IfOk result (λ r. r.unneeded.items ≡ unneeded_numbers r.version.files (map.keys contents.now.tables)) }
+    ensures beside { IfOk result (λ r. r.damaged_unneeded.items ≡ unneeded_numbers r.version.files contents.now.damaged_tables.items) }
+    ensures torn { IfOk result (λ r. r.torn_bytes ≡ contents.now.torn_bytes) }
+    ensures refused { IfErr result (DumpRefuses contents.now.edits.items) }
+{
+    let report = check(alloc, contents)?;
+    write_all(alloc, contents, report.version.files(), out)?;
+    Ok(report)
+}
+
+// The files of all levels.
+fn write_all<W: Write + Drop>(
+    alloc: Global,
+    contents: &Contents,
+    files: &[FileMeta],
+    out: W,
+) -> Result<(), InspectError>
+    ensures { IfErr result IsWriteError }
+{
     let mut out = BufWriter::new(alloc, out)?;
     for level in 0..NUM_LEVELS {
-        write_level(alloc, contents, version.files(), level, &mut out)?;
+        write_level(alloc, contents, files, level, &mut out)?;
     }
     out.flush()?;
     Ok(())
@@ -35,7 +60,9 @@ fn write_level<W: Write>(
     files: &[FileMeta],
     level: u8,
     out: &mut W,
-) -> Result<(), InspectError> {
+) -> Result<(), InspectError>
+    ensures { IfErr result IsWriteError }
+{
     for file in files {
         if file.level == level {
             write_file(alloc, contents, file, out)?;
@@ -44,22 +71,18 @@ fn write_level<W: Write>(
     Ok(())
 }
 
-// A file, or why it is skipped.
+// A file, unless something is wrong with its table.
 fn write_file<W: Write>(
     alloc: Global,
     contents: &Contents,
     file: &FileMeta,
     out: &mut W,
-) -> Result<(), InspectError> {
+) -> Result<(), InspectError>
+    ensures { IfErr result IsWriteError }
+{
     match table_of(alloc, contents, file) {
         Ok(table) => Ok(write_entries(file, &table, out)?),
-        Err(Refused::Fault(damage)) => {
-            let level = file.level;
-            let file = FileNumber::new(file.number);
-            let finding = Finding { file, damage };
-            writeln!(out, "L{level} {finding}")?;
-            Ok(())
-        }
+        Err(Refused::Fault(_)) => Ok(()),
         Err(Refused::OutOfMemory) => Err(InspectError::OutOfMemory),
     }
 }

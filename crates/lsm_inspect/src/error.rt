@@ -40,6 +40,10 @@ impl<T: Drop> From<AllocFailed<T>> for InspectError {
 }
 
 impl From<io::Error> for InspectError {
+    ghost use Rattle.lsm_inspect.specs.Check.{IsWriteError};
+
+    ghost from_gives = { λ _ e. IsWriteError e };
+
     fn from(why: io::Error) -> InspectError {
         if why.kind() == io::ErrorKind::OutOfMemory {
             InspectError::OutOfMemory

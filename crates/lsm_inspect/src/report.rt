@@ -9,28 +9,44 @@ use lsm_key::{FileNumber, NUM_LEVELS};
 use lsm_store::{LevelStats, stats_of};
 use std::fmt;
 
-/// What a check found. It prints as a line for each level that has files, one for each file with a finding and for each table that
-/// no file needs, and a last one that sums up.
+/// What a check found. It prints as a line for each level that has files, those of `Faults`, one for each table that no file needs, one for
+/// each file that was set aside, and a last one that sums up.
 #[derive(Debug, Drop)]
 pub struct Report {
     /// The version that the edits make.
     pub version: Version,
     /// What is wrong with the tables of its files: at most one finding a file, in the order of their numbers.
     pub findings: Vec<Finding>,
-    /// The whole tables that no file of the version needs, ascending. A stop may leave them, and an opening removes them.
+    /// The whole tables that no file of the version needs, ascending. A stop may leave them. An opening removes them, or sets them aside
+    /// if bytes are torn.
     pub unneeded: Vec<FileNumber>,
     /// The damaged tables that no file of the version needs, in no order. A folder that has one is not opened.
     pub damaged_unneeded: Vec<FileNumber>,
-    /// How many bytes behind the last edit a stop in the middle of an append has left. An opening cuts them off.
+    /// How many bytes behind the last whole edit are none: what a stop in the middle of an append has left, or a last edit that is
+    /// damaged. An opening goes on without them, and loses neither them nor a table.
     pub torn_bytes: u64,
+    /// The names of the files that openings have set aside.
+    pub lost_files: Vec<String>,
 }
 
 impl Report {
-    /// Whether nothing is damaged.
+    /// Whether nothing is damaged or torn.
     pub fn is_whole(&self) -> bool
-        ensures { result ≡ (length self.now.findings.items == 0 && length self.now.damaged_unneeded.items == 0) }
+        ensures { result ≡ (length self.now.findings.items == 0 && length self.now.damaged_unneeded.items == 0 && self.now.torn_bytes == 0) }
     {
-        self.findings.is_empty() && self.damaged_unneeded.is_empty()
+        self.findings.is_empty() && self.damaged_unneeded.is_empty() && self.torn_bytes == 0
+    }
+
+    // How many tables are damaged, as far as a count reaches.
+    fn damaged_tables(&self) -> usize {
+        self.findings
+            .len()
+            .saturating_add(self.damaged_unneeded.len())
+    }
+
+    /// What keeps it from being whole, as text.
+    pub fn faults(&self) -> Faults<'_> {
+        Faults { report: self }
     }
 
     /// What the files of a level have, by their records.
@@ -44,19 +60,69 @@ impl Report {
 impl fmt::Display for Report {
     fn fmt<W: fmt::Write>(&self, f: &mut fmt::Formatter<W>) -> fmt::Result {
         write_levels(f, self)?;
-        write_findings(f, self.findings.as_slice())?;
-        write_tables(
-            f,
-            self.damaged_unneeded.as_slice(),
-            "its bytes are not those that were written, and no file needs it",
-        )?;
+        write_faults(f, self)?;
         write_tables(f, self.unneeded.as_slice(), "no file needs it")?;
-        if self.torn_bytes > 0 {
-            let torn = self.torn_bytes;
-            writeln!(f, "{torn} torn bytes behind the last edit")?;
+        for name in self.lost_files.as_slice() {
+            writeln!(f, "{name}: set aside, nobody reads it")?;
         }
         write_sum(f, self)
     }
+}
+
+/// What keeps a store from being whole: a line for each file with a finding, for each damaged table that no file needs, and for the
+/// bytes behind the last whole edit.
+#[derive(Clone, Copy)]
+pub struct Faults<'a> {
+    report: &'a Report,
+}
+
+impl fmt::Display for Faults<'_> {
+    fn fmt<W: fmt::Write>(&self, f: &mut fmt::Formatter<W>) -> fmt::Result {
+        write_faults(f, self.report)
+    }
+}
+
+fn write_faults<W: fmt::Write>(f: &mut fmt::Formatter<W>, report: &Report) -> fmt::Result {
+    write_findings(f, report.findings.as_slice())?;
+    write_tables(
+        f,
+        report.damaged_unneeded.as_slice(),
+        "its bytes are not those that were written, and no file needs it",
+    )?;
+    write_torn(f, report)
+}
+
+// A line for the bytes behind the last whole edit, and for what an opening does about them.
+fn write_torn<W: fmt::Write>(f: &mut fmt::Formatter<W>, report: &Report) -> fmt::Result {
+    if report.torn_bytes == 0 {
+        return Ok(());
+    }
+    let torn = report.torn_bytes;
+    write!(
+        f,
+        "the last edit is torn or damaged: {torn} bytes; an opening "
+    )?;
+    if report.damaged_tables() > 0 {
+        return f.write_str("is refused\n");
+    }
+    f.write_str("sets aside ")?;
+    match report.unneeded.as_slice() {
+        [] => f.write_str("no table")?,
+        [table] => write!(f, "table {}", table.number())?,
+        tables => write_numbers(f, tables)?,
+    }
+    f.write_str("\n")
+}
+
+// `tables A, B, ..`
+fn write_numbers<W: fmt::Write>(f: &mut fmt::Formatter<W>, tables: &[FileNumber]) -> fmt::Result {
+    let mut before = "tables ";
+    for table in tables {
+        let number = table.number();
+        write!(f, "{before}{number}")?;
+        before = ", ";
+    }
+    Ok(())
 }
 
 // A line for each level that has files.
@@ -104,9 +170,10 @@ fn write_sum<W: fmt::Write>(f: &mut fmt::Formatter<W>, report: &Report) -> fmt::
     if report.is_whole() {
         return f.write_str("no damage");
     }
-    let damaged = report
-        .findings
-        .len()
-        .saturating_add(report.damaged_unneeded.len());
-    write!(f, "{damaged} damaged")
+    let damaged = report.damaged_tables();
+    write!(f, "{damaged} damaged")?;
+    if report.torn_bytes > 0 {
+        f.write_str(", the last edit not whole")?;
+    }
+    Ok(())
 }

@@ -80,10 +80,20 @@ pub fn checked(rt: &HostRuntime, path: &str) -> Result<String, Fail> {
     Ok(format!(in rt.alloc(); "{report}")?)
 }
 
-/// What a dump of the folder prints.
-pub fn dumped(rt: &HostRuntime, path: &str) -> Result<Vec<u8>, Fail> {
+/// What a dump of the folder prints, and what keeps it from being whole.
+pub fn dumped(rt: &HostRuntime, path: &str) -> Result<(Vec<u8>, String), Fail> {
     let contents = Contents::read(rt, path)?;
     let mut out = Vec::new(rt.alloc());
-    dump(rt.alloc(), &contents, &mut out)?;
-    Ok(out)
+    let report = dump(rt.alloc(), &contents, &mut out)?;
+    let faults = report.faults();
+    Ok((out, format!(in rt.alloc(); "{faults}")?))
+}
+
+/// The bytes of the file with its last one changed.
+pub fn change_last_byte(rt: &HostRuntime, file: &str) -> Result<(), Fail> {
+    let bytes = fs::read(rt, file)?;
+    let last = bytes.len().saturating_sub(1);
+    let changed = with_byte_changed(rt.alloc(), bytes.as_slice(), last)?;
+    fs::write(rt, file, changed.as_slice())?;
+    Ok(())
 }

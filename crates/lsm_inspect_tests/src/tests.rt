@@ -1,7 +1,7 @@
 //! What no clause says: the lines of a check and of a dump, and that a byte that is changed in a file is found.
 
 use crate::folders::{
-    checked, dumped, make_store, put_byte, remove, table_path, with_byte_changed,
+    change_last_byte, checked, dumped, make_store, put_byte, remove, table_path, with_byte_changed,
 };
 use std::fs;
 use std::test::Fail;
@@ -13,9 +13,10 @@ fn a_whole_store_prints(rt: HostRuntime) -> Result<(), Fail> {
     let text = checked(&rt, path)?;
     let wanted = "L0 2 files 114 bytes 3 entries\nversion 3 flushed 3: 2 files, no damage";
     assert!(rt; text.as_str() == wanted, "{text}");
-    let text = dumped(&rt, path)?;
+    let (text, faults) = dumped(&rt, path)?;
     let wanted = "L0 file 1: a @1 put 1\nL0 file 1: b%20c @2 del\nL0 file 2: a @3 put \"\"\n";
     assert!(rt; text.as_slice() == wanted.as_bytes(), "{text:?}");
+    assert!(rt; faults.is_empty(), "{faults}");
     fs::remove_dir_all(&rt, path)?;
     Ok(())
 }
@@ -30,7 +31,7 @@ fn a_folder_without_edits_is_a_new_store(rt: HostRuntime) -> Result<(), Fail> {
         text.as_str() == "version 0 flushed 0: 0 files, no damage",
         "{text}"
     );
-    let text = dumped(&rt, path)?;
+    let (text, _faults) = dumped(&rt, path)?;
     assert!(rt; text.is_empty());
     fs::remove_dir_all(&rt, path)?;
     Ok(())
@@ -46,11 +47,44 @@ fn a_missing_table_and_torn_bytes_are_reported(rt: HostRuntime) -> Result<(), Fa
     put_byte(&rt, "lsm_inspect_missing/edits")?;
     let text = checked(&rt, path)?;
     let wanted =
-        "L0 2 files 114 bytes 3 entries\nfile 1: its table is missing\ntable 7: no file needs it\n1 torn bytes behind the last edit\nversion 3 flushed 3: 2 files, 1 damaged";
+        "L0 2 files 114 bytes 3 entries\nfile 1: its table is missing\nthe last edit is torn or damaged: 1 bytes; an opening is refused\ntable 7: no file needs it\nversion 3 flushed 3: 2 files, 1 damaged, the last edit not whole";
     assert!(rt; text.as_str() == wanted, "{text}");
-    let text = dumped(&rt, path)?;
-    let wanted = "L0 file 1: its table is missing\nL0 file 2: a @3 put \"\"\n";
+    let (text, faults) = dumped(&rt, path)?;
+    assert!(rt;
+        text.as_slice() == b"L0 file 2: a @3 put \"\"\n".as_slice(),
+        "{text:?}"
+    );
+    let wanted =
+        "file 1: its table is missing\nthe last edit is torn or damaged: 1 bytes; an opening is refused\n";
+    assert!(rt; faults.as_str() == wanted, "{faults}");
+    fs::remove_dir_all(&rt, path)?;
+    Ok(())
+}
+
+// The frame of the second flush's edit has 16 bytes, and the edit 64: its number, its kind, three numbers, two counts and a file with two keys.
+#[test]
+fn a_damaged_last_edit_is_reported_with_its_table(rt: HostRuntime) -> Result<(), Fail> {
+    let path = "lsm_inspect_last";
+    make_store(&rt, path)?;
+    change_last_byte(&rt, "lsm_inspect_last/edits")?;
+    let text = checked(&rt, path)?;
+    let line = "the last edit is torn or damaged: 80 bytes; an opening sets aside table 2\n";
+    let wanted =
+        "L0 1 files 67 bytes 2 entries\nthe last edit is torn or damaged: 80 bytes; an opening sets aside table 2\ntable 2: no file needs it\nversion 2 flushed 2: 1 files, 0 damaged, the last edit not whole";
+    assert!(rt; text.as_str() == wanted, "{text}");
+    let (text, faults) = dumped(&rt, path)?;
+    let wanted = "L0 file 1: a @1 put 1\nL0 file 1: b%20c @2 del\n";
     assert!(rt; text.as_slice() == wanted.as_bytes(), "{text:?}");
+    assert!(rt; faults.as_str() == line, "{faults}");
+    let third = table_path(rt.alloc(), path, 3)?;
+    fs::copy(
+        &rt,
+        table_path(rt.alloc(), path, 2)?.as_str(),
+        third.as_str(),
+    )?;
+    let (_text, faults) = dumped(&rt, path)?;
+    let line = "the last edit is torn or damaged: 80 bytes; an opening sets aside tables 2, 3\n";
+    assert!(rt; faults.as_str() == line, "{faults}");
     fs::remove_dir_all(&rt, path)?;
     Ok(())
 }
