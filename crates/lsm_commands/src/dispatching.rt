@@ -1,14 +1,20 @@
 //! The command `dispatch`: compactions that workers in other processes make.
 
+ghost use Rattle.std.specs.Prelude.{◌≡◌};
+
+use crate::made::Made;
 use crate::{Place, Screen, check_streams};
+use lsm_coord::Coord;
 use lsm_dispatch::{DispatchError, dispatch};
 use lsm_msg::NodeIndex;
 use lsm_store::Due;
+use lsm_vault::Vault;
+use std::alloc::Global;
 use std::io;
 use std::process::ExitCode;
 
 /// Has the compactions of a folder's store made by workers, of which so many are there, behind standard input and output, until none
-/// is due. What exceeds a job size limit is reported.
+/// is due. What they made, and what exceeds a job size limit, is reported.
 pub fn dispatch_jobs(rt: &HostRuntime, place: Place<'_>, workers: NodeIndex) -> ExitCode {
     let screen = Screen::new(rt);
     if let Err(error) = check_streams(rt) {
@@ -18,9 +24,30 @@ pub fn dispatch_jobs(rt: &HostRuntime, place: Place<'_>, workers: NodeIndex) -> 
         Ok(coord) => coord,
         Err(error) => return place.fail(rt, &screen, &error),
     };
+    let before = edit_count(&mut coord);
     let (mut reader, mut writer) = (rt.reader(), io::writer(rt));
     let dispatched = dispatch(rt.alloc(), &mut coord, workers, &mut reader, &mut writer);
+    if let Some(made) = made_since(rt.alloc(), &mut coord, before) {
+        screen.report(&made);
+    }
     end(dispatched, &screen)
+}
+
+// How many edits the store has, if there is memory to read them.
+fn edit_count<V: Vault>(coord: &mut Coord<V>) -> Option<usize>
+    ensures { coord.new.book ≡ coord.old.book }
+{
+    Some(coord.edits().ok()?.len())
+}
+
+// What the installs behind the first edits have made.
+fn made_since<V: Vault>(
+    alloc: Global,
+    coord: &mut Coord<V>,
+    before: Option<usize>,
+) -> Option<Made> {
+    let edits = coord.edits().ok()?;
+    Made::by_edits(alloc, edits.get(before?..)?).ok()
 }
 
 // Reports how a dispatch ended, and returns the exit status.

@@ -2,6 +2,7 @@
 
 use lsm_inspect::InspectError;
 use lsm_store::StoreError;
+use std::alloc::AllocError;
 use thiserror::Error;
 
 /// The exit status if the arguments, a script or a line are refused.
@@ -36,6 +37,12 @@ pub enum CommandError {
 impl From<lsm_file_vault::OpenError> for CommandError {
     fn from(why: lsm_file_vault::OpenError) -> CommandError {
         CommandError::Folder(why)
+    }
+}
+
+impl From<AllocError> for CommandError {
+    fn from(_e: AllocError) -> CommandError {
+        CommandError::Folder(lsm_file_vault::OpenError::OutOfMemory)
     }
 }
 

@@ -8,6 +8,7 @@
 mod dispatching;
 mod error;
 mod inspect;
+mod made;
 mod place;
 mod screen;
 mod serve;

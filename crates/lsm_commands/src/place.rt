@@ -5,9 +5,10 @@ ghost use Rattle.std.specs.Prelude.{◌≡◌, [], IfOk};
 use crate::inspect::report_faults;
 use crate::{CommandError, Screen};
 use lsm_coord::Coord;
-use lsm_file_vault::{FileVault, HostFolder, Opened};
+use lsm_file_vault::{FileCall, FileVault, HostFolder, OpenError, Opened};
 use lsm_key::Limits;
 use lsm_store::{Options, Store};
+use std::fs;
 use std::process::ExitCode;
 
 /// A vault in a folder.
@@ -42,7 +43,7 @@ impl Place<'_> {
         }
     }
 
-    /// The same, but the coordinator of the store, whose compactions are made elsewhere.
+    /// The same, but the coordinator of the store, whose compactions are made elsewhere. A folder that is not there is not made.
     pub(crate) fn open_coord(
         self,
         rt: &HostRuntime,
@@ -50,6 +51,7 @@ impl Place<'_> {
     ) -> Result<Coord<FolderVault>, CommandError>
         ensures { IfOk result (λ coord. coord.book.live ≡ []) }
     {
+        self.require_there(rt)?;
         let Opened { vault, incidents } = self.open_vault(rt, screen)?;
         let opened = Coord::open(rt.alloc(), vault, self.limits);
         screen.report_incidents(rt.alloc(), &incidents);
@@ -57,6 +59,16 @@ impl Place<'_> {
             Ok(coord) => Ok(coord),
             Err((why, _vault)) => Err(CommandError::Store(why)),
         }
+    }
+
+    // Refuses a folder that is not there.
+    fn require_there(self, rt: &HostRuntime) -> Result<(), CommandError> {
+        let Err(error) = fs::metadata(rt, self.folder) else {
+            return Ok(());
+        };
+        let path = String::from_str(rt.alloc(), self.folder)?;
+        let call = FileCall::Open;
+        Err(CommandError::Folder(OpenError::Io { path, call, error }))
     }
 
     // Opens the folder.
