@@ -3,6 +3,7 @@
 ghost use Rattle.std.specs.Prelude.{◌≡◌};
 
 use crate::made::Made;
+use crate::place::OpenCoord;
 use crate::{Place, Screen, check_streams};
 use lsm_coord::Coord;
 use lsm_dispatch::{DispatchError, dispatch};
@@ -20,17 +21,21 @@ pub fn dispatch_jobs(rt: &HostRuntime, place: Place<'_>, workers: NodeIndex) -> 
     if let Err(error) = check_streams(rt) {
         return screen.fail(&error);
     }
-    let mut coord = match place.open_coord(rt, &screen) {
-        Ok(coord) => coord,
+    let opened = match place.open_coord(rt, &screen) {
+        Ok(opened) => opened,
         Err(error) => return place.fail(rt, &screen, &error),
     };
+    let OpenCoord { coord, incidents } = opened;
+    let mut coord = coord;
     let before = edit_count(&mut coord);
     let (mut reader, mut writer) = (rt.reader(), io::writer(rt));
     let dispatched = dispatch(rt.alloc(), &mut coord, workers, &mut reader, &mut writer);
     if let Some(made) = made_since(rt.alloc(), &mut coord, before) {
         screen.report(&made);
     }
-    end(dispatched, &screen)
+    let status = end(dispatched, &screen);
+    screen.report_device(&incidents.take_error());
+    status
 }
 
 // How many edits the store has, if there is memory to read them.

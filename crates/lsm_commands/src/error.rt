@@ -3,6 +3,7 @@
 use lsm_inspect::InspectError;
 use lsm_store::StoreError;
 use std::alloc::AllocError;
+use std::io;
 use thiserror::Error;
 
 /// The exit status if the arguments, a script or a line are refused.
@@ -17,9 +18,9 @@ pub enum CommandError {
     /// The folder is not opened.
     #[error("{0}")]
     Folder(lsm_file_vault::OpenError),
-    /// The folder has no valid store.
+    /// The folder has no valid store, or its device failed, with what the system says of it.
     #[error("the store is not opened: {0}")]
-    Store(lsm_versions::OpenError),
+    Store(lsm_versions::OpenError, Option<io::Error>),
     /// The folder has no valid edits, or memory ran out, or its entries could not be written.
     #[error("{0}")]
     Data(InspectError),

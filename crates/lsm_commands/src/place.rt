@@ -5,7 +5,7 @@ ghost use Rattle.std.specs.Prelude.{◌≡◌, [], IfOk};
 use crate::inspect::report_faults;
 use crate::{CommandError, Screen};
 use lsm_coord::Coord;
-use lsm_file_vault::{FileCall, FileVault, HostFolder, OpenError, Opened};
+use lsm_file_vault::{FileCall, FileVault, HostFolder, Incidents, OpenError, Opened};
 use lsm_key::Limits;
 use lsm_store::{Options, Store};
 use std::fs;
@@ -17,6 +17,20 @@ pub type FolderVault = FileVault<HostFolder<HostRuntime>>;
 /// A store in a folder.
 pub type FolderStore = Store<FolderVault>;
 
+/// A store in a folder that was opened, and what happens in the folder beside the results of its calls.
+#[derive(Drop)]
+pub struct OpenStore {
+    pub store: FolderStore,
+    pub incidents: Incidents,
+}
+
+/// The same, of the store's coordinator.
+#[derive(Drop)]
+pub(crate) struct OpenCoord {
+    pub(crate) coord: Coord<FolderVault>,
+    pub(crate) incidents: Incidents,
+}
+
 /// Where a store keeps its data, and how it is kept.
 #[derive(Clone, Copy)]
 pub struct Place<'a> {
@@ -27,19 +41,18 @@ pub struct Place<'a> {
 
 impl Place<'_> {
     /// Opens the folder, and the store that it has. Files that are set aside are reported.
-    pub fn open(self, rt: &HostRuntime, screen: &Screen<'_>) -> Result<FolderStore, CommandError> {
+    pub fn open(self, rt: &HostRuntime, screen: &Screen<'_>) -> Result<OpenStore, CommandError> {
         let Opened { vault, incidents } = self.open_vault(rt, screen)?;
         let options = Options {
             limits: self.limits,
         };
-        let opened = Store::open(rt.alloc(), vault, options);
-        screen.report_incidents(rt.alloc(), &incidents);
-        match opened {
+        match Store::open(rt.alloc(), vault, options) {
             Ok(store) => {
                 screen.show_opened(store.latest_sequence(), store.show().files.len());
-                Ok(store)
+                screen.report_set_aside(&incidents);
+                Ok(OpenStore { store, incidents })
             }
-            Err((why, _vault)) => Err(CommandError::Store(why)),
+            Err((why, _vault)) => Err(refused(why, screen, &incidents)),
         }
     }
 
@@ -48,16 +61,17 @@ impl Place<'_> {
         self,
         rt: &HostRuntime,
         screen: &Screen<'_>,
-    ) -> Result<Coord<FolderVault>, CommandError>
-        ensures { IfOk result (λ coord. coord.book.live ≡ []) }
+    ) -> Result<OpenCoord, CommandError>
+        ensures { IfOk result (λ opened. opened.coord.book.live ≡ []) }
     {
         self.require_there(rt)?;
         let Opened { vault, incidents } = self.open_vault(rt, screen)?;
-        let opened = Coord::open(rt.alloc(), vault, self.limits);
-        screen.report_incidents(rt.alloc(), &incidents);
-        match opened {
-            Ok(coord) => Ok(coord),
-            Err((why, _vault)) => Err(CommandError::Store(why)),
+        match Coord::open(rt.alloc(), vault, self.limits) {
+            Ok(coord) => {
+                screen.report_set_aside(&incidents);
+                Ok(OpenCoord { coord, incidents })
+            }
+            Err((why, _vault)) => Err(refused(why, screen, &incidents)),
         }
     }
 
@@ -81,20 +95,36 @@ impl Place<'_> {
         Ok(lsm_file_vault::open(rt, self.folder)?)
     }
 
-    /// Reports why the folder is not opened, and if its store is refused, what is damaged there. Returns the exit status.
+    /// Reports why the folder is not opened, and if its store is refused, why its device failed and what is damaged there. Returns the exit
+    /// status.
     pub fn fail(self, rt: &HostRuntime, screen: &Screen<'_>, error: &CommandError) -> ExitCode {
         let status = screen.fail(error);
-        if matches!(error, CommandError::Store(_)) {
+        if let CommandError::Store(_, device) = error {
+            screen.report_device(device);
             report_faults(rt, self.folder, screen);
         }
         status
     }
 }
 
+// Why a store is not opened. What was set aside all the same, before a device failed, is reported.
+fn refused(
+    why: lsm_versions::OpenError,
+    screen: &Screen<'_>,
+    incidents: &Incidents,
+) -> CommandError {
+    screen.report_set_aside(incidents);
+    CommandError::Store(why, incidents.take_error())
+}
+
 /// Flushes a store at the end of a command. Returns the exit status of the command, unless the flush is refused.
-pub fn flush_at_end(store: &mut FolderStore, screen: &Screen<'_>, status: ExitCode) -> ExitCode {
-    match store.flush() {
+pub fn flush_at_end(opened: &mut OpenStore, screen: &Screen<'_>, status: ExitCode) -> ExitCode {
+    match opened.store.flush() {
         Ok(()) => status,
-        Err(why) => screen.fail(&CommandError::NotFlushed(why)),
+        Err(why) => {
+            let status = screen.fail(&CommandError::NotFlushed(why));
+            screen.report_device(&opened.incidents.take_error());
+            status
+        }
     }
 }

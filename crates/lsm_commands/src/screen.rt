@@ -3,9 +3,8 @@
 use crate::FAILED;
 use lsm_file_vault::Incidents;
 use lsm_key::Seq;
-use std::alloc::Global;
 use std::fmt::Display;
-use std::io::IsTerminal;
+use std::io::{self, IsTerminal};
 use std::process::ExitCode;
 
 /// Standard error.
@@ -83,13 +82,17 @@ impl<'a> Screen<'a> {
         }
     }
 
-    /// Reports what happened in a folder beside the results of calls.
-    pub(crate) fn report_incidents(&self, alloc: Global, incidents: &Incidents) {
-        for file in incidents.take_set_aside(alloc) {
+    /// Reports each file that was set aside in a folder since this was last asked.
+    pub(crate) fn report_set_aside(&self, incidents: &Incidents) {
+        for file in incidents.take_set_aside(self.rt.alloc()) {
             self.report(&file);
         }
-        if let Some(error) = incidents.take_error() {
-            self.report(&error);
+    }
+
+    /// Reports what the system says of a device that failed, if it did.
+    pub fn report_device(&self, error: &Option<io::Error>) {
+        if let Some(error) = error {
+            let _ = eprintln!(self.rt; "the device failed: {error}");
         }
     }
 }

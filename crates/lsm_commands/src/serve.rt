@@ -14,12 +14,13 @@ pub fn serve_folder(rt: &HostRuntime, place: Place<'_>) -> ExitCode {
     if let Err(error) = check_streams(rt) {
         return screen.fail(&error);
     }
-    let mut store = match place.open(rt, &screen) {
-        Ok(store) => store,
+    let mut opened = match place.open(rt, &screen) {
+        Ok(opened) => opened,
         Err(error) => return place.fail(rt, &screen, &error),
     };
-    let status = serve_from(rt, &mut store, &screen);
-    flush_at_end(&mut store, &screen, status)
+    let status = serve_from(rt, &mut opened.store, &screen);
+    screen.report_device(&opened.incidents.take_error());
+    flush_at_end(&mut opened, &screen, status)
 }
 
 /// The same, to a new store in memory, which is lost at the end.
@@ -28,7 +29,7 @@ pub fn serve_memory(rt: &HostRuntime, limits: Limits) -> ExitCode {
     let vault = MemoryVault::new(rt.alloc());
     match Store::open(rt.alloc(), vault, Options { limits }) {
         Ok(mut store) => serve_from(rt, &mut store, &screen),
-        Err((why, _vault)) => screen.fail(&CommandError::Store(why)),
+        Err((why, _vault)) => screen.fail(&CommandError::Store(why, None)),
     }
 }
 

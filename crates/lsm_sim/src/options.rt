@@ -4,6 +4,7 @@ ghost use Rattle.std.specs.Prelude.{◌≡◌, ◌↔◌, IfSome, IsSome, unwrap
 ghost use Rattle.lsm_key.specs.Limits.{AreLimits};
 ghost use Rattle.lsm_key.specs.declared.limits.TheConstants.{DEFAULT_L0, DEFAULT_BASE, DEFAULT_BLOCK};
 
+use crate::session::usage::STORE_COMMANDS;
 use clap::error::ErrorKind;
 use clap::{Arg, ArgMatches, Command, Error, value_parser};
 use lsm_commands::Place;
@@ -18,21 +19,6 @@ const BASE_HELP: &str =
 
 const BLOCK_HELP: &str =
     "A block of a table is closed once it has this many bytes, 1 to 16777216 [default: 4096]";
-
-const STORE_COMMANDS: &str = "\
-Commands, one a line:
-  put K V, del K              Write an operation: 'seq S'
-  batch put K V del K ..      Write operations together: 'seq F-L'
-  get K [@E.N]                'value V' or 'none', latest or at a snapshot
-  scan LO HI LIMIT [@E.N]     The first keys from LO up to HI: 'range C K=V ..'
-  snap, release E.N           'snapshot E.N at S', 'released E.N'
-  flush                       Bring all operations into the folder: 'flushed S'
-  compact                     Run the compactions that are due: 'compacted', or 'compacted but for what exceeds the job limits'
-  show c                      The files of each level
-  stats                       The sequences, what each level has and whether it is due, and how much was written to tables
-Words stand between spaces; %41 is the byte of that hexadecimal number, and \"\" the empty text. A call that is refused prints
-'refused' and why. A faulty line is reported on standard error and skipped; the exit status is then 2. What is not flushed is
-flushed when the input ends.";
 
 /// What a command line asks for.
 #[derive(Drop)]

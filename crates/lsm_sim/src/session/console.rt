@@ -11,6 +11,9 @@ use std::io::{BufRead, BufReader, ErrorKind, Read, Write};
 /// three.
 const MAX_LINE_BYTES: usize = 3 * MAX_BATCH_WEIGHT;
 
+/// A terminal drops what a typed line has beyond this many bytes, so a line of them may be a part of the one that was typed.
+const MAX_TYPED_BYTES: usize = 4_095;
+
 /// How much is read at once, and how many bytes of answers are kept back while more lines wait. In bytes.
 const BUFFER_BYTES: usize = 65_536;
 
@@ -21,6 +24,8 @@ pub(crate) enum Found {
     Line,
     /// A line of more than `MAX_LINE_BYTES`, which was skipped.
     TooLong,
+    /// A typed line of `MAX_TYPED_BYTES` or more, which was skipped.
+    MaybeCut,
     /// The end of the input.
     End,
 }
@@ -63,7 +68,11 @@ impl<R: Read + Drop, W: Write + Drop> Console<R, W> {
         if !self.reader.buffer().contains(&b'\n') || self.out.len() >= BUFFER_BYTES {
             self.write_out()?;
         }
-        read_line(&mut self.reader, line)
+        let found = read_line(&mut self.reader, line)?;
+        if self.has_prompt && line.len() >= MAX_TYPED_BYTES {
+            return Ok(Found::MaybeCut);
+        }
+        Ok(found)
     }
 
     /// Writes the answers so far.
@@ -71,12 +80,12 @@ impl<R: Read + Drop, W: Write + Drop> Console<R, W> {
         Ok(write_out(&mut self.writer, &mut self.out)?)
     }
 
-    /// Ends the output: after a prompt with a line of its own.
-    pub(crate) fn end(&mut self) -> Result<(), RunError> {
+    /// Ends the line of a prompt behind which nothing was typed.
+    pub(crate) fn end_prompt(&mut self) -> Result<(), RunError> {
         if self.has_prompt {
             write_text(&mut self.out, "\n")?;
         }
-        self.write_out()
+        Ok(())
     }
 }
 

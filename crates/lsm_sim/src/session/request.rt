@@ -15,6 +15,10 @@ pub(crate) enum Request {
     Compact,
     /// Show the sequences and what each level has.
     Stats,
+    /// List the commands.
+    Help,
+    /// End as the end of the input does.
+    Quit,
 }
 
 /// Why a line is not done.
@@ -29,6 +33,9 @@ pub(crate) enum LineFault {
     /// It is longer than any command within the limits.
     #[error("too long")]
     TooLong,
+    /// It is as long as a terminal lets a line be, so its end may be cut off.
+    #[error("too long: a terminal cuts a line off at 4095 bytes")]
+    MaybeCut,
 }
 
 /// A line that is not done, as it is reported.
@@ -49,6 +56,9 @@ pub(crate) fn request_in(
     match words.next() {
         Some(word) if word == b"compact".as_slice() => alone(words, Request::Compact),
         Some(word) if word == b"stats".as_slice() => alone(words, Request::Stats),
+        Some(word) if word == b"help".as_slice() => alone(words, Request::Help),
+        Some(word) if word == b"quit".as_slice() => alone(words, Request::Quit),
+        Some(word) if word == b"exit".as_slice() => alone(words, Request::Quit),
         _ => event_in(alloc, line),
     }
 }

@@ -5,8 +5,9 @@ use super::compact::compact;
 use super::console::{Console, Found};
 use super::request::{FaultyLine, LineFault, Request, request_in};
 use super::stats::stats;
+use super::usage::{STORE_COMMANDS, quotes_of, usage_of};
 use crate::error::RunError;
-use lsm_commands::Screen;
+use lsm_commands::{Incidents, Screen};
 use lsm_key::Refused;
 use lsm_store::Store;
 use lsm_text::{write_line, write_line_end, write_number, write_text};
@@ -14,10 +15,19 @@ use lsm_vault::Vault;
 use std::alloc::{AllocError, Global};
 use std::io::{Read, Write};
 
-/// Answers the lines of the console until they end, and reports those that are faulty. Returns whether none was.
+/// What comes after a line.
+#[derive(Clone, Copy, Debug, PartialEq, Eq)]
+enum Next {
+    Line,
+    End,
+}
+
+/// Answers the lines of the console until they end, and reports those that are faulty, each behind the answers to the lines before it.
+/// Returns whether none was.
 pub(crate) fn talk<R: Read + Drop, W: Write + Drop, V: Vault>(
     alloc: Global,
     store: &mut Store<V>,
+    incidents: &Incidents,
     console: &mut Console<R, W>,
     screen: &Screen<'_>,
 ) -> Result<bool, RunError> {
@@ -25,21 +35,53 @@ pub(crate) fn talk<R: Read + Drop, W: Write + Drop, V: Vault>(
     let mut are_right = true;
     for number in 1..u64::MAX {
         let answered = match console.read_line(&mut line)? {
-            Found::End => break,
+            Found::End => {
+                console.end_prompt()?;
+                break;
+            }
             Found::TooLong => Err(Refused::Fault(LineFault::TooLong)),
+            Found::MaybeCut => Err(Refused::Fault(LineFault::MaybeCut)),
             Found::Line => answer_line(alloc, store, &line, screen, &mut console.out),
         };
         match answered {
-            Ok(()) => {}
+            Ok(Next::Line) => {}
+            Ok(Next::End) => break,
             Err(Refused::OutOfMemory) => return Err(RunError::OutOfMemory),
             Err(Refused::Fault(fault)) => {
                 are_right = false;
-                screen.report(&FaultyLine { number, fault });
+                console.write_out()?;
+                report_fault(screen, &line, &FaultyLine { number, fault });
             }
         }
+        report_device(console, screen, incidents)?;
     }
-    console.end()?;
+    console.write_out()?;
     Ok(are_right)
+}
+
+// Reports what the system says of a device that failed, behind the line that says that it did.
+fn report_device<R: Read + Drop, W: Write + Drop>(
+    console: &mut Console<R, W>,
+    screen: &Screen<'_>,
+    incidents: &Incidents,
+) -> Result<(), RunError> {
+    let error = incidents.take_error();
+    if error.is_some() {
+        console.write_out()?;
+        screen.report_device(&error);
+    }
+    Ok(())
+}
+
+// Reports a faulty line, and how its command is written.
+fn report_fault(screen: &Screen<'_>, line: &[u8], faulty: &FaultyLine) {
+    screen.report(faulty);
+    if let Some(usage) = usage_of(line, faulty.fault) {
+        screen.report(&usage);
+    }
+    if let Some(quotes) = quotes_of(line, faulty.fault) {
+        screen.report(&quotes);
+    }
 }
 
 // Writes the line that answers a line, or says why there is none.
@@ -49,22 +91,28 @@ fn answer_line<V: Vault>(
     line: &[u8],
     screen: &Screen<'_>,
     out: &mut Vec<u8>,
-) -> Result<(), Refused<LineFault>> {
+) -> Result<Next, Refused<LineFault>> {
     match request_in(alloc, line)? {
-        None => Ok(()),
+        None => {}
+        Some(Request::Quit) => return Ok(Next::End),
+        Some(Request::Help) => {
+            write_text(out, STORE_COMMANDS)?;
+            write_line_end(out)?;
+        }
         Some(Request::Compact) => {
             compact(store, screen, out)?;
-            Ok(write_line_end(out)?)
+            write_line_end(out)?;
         }
         Some(Request::Stats) => {
             stats(store, out)?;
-            Ok(write_line_end(out)?)
+            write_line_end(out)?;
         }
         Some(Request::Event(event)) => match answer_event(alloc, store, event) {
-            None => Err(Refused::Fault(LineFault::NotOfAStore)),
-            Some(answer) => Ok(write_answer(alloc, out, &answer)?),
+            None => return Err(Refused::Fault(LineFault::NotOfAStore)),
+            Some(answer) => write_answer(alloc, out, &answer)?,
         },
     }
+    Ok(Next::Line)
 }
 
 // The line of an answer: as scripts print it, or `flushed S`.
