@@ -1,4 +1,5 @@
 """A client of RESP2 that shares no line with the server: over the standard streams of a program, or over a socket."""
+import contextlib
 import socket
 import subprocess
 
@@ -75,11 +76,19 @@ class Served(Client):
 
 
 class Connected(Client):
-    """A connection."""
+    """A connection to a port of this machine, or to a socket in the file system."""
 
-    def __init__(self, port):
-        self.socket = socket.create_connection(("127.0.0.1", port), PATIENCE)
+    def __init__(self, place, patience=PATIENCE):
+        if isinstance(place, int):
+            self.socket = socket.create_connection(("127.0.0.1", place), patience)
+        else:
+            self.socket = socket.socket(socket.AF_UNIX)
+            self.socket.settimeout(patience)
+            self.socket.connect(place)
         super().__init__(self.socket.makefile("rb"), self.socket.makefile("wb"))
 
     def close(self):
-        self.socket.close()
+        """Closes it, as the end of a client's process does."""
+        for it in (self.reader, self.writer, self.socket):
+            with contextlib.suppress(OSError):
+                it.close()
