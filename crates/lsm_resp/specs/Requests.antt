@@ -41,7 +41,7 @@ FindsWords input words (Err (Protocol why)) = ⊥
 abbrev pub FindsRequest : List ℕ → Result Parsed ParseError → Type 0
 FindsRequest input found = (words : List (List ℕ)) → AreWords words → IsAhead (request_bytes words) input → FindsWords input words found
 
--- a request takes no more bytes than have come
+-- a request takes at least a byte, and no more than have come
 abbrev pub TakesWithin : List ℕ → Parsed → Type 0
-TakesWithin input (Request lent len) = len ≤ length input
+TakesWithin input (Request lent len) = (0 < len) × (len ≤ length input)
 TakesWithin input Partial = Unit {0}

@@ -1,6 +1,6 @@
 //! Lines that announce how many words or bytes follow: a mark, decimal digits, and a line end.
 
-ghost use Rattle.std.specs.Prelude.{◌≤◌, ◌↔◌, IfOk, IfSome, IsTrue, OnSome, length};
+ghost use Rattle.std.specs.Prelude.{◌<◌, ◌≤◌, ◌↔◌, IfOk, IfSome, IsTrue, OnSome, length};
 ghost use Rattle.lsm_resp.specs.Pieces.{FindsHeader, IsPlainNumber, ReadsNumber};
 
 use crate::ProtocolFault;
@@ -38,7 +38,7 @@ fn is_plain(digits: &[u8]) -> bool
 /// What the line ahead announces, or `None` if its end has not come. The mark is not looked at.
 pub(crate) fn read_header(input: &[u8]) -> Result<Option<Header>, ProtocolFault>
     ensures found { FindsHeader input.now result }
-    ensures within { IfOk result (λ found. IfSome found (λ header. header.len ≤ length input.now)) }
+    ensures within { IfOk result (λ found. IfSome found (λ header. (0 < header.len) × (header.len ≤ length input.now))) }
 {
     let Some((_, rest)) = input.split_first() else {
         return Ok(None);

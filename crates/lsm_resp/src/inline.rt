@@ -1,6 +1,6 @@
 //! Inline requests: a line of words, as a person types it.
 
-ghost use Rattle.std.specs.Prelude.{◌≤◌, IfOk, IfSome, length};
+ghost use Rattle.std.specs.Prelude.{◌<◌, ◌≤◌, IfOk, IfSome, length};
 
 use crate::bulk::Bulks;
 use crate::find::index_of;
@@ -9,7 +9,7 @@ use std::alloc::Global;
 
 /// The words of the line ahead, split at spaces and tabs, or `None` if its end has not come. A line without words has none.
 pub(crate) fn read_inline(alloc: Global, input: &[u8]) -> Result<Option<Bulks<'_>>, ParseError>
-    ensures within { IfOk result (λ found. IfSome found (λ bulks. bulks.len ≤ length input.now)) }
+    ensures within { IfOk result (λ found. IfSome found (λ bulks. (0 < bulks.len) × (bulks.len ≤ length input.now))) }
 {
     let len = index_of(input, b'\n');
     if len > MAX_LINE_BYTES {

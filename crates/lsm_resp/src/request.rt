@@ -1,6 +1,6 @@
 //! Requests: arrays of bulk strings, and inline ones.
 
-ghost use Rattle.std.specs.Prelude.{◌≡◌, ◌≤◌, [], IfOk, IfSome, None, Ok, length};
+ghost use Rattle.std.specs.Prelude.{◌≡◌, ◌<◌, ◌≤◌, [], IfOk, IfSome, None, Ok, length};
 ghost use Rattle.lsm_resp.specs.Pieces.{FindsArray};
 ghost use Rattle.lsm_resp.specs.Requests.{FindsRequest, TakesWithin};
 ghost use Rattle.lsm_resp.specs.declared.request.Parsed.TheVariants.{Partial};
@@ -38,7 +38,7 @@ pub fn parse_request(alloc: Global, input: &[u8]) -> Result<Parsed<'_>, ParseErr
 fn read_any(alloc: Global, input: &[u8]) -> Result<Option<Bulks<'_>>, ParseError>
     ensures found { FindsArray input.now result }
     ensures nothing { input.now ≡ [] → result ≡ Ok None }
-    ensures within { IfOk result (λ found. IfSome found (λ bulks. bulks.len ≤ length input.now)) }
+    ensures within { IfOk result (λ found. IfSome found (λ bulks. (0 < bulks.len) × (bulks.len ≤ length input.now))) }
 {
     if input.is_empty() {
         return Ok(None);
@@ -53,7 +53,7 @@ fn read_any(alloc: Global, input: &[u8]) -> Result<Option<Bulks<'_>>, ParseError
 /// The array of bulk strings ahead, or `None` if not all of it has come.
 fn read_array(alloc: Global, input: &[u8]) -> Result<Option<Bulks<'_>>, ParseError>
     ensures found { FindsArray input.now result }
-    ensures within { IfOk result (λ found. IfSome found (λ bulks. bulks.len ≤ length input.now)) }
+    ensures within { IfOk result (λ found. IfSome found (λ bulks. (0 < bulks.len) × (bulks.len ≤ length input.now))) }
 {
     let Some(header) = read_header(input)? else {
         return Ok(None);

@@ -189,7 +189,7 @@ WhenRequest rest (Request lent len) = IsFound rest lent.items len
 WhenRequest rest Partial = Unit {0}
 
 pub request_is : (rest : List ℕ) (parsed : Parsed) → FindsRequest rest (Ok parsed) → (rest ≡ [] → parsed ≡ Partial) → TakesWithin rest parsed → WhenRequest rest parsed
-request_is rest (Request lent len) finds nothing within = record { finds = finds; some = λ e. (let wrong = nothing e in cc); within = within }
+request_is rest (Request lent len) finds nothing within = record { finds = finds; some = λ e. (let wrong = nothing e in cc); within = within.1 }
 request_is rest Partial finds nothing within = tt
 
 module _ (old now : CoordValue) (requests : Requests) (held holds : Option (List ℕ)) (input rest later out : List ℕ) (at : ℕ) (is : rest ≡ drop at input)
