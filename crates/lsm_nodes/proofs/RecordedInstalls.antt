@@ -77,7 +77,7 @@ module _ (past : List WitnessedValue) (a : CoordValue) (w : WitnessedValue) (b :
         (subst (λ (r : Reply). Follows a (say.Deliver 1) r b) (λ i. reply_of (sym asked i) (sym told i)) (h.step 1 (λ is. merged x sound)));
     sound = λ x given sound s shown job from live.
         elim from [
-          | inl p ↦ h.sound (merged x sound) job (sound job p (held_before a.book h.became.0.id job.id Installed (subst (λ (k : BookValue). holds k job.id ≡ true) book live))) live
+          | inl p ↦ h.sound (λ is. merged x sound) job (sound job p (held_before a.book h.became.0.id job.id Installed (subst (λ (k : BookValue). holds k job.id ≡ true) book live))) live
           | inr e ↦ absurd (no job e)
         ];
   }

@@ -120,7 +120,7 @@ pub record InstallsResult (old : CoordValue) (claim : LiveJob) (made : JobResult
   pub became : Became old claim made result new
   pub failures : old.failures ≤ new.failures
   pub step : (message : ℕ) → (IsDone result → HoldsSoundMerge old claim.id made) → Follows old (say.Deliver message) (install_reply result) new
-  pub sound : HoldsSoundMerge old claim.id made → KeepsSound old new
+  pub sound : (IsDone result → HoldsSoundMerge old claim.id made) → KeepsSound old new
 
 -- ---- trims: memory may run out for a copy of the answer too, and what was trimmed stays so
 

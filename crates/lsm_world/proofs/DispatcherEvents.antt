@@ -163,8 +163,8 @@ module _ (old : NodesValue) (new : CoordValue) (claim : LiveJob) (made : JobResu
               let found = subst (λ (id : JobId). IsLive old.core id o.0) same o.1 in
               kept_plain old.core claim o.0 made e o.1 same (result_fits h old is fit made known held o.0 found) o.3
 
-      pub install_keeps : IsFit new → (HoldsSoundMerge old.core claim.id made → KeepsSound old.core new) → Keeps h (nodes_of new (desk_settled taken d what) old.network)
-      install_keeps fit_new keeps = by what outcome (λ done. keeps (sound_if_done done))
+      pub install_keeps : IsFit new → ((IsDone what → HoldsSoundMerge old.core claim.id made) → KeepsSound old.core new) → Keeps h (nodes_of new (desk_settled taken d what) old.network)
+      install_keeps fit_new keeps = by what outcome (λ done. keeps sound_if_done)
         where
           by : (w : Install) → Became old.core claim made w new → (IsDone w → KeepsSound old.core new) → Keeps h (nodes_of new (desk_settled taken d w) old.network)
           by (became.Done number files) o sound = after_install h old new claim made number files (d - 1) fit fit_new o (sound tt) at is

@@ -111,7 +111,7 @@ impl<V: Vault> Coord<V> {
         ensures became { Became self.old claim made.now result self.new }
         ensures failures { self.old.failures ≤ self.new.failures }
         ensures step { (message : ℕ) → (IsDone result → HoldsSoundMerge self.old claim.id made.now) → Follows self.old (Deliver message) (install_reply result) self.new }
-        ensures sound { HoldsSoundMerge self.old claim.id made.now → KeepsSound self.old self.new }
+        ensures sound { (IsDone result → HoldsSoundMerge self.old claim.id made.now) → KeepsSound self.old self.new }
     {
         let id = claim.id();
         // Proof hint: the version and its places are sound.

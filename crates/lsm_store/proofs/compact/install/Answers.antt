@@ -28,5 +28,5 @@ returns-in-Kept-clause-err g c =
 
 pub returns-in-Kept-clause-sound : goal.returns-in-Kept-clause-sound
 returns-in-Kept-clause-sound g c = λ holds.
-    keeps_then _ _ _ (c.in-Kept.ensures.sound holds) c.give_back.ensures.sound
+    keeps_then _ _ _ (c.in-Kept.ensures.sound (λ done. holds)) c.give_back.ensures.sound
     (λ j n. live_before c.install.new.self.book c.in-Kept.claim.id Returned j (subst (λ (x : CoordValue). IsIn j x.book.live) c.give_back.ensures.book n))

@@ -105,7 +105,7 @@ returns-in-Ok-clause-sound g c = λ merge.
     (subst (λ (v : CoordValue). IsServed v.served) view (subst IsServed c.served.ensures.served c.listing-listing.ensures.sound.0))
     (subst (λ (v : CoordValue). IsVersion v.served.version) view (subst (λ (s : ServedValue). IsVersion s.version) c.served.ensures.served c.listing-listing.ensures.sound.1))
     (subst (λ (v : CoordValue). AreLegal v.served.version.files v.book.live) view c.self.invariant.legal)
-    (returns-in-Ok-clause-became g c) merge
+    (returns-in-Ok-clause-became g c) (merge tt)
 
 pub returns-in-None-clause-step : goal.returns-in-None-clause-step
 returns-in-None-clause-step g c = λ message holds. stale_steps c.args.self.now _ (returns-in-None-clause-became g c).3 message
