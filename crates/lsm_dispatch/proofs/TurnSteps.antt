@@ -15,6 +15,7 @@ use Rattle.lsm_frame.specs.Frames.{FrameRefuses, framed}
 use Rattle.lsm_coord.specs.declared.error.CoordError.{CoordError}
 use Rattle.lsm_coord.specs.Contract.Value.{CoordValue}
 use Rattle.lsm_store.specs.declared.due.Due.{Due}
+use Rattle.lsm_store.specs.Store.{IsNoneDue}
 use Rattle.lsm_store.specs.declared.due.Due.TheVariants as due
 use Rattle.lsm_dispatch.specs.declared.crew.WorkerState.{WorkerState}
 use Rattle.lsm_dispatch.specs.declared.crew.WorkerState.TheVariants.{Idle}
@@ -22,7 +23,7 @@ use Rattle.lsm_dispatch.specs.declared.error.DispatchError.{DispatchError}
 use Rattle.lsm_dispatch.specs.declared.error.DispatchError.TheVariants as error
 use Rattle.lsm_dispatch.specs.declared.letter.Letter.{Letter}
 use Rattle.lsm_dispatch.specs.Crews.{after_all_leave, has_busy, state_of}
-use Rattle.lsm_dispatch.specs.Dispatching.{ActRefuses, HandsOut, IsDue, IsNoneDue, JobRefuses}
+use Rattle.lsm_dispatch.specs.Dispatching.{ActRefuses, HandsOut, IsDue, JobRefuses}
 use Rattle.lsm_dispatch.specs.Letters.{IsLetter, NoLetter}
 use Rattle.lsm_dispatch.specs.Turns.{Asks, AsksBefore, ComesNext, DispatchRefuses, Hands, IsNextSent, IsNoLetter, IsTurn, NoneWaits, OneRefuses, ReadStops, RunEnds, RunStops, RunsOver, Takes, TakesLetter, Turn, TurnStops, TurnsThrough, bytes_read, one_or_none, sent_in}
 use Rattle.lsm_dispatch.proofs.KeptSteps.{none_leaves}

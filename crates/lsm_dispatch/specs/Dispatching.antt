@@ -21,7 +21,7 @@ use Rattle.lsm_coord.specs.Contract.Picking.{HasFreeClaim, IsPicked, NothingToCo
 use Rattle.lsm_coord.specs.Contract.Replies.{error_of}
 use Rattle.lsm_coord.specs.Contract.Serving.{TakesMemory}
 use Rattle.lsm_coord.specs.Contract.Value.{CoordValue}
-use Rattle.lsm_store.specs.Store.{Keeps}
+use Rattle.lsm_store.specs.Store.{IsNoneDue, Keeps}
 use Rattle.lsm_store.specs.declared.due.Due.{Due}
 use Rattle.lsm_store.specs.declared.due.Due.TheVariants as due
 use Rattle.lsm_dispatch.specs.declared.crew.WorkerState.{WorkerState}
@@ -141,10 +141,6 @@ ActRefuses crew old src said e new = MatchOption (result_in src said) ((e ≡ re
 -- why no job is picked; that all exceed a limit is no refusal
 abbrev pub JobRefuses : CoordValue → CoordError → Type 0
 JobRefuses c e = PickRefuses c e × (e ≡ refusal.TooWide → ⊥)
-
--- no compaction is due that a worker may have
-abbrev pub IsNoneDue : CoordValue → Type 0
-IsNoneDue c = NothingToCompact c ⊎ OnlyTooLarge c
 
 -- the worker was idle and has the next job, and the message takes it there; or it was not idle, or nothing is due
 abbrev pub HandsOut : List WorkerState → CoordValue → ℕ → List WorkerState → CoordValue → Option Message → Type 0

@@ -11,6 +11,7 @@ use Rattle.lsm_frame.specs.Frames.{FrameRefuses, SendRefuses, framed}
 use Rattle.lsm_coord.specs.declared.error.CoordError.{CoordError}
 use Rattle.lsm_coord.specs.Contract.Serving.{answer_message}
 use Rattle.lsm_coord.specs.Contract.Value.{CoordValue}
+use Rattle.lsm_store.specs.Store.{IsNoneDue}
 use Rattle.lsm_store.specs.declared.due.Due.TheVariants as due
 use Rattle.lsm_dispatch.specs.declared.crew.WorkerState.{WorkerState}
 use Rattle.lsm_dispatch.specs.declared.crew.WorkerState.TheVariants.{Gone, Idle}
@@ -19,7 +20,7 @@ use Rattle.lsm_dispatch.specs.declared.error.DispatchError.TheVariants as error
 use Rattle.lsm_dispatch.specs.declared.letter.Letter.{Letter}
 use Rattle.lsm_dispatch.specs.declared.letter.Letter.TheVariants as letter
 use Rattle.lsm_dispatch.specs.Crews.{after_leaving, has_busy, state_of, with_state}
-use Rattle.lsm_dispatch.specs.Dispatching.{ActRefuses, ActsOn, HandsOut, IsDue, IsNoneDue, JobRefuses}
+use Rattle.lsm_dispatch.specs.Dispatching.{ActRefuses, ActsOn, HandsOut, IsDue, JobRefuses}
 use Rattle.lsm_dispatch.specs.Letters.{IsLetter, NoLetter}
 
 -- ---- turns

@@ -7,3 +7,4 @@ pub mod CompactionAnswers
 pub mod StoreSteps
 pub mod StoreCompactions
 pub mod RangeParts
+pub mod CurrentAlone

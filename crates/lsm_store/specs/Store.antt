@@ -1,10 +1,12 @@
 -- What a store holds, and what its calls do to it, by the operations that it has accepted (LevelDB, db.h: Open, Put, Delete, Write, Get, GetSnapshot, ReleaseSnapshot, CompactRange).
 use Rattle.std.specs.Prelude.{◌≡◌, ◌⊎◌, ℕ, Bool, true, false, ◌+◌, ◌<◌, ◌≤◌, List, [], ◌∷◌, ◌++◌, Option, None, Some, IsSome, filter, length, not}
 use Rattle.std.specs.Option.{unwrap_or}
+use Rattle.std.specs.FinMap as map
 use Rattle.lsm_key.specs.declared.op.Op.{Op}
 use Rattle.lsm_key.specs.Limits.{push_fault}
 use Rattle.lsm_key.specs.Writes.{answer}
 use Rattle.lsm_versions.specs.Kept.{Kept}
+use Rattle.lsm_versions.specs.Retention.{IsListed}
 use Rattle.lsm_coord.specs.declared.error.CoordError.{CoordError}
 use Rattle.lsm_coord.specs.declared.error.CoordError.TheVariants as coord
 use Rattle.lsm_coord.specs.declared.snapshot.SnapId.{SnapId}
@@ -178,6 +180,31 @@ pub record EmptiesMemtable (old new : CoordValue) : Type 0 where
 abbrev pub CompactsNext : CoordValue → CoordValue → Bool → Type 0
 CompactsNext old new true = new.served.version.number ≡ old.served.version.number + 1
 CompactsNext old new false = (writes : List Op) (snapshots : List Snapshot) → Holds old writes snapshots → NothingToCompact old × (new ≡ old)
+
+-- ---- what compactions let go, and what they leave due
+
+-- The current version alone is served: the floor is there, no file is retired, and of the file numbers that were given the vault has
+-- tables of this version's files alone.
+pub record ServesCurrentAlone (c : CoordValue) : Type 0 where
+  pub floor : c.floor ≡ c.served.version.number
+  pub retired : c.retired ≡ []
+  pub tables : (n : ℕ) → n < c.served.version.next_file → (IsListed c.served.version n → ⊥) → map.get c.kept n ≡ None
+
+-- if a version was made, it is served alone
+abbrev pub LetsOthersGo : CoordValue → CoordValue → Type 0
+LetsOthersGo old new = old.served.version.number < new.served.version.number → ServesCurrentAlone new
+
+-- no compaction is due, or only such as exceed a job size limit
+abbrev pub IsNoneDue : CoordValue → Type 0
+IsNoneDue c = NothingToCompact c ⊎ OnlyTooLarge c
+
+-- if a state is shown, none is due after it
+abbrev pub LeavesNoneDue : CoordValue → CoordValue → Type 0
+LeavesNoneDue old new = (writes : List Op) (snapshots : List Snapshot) → Holds old writes snapshots → IsNoneDue new
+
+-- a write for which the memtable had to be flushed leaves no compaction due
+abbrev pub CompactsIfFull : CoordValue → List Op → CoordValue → Type 0
+CompactsIfFull old ops new = write_fault old ops ≡ Some coord.MemtableFull → LeavesNoneDue old new
 
 -- why the next compaction is not made
 abbrev pub NextRefuses : CoordValue → CoordValue → CoordError → Type 0

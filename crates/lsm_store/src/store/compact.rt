@@ -1,7 +1,8 @@
 //! Compactions of the store, in the caller's own thread.
 
-ghost use Rattle.std.specs.Prelude.{◌≡◌, IfErr, IfOk};
-ghost use Rattle.lsm_store.specs.Store.{CompactRefuses, CompactsNext, IsDueAfter, Keeps, LeavesMemtable, NextRefuses, OfCoord};
+ghost use Rattle.std.specs.Prelude.{◌≡◌, false, true, IfErr, IfOk, OnOk};
+ghost use Rattle.lsm_store.specs.Compacting.{IsLeft};
+ghost use Rattle.lsm_store.specs.Store.{CompactRefuses, CompactsNext, IsDueAfter, Keeps, LeavesMemtable, LetsOthersGo, NextRefuses, OfCoord, ServesCurrentAlone};
 
 use super::Store;
 use crate::compact::compact_once;
@@ -11,9 +12,10 @@ use lsm_vault::Vault;
 
 impl<V: Vault> Store<V> {
     /// Runs compactions, one after another, until no level needs one or `rounds` of them were made, and returns what is still due.
-    /// It changes no read, and can be tried again if it is refused.
+    /// Of the tables it keeps those of the last version alone. It changes no read, and can be tried again if it is refused.
     pub fn compact(&mut self, rounds: u64) -> Result<Due, StoreError>
         ensures ok { IfOk result (IsDueAfter self.old rounds self.new) }
+        ensures let_go { OnOk result (LetsOthersGo self.old self.new) }
         ensures keeps { Keeps self.old self.new }
         ensures recent { LeavesMemtable self.old self.new }
         ensures refused { IfErr result (OfCoord (CompactRefuses self.old self.new)) }
@@ -33,6 +35,9 @@ impl<V: Vault> Store<V> {
     // Runs the next compaction, and lets the tables go that it replaced. Returns whether one was due.
     fn compact_next(&mut self) -> Result<bool, CoordError>
         ensures ok { IfOk result (CompactsNext self.old self.new) }
+        ensures let_go { IfOk result (λ found. found ≡ true → ServesCurrentAlone self.new) }
+        ensures none { IfOk result (λ found. found ≡ false → IsLeft self.old self.new) }
+        ensures too_large { IfErr result (λ e. e ≡ CoordError.TooWide → IsLeft self.old self.new) }
         ensures keeps { Keeps self.old self.new }
         ensures recent { LeavesMemtable self.old self.new }
         ensures refused { IfErr result (NextRefuses self.old self.new) }
@@ -41,6 +46,8 @@ impl<V: Vault> Store<V> {
             return Ok(false);
         };
         self.coord.trim(number)?;
+        // Proof hint: the coordinator's invariant.
+        let _listing = self.coord.show();
         Ok(true)
     }
 }

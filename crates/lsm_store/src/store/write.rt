@@ -5,7 +5,7 @@ ghost use Rattle.lsm_key.specs.declared.op.Op.TheVariants.{Delete, Put};
 ghost use Rattle.lsm_key.specs.Faults.{Refuses};
 ghost use Rattle.lsm_key.specs.Limits.{push_fault};
 ghost use Rattle.lsm_coord.specs.Contract.Calls.{write_fault};
-ghost use Rattle.lsm_store.specs.Store.{Accepts, CanWrite, EmptiesMemtable, Keeps, OfCoord, OpRefuses, RoomRefuses, StoreFlushRefuses, Stores, WriteRefuses};
+ghost use Rattle.lsm_store.specs.Store.{Accepts, CanWrite, CompactsIfFull, EmptiesMemtable, IsNoneDue, Keeps, LeavesNoneDue, OfCoord, OpRefuses, RoomRefuses, StoreFlushRefuses, Stores, WriteRefuses};
 
 use super::Store;
 use crate::StoreError;
@@ -18,6 +18,7 @@ impl<V: Vault> Store<V> {
     /// Puts a key with its value. Copies both. If it is refused, the store holds what it held.
     pub fn put(&mut self, key: &[u8], value: &[u8]) -> Result<(), StoreError>
         ensures ok { OnOk result ((push_fault [] (Put key.now value.now) ≡ None) × CanWrite self.old (Put key.now value.now ∷ []) × Accepts self.old (Put key.now value.now ∷ []) self.new) }
+        ensures compacted { OnOk result (CompactsIfFull self.old (Put key.now value.now ∷ []) self.new) }
         ensures err { OnErr result (Keeps self.old self.new) }
         ensures refused { IfErr result (OpRefuses self.old (Put key.now value.now) self.new) }
     {
@@ -29,6 +30,7 @@ impl<V: Vault> Store<V> {
     /// Deletes a key, whether it has a value or not. Copies it. If it is refused, the store holds what it held.
     pub fn delete(&mut self, key: &[u8]) -> Result<(), StoreError>
         ensures ok { OnOk result ((push_fault [] (Delete key.now) ≡ None) × CanWrite self.old (Delete key.now ∷ []) × Accepts self.old (Delete key.now ∷ []) self.new) }
+        ensures compacted { OnOk result (CompactsIfFull self.old (Delete key.now ∷ []) self.new) }
         ensures err { OnErr result (Keeps self.old self.new) }
         ensures refused { IfErr result (OpRefuses self.old (Delete key.now) self.new) }
     {
@@ -39,6 +41,7 @@ impl<V: Vault> Store<V> {
     // Applies a batch of one operation.
     fn write_op(&mut self, op: Op) -> Result<(), StoreError>
         ensures ok { OnOk result ((push_fault [] op ≡ None) × CanWrite self.old (op ∷ []) × Accepts self.old (op ∷ []) self.new) }
+        ensures compacted { OnOk result (CompactsIfFull self.old (op ∷ []) self.new) }
         ensures err { OnErr result (Keeps self.old self.new) }
         ensures refused { IfErr result (OpRefuses self.old op self.new) }
     {
@@ -52,6 +55,7 @@ impl<V: Vault> Store<V> {
     /// again.
     pub fn write(&mut self, batch: &Batch) -> Result<(), StoreError>
         ensures ok { OnOk result (CanWrite self.old batch.now × Accepts self.old batch.now self.new) }
+        ensures compacted { OnOk result (CompactsIfFull self.old batch.now self.new) }
         ensures err { OnErr result (Keeps self.old self.new) }
         ensures refused { IfErr result (WriteRefuses self.old batch.now self.new) }
     {
@@ -71,6 +75,7 @@ impl<V: Vault> Store<V> {
     // Applies a batch, if the memtable has room for it.
     fn accept(&mut self, batch: &Batch) -> Result<(), CoordError>
         ensures ok { OnOk result ((write_fault self.old batch.now ≡ None) × Accepts self.old batch.now self.new) }
+        ensures due { OnOk result (IsNoneDue self.old → IsNoneDue self.new) }
         ensures err { OnErr result (self.new ≡ self.old) }
         ensures refused { IfErr result (Refuses CoordError.OutOfMemory (write_fault self.old batch.now)) }
     {
@@ -81,11 +86,14 @@ impl<V: Vault> Store<V> {
     // Empties the memtable, so that each batch has room, and runs the compactions that are due.
     fn make_room(&mut self) -> Result<(), StoreError>
         ensures ok { OnOk result (EmptiesMemtable self.old self.new) }
+        ensures compacted { OnOk result (LeavesNoneDue self.old self.new) }
         ensures keeps { Keeps self.old self.new }
         ensures refused { IfErr result (OfCoord (RoomRefuses self.old self.new)) }
     {
         self.flush()?;
         self.compact(u64::MAX)?;
+        // Proof hint: the coordinator's invariant.
+        let _listing = self.coord.show();
         Ok(())
     }
 

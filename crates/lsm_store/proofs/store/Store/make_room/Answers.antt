@@ -1,4 +1,7 @@
+use Rattle.std.proofs.Common.{subst}
 use Rattle.std.proofs.lemmas.Result.{err_from_is_err_and}
+use Rattle.lsm_coord.specs.Contract.Memory.{IsFit}
+use Rattle.lsm_store.proofs.CurrentAlone.{none_due}
 use Rattle.lsm_store.proofs.StoreCompactions.{compact_refuses_room}
 use Rattle.lsm_store.proofs.store.Store.make_room.Goals as goal
 
@@ -7,3 +10,7 @@ returns-in_err-compact-clause-refused g c =
     let p = err_from_is_err_and c.from_residual-in_err-compact.result c.from_residual-in_err-compact.ensures.1 in
     rw (p.1, p.2)
     (compact_refuses_room _ _ _ _ (λ writes snapshots held. (c.in_ok-flush.ensures.ok writes snapshots held).0) c.flush.ensures.failures c.in_err-compact.ensures.refused)
+
+pub returns-clause-compacted : goal.returns-clause-compacted
+returns-clause-compacted g c =
+    none_due c.args.self.now c.flush.new.self c.compact.new.self _ (λ writes snapshots held. (c.in_ok-flush.ensures.ok writes snapshots held).0) (subst IsFit c.self.view_is c.show-listing.ensures.fit) c.in_ok-compact.ensures.ok

@@ -1,0 +1,4 @@
+use Rattle.lsm_store.proofs.store.Store.delete.Goals as goal
+
+pub returns-clause-compacted : goal.returns-clause-compacted
+returns-clause-compacted g c = rw (← c.in_ok-key.ensures) c.write_op.ensures.compacted
