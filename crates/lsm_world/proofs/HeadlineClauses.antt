@@ -27,18 +27,18 @@ module _ (es : List Event) (rs : List Reply) (t : State) (run : Run first_state 
   pub reads_newest : ReadsAreNewest es rs
   reads_newest place key at value is =
       let step = step_at first_state es rs t place (say.Get key at) (say.Got value) run is.0 is.1 in
-      (step.0, step.1, step.2.1.1.0)
+      (step.0, (step.1, step.2), step.2.1.1.0)
 
   pub scans_newest : ScansAreNewest es rs
   scans_newest place lo hi at limit pairs is =
       let step = step_at first_state es rs t place (say.Scan lo hi at limit) (say.Scanned pairs) run is.0 is.1 in
-      (step.0, step.1, step.2.1.1.0)
+      (step.0, (step.1, step.2), step.2.1.1.0)
 
   pub follower_reads_newest : FollowerReadsAreNewest es rs
   follower_reads_newest place follower key number value is =
       let step = step_at first_state es rs t place (say.Read follower key) (say.ReadAt number value) run is.0 is.1 in
       let reads = step.2.1.1.1 in
-      (step.0, step.1, reads.0, reads.1, reads.2)
+      (step.0, (step.1, step.2), reads.0, reads.1, reads.2)
 
   pub one_listing : ShowOneListing rs
   one_listing = listings_agree first_state t es rs run

@@ -2,12 +2,14 @@
 use Rattle.std.proofs.Common.{◌≡◌, ℕ, ◌≤◌, List, [], ◌∷◌, ◌++◌, Option, None, Some, refl, sym, ap, subst, ◌∙◌, inl, inr, arith, length, get_or}
 use Rattle.std.specs.Option.{unwrap_or}
 use Rattle.lsm_key.specs.Sets.{IsIn}
-use Rattle.lsm_coord.specs.Model.Changes.{at_level, without_inputs}
+use Rattle.lsm_key.specs.declared.op.Op.TheVariants.{Put}
+use Rattle.lsm_key.specs.Writes.{answer}
+use Rattle.lsm_coord.specs.Model.Changes.{after_stop, at_level, read_at, without_inputs}
 use Rattle.lsm_coord.specs.Model.Event as say
 use Rattle.lsm_coord.specs.Model.Examples.{a, one, two, first_snapshot}
 use Rattle.lsm_coord.specs.Model.Rules.{refusal}
-use Rattle.lsm_coord.specs.Model.State.{Place, State, Version, empty_version}
-use Rattle.lsm_world.specs.WrongWorlds.{DeadSnapshotIsNoRun, EpochAgainIsNoRun, MergedAgainIsNoRun, SequenceGivenTwiceIsNoRun, SkippedWriteIsNoRun, TwoListingsAreNoRun, VersionNotHeldIsNoRun}
+use Rattle.lsm_coord.specs.Model.State.{Place, State, Version, empty_version, first_state}
+use Rattle.lsm_world.specs.WrongWorlds.{DeadSnapshotIsNoRun, EpochAgainIsNoRun, MergedAgainIsNoRun, SequenceGivenTwiceIsNoRun, SkippedWriteIsNoRun, TwoListingsAreNoRun, VersionNotHeldIsNoRun, WriteLostAtRefusedRestartIsNotNewest}
 
 pub version_not_held : VersionNotHeldIsNoRun
 version_not_held (last, (s, (_, (_, _, e)), (t, (_, (_, _, _, f)), (_, (_, ((_, at), _, _)), _)))) = let number = rw (f, e) at at in absurd cc
@@ -36,6 +38,28 @@ two_listings (last, (s, (_, (_, _, e)), (t, (_, (_, _, _, f)), (u, (_, (_, _, _,
 
 pub dead_snapshot : DeadSnapshotIsNoRun
 dead_snapshot (last, (s, (_, (_, _, e)), (t, (_, (_, _, _, f)), (_, (forced, _), _)))) = let v = subst (λ (x : State). refusal x (say.Get a (Some first_snapshot)) ≡ None) f forced in absurd cc
+
+-- ---- a write that is lost
+
+-- the write was accepted
+abbrev written : State
+written = record first_state { writes = Put a one ∷ [] }
+
+refused_when_down : (s : State) → s ≡ after_stop written → refusal s (say.Get a None) ≡ None → ⊥
+refused_when_down s is forced = let v = subst (λ (x : State). refusal x (say.Get a None) ≡ None) is forced in absurd cc
+
+there_when_up : (s : State) → s ≡ written → None ≡ answer s.writes (read_at s None) a → ⊥
+there_when_up s is value = let v = subst (λ (x : State). None ≡ answer x.writes (read_at x None) a) is value in absurd cc
+
+-- the state before the get is one of the two that the refused restart may leave
+pub write_lost : WriteLostAtRefusedRestartIsNotNewest
+write_lost newest =
+    let found = newest 2 a None None (refl, refl) in
+    let run = found.1.0 in
+    elim run.2.1.1 [
+      | inl stopped ↦ refused_when_down found.0 (run.2.2 ∙ stopped ∙ ap after_stop run.1.1.2) found.1.1.1.0
+      | inr stays ↦ there_when_up found.0 (run.2.2 ∙ stays ∙ run.1.1.2) found.2
+    ]
 
 -- ---- merged again
 

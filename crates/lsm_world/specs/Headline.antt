@@ -10,6 +10,7 @@ use Rattle.lsm_coord.specs.Model.Laws.{IsAnswered}
 use Rattle.lsm_coord.specs.Model.Range.{IsRange}
 use Rattle.lsm_coord.specs.Model.Run.{Run}
 use Rattle.lsm_coord.specs.Model.State.{Place, State, Version, first_state}
+use Rattle.lsm_coord.specs.Model.Step.{Step}
 
 -- the event at this place got the reply
 abbrev pub IsAnsweredAt : List Event → List Reply → ℕ → Event → Reply → Type 0
@@ -19,20 +20,24 @@ IsAnsweredAt events replies place event reply = (slice_get events place ≡ Some
 abbrev pub IsStateAt : List Event → List Reply → ℕ → State → Type 0
 IsStateAt events replies place s = Run first_state (take place events) (take place replies) s
 
+-- With this reply the event at this place was a step from this state: it was not refused there, and the reply is what the state gives.
+abbrev pub IsStepAt : List Event → List Reply → ℕ → State → Event → Reply → Type 0
+IsStepAt events replies place s event reply = IsStateAt events replies place s × ((t : State) × Step s event reply t)
+
 -- A get at the coordinator gives the newest accepted write of its key, no later than its point.
 abbrev pub ReadsAreNewest : List Event → List Reply → Type 0
 ReadsAreNewest events replies = (place : ℕ) (key : List ℕ) (at : Option SnapId) (value : Option (List ℕ)) → IsAnsweredAt events replies place (say.Get key at) (say.Got value)
-    → (s : State) × IsStateAt events replies place s × (value ≡ answer s.writes (read_at s at) key)
+    → (s : State) × IsStepAt events replies place s (say.Get key at) (say.Got value) × (value ≡ answer s.writes (read_at s at) key)
 
 -- A scan at the coordinator gives the first keys of its range that have a value, each with its newest accepted write, no later than its point.
 abbrev pub ScansAreNewest : List Event → List Reply → Type 0
 ScansAreNewest events replies = (place : ℕ) (lo hi : List ℕ) (at : Option SnapId) (limit : ℕ) (pairs : List (List ℕ × List ℕ)) → IsAnsweredAt events replies place (say.Scan lo hi at limit) (say.Scanned pairs)
-    → (s : State) × IsStateAt events replies place s × IsRange (answer s.writes (read_at s at)) lo hi limit pairs
+    → (s : State) × IsStepAt events replies place s (say.Scan lo hi at limit) (say.Scanned pairs) × IsRange (answer s.writes (read_at s at)) lo hi limit pairs
 
 -- A read at a follower gives the newest accepted write of its key, no later than the flushed sequence of the follower's version.
 abbrev pub FollowerReadsAreNewest : List Event → List Reply → Type 0
 FollowerReadsAreNewest events replies = (place follower : ℕ) (key : List ℕ) (number : ℕ) (value : Option (List ℕ)) → IsAnsweredAt events replies place (say.Read follower key) (say.ReadAt number value)
-    → (s : State) × IsStateAt events replies place s × (v : Version) × (slice_get s.versions number ≡ Some v) × (value ≡ answer s.writes v.flushed key)
+    → (s : State) × IsStepAt events replies place s (say.Read follower key) (say.ReadAt number value) × (v : Version) × (slice_get s.versions number ≡ Some v) × (value ≡ answer s.writes v.flushed key)
 
 -- Nodes that show one version number show one listing.
 abbrev pub ShowOneListing : List Reply → Type 0

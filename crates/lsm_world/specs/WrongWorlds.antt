@@ -18,6 +18,7 @@ use Rattle.lsm_world.specs.declared.reply.Reply.TheVariants as reply
 use Rattle.lsm_world.specs.declared.reply.Sent.{Sent}
 use Rattle.lsm_world.specs.declared.reply.Sent.TheVariants as sent
 use Rattle.lsm_world.specs.Asks.{Asks}
+use Rattle.lsm_world.specs.Headline.{ReadsAreNewest}
 use Rattle.lsm_world.specs.Inner.Working.{IsMessageAt}
 use Rattle.lsm_world.specs.Nodes.{NodesValue}
 
@@ -64,6 +65,13 @@ abbrev pub DeadSnapshotIsNoRun : Type 0
 DeadSnapshotIsNoRun = RunOfNew
     (say.Snap ∷ say.Restart say.Coordinator ∷ say.Get a (Some first_snapshot) ∷ [])
     (say.Snapped first_snapshot 0 ∷ say.Restarted 2 2 0 ∷ say.Got None ∷ []) → ⊥
+
+-- A restart is refused for want of memory, so that the coordinator may be up with all that it had, or down; and then a get finds that the
+-- write is lost: its value is the newest write of no state in which the get is not refused.
+abbrev pub WriteLostAtRefusedRestartIsNotNewest : Type 0
+WriteLostAtRefusedRestartIsNotNewest = ReadsAreNewest
+    (say.Write (Put a one ∷ []) ∷ say.Restart say.Coordinator ∷ say.Get a None ∷ [])
+    (say.Wrote 1 1 ∷ say.Refused say.OutOfMemory ∷ say.Got None ∷ []) → ⊥
 
 -- ---- by claims, messages and tables
 

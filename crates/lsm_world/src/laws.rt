@@ -3,7 +3,7 @@
 ghost use Rattle.lsm_world.specs.WorkedSchedules.{ClaimsAreGivenBack, EachCallAnswers, FollowersGoOn, JobIsMergedAndInstalled};
 ghost use Rattle.lsm_world.specs.WrongWorlds.{DeadSnapshotIsNoRun, EpochAgainIsNoRun, LateResultIsNotInstalled, LostMessageCountsNoNumber};
 ghost use Rattle.lsm_world.specs.WrongWorlds.{MergedAgainIsNoRun, ReturnedClaimInstallsNothing, SequenceGivenTwiceIsNoRun, SkippedWriteIsNoRun};
-ghost use Rattle.lsm_world.specs.WrongWorlds.{TableLetGoIsNotServed, TwoListingsAreNoRun, VersionNotHeldIsNoRun};
+ghost use Rattle.lsm_world.specs.WrongWorlds.{TableLetGoIsNotServed, TwoListingsAreNoRun, VersionNotHeldIsNoRun, WriteLostAtRefusedRestartIsNotNewest};
 
 /// Worlds that a user would call broken are none.
 pub fn wrong_worlds()
@@ -15,6 +15,7 @@ pub fn wrong_worlds()
     ensures listings { TwoListingsAreNoRun }
     ensures merged { MergedAgainIsNoRun }
     ensures snapshot { DeadSnapshotIsNoRun }
+    ensures newest { WriteLostAtRefusedRestartIsNotNewest }
     // by the steps of the nodes
     ensures late { LateResultIsNotInstalled }
     ensures returned { ReturnedClaimInstallsNothing }
