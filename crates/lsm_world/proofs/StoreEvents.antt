@@ -1,15 +1,17 @@
 -- A store of either kind: what its nodes are asked, and what is told and kept of a restart.
-use Rattle.std.proofs.Common.{◌≡◌, ◌⊎◌, ℕ, List, Option, None, Some, Result, Ok, Err, map, refl, sym, ap, subst, ◌∙◌, inl, inr}
+use Rattle.std.proofs.Common.{◌≡◌, ◌⊎◌, ℕ, List, [], Option, None, Some, Result, Ok, Err, map, refl, sym, ap, subst, ◌∙◌, inl, inr}
 use Rattle.lsm_edit.specs.Served.{IsServed, ServedValue}
-use Rattle.lsm_edit.specs.Version.{IsVersion}
+use Rattle.lsm_edit.specs.Version.{IsVersion, VersionValue}
 use Rattle.lsm_edit.specs.Edits.{RemovedOnce}
 use Rattle.lsm_versions.specs.declared.error.OpenError.{OpenError}
 use Rattle.lsm_versions.specs.Kept.{Kept}
 use Rattle.lsm_versions.specs.Manifest.{Folds, read_edits}
-use Rattle.lsm_versions.specs.Opening.{manifest_version}
+use Rattle.lsm_versions.specs.Opening.{HaveTables, manifest_version}
 use Rattle.lsm_versions.proofs.ManifestReplay.{removed_by_one}
+use Rattle.lsm_versions.proofs.RecoveredTables.{have_tables}
 use Rattle.lsm_versions.proofs.ReplayedEdits.{folds_once}
 use Rattle.lsm_coord.specs.declared.dispatcher.Dispatcher.{Dispatcher}
+use Rattle.lsm_coord.specs.Contract.Memory.{IsFit}
 use Rattle.lsm_coord.specs.Contract.Restarts.{RestartFollows, Restarts, core_reply, restart_reply}
 use Rattle.lsm_coord.specs.Contract.Seats.{SeatValue, ShowsDown, ShowsSeat}
 use Rattle.lsm_coord.specs.Contract.Shows.{Shows}
@@ -26,10 +28,10 @@ use Rattle.lsm_world.specs.declared.store.Store.TheVariants.{Up, Down}
 use Rattle.lsm_world.specs.History.{History, IsDownHistory, IsStoreHistory, versions_in}
 use Rattle.lsm_world.specs.Inner.Handing.{IsNoRestart}
 use Rattle.lsm_world.specs.Inner.Stopping.{StoppedValue, down_store}
-use Rattle.lsm_world.specs.Inner.Storing.{IsCaughtUp, IsFitWhileUp, store_of}
+use Rattle.lsm_world.specs.Inner.Storing.{IsCaughtUp, IsFitWhileUp, IsIdleWhileDown, store_of}
 use Rattle.lsm_world.specs.Nodes.{NetworkValue, NodesValue, StoreValue, number_of, store_with, up_store}
 use Rattle.lsm_world.specs.Replies.{reply_of}
-use Rattle.lsm_world.specs.Schedules.{IsPlain}
+use Rattle.lsm_world.specs.Schedules.{IsFitBy, IsFitDown, IsPlain}
 use Rattle.lsm_world.specs.Shown.{FollowsStore, ShowsStore}
 use Rattle.lsm_world.proofs.AnsweredVersions.{HasNewest}
 use Rattle.lsm_world.proofs.GrowingHistory.{Grows, grows_by_none}
@@ -88,6 +90,11 @@ restart_is_plain store old opened seat r same told follows shown =
 pub caught_up : (old : SeatValue) (opened : Result (Unit {0}) OpenError) (seat : SeatValue) → Restarts old opened seat → IsCaughtUp seat.core
 caught_up old (Ok done) seat is = subst (λ (x : SeatValue). IsCaughtUp x.core) (sym is.2) (subst (λ (x : CoordValue). x.last ≡ x.served.version.flushed) (sym is.1.is) refl)
 caught_up old (Err e) seat is = subst (λ (x : SeatValue). IsCaughtUp x.core) (sym is.3) tt
+
+-- a book that outlives a refused opening is new
+pub restart_idle : (old : SeatValue) (opened : Result (Unit {0}) OpenError) (seat : SeatValue) → Restarts old opened seat → IsIdleWhileDown seat.core seat.book
+restart_idle old (Ok done) seat is = subst (λ (x : SeatValue). IsIdleWhileDown x.core x.book) (sym is.2) tt
+restart_idle old (Err e) seat is = subst (λ (x : SeatValue). IsIdleWhileDown x.core x.book) (sym is.3) refl
 
 -- A RESTART KEEPS THE HISTORY, WITH THE EDIT OF THE OPENING.
 restarted : (h : History) (old : SeatValue) (opened : Result (Unit {0}) OpenError) (seat : SeatValue) (desk : List Dispatcher) (network : NetworkValue) → Restarts old opened seat → IsDownHistory h old.edits old.kept desk network
@@ -159,8 +166,22 @@ module _ (store : StoreValue) (old : SeatValue) (opened : Result (Unit {0}) Open
 
 -- ---- what every store is
 
--- the manifest of a vault that shows a state replays
-pub down_fit : (edits : List (List ℕ)) (kept : Kept) → (s : State) × ShowsDown edits kept s → Folds edits (manifest_version edits) × RemovedOnce (read_edits edits)
-down_fit edits kept shown =
-    let folds = shown.1.stored.manifest in
-    (folds_once edits shown.1.served.version folds, removed_by_one edits shown.1.served.version folds)
+-- the seat of a coordinator that is up is its own
+pub up_fit : (n : NodesValue) → IsFit n.core → IsFitBy (Some n.core) (up_store n).seat
+up_fit n fit = record { coordinator = fit; same = refl }
+
+-- the manifest of a vault that shows a state replays, and the vault has the tables
+pub down_fit : (seat : SeatValue) → seat.book.live ≡ [] → (s : State) × ShowsDown seat.edits seat.kept s → IsFitDown seat
+down_fit seat idle shown =
+    let served = shown.1.served in
+    let folds : Folds seat.edits served.version = shown.1.stored.manifest in record {
+      manifest = folds_once seat.edits served.version folds;
+      once = removed_by_one seat.edits served.version folds;
+      tables = subst (λ (v : VersionValue). HaveTables seat.kept v.files) (sym folds.makes) (have_tables seat.kept served shown.1.sound shown.1.tables);
+      idle = idle;
+    }
+
+-- no file is removed by two of the vault's edits
+pub fit_once : (core : Option CoordValue) (seat : SeatValue) → IsFitBy core seat → RemovedOnce (read_edits seat.edits)
+fit_once (Some c) seat fit = subst (λ (x : SeatValue). RemovedOnce (read_edits x.edits)) (sym fit.same) fit.coordinator.once
+fit_once None seat fit = fit.once

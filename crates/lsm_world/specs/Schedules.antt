@@ -6,10 +6,11 @@ use Rattle.lsm_key.specs.declared.limits.Limits.{Limits}
 use Rattle.lsm_edit.specs.Edits.{RemovedOnce}
 use Rattle.lsm_versions.specs.declared.error.OpenError.TheVariants as opening
 use Rattle.lsm_versions.specs.Manifest.{Folds, read_edits}
-use Rattle.lsm_versions.specs.Opening.{manifest_version}
+use Rattle.lsm_versions.specs.Opening.{HaveTables, manifest_version}
 use Rattle.lsm_coord.specs.declared.error.CoordError.TheVariants as error
 use Rattle.lsm_coord.specs.Contract.Desks.{new_desk}
 use Rattle.lsm_coord.specs.Contract.Memory.{IsFit}
+use Rattle.lsm_coord.specs.Contract.Restarts.{up_seat}
 use Rattle.lsm_coord.specs.Contract.Seats.{SeatValue}
 use Rattle.lsm_coord.specs.Contract.Shows.{Shows}
 use Rattle.lsm_coord.specs.Contract.Value.{CoordValue}
@@ -101,13 +102,26 @@ pub record IsReached (w : WorldValue) : Type 0 where
   pub run : Run first_state (map event_of w.trace) (map reply_of replies) state
   pub shown : ShowsStore w.nodes state
 
--- the store's manifest replays to its last version, and no file is removed by two edits
+-- of a coordinator that is up: what every coordinator keeps, and the vault, the book and the limits of the seat are its own
+pub record IsFitUp (c : CoordValue) (seat : SeatValue) : Type 0 where
+  pub coordinator : IsFit c
+  pub same : seat ≡ up_seat c
+
+-- Of one that is down: the vault's manifest replays to its last version, no file is removed by two of its edits, each file of the
+-- version has its table in the vault, as its record says, and no claim is live.
+pub record IsFitDown (seat : SeatValue) : Type 0 where
+  pub manifest : Folds seat.edits (manifest_version seat.edits)
+  pub once : RemovedOnce (read_edits seat.edits)
+  pub tables : HaveTables seat.kept (manifest_version seat.edits).files
+  pub idle : seat.book.live ≡ []
+
+-- the seat of this coordinator, or of none, is fit
 abbrev pub IsFitBy : Option CoordValue → SeatValue → Type 0
-IsFitBy (Some c) seat = IsFit c
-IsFitBy None seat = Folds seat.edits (manifest_version seat.edits) × RemovedOnce (read_edits seat.edits)
+IsFitBy (Some c) seat = IsFitUp c seat
+IsFitBy None seat = IsFitDown seat
 
 -- What every world is: its trace led to what its nodes show, whose history has said so of each job, result, table, edit and
--- version; and no file is removed by two edits.
+-- version; and the seat is fit, so that no file is removed by two of the vault's edits.
 pub record IsWorld (w : WorldValue) : Type 0 where
   pub reached : IsReached w
   pub fit : IsFitBy w.nodes.seat.core w.nodes.seat

@@ -32,6 +32,7 @@ pub(crate) struct Stopped<V: Vault> {
 }
 
 impl<V: Vault> Model for Stopped<V> {
+    ghost use Rattle.std.specs.Prelude.{◌≡◌, []};
     ghost use Rattle.std.specs.Coded.{codes};
     ghost use Rattle.lsm_versions.specs.Kept.{kept_code};
     ghost use Rattle.lsm_world.specs.History.{History, IsDownHistory};
@@ -43,11 +44,11 @@ impl<V: Vault> Model for Stopped<V> {
 
     ghost view = { λ s. record { edits = V.edits s.vault; kept = V.tables s.vault; failures = V.failures s.vault; book = s.book; limits = s.limits; desk = s.desk; network = s.network } };
 
-    ghost invariant = { λ s. (h : History) × IsDownHistory h (V.edits s.vault) (V.tables s.vault) s.desk s.network };
+    ghost invariant = { λ s. (s.book.live ≡ []) × (h : History) × IsDownHistory h (V.edits s.vault) (V.tables s.vault) s.desk s.network };
 }
 
 impl<V: Vault> Stopped<V> {
-    ghost use Rattle.std.specs.Prelude.{◌≡◌, ◌⊎◌, ℕ};
+    ghost use Rattle.std.specs.Prelude.{◌≡◌, ◌⊎◌, ℕ, []};
     ghost use Rattle.lsm_coord.specs.Model.Event as say;
     ghost use Rattle.lsm_world.specs.Events.{event_of};
     ghost use Rattle.lsm_world.specs.Replies.{reply_of};
@@ -129,7 +130,8 @@ impl<V: Vault> Stopped<V> {
         desk: Desk,
         network: Network,
     ) -> Stopped<V>
-        requires { (h : History) × IsDownHistory h (V.edits vault) (V.tables vault) desk network }
+        requires idle { book.live ≡ [] }
+        requires history { (h : History) × IsDownHistory h (V.edits vault) (V.tables vault) desk network }
         ensures { result ≡ record { edits = V.edits vault; kept = V.tables vault; failures = V.failures vault; book = book; limits = limits; desk = desk; network = network } }
     {
         Stopped {
@@ -163,7 +165,8 @@ impl<V: Vault> Stopped<V> {
 
     /// What is so of all nodes. Does nothing.
     pub(crate) fn known(&self)
-        ensures { (h : History) × IsDownHistory h self.now.edits self.now.kept self.now.desk self.now.network }
+        ensures idle { self.now.book.live ≡ [] }
+        ensures history { (h : History) × IsDownHistory h self.now.edits self.now.kept self.now.desk self.now.network }
     {
         let _vault = &self.vault;
     }

@@ -7,7 +7,7 @@ ghost use Rattle.lsm_world.specs.declared.event.Event.TheVariants.{RestartCoordi
 ghost use Rattle.lsm_world.specs.Asks.{AsksStore, restart_answer, restarted_as};
 ghost use Rattle.lsm_world.specs.Events.{event_of};
 ghost use Rattle.lsm_world.specs.History.{History, IsStoreHistory};
-ghost use Rattle.lsm_world.specs.Inner.Storing.{IsCaughtUp, store_in, store_of};
+ghost use Rattle.lsm_world.specs.Inner.Storing.{IsCaughtUp, IsIdleWhileDown, store_in, store_of};
 ghost use Rattle.lsm_world.specs.Memory.{IsNotShort};
 ghost use Rattle.lsm_world.specs.Nodes.{store_with};
 ghost use Rattle.lsm_world.specs.Replies.{reply_of};
@@ -177,7 +177,8 @@ fn put<V: Vault>(place: &mut Option<Store<V>>, store: Store<V>)
 
 // A store with this seat.
 fn seated<V: Vault>(alloc: Global, seat: Seat<V>, desk: Desk, network: Network) -> Store<V>
-    requires { (h : History) × IsStoreHistory h (store_with (seat_of V.edits V.tables V.failures seat) desk network) }
+    requires idle { IsIdleWhileDown (seat_of V.edits V.tables V.failures seat).core (seat_of V.edits V.tables V.failures seat).book }
+    requires history { (h : History) × IsStoreHistory h (store_with (seat_of V.edits V.tables V.failures seat) desk network) }
     ensures { store_of result ≡ store_with (seat_of V.edits V.tables V.failures seat) desk network }
 {
     match seat {

@@ -2,7 +2,9 @@
 
 ghost use Rattle.std.specs.Prelude.{◌≡◌, ◌⊎◌, ◌+◌, ◌≤◌, ◌++◌, ◌∷◌, [], All, IfErr, IfOk, OnErr, map, sum_by};
 ghost use Rattle.std.specs.FinMap.{empty};
+ghost use Rattle.lsm_edit.specs.Edits.{RemovedOnce};
 ghost use Rattle.lsm_versions.specs.declared.error.OpenError.TheVariants.{Device, OutOfMemory};
+ghost use Rattle.lsm_versions.specs.Manifest.{read_edits};
 ghost use Rattle.lsm_versions.specs.Opening.{CountsRefusal};
 ghost use Rattle.lsm_world.specs.declared.refusal.Refusal.TheVariants as why;
 ghost use Rattle.lsm_world.specs.declared.reply.Reply.TheVariants as reply;
@@ -177,7 +179,10 @@ impl<V: Vault> World<V> {
         ensures edits { V.edits result ≡ self.nodes.seat.edits }
         ensures tables { V.tables result ≡ self.nodes.seat.kept }
         ensures failures { V.failures result ≡ self.nodes.seat.failures }
+        // No file was merged twice.
+        ensures once { RemovedOnce (read_edits (V.edits result)) }
     {
+        self.known();
         let World {
             alloc: _,
             store,

@@ -2,7 +2,7 @@
 use Rattle.std.specs.Prelude.{◌≡◌, [], Option, None, Some}
 use Rattle.std.specs.FinMap.{empty}
 use Rattle.std.proofs.Common.{lit≤}
-use Rattle.lsm_claim.specs.Book.{new_book}
+use Rattle.lsm_claim.specs.Book.{BookValue, new_book}
 use Rattle.lsm_coord.specs.Contract.Memory.{IsFit}
 use Rattle.lsm_coord.specs.Contract.Value.{CoordValue}
 use Rattle.lsm_world.specs.declared.store.Store.{Store}
@@ -26,6 +26,11 @@ store_in (Some store) = store_of store
 abbrev pub IsCaughtUp : Option CoordValue → Type 0
 IsCaughtUp (Some c) = c.last ≡ c.served.version.flushed
 IsCaughtUp None = Unit {0}
+
+-- no claim is live, if the coordinator is down
+abbrev pub IsIdleWhileDown : Option CoordValue → BookValue → Type 0
+IsIdleWhileDown (Some c) book = Unit {0}
+IsIdleWhileDown None book = book.live ≡ []
 
 -- the coordinator is fit, if it is up
 abbrev pub IsFitWhileUp : Option CoordValue → Type 0

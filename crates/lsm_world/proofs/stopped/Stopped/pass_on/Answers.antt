@@ -8,7 +8,9 @@ use Rattle.lsm_world.proofs.NetworkSteps.{network_delivery_follows}
 use Rattle.lsm_world.proofs.stopped.Stopped.pass_on.Goals as goal
 
 pub invariant_of-self : goal.invariant_of-self
-invariant_of-self g c = down_keeps _ _ _ c.self.inside.network c.hand_over.new.self c.hand_over.ensures.keeps c.self.invariant
+invariant_of-self g c =
+    let kept = down_keeps _ _ _ c.self.inside.network c.hand_over.new.self c.hand_over.ensures.keeps (c.self.invariant.1, c.self.invariant.2) in
+    (c.self.invariant.0, kept.0, kept.1)
 
 pub returns-clause-asks : goal.returns-clause-asks
 returns-clause-asks g c =

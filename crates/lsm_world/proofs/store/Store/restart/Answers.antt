@@ -2,7 +2,7 @@
 use Rattle.std.proofs.Common.{inr}
 use Rattle.lsm_coord.specs.Contract.Restarts.{seat_of}
 use Rattle.lsm_world.specs.Inner.Storing.{store_of}
-use Rattle.lsm_world.proofs.StoreEvents.{caught_up, known_down, restart_asks, restart_follows, restart_is_plain, restart_known}
+use Rattle.lsm_world.proofs.StoreEvents.{caught_up, known_down, restart_asks, restart_follows, restart_idle, restart_is_plain, restart_known}
 use Rattle.lsm_world.proofs.StoreFailures.{restart_counted}
 use Rattle.lsm_world.proofs.store.Store.restart.Goals as goal
 
@@ -12,8 +12,10 @@ restarted-reply-requires g c =
 
 pub seated-store-requires : goal.seated-store-requires
 seated-store-requires g c =
-    let is = c.parts-seat.ensures in
-    restart_known (store_of c.args.self) _ _ _ _ _ is.seat is.desk is.network c.restart-seat.ensures.restarts is.history
+    let is = c.parts-seat.ensures in record {
+      idle = restart_idle (seat_of g.V.Vault.edits g.V.Vault.tables g.V.Vault.failures c.parts-seat.result.0) c.restart-seat.result.1 (seat_of g.V.Vault.edits g.V.Vault.tables g.V.Vault.failures c.restart-seat.result.0) c.restart-seat.ensures.restarts;
+      history = restart_known (store_of c.args.self) _ _ _ _ _ is.seat is.desk is.network c.restart-seat.ensures.restarts is.history;
+    }
 
 pub returns-clause-asks : goal.returns-clause-asks
 returns-clause-asks g c =
