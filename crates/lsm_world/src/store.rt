@@ -138,7 +138,8 @@ impl<V: Vault> Store<V> {
         ensures tables { V.tables result ≡ (store_of self).seat.kept }
         ensures failures { V.failures result ≡ (store_of self).seat.failures }
     {
-        let (seat, desk, _network) = self.parts();
+        let (seat, desk, network) = self.parts();
+        drop(network);
         let mut seat = seat;
         desk.close(&mut seat);
         seat.close()
