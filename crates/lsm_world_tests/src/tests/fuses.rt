@@ -2,7 +2,7 @@
 //! replies are then those over a vault that does not fail.
 
 use super::schedules::{Does, MERGED, PICKED, REFUSED, TWO, TWO_JOBS, Turn};
-use super::{BASE, event_of, is_told, step};
+use super::{BASE, Fused, event_of, is_told, step};
 use lsm_coord::CoordError;
 use lsm_key::{DEFAULT_BLOCK, Limits};
 use lsm_vault::{FusedVault, MemoryVault, Vault};
@@ -11,9 +11,6 @@ use lsm_world::{Refusal, Reply, World};
 use std::alloc::{AllocError, Global};
 use std::process::Abort;
 use std::test::Fail;
-
-/// A vault in memory, of which one call fails.
-type Fused = FusedVault<MemoryVault>;
 
 /// More calls than any of these schedules asks of its vault.
 const MOST: u64 = 64;

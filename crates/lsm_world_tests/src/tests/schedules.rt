@@ -49,7 +49,6 @@ pub(super) enum Tells {
     Shown(u64, u64, &'static [(u8, u64)]),
     /// The job's epoch and number, its level and inputs, and the message.
     Picked(u64, u64, u8, &'static [u64], u64),
-    Idle,
     Returned(u64),
     /// The number of a job of the first epoch.
     StaleClaim(u64),
@@ -72,10 +71,7 @@ pub(super) enum Tells {
     ReadAt(u64, Option<&'static [u8]>),
     /// How many tables a follower lacks, and the first and the last message.
     Waiting(u32, u64, u64),
-    /// How many tables a follower lacks. Nothing is sent.
-    Lacking(u32),
     Advanced(u64),
-    Current,
     Dropped,
     RestartedFollower(u8),
     Refused(Refusal),
@@ -121,36 +117,6 @@ pub(super) const LATE: [Turn; 8] = [
     (Does::Deliver(11), Tells::Refused(Refusal::NoClaim)),
 ];
 
-pub(super) const SNAPSHOT: [Turn; 6] = [
-    (Does::Put(b"a", b"1"), Tells::Wrote(1)),
-    (Does::Flush, Tells::Flushed(2, 1, 1)),
-    (Does::Snap, Tells::Snapped(1, 1)),
-    (Does::Delete(b"a"), Tells::Wrote(2)),
-    (Does::Flush, Tells::Flushed(3, 2, 2)),
-    (Does::Pick(1), Tells::Picked(1, 1, 0, &[1, 2], 1)),
-];
-
-pub(super) const KEPT: [Turn; 3] = [
-    (Does::Deliver(6), Tells::Installed(4, &[3])),
-    (Does::GetThen(b"a"), Tells::Got(Some(b"1"))),
-    (Does::Get(b"a"), Tells::Got(None)),
-];
-
-/// The job is given up and picked again, before the result comes.
-pub(super) const GIVEN_UP: [Turn; 3] = [
-    (Does::GiveUp(1), Tells::Returned(1)),
-    (Does::Pick(1), Tells::Picked(1, 2, 0, &[1, 2], 7)),
-    (Does::Deliver(6), Tells::Refused(Refusal::NoClaim)),
-];
-
-/// A file that meets a job that runs is not merged.
-pub(super) const MET: [Turn; 4] = [
-    (Does::Pick(1), Tells::Refused(Refusal::Busy)),
-    (Does::Put(b"a", b"3"), Tells::Wrote(3)),
-    (Does::Flush, Tells::Flushed(4, 3, 3)),
-    (Does::Pick(2), Tells::Idle),
-];
-
 /// Files of two keys.
 pub(super) const TWO: [Turn; 8] = [
     (Does::Put(b"a", b"1"), Tells::Wrote(1)),
@@ -183,74 +149,8 @@ pub(super) const TWO_JOBS: [Turn; 16] = [
     (Does::Get(b"a"), Tells::Got(Some(b"2"))),
 ];
 
-pub(super) const BEFORE: [Turn; 5] = [
-    (Does::Put(b"a", b"1"), Tells::Wrote(1)),
-    (Does::Flush, Tells::Flushed(2, 1, 1)),
-    (Does::Put(b"a", b"2"), Tells::Wrote(2)),
-    (Does::Flush, Tells::Flushed(3, 2, 2)),
-    (Does::Pick(1), Tells::Picked(1, 1, 0, &[1, 2], 1)),
-];
-
-/// A snapshot and a write while the job runs.
-pub(super) const MEANWHILE: [Turn; 2] = [
-    (Does::Snap, Tells::Snapped(1, 2)),
-    (Does::Put(b"a", b"3"), Tells::Wrote(3)),
-];
-
-pub(super) const AFTER: [Turn; 3] = [
-    (Does::Deliver(6), Tells::Installed(4, &[3])),
-    (Does::GetThen(b"a"), Tells::Got(Some(b"2"))),
-    (Does::Get(b"a"), Tells::Got(Some(b"3"))),
-];
-
-/// A file goes down two levels, one merge after another.
-pub(super) const DOWN: [Turn; 12] = [
-    (Does::Put(b"a", b"1"), Tells::Wrote(1)),
-    (Does::Flush, Tells::Flushed(2, 1, 1)),
-    (Does::Pick(1), Tells::Picked(1, 1, 0, &[1], 1)),
-    (Does::Deliver(1), Tells::Collecting(1, 2, 2)),
-    (Does::Deliver(2), Tells::Served(3)),
-    (Does::Deliver(3), Tells::Merged(4)),
-    (Does::Deliver(4), Tells::Installed(3, &[2])),
-    (Does::Pick(1), Tells::Picked(1, 2, 1, &[2], 5)),
-    (Does::Deliver(5), Tells::Collecting(1, 6, 6)),
-    (Does::Deliver(6), Tells::Served(7)),
-    (Does::Deliver(7), Tells::Merged(8)),
-    (Does::Deliver(8), Tells::Installed(4, &[3])),
-];
-
-/// A deletion above it is kept.
-pub(super) const OVER: [Turn; 9] = [
-    (Does::Delete(b"a"), Tells::Wrote(2)),
-    (Does::Flush, Tells::Flushed(5, 2, 4)),
-    (Does::Pick(1), Tells::Picked(1, 3, 0, &[4], 9)),
-    (Does::Deliver(9), Tells::Collecting(1, 10, 10)),
-    (Does::Deliver(10), Tells::Served(11)),
-    (Does::Deliver(11), Tells::Merged(12)),
-    (Does::Deliver(12), Tells::Installed(6, &[5])),
-    (Does::Show, Tells::Shown(6, 2, &[(2, 3), (1, 5)])),
-    (Does::Get(b"a"), Tells::Got(None)),
-];
-
-/// A job that is delivered twice asks twice, and one table is enough.
-pub(super) const TWICE: [Turn; 6] = [
-    (Does::Deliver(1), Tells::Collecting(2, 2, 3)),
-    (Does::Deliver(1), Tells::Collecting(2, 4, 5)),
-    (Does::Deliver(2), Tells::Served(6)),
-    (Does::Deliver(4), Tells::Served(7)),
-    (Does::Deliver(6), Tells::Kept(1)),
-    (Does::Deliver(7), Tells::Ignored),
-];
-
-/// A worker that is started anew awaits nothing.
-pub(super) const ANEW: [Turn; 3] = [
-    (Does::RestartWorker(1), Tells::RestartedWorker(1)),
-    (Does::Deliver(7), Tells::Ignored),
-    (Does::Deliver(1), Tells::Collecting(2, 8, 9)),
-];
-
-/// The other calls, and what is not there.
-pub(super) const CALLS: [Turn; 10] = [
+/// The other calls, what is not there, and a claim that is given back.
+pub(super) const CALLS: [Turn; 15] = [
     (Does::Put(b"a", b"1"), Tells::Wrote(1)),
     (Does::Freeze, Tells::Froze(1)),
     (
@@ -267,19 +167,11 @@ pub(super) const CALLS: [Turn; 10] = [
     (Does::Deliver(0), Tells::Refused(Refusal::NoMessage)),
     (Does::Deliver(1), Tells::Refused(Refusal::NoMessage)),
     (Does::GiveUp(4), Tells::Refused(Refusal::NoClaim)),
-];
-
-/// The coordinator restarts while a job is merged: the result is of an earlier epoch, and its claim is spent.
-pub(super) const RESTARTED: [Turn; 9] = [
-    (Does::Deliver(1), Tells::Collecting(2, 2, 3)),
-    (Does::Deliver(2), Tells::Served(4)),
-    (Does::Deliver(3), Tells::Served(5)),
-    (Does::RestartCoordinator, Tells::Restarted(2, 4, 2)),
-    (Does::Deliver(4), Tells::Kept(1)),
-    (Does::Deliver(5), Tells::Merged(6)),
-    (Does::Pick(1), Tells::Refused(Refusal::Busy)),
-    (Does::Deliver(6), Tells::Refused(Refusal::OldEpoch)),
-    (Does::Deliver(6), Tells::Refused(Refusal::NoClaim)),
+    (Does::Flush, Tells::Flushed(2, 1, 1)),
+    (Does::Put(b"a", b"2"), Tells::Wrote(2)),
+    (Does::Flush, Tells::Flushed(3, 2, 2)),
+    (Does::Pick(2), Tells::Picked(1, 1, 0, &[1, 2], 1)),
+    (Does::GiveUp(2), Tells::Returned(1)),
 ];
 
 /// The coordinator restarts after the merge: the result is refused, and the next job is of the next epoch.
@@ -287,21 +179,6 @@ pub(super) const REFUSED: [Turn; 3] = [
     (Does::RestartCoordinator, Tells::Restarted(2, 4, 2)),
     (Does::Deliver(6), Tells::Refused(Refusal::OldEpoch)),
     (Does::Pick(1), Tells::Picked(2, 1, 0, &[1, 2], 7)),
-];
-
-/// A write that was not flushed is lost.
-pub(super) const LOST: [Turn; 4] = [
-    (Does::Put(b"a", b"1"), Tells::Wrote(1)),
-    (Does::RestartCoordinator, Tells::Restarted(2, 2, 0)),
-    (Does::Get(b"a"), Tells::Got(None)),
-    (Does::Put(b"b", b"2"), Tells::Wrote(1)),
-];
-
-pub(super) const STALE: [Turn; 4] = [
-    (Does::RestartCoordinator, Tells::Restarted(2, 4, 2)),
-    (Does::GiveUp(1), Tells::StaleClaim(1)),
-    (Does::GiveUp(1), Tells::Refused(Refusal::NoClaim)),
-    (Does::RestartCoordinator, Tells::Restarted(3, 5, 2)),
 ];
 
 /// A flush that is refused is done again.
@@ -315,18 +192,28 @@ pub(super) const FAILED: [Turn; 4] = [
     (Does::Get(b"a"), Tells::Got(Some(b"1"))),
 ];
 
-/// The coordinator is down after a restart that is refused, and a worker goes on.
-pub(super) const STOPPED: [Turn; 9] = [
-    (Does::Put(b"a", b"1"), Tells::Wrote(1)),
-    (Does::Flush, Tells::Flushed(2, 1, 1)),
+/// The coordinator is down after a restart that is refused, and a worker goes on. A claim is given back once it is up again.
+pub(super) const STOPPED: [Turn; 10] = [
     (
         Does::RestartCoordinator,
         Tells::Refused(Refusal::Open(OpenError::Device)),
     ),
     (Does::Get(b"a"), Tells::Refused(Refusal::Down)),
-    (Does::Pick(1), Tells::Refused(Refusal::Down)),
+    (Does::Pick(2), Tells::Refused(Refusal::Down)),
+    (Does::GiveUp(1), Tells::Refused(Refusal::Down)),
     (Does::RestartWorker(1), Tells::RestartedWorker(1)),
-    (Does::Deliver(1), Tells::Refused(Refusal::NoMessage)),
-    (Does::RestartCoordinator, Tells::Restarted(2, 3, 1)),
-    (Does::Get(b"a"), Tells::Got(Some(b"1"))),
+    (Does::Deliver(1), Tells::Collecting(2, 2, 3)),
+    (Does::Deliver(2), Tells::Refused(Refusal::Down)),
+    (Does::RestartCoordinator, Tells::Restarted(2, 4, 2)),
+    (Does::GiveUp(1), Tells::StaleClaim(1)),
+    (Does::Get(b"a"), Tells::Got(None)),
+];
+
+/// A trim that is refused has raised the floor, and removed a table; the next one removes the other one.
+pub(super) const TRIMMED: [Turn; 2] = [
+    (
+        Does::Trim(4),
+        Tells::Refused(Refusal::Coord(CoordError::Device)),
+    ),
+    (Does::Trim(1), Tells::Trimmed(4, &[2])),
 ];
