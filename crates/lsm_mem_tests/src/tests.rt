@@ -3,8 +3,19 @@
 use bytes::Bytes;
 use lsm_key::{Batch, Entry, Kind, MAX_MEMTABLE_WEIGHT, Op, Seq};
 use lsm_mem::Memtable;
-use std::alloc::Global;
+use std::alloc::{AllocError, Global};
 use std::test::Fail;
+
+/// What is done to a key: the put of a value, or a deletion.
+type Write = (&'static [u8], Option<&'static [u8]>);
+
+/// The key of an entry, and its sequence.
+type Place = (&'static [u8], u64);
+
+/// A put of b and of a in one batch, and then of b again, a deletion of a and a put of c.
+const FIRST: [Write; 2] = [(b"b", Some(b"1")), (b"a", Some(b"22"))];
+
+const SECOND: [Write; 3] = [(b"b", Some(b"333")), (b"a", None), (b"c", Some(b""))];
 
 /// Keys that begin alike, one of them twice.
 const ALIKE: [&[u8]; 6] = [
@@ -16,54 +27,55 @@ const ALIKE: [&[u8]; 6] = [
     b"account-10",
 ];
 
-fn put_of(key: &'static [u8], value: &'static [u8]) -> Op {
-    Op::Put(Bytes::from_static(key), Bytes::from_static(value))
+fn op_of(write: Write) -> Op {
+    let (key, value) = write;
+    match value {
+        Some(value) => Op::Put(Bytes::from_static(key), Bytes::from_static(value)),
+        None => Op::Delete(Bytes::from_static(key)),
+    }
 }
 
-fn delete_of(key: &'static [u8]) -> Op {
-    Op::Delete(Bytes::from_static(key))
+fn batch_of(alloc: Global, writes: &[Write]) -> Result<Batch, Fail> {
+    let mut batch = Batch::new(alloc);
+    for write in writes {
+        batch.push(op_of(*write))?;
+    }
+    Ok(batch)
+}
+
+/// Puts of one value to these keys in turn.
+fn puts_to(alloc: Global, keys: &[&'static [u8]]) -> Result<Batch, Fail> {
+    let mut batch = Batch::new(alloc);
+    for key in keys {
+        batch.push(op_of((*key, Some(b"value"))))?;
+    }
+    Ok(batch)
 }
 
 /// Applies a batch whose first sequence is this.
-fn apply(memtable: &mut Memtable, first: u64, batch: &Batch) -> Result<(), Fail> {
+fn apply(memtable: &mut Memtable, first: u64, batch: Batch) -> Result<(), Fail> {
     let newer = memtable.last_seq().number() < first;
     let room = batch.weight() <= MAX_MEMTABLE_WEIGHT - memtable.weight();
     let fits = first <= Seq::MAX - batch.ops().len() as u64;
     if !newer || !room || !fits {
         return Err(Fail::from("no batch for this memtable"));
     }
-    memtable.apply(Seq::new(first), batch)?;
+    memtable.apply(Seq::new(first), &batch)?;
     Ok(())
 }
 
-/// A put of b and of a in one batch, then of b again, a deletion of a and a put of c: sequences 11 to 15.
+/// A memtable of both batches, with sequences 11 to 15.
 fn example(alloc: Global) -> Result<Memtable, Fail> {
     let mut memtable = Memtable::new(alloc);
-    let mut first = Batch::new(alloc);
-    first.push(put_of(b"b", b"1"))?;
-    first.push(put_of(b"a", b"22"))?;
-    apply(&mut memtable, 11, &first)?;
-    let mut second = Batch::new(alloc);
-    second.push(put_of(b"b", b"333"))?;
-    second.push(delete_of(b"a"))?;
-    second.push(put_of(b"c", b""))?;
-    apply(&mut memtable, 13, &second)?;
+    apply(&mut memtable, 11, batch_of(alloc, &FIRST)?)?;
+    apply(&mut memtable, 13, batch_of(alloc, &SECOND)?)?;
     Ok(memtable)
 }
 
-/// Puts of these keys in turn.
-fn batch_of(alloc: Global, keys: &[&'static [u8]]) -> Result<Batch, Fail> {
-    let mut batch = Batch::new(alloc);
-    for key in keys {
-        batch.push(put_of(key, b"value"))?;
-    }
-    Ok(batch)
-}
-
-/// A memtable of puts of these keys in turn, from sequence 1.
-fn puts_of(alloc: Global, keys: &[&'static [u8]]) -> Result<Memtable, Fail> {
+/// A memtable of puts to these keys in turn, from sequence 1.
+fn memtable_of(alloc: Global, keys: &[&'static [u8]]) -> Result<Memtable, Fail> {
     let mut memtable = Memtable::new(alloc);
-    apply(&mut memtable, 1, &batch_of(alloc, keys)?)?;
+    apply(&mut memtable, 1, puts_to(alloc, keys)?)?;
     Ok(memtable)
 }
 
@@ -73,82 +85,83 @@ fn counts(memtable: &Memtable) -> (usize, bool, usize, u64) {
     (memtable.len(), memtable.is_empty(), memtable.weight(), last)
 }
 
-fn push_key(text: &mut String, key: &[u8]) -> Result<(), Fail> {
-    for byte in key {
-        text.push(char::from(*byte))?;
+/// Whether this is the place of the entry.
+fn is_at(entry: &Entry, place: Option<&Place>) -> bool {
+    match place {
+        Some((key, seq)) => { entry.ikey.key.as_slice() == *key && entry.ikey.seq.number() == *seq }
+        None => false,
     }
-    Ok(())
 }
 
-fn push_number(alloc: Global, text: &mut String, number: u64) -> Result<(), Fail> {
-    let shown = format!(in alloc; "{number}")?;
-    text.push_str(&shown)?;
-    Ok(())
-}
-
-fn push_place(alloc: Global, text: &mut String, entry: &Entry) -> Result<(), Fail> {
-    if !text.is_empty() {
-        text.push(' ')?;
+/// Whether these are the places of the entries, in turn.
+fn are_at(entries: &[Entry], places: &[Place]) -> bool {
+    for (number, entry) in entries.iter().enumerate() {
+        if !is_at(entry, places.get(number)) {
+            return false;
+        }
     }
-    push_key(text, entry.ikey.key.as_slice())?;
-    push_number(alloc, text, entry.ikey.seq.number())
+    entries.len() == places.len()
 }
 
-/// The keys and sequences of entries, as `a2 a1 b3`.
-fn places_of(alloc: Global, entries: &[Entry]) -> Result<String, Fail> {
-    let mut text = String::new(alloc);
-    for entry in entries {
-        push_place(alloc, &mut text, entry)?;
-    }
-    Ok(text)
+/// Whether a memtable has entries at these places alone.
+fn has(memtable: &Memtable, places: &[Place]) -> Result<bool, AllocError> {
+    let entries = memtable.entries()?;
+    Ok(are_at(&entries, places))
 }
 
-/// Those of the entries from a key on, as a cursor gives them.
-fn places_from(alloc: Global, memtable: &Memtable, lo: &[u8]) -> Result<String, Fail> {
-    let mut text = String::new(alloc);
+/// Whether a range has entries at these places alone.
+fn has_in(memtable: &Memtable, lo: &[u8], hi: &[u8], places: &[Place]) -> Result<bool, AllocError> {
+    let entries = memtable.range(lo, hi)?;
+    Ok(are_at(&entries, places))
+}
+
+/// Whether a cursor that begins at a key gives entries at these places alone.
+fn has_from(memtable: &Memtable, lo: &[u8], places: &[Place]) -> Result<bool, AllocError> {
+    let mut count = 0usize;
     for entry in memtable.cursor_from(lo)? {
-        push_place(alloc, &mut text, entry)?;
+        if !is_at(entry, places.get(count)) {
+            return Ok(false);
+        }
+        count = count.saturating_add(1);
     }
-    Ok(text)
+    Ok(count == places.len())
 }
 
-fn all_places(alloc: Global, memtable: &Memtable) -> Result<String, Fail> {
-    places_of(alloc, &memtable.entries()?)
-}
+/// Nothing is found.
+const NONE: (u64, bool, usize) = (0, false, 0);
 
-/// What a get gives: its sequence, kind and value, or `none`.
-fn shown(alloc: Global, memtable: &Memtable, key: &[u8], at: u64) -> Result<String, Fail> {
-    if at > 1_000_000 {
-        return Err(Fail::from("no such sequence"));
+/// What a get finds: its sequence, whether it is a put, and the length of its value.
+fn found(memtable: &Memtable, key: &[u8], at: u64) -> (u64, bool, usize) {
+    if at > Seq::MAX {
+        return NONE;
     }
     let Some(entry) = memtable.get(key, Seq::new(at)) else {
-        return Ok(format!(in alloc; "none")?);
+        return NONE;
     };
-    let number = entry.seq.number();
-    let kind = match entry.kind {
-        Kind::Put => "put",
-        Kind::Delete => "delete",
+    let is_put = match entry.kind {
+        Kind::Put => true,
+        Kind::Delete => false,
     };
-    let len = entry.value.len();
-    Ok(format!(in alloc; "{number} {kind} {len}")?)
+    (entry.seq.number(), is_put, entry.value.len())
 }
+
+/// Where the entries of the example are.
+const PLACES: [Place; 5] = [(b"a", 14), (b"a", 12), (b"b", 13), (b"b", 11), (b"c", 15)];
 
 #[test]
 fn entries_come_by_key_and_the_newest_first(rt: HostRuntime) -> Result<(), Fail> {
     let memtable = example(rt.alloc())?;
-    let places = all_places(rt.alloc(), &memtable)?;
-    assert!(rt; places.as_str() == "a14 a12 b13 b11 c15");
+    assert!(rt; has(&memtable, &PLACES)?);
     assert!(rt; counts(&memtable) == (5, false, 5 * 15 + 1 + 2 + 3, 15));
     Ok(())
 }
 
 #[test]
 fn a_new_memtable_has_nothing(rt: HostRuntime) -> Result<(), Fail> {
-    let memtable = puts_of(rt.alloc(), &[])?;
+    let memtable = memtable_of(rt.alloc(), &[])?;
     assert!(rt; counts(&memtable) == (0, true, 0, 0));
-    let places = all_places(rt.alloc(), &memtable)?;
-    let found = shown(rt.alloc(), &memtable, b"a", 9)?;
-    assert!(rt; (places.as_str(), found.as_str()) == ("", "none"));
+    assert!(rt; has(&memtable, &[])? && has_from(&memtable, b"", &[])?);
+    assert!(rt; found(&memtable, b"a", 9) == NONE);
     Ok(())
 }
 
@@ -156,110 +169,149 @@ fn a_new_memtable_has_nothing(rt: HostRuntime) -> Result<(), Fail> {
 fn a_get_sees_what_was_written_by_its_sequence(rt: HostRuntime) -> Result<(), Fail> {
     let memtable = example(rt.alloc())?;
     for (key, at, want) in [
-        (b"a", 11, "none"),
-        (b"a", 12, "12 put 2"),
-        (b"a", 13, "12 put 2"),
-        (b"a", 14, "14 delete 0"),
-        (b"a", 99, "14 delete 0"),
-        (b"b", 12, "11 put 1"),
-        (b"b", 13, "13 put 3"),
-        (b"c", 14, "none"),
-        (b"c", 15, "15 put 0"),
-        (b"d", 99, "none"),
+        (b"a", 11, NONE),
+        (b"a", 12, (12, true, 2)),
+        (b"a", 13, (12, true, 2)),
+        (b"a", 14, (14, false, 0)),
+        (b"a", 99, (14, false, 0)),
+        (b"b", 12, (11, true, 1)),
+        (b"b", 13, (13, true, 3)),
+        (b"c", 14, NONE),
+        (b"c", 15, (15, true, 0)),
+        (b"d", 99, NONE),
     ] {
-        let got = shown(rt.alloc(), &memtable, key.as_slice(), at)?;
-        assert!(rt; got.as_str() == want, "at {at}");
+        assert!(rt; found(&memtable, key.as_slice(), at) == want, "at {at}");
     }
     Ok(())
 }
+
+/// Ranges of the example, each with what it has.
+const RANGES: [(&[u8], &[u8], &[Place]); 7] = [
+    (
+        b"",
+        b"z",
+        &[(b"a", 14), (b"a", 12), (b"b", 13), (b"b", 11), (b"c", 15)],
+    ),
+    (
+        b"a",
+        b"c",
+        &[(b"a", 14), (b"a", 12), (b"b", 13), (b"b", 11)],
+    ),
+    (b"a1", b"c", &[(b"b", 13), (b"b", 11)]),
+    (b"b", b"b", &[]),
+    (b"c", b"a", &[]),
+    (b"c", b"c1", &[(b"c", 15)]),
+    (b"d", b"z", &[]),
+];
 
 #[test]
 fn a_range_leaves_out_its_end(rt: HostRuntime) -> Result<(), Fail> {
     let memtable = example(rt.alloc())?;
-    for (lo, hi, want) in [
-        ("", "z", "a14 a12 b13 b11 c15"),
-        ("a", "c", "a14 a12 b13 b11"),
-        ("a1", "c", "b13 b11"),
-        ("b", "b", ""),
-        ("c", "a", ""),
-        ("c", "c1", "c15"),
-        ("d", "z", ""),
-    ] {
-        let entries = memtable.range(lo.as_bytes(), hi.as_bytes())?;
-        let places = places_of(rt.alloc(), entries.as_slice())?;
-        assert!(rt; places.as_str() == want, "from {lo} to {hi}");
+    for (lo, hi, places) in RANGES {
+        assert!(rt; has_in(&memtable, lo, hi, places)?, "from {lo:?}");
     }
     Ok(())
 }
 
+/// Where a cursor begins over the keys that begin alike, with sequences 1 to 6, and b, zebra and b, and what it gives.
+const CURSORS: [(&[u8], &[Place]); 7] = [
+    (
+        b"",
+        &[
+            (b"account", 2),
+            (b"account\0", 4),
+            (b"account-1", 3),
+            (b"account-10", 6),
+            (b"account-2", 5),
+            (b"account-2", 1),
+            (b"b", 9),
+            (b"b", 7),
+            (b"zebra", 8),
+        ],
+    ),
+    (
+        b"account-1",
+        &[
+            (b"account-1", 3),
+            (b"account-10", 6),
+            (b"account-2", 5),
+            (b"account-2", 1),
+            (b"b", 9),
+            (b"b", 7),
+            (b"zebra", 8),
+        ],
+    ),
+    (
+        b"account-11",
+        &[
+            (b"account-2", 5),
+            (b"account-2", 1),
+            (b"b", 9),
+            (b"b", 7),
+            (b"zebra", 8),
+        ],
+    ),
+    (b"account-3", &[(b"b", 9), (b"b", 7), (b"zebra", 8)]),
+    (b"b", &[(b"b", 9), (b"b", 7), (b"zebra", 8)]),
+    (b"b1", &[(b"zebra", 8)]),
+    (b"zebras", &[]),
+];
+
 #[test]
 fn a_cursor_goes_from_its_key_to_the_end(rt: HostRuntime) -> Result<(), Fail> {
-    let mut memtable = puts_of(rt.alloc(), &ALIKE)?;
-    let others = batch_of(rt.alloc(), &[b"b".as_slice(), b"zebra", b"b"])?;
-    apply(&mut memtable, 7, &others)?;
-    for (lo, want) in [
-        (
-            "",
-            "account2 account\04 account-13 account-106 account-25 account-21 b9 b7 zebra8",
-        ),
-        (
-            "account-1",
-            "account-13 account-106 account-25 account-21 b9 b7 zebra8",
-        ),
-        ("account-11", "account-25 account-21 b9 b7 zebra8"),
-        ("account-3", "b9 b7 zebra8"),
-        ("b", "b9 b7 zebra8"),
-        ("b1", "zebra8"),
-        ("zebras", ""),
-    ] {
-        let places = places_from(rt.alloc(), &memtable, lo.as_bytes())?;
-        assert!(rt; places.as_str() == want, "from {lo}");
+    let mut memtable = memtable_of(rt.alloc(), &ALIKE)?;
+    let others = puts_to(rt.alloc(), &[b"b".as_slice(), b"zebra", b"b"])?;
+    apply(&mut memtable, 7, others)?;
+    for (lo, places) in CURSORS {
+        assert!(rt; has_from(&memtable, lo, places)?, "from {lo:?}");
     }
-    let none = puts_of(rt.alloc(), &[])?;
-    let places = places_from(rt.alloc(), &none, b"")?;
-    assert!(rt; places.is_empty());
     Ok(())
 }
 
 #[test]
 fn a_key_takes_a_thousand_versions(rt: HostRuntime) -> Result<(), Fail> {
-    let memtable = puts_of(rt.alloc(), &[b"key".as_slice(); 1000])?;
+    let memtable = memtable_of(rt.alloc(), &[b"key".as_slice(); 1000])?;
     assert!(rt; counts(&memtable) == (1000, false, 22_000, 1000));
-    for (at, want) in [
-        (1, "1 put 5"),
-        (2, "2 put 5"),
-        (499, "499 put 5"),
-        (1000, "1000 put 5"),
-    ] {
-        let found = shown(rt.alloc(), &memtable, b"key", at)?;
-        assert!(rt; found.as_str() == want, "at {at}");
+    for at in [1, 2, 499, 1000] {
+        assert!(rt; found(&memtable, b"key", at) == (at, true, 5), "at {at}");
     }
     Ok(())
 }
 
+/// Ranges of keys that begin alike, each with what it has.
+const PARTS: [(&[u8], &[u8], &[Place]); 4] = [
+    (
+        b"a",
+        b"b",
+        &[
+            (b"account", 2),
+            (b"account\0", 4),
+            (b"account-1", 3),
+            (b"account-10", 6),
+            (b"account-2", 5),
+            (b"account-2", 1),
+        ],
+    ),
+    (b"account", b"account\0", &[(b"account", 2)]),
+    (
+        b"account-1",
+        b"account-2",
+        &[(b"account-1", 3), (b"account-10", 6)],
+    ),
+    (
+        b"account-10",
+        b"account-3",
+        &[(b"account-10", 6), (b"account-2", 5), (b"account-2", 1)],
+    ),
+];
+
 #[test]
 fn keys_with_one_prefix_are_told_apart(rt: HostRuntime) -> Result<(), Fail> {
-    let memtable = puts_of(rt.alloc(), &ALIKE)?;
-    for (lo, hi, want) in [
-        (
-            "a",
-            "b",
-            "account2 account\04 account-13 account-106 account-25 account-21",
-        ),
-        ("account", "account\0", "account2"),
-        ("account-1", "account-2", "account-13 account-106"),
-        (
-            "account-10",
-            "account-3",
-            "account-106 account-25 account-21",
-        ),
-    ] {
-        let entries = memtable.range(lo.as_bytes(), hi.as_bytes())?;
-        let places = places_of(rt.alloc(), entries.as_slice())?;
-        assert!(rt; places.as_str() == want, "from {lo} to {hi}");
+    let memtable = memtable_of(rt.alloc(), &ALIKE)?;
+    for (lo, hi, places) in PARTS {
+        assert!(rt; has_in(&memtable, lo, hi, places)?, "from {lo:?}");
     }
-    let found = shown(rt.alloc(), &memtable, b"account-2", 4)?;
-    assert!(rt; found.as_str() == "1 put 5");
+    assert!(rt; found(&memtable, b"account-2", 4) == (1, true, 5));
     Ok(())
 }
 
@@ -274,49 +326,63 @@ fn ends_of(memtable: &Memtable, key: &[u8]) -> (u8, u8, usize) {
     }
 }
 
+const LONG: [Write; 2] = [(b"a", Some(&[1; 20_000])), (b"b", Some(&[2; 50_000]))];
+
 #[test]
 fn long_values_have_memory_of_their_own(rt: HostRuntime) -> Result<(), Fail> {
-    let mut batch = Batch::new(rt.alloc());
-    batch.push(put_of(b"a", &[1; 20_000]))?;
-    batch.push(put_of(b"b", &[2; 50_000]))?;
-    let mut memtable = puts_of(rt.alloc(), &[b"c"])?;
-    apply(&mut memtable, 2, &batch)?;
-    apply(&mut memtable, 4, &batch_of(rt.alloc(), &[b"d"])?)?;
+    let mut memtable = memtable_of(rt.alloc(), &[b"c"])?;
+    apply(&mut memtable, 2, batch_of(rt.alloc(), &LONG)?)?;
+    apply(&mut memtable, 4, puts_to(rt.alloc(), &[b"d"])?)?;
     assert!(rt; ends_of(&memtable, b"a") == (1, 1, 20_000));
     assert!(rt; ends_of(&memtable, b"b") == (2, 2, 50_000));
     assert!(rt; ends_of(&memtable, b"d") == (118, 101, 5));
     Ok(())
 }
 
+/// Keys in a memtable that expects another beginning, and where they are then.
+const NEXT: [&[u8]; 7] = [
+    b"user:profile",
+    b"z",
+    b"user:1",
+    b"user",
+    b"uses",
+    b"user:",
+    b"a",
+];
+
+const NEXT_PLACES: [Place; 7] = [
+    (b"a", 7),
+    (b"user", 4),
+    (b"user:", 6),
+    (b"user:1", 3),
+    (b"user:profile", 1),
+    (b"uses", 5),
+    (b"z", 2),
+];
+
+/// A memtable that follows one of keys that begin alike, and has the keys that come next.
+fn next_of(alloc: Global) -> Result<Memtable, Fail> {
+    let mut memtable = memtable_of(alloc, &[b"user:a".as_slice(); 1000])?;
+    apply(&mut memtable, 1001, puts_to(alloc, &[b"user:b"])?)?;
+    let mut next = memtable.successor();
+    drop(memtable);
+    apply(&mut next, 1, puts_to(alloc, &NEXT)?)?;
+    Ok(next)
+}
+
 #[test]
 fn a_successor_finds_each_key(rt: HostRuntime) -> Result<(), Fail> {
-    let mut memtable = puts_of(rt.alloc(), &[b"user:a".as_slice(); 1000])?;
-    apply(&mut memtable, 1001, &batch_of(rt.alloc(), &[b"user:b"])?)?;
-    let mut next = memtable.successor();
-    let keys = [
-        b"user:profile".as_slice(),
-        b"z",
-        b"user:1",
-        b"user",
-        b"uses",
-        b"user:",
-        b"a",
-    ];
-    apply(&mut next, 1, &batch_of(rt.alloc(), &keys)?)?;
-    let places = all_places(rt.alloc(), &next)?;
-    assert!(rt; places.as_str() == "a7 user4 user:6 user:13 user:profile1 uses5 z2");
+    let next = next_of(rt.alloc())?;
+    assert!(rt; has(&next, &NEXT_PLACES)?);
+    assert!(rt; has_in(&next, b"user", b"user:p", &NEXT_PLACES[1..4])?);
     for (key, want) in [
-        (b"user".as_slice(), "4 put 5"),
-        (b"user:1", "3 put 5"),
-        (b"uses", "5 put 5"),
-        (b"user:2", "none"),
-        (b"b", "none"),
+        (b"user".as_slice(), (4, true, 5)),
+        (b"user:1", (3, true, 5)),
+        (b"uses", (5, true, 5)),
+        (b"user:2", NONE),
+        (b"b", NONE),
     ] {
-        let found = shown(rt.alloc(), &next, key, 9)?;
-        assert!(rt; found.as_str() == want);
+        assert!(rt; found(&next, key, 9) == want, "{key:?}");
     }
-    let entries = next.range(b"user", b"user:p")?;
-    let places = places_of(rt.alloc(), entries.as_slice())?;
-    assert!(rt; places.as_str() == "user4 user:6 user:13");
     Ok(())
 }
