@@ -24,29 +24,27 @@ const KEYS: [&[u8]; 14] = [
     b"\xff\xff\xff\xff\xff\xff\xff\xff\xff",
 ];
 
-// The sequences of each key's versions, the newest first: the second one is a deletion.
-const SEQS: [u64; 3] = [9, 5, 2];
+// The versions of each key, the newest first, each as the bytes behind its key: a trailer, and a value of one byte. The second one is a
+// deletion.
+const VERSIONS: [&[u8]; 3] = [
+    b"\x00\x00\x00\x00\x00\x00\x09\x01\x00\x00\x00\x01\x09",
+    b"\x00\x00\x00\x00\x00\x00\x05\x00\x00\x00\x00\x00",
+    b"\x00\x00\x00\x00\x00\x00\x02\x01\x00\x00\x00\x01\x02",
+];
 
 // Appends an entry, spelled by hand.
-fn spell(out: &mut BytesMut, key: &[u8], seq: u64) -> Result<(), Fail> {
-    out.put_u16(u16::try_from(key.len())?)?;
+fn spell(out: &mut BytesMut, key: &[u8], version: &[u8]) -> Result<(), AllocError> {
+    out.put_u16(u16::try_from(key.len()).unwrap_or(0))?;
     out.put_slice(key)?;
-    if seq == 5 {
-        out.put_u64(5 * 256)?;
-        out.put_u32(0)?;
-        return Ok(());
-    }
-    out.put_u64(seq.wrapping_mul(256).wrapping_add(1))?;
-    out.put_u32(1)?;
-    out.put_u8(u8::try_from(seq)?)?;
+    out.put_slice(version)?;
     Ok(())
 }
 
-fn bytes_of(alloc: Global) -> Result<Bytes, Fail> {
+fn bytes_of(alloc: Global) -> Result<Bytes, AllocError> {
     let mut out = BytesMut::new(alloc);
     for key in KEYS {
-        for seq in SEQS {
-            spell(&mut out, key, seq)?;
+        for version in VERSIONS {
+            spell(&mut out, key, version)?;
         }
     }
     Ok(out.freeze()?)
@@ -62,7 +60,12 @@ fn block_of(alloc: Global, front: &'static [u8]) -> Result<Block, Fail> {
 
 // The newest sequence up to one, of a key that has all of them.
 fn newest(at: u64) -> Option<u64> {
-    SEQS.iter().copied().find(|seq| *seq <= at)
+    match at {
+        0..=1 => None,
+        2..=4 => Some(2),
+        5..=8 => Some(5),
+        _ => Some(9),
+    }
 }
 
 // The sequence that a look-up finds.
@@ -105,21 +108,25 @@ fn sequences_in(alloc: Global, block: &Block, calls: usize) -> Result<Vec<u64>, 
     Ok(seqs)
 }
 
+// Whether a look-up of a key, and the same by a walk, find its newest version up to each sequence.
+fn finds_the_newest(block: &Block, key: &[u8]) -> bool {
+    for at in 0..11 {
+        let want = newest(at);
+        if seen(block, key, Seq::new(at)) != want
+            || seen_by_walk(block, key, Seq::new(at)) != want
+        {
+            return false;
+        }
+    }
+    true
+}
+
 #[test]
 fn a_seek_finds_the_newest_up_to_a_sequence(rt: HostRuntime) -> Result<(), Fail> {
     for front in [b"".as_slice(), b"user:", b"user:0000", b"zzz"] {
         let block = block_of(rt.alloc(), front)?;
         for key in KEYS {
-            for at in 0..11 {
-                assert!(rt;
-                    seen(&block, key, Seq::new(at)) == newest(at),
-                    "{key:?} at {at}"
-                );
-                assert!(rt;
-                    seen_by_walk(&block, key, Seq::new(at)) == newest(at),
-                    "{key:?} at {at}"
-                );
-            }
+            assert!(rt; finds_the_newest(&block, key), "{key:?}");
         }
     }
     Ok(())
