@@ -33,7 +33,7 @@ def reply_to(words):
 
 
 def answers(asked, gate):
-    while gate and not os.path.exists(gate):
+    while gate and not os.path.exists(gate) and os.path.exists(os.path.dirname(gate)):
         time.sleep(0.01)
     while (words := asked.get()) is not None:
         sys.stdout.buffer.write(reply_to(words))
