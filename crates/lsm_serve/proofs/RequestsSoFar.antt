@@ -2,13 +2,16 @@
 use Rattle.std.proofs.Common.{◌≡◌, ◌∙◌, inl, inr, ℕ, ◌+◌, List, [], ◌∷◌, ◌++◌, Option, All, length, take, drop, append_assoc, append-nil, refl, sym, ap, subst, arith}
 use Prim.Native.Nat.{suc}
 use Rattle.std.proofs.Math.Seq.{drop-append_seam, take-add, take-append_seam}
+use Rattle.std.proofs.lemmas.List.Elements.{All-append, All-cons}
 use Rattle.std.specs.Io.KnownBytes.{Appends}
 use Rattle.lsm_coord.specs.Contract.Value.{CoordValue}
 use Rattle.std.proofs.KnownBytes.{Appends-nil, Appends-trans}
 use Rattle.lsm_resp.specs.Requests.{AreWords}
 use Rattle.lsm_stream.specs.Streams.{AppendsPart}
-use Rattle.lsm_serve.specs.Serving.{EndsStream, RepliesInTurn, RepliesTo, RepliesToSome}
-use Rattle.lsm_serve.specs.ServingSteps.{RepliesSoFar, AreSent}
+use Rattle.lsm_serve.specs.declared.http_word.HttpWord.{HttpWord}
+use Rattle.lsm_serve.specs.HttpWords.{BeginsHttp}
+use Rattle.lsm_serve.specs.Serving.{EndsStream, RepliesBefore, RepliesInTurn, RepliesTo, RepliesToSome}
+use Rattle.lsm_serve.specs.ServingSteps.{RepliesSoFar, AreSent, ServedBefore}
 
 abbrev pub Requests : Type 0
 Requests = List (List (List ℕ))
@@ -16,7 +19,7 @@ Requests = List (List (List ℕ))
 -- ---- requests
 
 pub answered_none : (old : CoordValue) (requests : Requests) → All AreWords requests → RepliesSoFar old requests requests [] old
-answered_none old requests fit = record { done = []; parted = refl; fit = fit; completes = λ more rest new r. r }
+answered_none old requests fit = record { done = []; parted = refl; fit = fit; goes_on = λ k d lt. absurd (omega (arith, lt)); completes = λ more rest new r. r }
 
 module _ (old now : CoordValue) (requests left : Requests) (bytes : List ℕ) (a : RepliesSoFar old requests left bytes now) where
   -- those that are answered
@@ -37,6 +40,7 @@ module _ (old now mid : CoordValue) (requests left : Requests) (request : List (
     done = a.done ++ request ∷ [];
     parted = a.parted ∙ sym (append_assoc a.done (request ∷ []) left);
     fit = λ k d lt. a.fit (suc k) d (omega arith);
+    goes_on = All-append (λ it. EndsStream it → ⊥) a.done (request ∷ []) a.goes_on (All-cons (λ it. EndsStream it → ⊥) request [] other (λ k d lt. absurd (omega (arith, lt))));
     completes = λ more rest new r.
         subst (λ (ds : Requests). RepliesInTurn old ds ((bytes ++ first) ++ rest) new) (sym (append_assoc a.done (request ∷ []) more))
         (subst (λ (bs : List ℕ). RepliesInTurn old (a.done ++ request ∷ more) bs new) (sym (append_assoc bytes first rest))
@@ -58,6 +62,20 @@ module _ (old now mid : CoordValue) (requests left : Requests) (request : List (
     replies = a.completes (request ∷ []) first mid replies;
     written = written;
   }
+
+-- the replies to all that lie before a request of HTTP are written
+pub before_written : (word : HttpWord) (old now : CoordValue) (requests : Requests) (held holds after : Option (List ℕ)) (out : List ℕ) → ServedBefore word old requests held now out holds → Appends holds after out → RepliesBefore word old requests held after now
+before_written word old now requests held holds after out s wrote = record {
+  done = s.answered.done;
+  request = s.request;
+  left = s.left;
+  bytes = s.bytes;
+  parted = s.answered.parted;
+  begins = s.begins;
+  goes_on = s.answered.goes_on;
+  replies = answered_first old now requests (s.request ∷ s.left) s.bytes s.answered;
+  written = subst (λ (b : List ℕ). Appends held after b) (sym s.sent.kept) (Appends-trans held holds after s.sent.sent out s.sent.written wrote);
+}
 
 -- ---- replies
 

@@ -1,14 +1,14 @@
 -- A stream of requests between two reads, and at its end.
-use Rattle.std.proofs.Common.{◌≡◌, ◌∙◌, ℕ, List, [], ◌++◌, Option, Some, None, true, false, append_assoc, append-nil, drop, refl, sym, ap, subst}
+use Rattle.std.proofs.Common.{◌≡◌, ◌∙◌, ℕ, List, [], ◌∷◌, ◌++◌, Option, Some, None, true, false, append_assoc, append-nil, drop, refl, sym, ap, subst}
 use Rattle.std.specs.Io.KnownBytes.{Appends}
 use Rattle.lsm_coord.specs.Contract.Value.{CoordValue}
 use Rattle.std.proofs.KnownBytes.{Appends-trans}
 use Rattle.lsm_stream.specs.Streams.{AppendsPart, Gains}
 use Rattle.lsm_serve.specs.declared.serving.Reached.{Reached}
-use Rattle.lsm_serve.specs.declared.serving.Reached.TheVariants.{Quit, Waits}
+use Rattle.lsm_serve.specs.declared.serving.Reached.TheVariants.{Http, Quit, Waits}
 use Rattle.lsm_serve.specs.Serving.{RepliesInTurn, RepliesToSome}
 use Rattle.lsm_serve.specs.ServingSteps.{ServedAll, ServedSoFar, ServedTo}
-use Rattle.lsm_serve.proofs.RequestsSoFar.{Requests, sent_part_of_out}
+use Rattle.lsm_serve.proofs.RequestsSoFar.{Requests, answered_some, sent_part_of_out}
 use Rattle.lsm_serve.proofs.ServedStreams.{served_part, served_to_end, served_written}
 
 -- ---- what a read gives
@@ -47,6 +47,7 @@ module _ (old now : CoordValue) (requests : Requests) (held : Option (List ℕ))
     replies = s.1;
     written = sent_part_of_out held holds s.0 out s.2 after part;
   }
+  part_to holds after input later out (Http word) s part = answered_some old now requests (s.request ∷ s.left) s.bytes s.answered held after (sent_part_of_out held holds s.bytes out s.sent after part)
 
   pub all_written : (holds after : Option (List ℕ)) (out : List ℕ) → ServedAll old requests held now out holds → Appends holds after out → (bytes : List ℕ) × RepliesInTurn old requests bytes now × Appends held after bytes
   all_written holds after out s wrote =

@@ -19,8 +19,10 @@ use Rattle.lsm_resp.specs.declared.reply.Reply.TheVariants as reply
 use Rattle.lsm_serve.specs.declared.answer.Answer.{Answer}
 use Rattle.lsm_serve.specs.declared.answer.Answer.TheVariants.{Refused, Reply}
 use Rattle.lsm_serve.specs.Answers.{AnswersRequest}
-use Rattle.lsm_serve.specs.Serving.{EndsStream, IsNoFault, IsReplyTo, RepliesInTurn, RepliesTo, RepliesToSome, error_text}
-use Rattle.lsm_serve.specs.ServingSteps.{AnswersOne, RepliesSoFar, AreSent, IsLast, ServedAll, ServedSoFar}
+use Rattle.lsm_serve.specs.declared.http_word.HttpWord.{HttpWord}
+use Rattle.lsm_serve.specs.HttpWords.{BeginsHttp, IsNoHttp}
+use Rattle.lsm_serve.specs.Serving.{EndsStream, IsReplyTo, RepliesInTurn, RepliesTo, RepliesToSome, ServesSome, error_text}
+use Rattle.lsm_serve.specs.ServingSteps.{AnswersOne, RepliesSoFar, AreSent, IsLast, ServedAll, ServedBefore, ServedSoFar}
 use Rattle.lsm_serve.proofs.RequestsSoFar.{Requests, answered_all, answered_last, answered_more, answered_next, answered_none, answered_some, sent_all, sent_more, sent_none, sent_part, sent_part_of_out, sent_so_far}
 
 -- ---- bytes
@@ -40,9 +42,9 @@ behind rest later a b len is size within = sym (drop-append-le len rest later wi
 
 -- ---- a request
 
-pub replies_to : (old new : CoordValue) (lent : List (Bor (List ℕ))) (answer : Answer) (bytes : List ℕ) → 0 < length lent → AnswersRequest old (words_of lent) answer new → IsReplyTo answer bytes → RepliesTo old (words_of lent) bytes new
-replies_to old new [] answer bytes some answers is = absurd (omega (arith, some))
-replies_to old new (name ∷ args) answer bytes some answers is = (answer, answers, is)
+pub replies_to : (old new : CoordValue) (lent : List (Bor (List ℕ))) (answer : Answer) (bytes : List ℕ) → 0 < length lent → AnswersRequest old (words_of lent) answer new → IsReplyTo answer bytes → IsNoHttp (words_of lent) → RepliesTo old (words_of lent) bytes new
+replies_to old new [] answer bytes some answers is other = absurd (omega (arith, some))
+replies_to old new (name ∷ args) answer bytes some answers is other = (answer, answers, is, other)
 
 -- the bytes of an answer, whatever the text of a refusal
 some_reply : (answer : Answer) → (bytes : List ℕ) × IsReplyTo answer bytes
@@ -54,10 +56,10 @@ replies_once old new request bytes true replies ends = (bytes, new, replies, inl
 replies_once old new request bytes false replies other = (bytes, new, replies, inr (other, [], (refl, refl), sym (append-nil bytes)))
 
 -- a request that is answered, although its reply is not written
-pub answered_only : (old new : CoordValue) (lent : List (Bor (List ℕ))) (answer : Answer) (is_last : Bool) → 0 < length lent → AnswersRequest old (words_of lent) answer new → IsLast is_last (words_of lent) → (bytes : List ℕ) × RepliesInTurn old (words_of lent ∷ []) bytes new
-answered_only old new lent answer is_last some answers last =
+pub answered_only : (old new : CoordValue) (lent : List (Bor (List ℕ))) (answer : Answer) (is_last : Bool) → 0 < length lent → AnswersRequest old (words_of lent) answer new → IsNoHttp (words_of lent) → IsLast is_last (words_of lent) → (bytes : List ℕ) × RepliesInTurn old (words_of lent ∷ []) bytes new
+answered_only old new lent answer is_last some answers other last =
     let reply = some_reply answer in
-    (reply.0, replies_once old new (words_of lent) reply.0 is_last (replies_to old new lent answer reply.0 some answers reply.1) last)
+    (reply.0, replies_once old new (words_of lent) reply.0 is_last (replies_to old new lent answer reply.0 some answers reply.1 other) last)
 
 pub last_is : (is_last : Bool) (request : List (List ℕ)) → (IsTrue is_last ↔ EndsStream request) → IsLast is_last request
 last_is true request e = e.0 refl
@@ -123,6 +125,16 @@ module _ (old now : CoordValue) (requests left : Requests) (request : List (List
       let nothing = ap (λ (xs : List ℕ). length xs) none in
       absurd (omega (arith, few, size, nothing, length-append rest later, length-append (request_bytes request) (flat_map request_bytes left)))
 
+  next_http : (word : HttpWord) (lent : List (Bor (List ℕ))) (len : ℕ) → FindsIt rest lent len → BeginsHttp word (words_of lent) → ServedBefore word old requests held now out holds
+  next_http word lent len finds begins = record {
+    request = request;
+    left = left;
+    bytes = bytes;
+    begins = subst (λ (ws : List (List ℕ)). BeginsHttp word ws) (finds request fits is_ahead).0 begins;
+    answered = answered;
+    sent = sent;
+  }
+
   next_fault : FindsFault rest → ⊥
   next_fault finds = finds request fits is_ahead
 
@@ -158,6 +170,11 @@ module _ (old now : CoordValue) (requests : Requests) (held holds : Option (List
   fault_by [] bytes answered ahead sent finds some = some (no_bytes rest later ahead)
   fault_by (request ∷ left) bytes answered ahead sent finds some = next_fault old now requests left request held holds rest later out bytes answered ahead sent finds
 
+  http_by : (word : HttpWord) (left : Requests) (bytes : List ℕ) → RepliesSoFar old requests left bytes now → rest ++ later ≡ flat_map request_bytes left → AreSent held holds bytes out
+      → (lent : List (Bor (List ℕ))) (len : ℕ) → FindsIt rest lent len → (rest ≡ [] → ⊥) → BeginsHttp word (words_of lent) → ServedBefore word old requests held now out holds
+  http_by word [] bytes answered ahead sent lent len finds some begins = absurd (some (no_bytes rest later ahead))
+  http_by word (request ∷ left) bytes answered ahead sent lent len finds some begins = next_http old now requests left request held holds rest later out bytes answered ahead sent word lent len finds begins
+
   leaves_by : {E : Type 0} (left : Requests) (bytes : List ℕ) → RepliesSoFar old requests left bytes now → rest ++ later ≡ flat_map request_bytes left → AreSent held holds bytes out
       → (lent : List (Bor (List ℕ))) (len : ℕ) (out_new : List ℕ) (mid : CoordValue) (r : Result Bool E)
       → FindsIt rest lent len → (rest ≡ [] → ⊥) → len ≤ length rest → AnswersOne now (words_of lent) out out_new r mid → Leaves old requests held holds (drop len rest ++ later) out_new r mid
@@ -172,6 +189,9 @@ module _ (old now : CoordValue) (requests : Requests) (held holds : Option (List
     pub served_fault : FindsFault rest → (rest ≡ [] → ⊥) → ⊥
     served_fault = fault_by s.left s.bytes s.answered s.are_ahead s.sent
 
+    pub served_http : (word : HttpWord) (lent : List (Bor (List ℕ))) (len : ℕ) → FindsIt rest lent len → (rest ≡ [] → ⊥) → BeginsHttp word (words_of lent) → ServedBefore word old requests held now out holds
+    served_http word = http_by word s.left s.bytes s.answered s.are_ahead s.sent
+
     pub served_leaves : {E : Type 0} (lent : List (Bor (List ℕ))) (len : ℕ) (out_new : List ℕ) (mid : CoordValue) (r : Result Bool E)
         → FindsIt rest lent len → (rest ≡ [] → ⊥) → len ≤ length rest → AnswersOne now (words_of lent) out out_new r mid → Leaves old requests held holds (drop len rest ++ later) out_new r mid
     served_leaves = leaves_by s.left s.bytes s.answered s.are_ahead s.sent
@@ -181,6 +201,7 @@ module _ (old now : CoordValue) (requests : Requests) (held holds : Option (List
 pub record IsFound (rest : List ℕ) (lent : List (Bor (List ℕ))) (len : ℕ) : Type 0 where
   pub finds : FindsIt rest lent len
   pub some : rest ≡ [] → ⊥
+  pub taken : 0 < len
   pub within : len ≤ length rest
 
 -- what is found if it is a request
@@ -189,7 +210,7 @@ WhenRequest rest (Request lent len) = IsFound rest lent.items len
 WhenRequest rest Partial = Unit {0}
 
 pub request_is : (rest : List ℕ) (parsed : Parsed) → FindsRequest rest (Ok parsed) → (rest ≡ [] → parsed ≡ Partial) → TakesWithin rest parsed → WhenRequest rest parsed
-request_is rest (Request lent len) finds nothing within = record { finds = finds; some = λ e. (let wrong = nothing e in cc); within = within.1 }
+request_is rest (Request lent len) finds nothing within = record { finds = finds; some = λ e. (let wrong = nothing e in cc); taken = within.0; within = within.1 }
 request_is rest Partial finds nothing within = tt
 
 module _ (old now : CoordValue) (requests : Requests) (held holds : Option (List ℕ)) (input rest later out : List ℕ) (at : ℕ) (is : rest ≡ drop at input)
@@ -203,6 +224,10 @@ module _ (old now : CoordValue) (requests : Requests) (held holds : Option (List
   pub fault_at : FindsFault rest → (rest ≡ [] → ⊥) → ⊥
   fault_at finds some = served_fault old now requests held holds rest later out here finds some
 
+  pub http_at : (word : HttpWord) (lent given : List (Bor (List ℕ))) (len : ℕ) → IsFound rest lent len → given ≡ lent → BeginsHttp word (words_of given) → ServedBefore word old requests held now out holds
+  http_at word lent given len found same begins =
+      served_http old now requests held holds rest later out here word lent len found.finds found.some (subst (λ (l : List (Bor (List ℕ))). BeginsHttp word (words_of l)) same begins)
+
   pub leaves_at : {E : Type 0} (lent given : List (Bor (List ℕ))) (len : ℕ) (out_new : List ℕ) (mid : CoordValue) (r : Result Bool E)
       → IsFound rest lent len → given ≡ lent → AnswersOne now (words_of given) out out_new r mid → Leaves old requests held holds (drop (at + len) input ++ later) out_new r mid
   leaves_at lent given len out_new mid r found same one =
@@ -210,7 +235,8 @@ module _ (old now : CoordValue) (requests : Requests) (held holds : Option (List
       subst (λ (b : List ℕ). Leaves old requests held holds (b ++ later) out_new r mid) (ap (drop len) is ∙ drop-drop len at input)
       (served_leaves old now requests held holds rest later out here lent len out_new mid r found.finds found.some found.within it)
 
-pub no_fault : (why : StreamError) → IsNoFault (error_of_stream why)
-no_fault ReadFault = tt
-no_fault WriteFault = tt
-no_fault OutOfMemory = tt
+-- a stream is a reason to end
+pub serves_some : (why : StreamError) (old now : CoordValue) (requests : Requests) (held holds : Option (List ℕ)) → RepliesToSome old requests held holds now → ServesSome old requests held holds (error_of_stream why) now
+serves_some ReadFault old now requests held holds some = (some, tt)
+serves_some WriteFault old now requests held holds some = (some, tt)
+serves_some OutOfMemory old now requests held holds some = (some, tt)

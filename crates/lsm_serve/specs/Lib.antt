@@ -1,4 +1,5 @@
 pub mod Commands
+pub mod HttpWords
 pub mod Errors
 pub mod Arguments
 pub mod Figures

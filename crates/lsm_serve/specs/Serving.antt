@@ -11,9 +11,11 @@ use Rattle.lsm_serve.specs.declared.answer.Answer.{Answer}
 use Rattle.lsm_serve.specs.declared.answer.Answer.TheVariants.{Refused, Reply}
 use Rattle.lsm_serve.specs.declared.command.Command.TheVariants as command
 use Rattle.lsm_serve.specs.declared.error.ServeError.{ServeError}
-use Rattle.lsm_serve.specs.declared.error.ServeError.TheVariants.{OutOfMemory, Protocol, Stream, Truncated}
+use Rattle.lsm_serve.specs.declared.error.ServeError.TheVariants.{Http, OutOfMemory, Protocol, Stream, Truncated}
 use Rattle.lsm_serve.specs.Answers.{AnswersRequest}
 use Rattle.lsm_serve.specs.Commands.{IsCalled}
+use Rattle.lsm_serve.specs.declared.http_word.HttpWord.{HttpWord}
+use Rattle.lsm_serve.specs.HttpWords.{BeginsHttp, IsNoHttp}
 
 -- ---- one request
 
@@ -29,10 +31,10 @@ abbrev pub IsReplyTo : Answer → List ℕ → Type 0
 IsReplyTo (Reply reply) bytes = bytes ≡ reply_bytes reply
 IsReplyTo (Refused why) bytes = (text : List ℕ) × (bytes ≡ reply_bytes (reply.Error (error_text text)))
 
--- the bytes that a request gets: those of its answer, and none if it has no words
+-- the bytes that a request gets: those of its answer, and none if it has no words; a request of HTTP gets no answer
 abbrev pub RepliesTo : CoordValue → List (List ℕ) → List ℕ → CoordValue → Type 0
 RepliesTo old [] bytes new = (bytes ≡ []) × (new ≡ old)
-RepliesTo old (name ∷ args) bytes new = (answer : Answer) × AnswersRequest old (name ∷ args) answer new × IsReplyTo answer bytes
+RepliesTo old (name ∷ args) bytes new = (answer : Answer) × AnswersRequest old (name ∷ args) answer new × IsReplyTo answer bytes × IsNoHttp (name ∷ args)
 
 -- QUIT, which takes no argument
 abbrev pub EndsStream : List (List ℕ) → Type 0
@@ -63,14 +65,29 @@ pub record RepliesToSome (old : CoordValue) (requests : List (List (List ℕ))) 
   pub replies : RepliesInTurn old done bytes new
   pub written : AppendsPart held holds bytes
 
--- no requests are a reason to end: only the streams and memory are
+-- the requests before one that begins with this word are answered, none of them a QUIT, and all replies to them are written; that one and those
+-- behind it are not answered
+pub record RepliesBefore (word : HttpWord) (old : CoordValue) (requests : List (List (List ℕ))) (held holds : Option (List ℕ)) (new : CoordValue) : Type 0 where
+  pub done : List (List (List ℕ))
+  pub request : List (List ℕ)
+  pub left : List (List (List ℕ))
+  pub bytes : List ℕ
+  pub parted : requests ≡ done ++ request ∷ left
+  pub begins : BeginsHttp word request
+  pub goes_on : All (λ it. EndsStream it → ⊥) done
+  pub replies : RepliesInTurn old done bytes new
+  pub written : Appends held holds bytes
+
+-- no other requests are a reason to end: only the streams and memory are
 abbrev pub IsNoFault : ServeError → Type 0
 IsNoFault (Protocol fault) = ⊥
 IsNoFault Truncated = ⊥
+IsNoFault (Http word) = ⊥
 IsNoFault (Stream why) = Unit {0}
 IsNoFault OutOfMemory = Unit {0}
 
 abbrev pub ServesSome : CoordValue → List (List (List ℕ)) → Option (List ℕ) → Option (List ℕ) → ServeError → CoordValue → Type 0
+ServesSome old requests held holds (Http word) new = RepliesBefore word old requests held holds new
 ServesSome old requests held holds why new = RepliesToSome old requests held holds new × IsNoFault why
 
 -- the replies to all requests are written, or to the first ones

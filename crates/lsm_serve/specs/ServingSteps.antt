@@ -8,7 +8,9 @@ use Rattle.lsm_resp.specs.Wire.{request_bytes}
 use Rattle.lsm_serve.specs.declared.answer.Answer.{Answer}
 use Rattle.lsm_serve.specs.declared.error.ServeError.{ServeError}
 use Rattle.lsm_serve.specs.declared.serving.Reached.{Reached}
-use Rattle.lsm_serve.specs.declared.serving.Reached.TheVariants.{Quit, Waits}
+use Rattle.lsm_serve.specs.declared.serving.Reached.TheVariants.{Http, Quit, Waits}
+use Rattle.lsm_serve.specs.declared.http_word.HttpWord.{HttpWord}
+use Rattle.lsm_serve.specs.HttpWords.{BeginsHttp}
 use Rattle.lsm_serve.specs.Serving.{EndsStream, IsReplyTo, RepliesInTurn, RepliesTo, ServesSome}
 
 -- ---- one request
@@ -33,6 +35,7 @@ pub record RepliesSoFar (old : CoordValue) (requests left : List (List (List ℕ
   pub done : List (List (List ℕ))
   pub parted : requests ≡ done ++ left
   pub fit : All AreWords left
+  pub goes_on : All (λ request. EndsStream request → ⊥) done
   pub completes : (more : List (List (List ℕ))) (rest : List ℕ) (new : CoordValue) → RepliesInTurn now more rest new → RepliesInTurn old (done ++ more) (bytes ++ rest) new
 
 -- of the replies a first part is written and the rest is kept
@@ -53,10 +56,20 @@ pub record ServedSoFar (old : CoordValue) (requests : List (List (List ℕ))) (h
 abbrev pub ServedAll : CoordValue → List (List (List ℕ)) → Option (List ℕ) → CoordValue → List ℕ → Option (List ℕ) → Type 0
 ServedAll old requests held now out holds = (bytes : List ℕ) × RepliesInTurn old requests bytes now × AreSent held holds bytes out
 
--- what comes of an input with bytes that are still to come: it waits for these, unless nothing of a request is left; or a QUIT is reached
+-- all are answered that lie before one that begins with this word
+pub record ServedBefore (word : HttpWord) (old : CoordValue) (requests : List (List (List ℕ))) (held : Option (List ℕ)) (now : CoordValue) (out : List ℕ) (holds : Option (List ℕ)) : Type 0 where
+  pub request : List (List ℕ)
+  pub left : List (List (List ℕ))
+  pub bytes : List ℕ
+  pub begins : BeginsHttp word request
+  pub answered : RepliesSoFar old requests (request ∷ left) bytes now
+  pub sent : AreSent held holds bytes out
+
+-- what comes of an input with bytes that are still to come: it waits for these, unless nothing of a request is left; or a QUIT or a request of HTTP is reached
 abbrev pub ServedTo : CoordValue → List (List (List ℕ)) → Option (List ℕ) → CoordValue → List ℕ → List ℕ → List ℕ → Option (List ℕ) → Reached → Type 0
 ServedTo old requests held now input later out holds (Waits at) = ServedSoFar old requests held now (drop at input ++ later) out holds × (later ≡ [] → drop at input ≡ [])
 ServedTo old requests held now input later out holds Quit = ServedAll old requests held now out holds
+ServedTo old requests held now input later out holds (Http word) = ServedBefore word old requests held now out holds
 
 abbrev pub ServesInput : CoordValue → List (List (List ℕ)) → Option (List ℕ) → CoordValue → List ℕ → List ℕ → List ℕ → Option (List ℕ) → Result Reached ServeError → Type 0
 ServesInput old requests held new input later out holds (Ok reached) = ServedTo old requests held new input later out holds reached
@@ -66,3 +79,4 @@ ServesInput old requests held new input later out holds (Err why) = ServesSome o
 abbrev pub IsReachable : List ℕ → Reached → Type 0
 IsReachable input (Waits at) = at ≤ length input
 IsReachable input Quit = Unit {0}
+IsReachable input (Http word) = Unit {0}

@@ -1,5 +1,6 @@
 //! Why serving ends before the input does.
 
+use crate::HttpWord;
 use lsm_resp::{ParseError, ProtocolFault};
 use lsm_stream::StreamError;
 use std::alloc::{AllocError, AllocFailed};
@@ -11,6 +12,9 @@ pub enum ServeError {
     /// The input is no request within the limits. That was answered.
     #[error("protocol error: {0}")]
     Protocol(ProtocolFault),
+    /// A request begins as one of HTTP does. Neither it nor what follows is run or answered.
+    #[error("a request begins with {0}, as one of HTTP does")]
+    Http(HttpWord),
     /// The input ends within a request.
     #[error("the input ends within a request")]
     Truncated,

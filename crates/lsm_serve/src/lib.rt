@@ -1,7 +1,7 @@
 //! A store behind a stream of requests in Redis's protocol, RESP2.
 //!
 //! It promises, for streams that tell their bytes, that the replies to a stream of requests are those of a run of the requests: each by
-//! what the store held after those before it, in their order, up to a `QUIT`. After a fault of a stream or of memory a beginning of them
+//! what the store held after those before it, in their order, up to a `QUIT`, or to one that begins as a request of HTTP does. After a fault of a stream or of memory a beginning of them
 //! is written. What is answered to a request is promised for each command, by what the store held and what it holds then, with a
 //! reason of that call for each refusal. Whatever comes is read within limits that hold before memory is taken, and serving ends safely.
 //! The texts of refusals have no clause. It stands on the store, and on the wire.
@@ -10,11 +10,13 @@
 mod answer;
 mod command;
 mod error;
+mod http_word;
 mod refusal;
 mod serving;
 
 pub use answer::{Answer, answer_request};
 pub use command::Command;
 pub use error::ServeError;
+pub use http_word::HttpWord;
 pub use refusal::Refusal;
 pub use serving::serve;

@@ -6,11 +6,12 @@ ghost use Rattle.lsm_resp.specs.Requests.{words_of};
 ghost use Rattle.lsm_resp.specs.Wire.{reply_bytes};
 ghost use Rattle.lsm_resp.specs.declared.reply.Reply.TheVariants.{Error};
 ghost use Rattle.lsm_serve.specs.declared.answer.Answer.TheVariants.{Refused};
+ghost use Rattle.lsm_serve.specs.HttpWords.{IsNoHttp};
 ghost use Rattle.lsm_serve.specs.Serving.{AreAhead, EndsStream, ServesRequests, error_text, in_line};
 ghost use Rattle.lsm_serve.specs.ServingSteps.{AnswersOne, IsReachable, ServedSoFar, ServesInput, WritesReply};
 
 use crate::answer::{Answer, answer_request, one};
-use crate::{Command, Refusal, ServeError};
+use crate::{Command, HttpWord, Refusal, ServeError};
 use bytes::Bytes;
 use lsm_resp::{ParseError, Parsed, ProtocolFault, Reply, parse_request, write_reply};
 use lsm_store::Store;
@@ -32,10 +33,13 @@ enum Reached {
     Waits(usize),
     /// A `QUIT` was answered.
     Quit,
+    /// What follows begins as a request of HTTP does.
+    Http(HttpWord),
 }
 
 /// Answers the requests of the reader in order, until it ends or a `QUIT` was answered. Replies are written before more input is
-/// waited for. What is no request within the limits is answered with an error, and ends it. The store is not flushed.
+/// waited for. What is no request within the limits is answered with an error, and ends it; a request that begins as one of HTTP does
+/// ends it without an answer. The store is not flushed.
 pub fn serve<V: Vault, R: Read, W: Write>(
     alloc: Global,
     store: &mut Store<V>,
@@ -64,10 +68,11 @@ fn serve_through<V: Vault, R: Read, W: Write>(
     for _ in 0..u64::MAX {
         let reached = answer_all(alloc, store, &input, writer, &mut out)?;
         write_out(writer, &mut out)?;
-        let Reached::Waits(at) = reached else {
-            return Ok(());
-        };
-        drop_front(&mut input, at);
+        match reached {
+            Reached::Quit => return Ok(()),
+            Reached::Http(word) => return Err(ServeError::Http(word)),
+            Reached::Waits(at) => drop_front(&mut input, at),
+        }
         if !read_more(reader, chunk, &mut input)? {
             return end_of(&input);
         }
@@ -105,11 +110,14 @@ fn answer_all<V: Vault, W: Write>(
     ensures served { (old : CoordValue) (requests : List (List (List ℕ))) (held : Option (List ℕ)) (later : List ℕ) → ServedSoFar old requests held store.old (input.now ++ later) out.old.items (W.contents writer.old) → ServesInput old requests held store.new input.now later out.new.items (W.contents writer.new) result }
 {
     let mut at = 0;
-    for _ in 0..u64::MAX {
+    for _turn in 0..u64::MAX {
         let (_, rest) = input.split_at(at);
         match parse_request(alloc, rest) {
             Ok(Parsed::Partial) => return Ok(Reached::Waits(at)),
             Ok(Parsed::Request(words, len)) => {
+                if let Some(word) = HttpWord::of(&words) {
+                    return Ok(Reached::Http(word));
+                }
                 at += len;
                 if answer_to(alloc, store, &words, out)? {
                     return Ok(Reached::Quit);
@@ -122,16 +130,17 @@ fn answer_all<V: Vault, W: Write>(
             write_out(writer, out)?;
         }
     }
-    Err(ServeError::Stream(StreamError::ReadFault))
+    unreachable!()
 }
 
-/// Appends the reply to a request, an empty one having none. Returns whether it was a `QUIT`.
+/// Appends the reply to a request that is none of HTTP, an empty one having none. Returns whether it was a `QUIT`.
 fn answer_to<V: Vault>(
     alloc: Global,
     store: &mut Store<V>,
     words: &[&[u8]],
     out: &mut Vec<u8>,
 ) -> Result<bool, AllocError>
+    requires { IsNoHttp (words_of words.now) }
     ensures { AnswersOne store.old (words_of words.now) out.old.items out.new.items result store.new }
 {
     if words.is_empty() {

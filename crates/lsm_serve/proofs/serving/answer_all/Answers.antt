@@ -1,83 +1,95 @@
-use Rattle.std.proofs.Common.{◌+◌, ◌++◌, Bool, Ok, Err, drop, subst, arith}
+use Rattle.std.proofs.Common.{◌∙◌, ◌+◌, ℕ, List, ◌++◌, Bool, Ok, Err, drop, subst, sym, arith}
+use Rattle.std.specs.Borrow.{Bor}
 use Rattle.std.proofs.lemmas.Result.{err_from_is_err_and}
 use Rattle.lsm_resp.specs.declared.fault.ParseError.{ParseError}
 use Rattle.lsm_resp.specs.declared.request.Parsed.{Parsed}
-use Rattle.lsm_resp.specs.Requests.{FindsRequest}
+use Rattle.lsm_resp.specs.Requests.{FindsRequest, words_of}
+use Rattle.lsm_serve.specs.HttpWords.{IsNoHttp}
 use Rattle.lsm_serve.specs.ServingSteps.{ServedSoFar}
-use Rattle.lsm_serve.proofs.ServedStreams.{Leaves, WhenRequest, fault_at, leaves_at, no_fault, request_is, served_part, served_some, served_written, waits_at}
+use Rattle.lsm_serve.proofs.ServedStreams.{Leaves, WhenRequest, fault_at, http_at, leaves_at, request_is, served_part, served_some, served_written, serves_some, waits_at}
 use Rattle.lsm_serve.proofs.serving.answer_all.Goals as goal
 use Rattle.lsm_serve.proofs.serving.answer_all.Goals.{then-len-ge-KEPT_BYTES+in_ok-write_out, else-len-ge-KEPT_BYTES}
 
 pub returns-in-Ok-Partial-clause-served : goal.returns-in-Ok-Partial-clause-served
 returns-in-Ok-Partial-clause-served g c old requests held later first =
-    let s = c.loop.invariant.so old requests held later first in
+    let s = c.loop-turn.invariant.so old requests held later first in
     let finds = subst (λ (p : Parsed). FindsRequest c.split_at.result.1.now (Ok p)) c.in-Ok-Partial.field-0-is c.in-Ok-Partial.ensures.found in
-    (s, waits_at old c.loop.store requests held (g.W.Write.contents c.loop.writer) c.args.input.now c.split_at.result.1.now later c.loop.out.items c.loop.at c.split_at.ensures.back s finds)
+    (s, waits_at old c.loop-turn.store requests held (g.W.Write.contents c.loop-turn.writer) c.args.input.now c.split_at.result.1.now later c.loop-turn.out.items c.loop-turn.at c.split_at.ensures.back s finds)
+
+pub returns-in-Some-clause-served : goal.returns-in-Some-clause-served
+returns-in-Some-clause-served g c old requests held later first =
+    let s = c.loop-turn.invariant.so old requests held later first in
+    let found = subst (WhenRequest c.split_at.result.1.now) c.in-Ok-Request.field-0-is (request_is c.split_at.result.1.now c.in-Ok-Request.field-0 c.in-Ok-Request.ensures.found (λ e. (let is = c.in-Ok-Request.ensures.nothing e in cc)) c.in-Ok-Request.ensures.within) in
+    http_at old c.loop-turn.store requests held (g.W.Write.contents c.loop-turn.writer) c.args.input.now c.split_at.result.1.now later c.loop-turn.out.items c.loop-turn.at c.split_at.ensures.back s
+    c.in-Some.word c.in-Ok-Request.words.items c.deref.result.now c.in-Ok-Request.len found c.deref.ensures.value c.in-Some.ensures.some
 
 pub returns-in_err-answer_to-in-Ok-Request-clause-served :
     goal.returns-in_err-answer_to-in-Ok-Request-clause-served
 returns-in_err-answer_to-in-Ok-Request-clause-served g c old requests held later first =
-    let s = c.loop.invariant.so old requests held later first in
+    let s = c.loop-turn.invariant.so old requests held later first in
     let found = subst (WhenRequest c.split_at.result.1.now) c.in-Ok-Request.field-0-is (request_is c.split_at.result.1.now c.in-Ok-Request.field-0 c.in-Ok-Request.ensures.found (λ e. (let is = c.in-Ok-Request.ensures.nothing e in cc)) c.in-Ok-Request.ensures.within) in
-    let some = leaves_at old c.loop.store requests held (g.W.Write.contents c.loop.writer) c.args.input.now c.split_at.result.1.now later c.loop.out.items c.loop.at c.split_at.ensures.back s
-    c.in-Ok-Request.words.items c.deref.result.now c.in-Ok-Request.len c.answer_to.new.out.items c.answer_to.new.store (Err c.in_err-answer_to-in-Ok-Request.field-0.0) found c.deref.ensures.value c.in_err-answer_to-in-Ok-Request.ensures in
+    let some = leaves_at old c.loop-turn.store requests held (g.W.Write.contents c.loop-turn.writer) c.args.input.now c.split_at.result.1.now later c.loop-turn.out.items c.loop-turn.at c.split_at.ensures.back s
+    c.in-Ok-Request.words.items c.deref-in-Ok-Request.result.now c.in-Ok-Request.len c.answer_to.new.out.items c.answer_to.new.store (Err c.in_err-answer_to-in-Ok-Request.field-0.0) found c.deref-in-Ok-Request.ensures.value c.in_err-answer_to-in-Ok-Request.ensures in
     let p = err_from_is_err_and c.from_residual.result c.from_residual.ensures.1 in
     rw (p.1, p.2) (some, tt)
 
 pub returns-then-branch-clause-served : goal.returns-then-branch-clause-served
 returns-then-branch-clause-served g c old requests held later first =
-    let s = c.loop.invariant.so old requests held later first in
+    let s = c.loop-turn.invariant.so old requests held later first in
     let found = subst (WhenRequest c.split_at.result.1.now) c.in-Ok-Request.field-0-is (request_is c.split_at.result.1.now c.in-Ok-Request.field-0 c.in-Ok-Request.ensures.found (λ e. (let is = c.in-Ok-Request.ensures.nothing e in cc)) c.in-Ok-Request.ensures.within) in
-    subst (λ (b : Bool). Leaves {E = Unit {0}} old requests held (g.W.Write.contents c.loop.writer) (drop (c.loop.at + c.in-Ok-Request.len) c.args.input.now ++ later) c.answer_to.new.out.items (Ok b) c.answer_to.new.store) c.if-branch.true
-    (leaves_at old c.loop.store requests held (g.W.Write.contents c.loop.writer) c.args.input.now c.split_at.result.1.now later c.loop.out.items c.loop.at c.split_at.ensures.back s {E = Unit {0}}
-    c.in-Ok-Request.words.items c.deref.result.now c.in-Ok-Request.len c.answer_to.new.out.items c.answer_to.new.store (Ok c.in_ok-answer_to-in-Ok-Request.field-0) found c.deref.ensures.value c.in_ok-answer_to-in-Ok-Request.ensures)
+    subst (λ (b : Bool). Leaves {E = Unit {0}} old requests held (g.W.Write.contents c.loop-turn.writer) (drop (c.loop-turn.at + c.in-Ok-Request.len) c.args.input.now ++ later) c.answer_to.new.out.items (Ok b) c.answer_to.new.store) c.if-branch.true
+    (leaves_at old c.loop-turn.store requests held (g.W.Write.contents c.loop-turn.writer) c.args.input.now c.split_at.result.1.now later c.loop-turn.out.items c.loop-turn.at c.split_at.ensures.back s {E = Unit {0}}
+    c.in-Ok-Request.words.items c.deref-in-Ok-Request.result.now c.in-Ok-Request.len c.answer_to.new.out.items c.answer_to.new.store (Ok c.in_ok-answer_to-in-Ok-Request.field-0) found c.deref-in-Ok-Request.ensures.value c.in_ok-answer_to-in-Ok-Request.ensures)
 
 pub returns-in-Err-OutOfMemory-clause-served : goal.returns-in-Err-OutOfMemory-clause-served
 returns-in-Err-OutOfMemory-clause-served g c old requests held later first =
-    (served_some old c.loop.store requests held (g.W.Write.contents c.loop.writer) (drop c.loop.at c.args.input.now ++ later) c.loop.out.items (c.loop.invariant.so old requests held later first), tt)
+    (served_some old c.loop-turn.store requests held (g.W.Write.contents c.loop-turn.writer) (drop c.loop-turn.at c.args.input.now ++ later) c.loop-turn.out.items (c.loop-turn.invariant.so old requests held later first), tt)
 
 pub returns-in-Err-Protocol-clause-served : goal.returns-in-Err-Protocol-clause-served
 returns-in-Err-Protocol-clause-served g c old requests held later first =
-    let s = c.loop.invariant.so old requests held later first in
+    let s = c.loop-turn.invariant.so old requests held later first in
     let finds = subst (λ (e : ParseError). FindsRequest c.split_at.result.1.now (Err e)) c.in-Err-Protocol.field-0-is c.in-Err-Protocol.ensures.found in
-    absurd (fault_at old c.loop.store requests held (g.W.Write.contents c.loop.writer) c.args.input.now c.split_at.result.1.now later c.loop.out.items c.loop.at c.split_at.ensures.back s finds
+    absurd (fault_at old c.loop-turn.store requests held (g.W.Write.contents c.loop-turn.writer) c.args.input.now c.split_at.result.1.now later c.loop-turn.out.items c.loop-turn.at c.split_at.ensures.back s finds
     (λ e. (let wrong = c.in-Err-Protocol.ensures.nothing e in cc)))
 
 pub returns-in_err-write_out-clause-served : goal.returns-in_err-write_out-clause-served
 returns-in_err-write_out-clause-served g c old requests held later first =
-    let s = c.loop.invariant.so old requests held later first in
+    let s = c.loop-turn.invariant.so old requests held later first in
     let found = subst (WhenRequest c.split_at.result.1.now) c.in-Ok-Request.field-0-is (request_is c.split_at.result.1.now c.in-Ok-Request.field-0 c.in-Ok-Request.ensures.found (λ e. (let is = c.in-Ok-Request.ensures.nothing e in cc)) c.in-Ok-Request.ensures.within) in
-    let ahead = drop (c.loop.at + c.in-Ok-Request.len) c.args.input.now ++ later in
-    let next : ServedSoFar old requests held c.answer_to.new.store ahead c.answer_to.new.out.items (g.W.Write.contents c.loop.writer) =
-    subst (λ (b : Bool). Leaves {E = Unit {0}} old requests held (g.W.Write.contents c.loop.writer) ahead c.answer_to.new.out.items (Ok b) c.answer_to.new.store) c.if-branch.false
-    (leaves_at old c.loop.store requests held (g.W.Write.contents c.loop.writer) c.args.input.now c.split_at.result.1.now later c.loop.out.items c.loop.at c.split_at.ensures.back s {E = Unit {0}}
-    c.in-Ok-Request.words.items c.deref.result.now c.in-Ok-Request.len c.answer_to.new.out.items c.answer_to.new.store (Ok c.in_ok-answer_to-in-Ok-Request.field-0) found c.deref.ensures.value c.in_ok-answer_to-in-Ok-Request.ensures)
+    let ahead = drop (c.loop-turn.at + c.in-Ok-Request.len) c.args.input.now ++ later in
+    let next : ServedSoFar old requests held c.answer_to.new.store ahead c.answer_to.new.out.items (g.W.Write.contents c.loop-turn.writer) =
+    subst (λ (b : Bool). Leaves {E = Unit {0}} old requests held (g.W.Write.contents c.loop-turn.writer) ahead c.answer_to.new.out.items (Ok b) c.answer_to.new.store) c.if-branch.false
+    (leaves_at old c.loop-turn.store requests held (g.W.Write.contents c.loop-turn.writer) c.args.input.now c.split_at.result.1.now later c.loop-turn.out.items c.loop-turn.at c.split_at.ensures.back s {E = Unit {0}}
+    c.in-Ok-Request.words.items c.deref-in-Ok-Request.result.now c.in-Ok-Request.len c.answer_to.new.out.items c.answer_to.new.store (Ok c.in_ok-answer_to-in-Ok-Request.field-0) found c.deref-in-Ok-Request.ensures.value c.in_ok-answer_to-in-Ok-Request.ensures)
     in
-    let some = served_part old c.answer_to.new.store requests held (g.W.Write.contents c.loop.writer) ahead c.answer_to.new.out.items next (g.W.Write.contents c.write_out.new.writer) c.in_err-write_out.ensures.err in
+    let some = served_part old c.answer_to.new.store requests held (g.W.Write.contents c.loop-turn.writer) ahead c.answer_to.new.out.items next (g.W.Write.contents c.write_out.new.writer) c.in_err-write_out.ensures.err in
     let p = err_from_is_err_and c.from_residual-in_err-write_out.result c.from_residual-in_err-write_out.ensures.1 in
-    rw (p.1, p.2) (some, no_fault c.in_err-write_out.field-0.0)
+    rw (p.1, p.2) (serves_some c.in_err-write_out.field-0.0 old c.answer_to.new.store requests held (g.W.Write.contents c.write_out.new.writer) some)
 
-pub loop-preserved : goal.loop-preserved
-loop-preserved g c =
+pub loop-turn-preserved : goal.loop-turn-preserved
+loop-turn-preserved g c =
     let found = subst (WhenRequest c.split_at.result.1.now) c.in-Ok-Request.field-0-is (request_is c.split_at.result.1.now c.in-Ok-Request.field-0 c.in-Ok-Request.ensures.found (λ e. (let is = c.in-Ok-Request.ensures.nothing e in cc)) c.in-Ok-Request.ensures.within) in
     record {
-      within = omega (arith, found.within, c.split_at.ensures.back_len, c.loop.invariant.within);
+      turns = omega (arith, found.taken, c.loop-turn.invariant.turns);
+      within = omega (arith, found.within, c.split_at.ensures.back_len, c.loop-turn.invariant.within);
       so = λ old requests held later first.
-          (let s = c.loop.invariant.so old requests held later first in
-          let ahead = drop (c.loop.at + c.in-Ok-Request.len) c.args.input.now ++ later in
-          let next : ServedSoFar old requests held c.answer_to.new.store ahead c.answer_to.new.out.items (g.W.Write.contents c.loop.writer) =
-          subst (λ (b : Bool). Leaves {E = Unit {0}} old requests held (g.W.Write.contents c.loop.writer) ahead c.answer_to.new.out.items (Ok b) c.answer_to.new.store) c.if-branch.false
-          (leaves_at old c.loop.store requests held (g.W.Write.contents c.loop.writer) c.args.input.now c.split_at.result.1.now later c.loop.out.items c.loop.at c.split_at.ensures.back s {E = Unit {0}}
-          c.in-Ok-Request.words.items c.deref.result.now c.in-Ok-Request.len c.answer_to.new.out.items c.answer_to.new.store (Ok c.in_ok-answer_to-in-Ok-Request.field-0) found c.deref.ensures.value c.in_ok-answer_to-in-Ok-Request.ensures)
+          (let s = c.loop-turn.invariant.so old requests held later first in
+          let ahead = drop (c.loop-turn.at + c.in-Ok-Request.len) c.args.input.now ++ later in
+          let next : ServedSoFar old requests held c.answer_to.new.store ahead c.answer_to.new.out.items (g.W.Write.contents c.loop-turn.writer) =
+          subst (λ (b : Bool). Leaves {E = Unit {0}} old requests held (g.W.Write.contents c.loop-turn.writer) ahead c.answer_to.new.out.items (Ok b) c.answer_to.new.store) c.if-branch.false
+          (leaves_at old c.loop-turn.store requests held (g.W.Write.contents c.loop-turn.writer) c.args.input.now c.split_at.result.1.now later c.loop-turn.out.items c.loop-turn.at c.split_at.ensures.back s {E = Unit {0}}
+          c.in-Ok-Request.words.items c.deref-in-Ok-Request.result.now c.in-Ok-Request.len c.answer_to.new.out.items c.answer_to.new.store (Ok c.in_ok-answer_to-in-Ok-Request.field-0) found c.deref-in-Ok-Request.ensures.value c.in_ok-answer_to-in-Ok-Request.ensures)
           in
           elim c.if-len-ge-KEPT_BYTES.branch [
             | then-len-ge-KEPT_BYTES+in_ok-write_out w ↦
-                (let wrote = served_written old c.answer_to.new.store requests held (g.W.Write.contents c.loop.writer) ahead c.answer_to.new.out.items next (g.W.Write.contents w.write_out.new.writer) w.write_out.new.out.items w.in_ok-write_out.ensures.ok w.in_ok-write_out.ensures.empty in
+                (let wrote = served_written old c.answer_to.new.store requests held (g.W.Write.contents c.loop-turn.writer) ahead c.answer_to.new.out.items next (g.W.Write.contents w.write_out.new.writer) w.write_out.new.out.items w.in_ok-write_out.ensures.ok w.in_ok-write_out.ensures.empty in
                 rw (w.writer-is, w.out-is) wrote)
             | else-len-ge-KEPT_BYTES w ↦ rw (w.writer-is, w.out-is) next
           ]);
     }
 
-pub returns-clause-served : goal.returns-clause-served
-returns-clause-served g c old requests held later first =
-    (served_some old c.loop.store requests held (g.W.Write.contents c.loop.writer) (drop c.loop.at c.args.input.now ++ later) c.loop.out.items (c.loop.invariant.so old requests held later first), tt)
+pub unreachable-requires : goal.unreachable-requires
+unreachable-requires g c = omega (arith, c.loop-turn.invariant.turns, c.loop-turn.invariant.within, c.loop-turn-test.false)
+
+pub answer_to-requires : goal.answer_to-requires
+answer_to-requires g c = subst (λ (words : List (Bor (List ℕ))). IsNoHttp (words_of words)) (c.deref.ensures.value ∙ sym c.deref-in-Ok-Request.ensures.value) c.in_default.ensures.none

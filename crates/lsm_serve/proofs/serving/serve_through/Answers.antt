@@ -2,8 +2,9 @@ use Rattle.std.proofs.Common.{◌∙◌, ◌<◌, ◌++◌, ℕ, List, [], drop,
 use Rattle.std.proofs.lemmas.Result.{err_from_is_err_and}
 use Rattle.lsm_stream.specs.Streams.{Gains}
 use Rattle.lsm_serve.specs.ServingSteps.{ServedTo}
+use Rattle.lsm_serve.proofs.RequestsSoFar.{before_written}
 use Rattle.lsm_serve.proofs.ServedReads.{ahead_after, all_written, all_written_at_end, input_is, next_input, none_after, part_to}
-use Rattle.lsm_serve.proofs.ServedStreams.{no_fault, served_some, served_written}
+use Rattle.lsm_serve.proofs.ServedStreams.{served_some, served_written, serves_some}
 use Rattle.lsm_serve.proofs.serving.serve_through.Goals as goal
 
 pub returns-in_err-reached : goal.returns-in_err-reached
@@ -20,13 +21,13 @@ returns-in_err-write_out g c requests ahead =
     let some = part_to c.args.store.now c.answer_all.new.store requests (g.W.Write.contents c.args.writer.now) (g.W.Write.contents c.answer_all.new.writer) (g.W.Write.contents c.write_out.new.writer) c.deref.result.now so.0 c.answer_all.new.out.items c.in_ok-reached.reached
     (c.in_ok-reached.ensures.served c.args.store.now requests (g.W.Write.contents c.args.writer.now) so.0 s) c.in_err-write_out.ensures.err in
     let p = err_from_is_err_and c.from_residual-in_err-write_out.result c.from_residual-in_err-write_out.ensures.1 in
-    rw (p.1, p.2) (some, no_fault c.in_err-write_out.field-0.0)
+    rw (p.1, p.2) (serves_some c.in_err-write_out.field-0.0 c.args.store.now c.answer_all.new.store requests (g.W.Write.contents c.args.writer.now) (g.W.Write.contents c.write_out.new.writer) some)
 
-pub returns-in_default : goal.returns-in_default
-returns-in_default g c requests ahead =
+pub returns-in-Quit : goal.returns-in-Quit
+returns-in-Quit g c requests ahead =
     let so = c.loop.invariant.so requests ahead in
     let s = input_is c.args.store.now c.loop.store requests (g.W.Write.contents c.args.writer.now) (g.W.Write.contents c.loop.writer) c.loop.input.items c.deref.result.now so.0 c.loop.out.items c.deref.ensures.value c.loop.invariant.empty so.2 in
-    let all = subst (ServedTo c.args.store.now requests (g.W.Write.contents c.args.writer.now) c.answer_all.new.store c.deref.result.now so.0 c.answer_all.new.out.items (g.W.Write.contents c.answer_all.new.writer)) c.in_default.is
+    let all = subst (ServedTo c.args.store.now requests (g.W.Write.contents c.args.writer.now) c.answer_all.new.store c.deref.result.now so.0 c.answer_all.new.out.items (g.W.Write.contents c.answer_all.new.writer)) c.in-Quit.is
     (c.in_ok-reached.ensures.served c.args.store.now requests (g.W.Write.contents c.args.writer.now) so.0 s) in
     all_written c.args.store.now c.answer_all.new.store requests (g.W.Write.contents c.args.writer.now) (g.W.Write.contents c.answer_all.new.writer) (g.W.Write.contents c.write_out.new.writer) c.answer_all.new.out.items all c.in_ok-write_out.ensures.ok
 
@@ -40,7 +41,7 @@ returns-in_err-read_more g c requests ahead =
     let wrote = served_written c.args.store.now c.answer_all.new.store requests (g.W.Write.contents c.args.writer.now) (g.W.Write.contents c.answer_all.new.writer) rest c.answer_all.new.out.items waits.0 (g.W.Write.contents c.write_out.new.writer) [] c.in_ok-write_out.ensures.ok refl in
     let some = served_some c.args.store.now c.answer_all.new.store requests (g.W.Write.contents c.args.writer.now) (g.W.Write.contents c.write_out.new.writer) rest [] wrote in
     let p = err_from_is_err_and c.from_residual-in_err-read_more.result c.from_residual-in_err-read_more.ensures.1 in
-    rw (p.1, p.2) (some, no_fault c.in_err-read_more.field-0.0)
+    rw (p.1, p.2) (serves_some c.in_err-read_more.field-0.0 c.args.store.now c.answer_all.new.store requests (g.W.Write.contents c.args.writer.now) (g.W.Write.contents c.write_out.new.writer) some)
 
 pub returns-then-not-branch : goal.returns-then-not-branch
 returns-then-not-branch g c requests ahead =
@@ -79,3 +80,11 @@ pub returns : goal.returns
 returns g c requests ahead =
     let so = c.loop.invariant.so requests ahead in
     (served_some c.args.store.now c.loop.store requests (g.W.Write.contents c.args.writer.now) (g.W.Write.contents c.loop.writer) (c.loop.input.items ++ so.0) [] so.2, tt)
+
+pub returns-in-Http : goal.returns-in-Http
+returns-in-Http g c requests ahead =
+    let so = c.loop.invariant.so requests ahead in
+    let s = input_is c.args.store.now c.loop.store requests (g.W.Write.contents c.args.writer.now) (g.W.Write.contents c.loop.writer) c.loop.input.items c.deref.result.now so.0 c.loop.out.items c.deref.ensures.value c.loop.invariant.empty so.2 in
+    let before = subst (ServedTo c.args.store.now requests (g.W.Write.contents c.args.writer.now) c.answer_all.new.store c.deref.result.now so.0 c.answer_all.new.out.items (g.W.Write.contents c.answer_all.new.writer)) c.in-Http.is
+    (c.in_ok-reached.ensures.served c.args.store.now requests (g.W.Write.contents c.args.writer.now) so.0 s) in
+    before_written c.in-Http.word c.args.store.now c.answer_all.new.store requests (g.W.Write.contents c.args.writer.now) (g.W.Write.contents c.answer_all.new.writer) (g.W.Write.contents c.write_out.new.writer) c.answer_all.new.out.items before c.in_ok-write_out.ensures.ok
