@@ -1,5 +1,5 @@
 -- The step that adds a publication keeps the rule of the log.
-use Rattle.std.proofs.Common.{◌≡◌, ◌⊎◌, ◌≤◌, ℕ, ◌+◌, ◌<◌, ◌==◌, Bool, true, false, List, [], ◌∷◌, ◌++◌, length, refl, ap, sym, subst, arith, inl, inr, length-append, None}
+use Rattle.std.proofs.Common.{◌≡◌, ◌⊎◌, ℕ, ◌+◌, ◌<◌, ◌==◌, Bool, true, false, List, [], ◌∷◌, ◌++◌, length, refl, ap, sym, subst, arith, inl, inr, ◌∙◌, length-append, None}
 use Rattle.std.proofs.lemmas.List.{append-nil}
 use Rattle.std.proofs.lemmas.Bool.Decides.{nat_tests}
 use mathlib.Core.List.{IsPrefix}
@@ -9,7 +9,7 @@ use Rattle.lsm_edit.specs.Served.{ServedValue, first_served}
 use Rattle.lsm_readers.specs.Publications.{AreRising, AreRisingFrom, IsLater, last_after, last_published}
 use Rattle.lsm_readers.specs.Rule.{AddsToLog, IsLog}
 use Rattle.lsm_readers.specs.Writers.{last_list}
-use Rattle.lsm_readers.proofs.Beginnings.{prefix_self, prefix_whole}
+use Rattle.lsm_readers.proofs.Beginnings.{prefix_whole}
 
 rising_append : (before : ServedValue) (a b : List ServedValue) → AreRisingFrom before.version.number a → AreRisingFrom (last_after before a).version.number b → AreRisingFrom before.version.number (a ++ b)
 rising_append before [] b r s = s
@@ -69,7 +69,8 @@ pub newest_push : (xs : List ServedValue) (ops : List (List ServedValue)) (y : L
 newest_push xs [] y = refl
 newest_push xs (o ∷ ops) y = newest_push o ops y
 
--- whether or not a later version was taken, the last one is no later than it, and what was taken before begins what is
-pub taken_behind : (old new : List ServedValue) (p : ServedValue) → IsLater old p → (new ≡ old) ⊎ (new ≡ old ++ p ∷ []) → ((last_published new).version.number ≤ p.version.number) × IsPrefix old new
-taken_behind old new p later (inl same) = rw same (omega (arith, later), prefix_self old)
-taken_behind old new p later (inr more) = rw more (let last : (last_published (old ++ p ∷ [])).version.number ≡ p.version.number = ap (λ (s : ServedValue). s.version.number) (last_push old p) in omega (arith, last), (p ∷ [], refl))
+-- a version that was taken last, or is later, is so again once it was taken or not
+pub in_step_again : (old new : List ServedValue) (p : ServedValue) → (last_published old ≡ p) ⊎ IsLater old p → (new ≡ old) ⊎ (IsLater old p × (new ≡ old ++ p ∷ []))
+    → (last_published new ≡ p) ⊎ IsLater new p
+in_step_again old new p step (inl same) = subst (λ (xs : List ServedValue). (last_published xs ≡ p) ⊎ IsLater xs p) (sym same) step
+in_step_again old new p step (inr more) = inl (ap last_published more.1 ∙ last_push old p)

@@ -155,6 +155,36 @@ fn published_beside<J: LogName + Send + Sync, R: Threads + Wait + Sync>(
     Ok(())
 }
 
+// What a first try did not show for want of memory a second one shows. Then there is nothing to do.
+#[tactic(auto, using(lsm_readers::proofs::Adding::in_step_again))]
+fn caught_up<J: LogName, R: Wait + Drop>(alloc: Global, rt: R, log: NewLog) -> Result<(), Fail>
+    requires { log ≡ J.log }
+{
+    let (mut writer, mut all) = readers::<J, R>(alloc, rt, log, 1)?;
+    let Some(mut reader) = all.pop() else {
+        return Err("no reader")?;
+    };
+    let served = flushed(alloc)?;
+    if served.version().number() == 0 {
+        return Err("no version")?;
+    }
+    if writer.catch_up(&served).is_err() {
+        writer.catch_up(&served)?;
+    }
+    writer.catch_up(&served)?;
+    let (number, found) = reader.get(b"a")?;
+    if number.number() != 2 || !found.is_some_and(|v| v.as_slice() == b"1".as_slice()) {
+        return Err("another version")?;
+    }
+    Ok(())
+}
+
+#[test]
+fn a_version_that_waits_is_shown_by_the_next_try(rt: HostRuntime) -> Result<(), Fail> {
+    let log = NewLog::new();
+    caught_up::<Brand, _>(rt.alloc(), &rt, log)
+}
+
 #[test]
 fn a_reader_that_was_told_answers_at_what_was_told(rt: HostRuntime) -> Result<(), Fail> {
     let log = NewLog::new();

@@ -9,8 +9,8 @@ use std::io::Write;
 use std::sync::Wait;
 use std::thread::Threads;
 
-/// Runs the threads of one store, and writes how their claims ended, the coordinator's version, and a follower's reads. A read that
-/// finds no version, and a history that is not what the threads recorded, are read faults.
+/// Runs the threads of one store, and writes how their claims ended, the coordinator's version, and a follower's reads. If memory runs out
+/// in any of them nothing is written. A read that finds no version, and a history that is not what the threads recorded, are read faults.
 pub fn show_threads<R: Threads + Wait + Sync, W: Write>(
     rt: &R,
     alloc: Global,

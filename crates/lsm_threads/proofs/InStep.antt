@@ -22,10 +22,10 @@ pub in_step_onward : (old new : ServedValue) (taken : List ServedValue) → IsIn
 in_step_onward old new taken step (inl same) = subst (λ (s : ServedValue). IsInStep s taken) (sym same) step
 in_step_onward old new taken step (inr less) = inr (later_on old new taken step less)
 
--- a later version, whether it was taken or not
-pub in_step_published : (old new : List ServedValue) (served : ServedValue) → IsLater old served → (new ≡ old) ⊎ (new ≡ old ++ served ∷ []) → IsInStep served new × IsPrefix old new
-in_step_published old new served later (inl same) = rw same (inr later, prefix_self old)
-in_step_published old new served later (inr more) = rw more (inl (last_push old served), (served ∷ [], refl))
+-- a version in step, whether it was taken or not
+pub in_step_caught_up : (old new : List ServedValue) (served : ServedValue) → IsInStep served old → (new ≡ old) ⊎ (IsLater old served × (new ≡ old ++ served ∷ [])) → IsInStep served new × IsPrefix old new
+in_step_caught_up old new served step (inl same) = rw same (step, prefix_self old)
+in_step_caught_up old new served step (inr more) = rw more.1 (inl (last_push old served), (served ∷ [], refl))
 
 -- no later version was taken than the follower's
 pub in_step_behind : (served : ServedValue) (taken : List ServedValue) → IsInStep served taken → (last_published taken).version.number ≤ served.version.number

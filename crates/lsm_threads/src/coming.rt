@@ -1,10 +1,12 @@
 //! A follower and what answers it, in two threads.
 
-ghost use Rattle.std.specs.Prelude.{◌≡◌, ◌≤◌, IfErr, IfOk};
+ghost use Rattle.std.specs.Prelude.{◌≡◌, ◌≢◌, ◌≤◌, IfErr, IfOk};
 ghost use mathlib.Core.List.{IsPrefix};
-ghost use Rattle.lsm_threads.specs.Following.{IsInStep};
+ghost use Rattle.lsm_threads.specs.Endings.{EndsAt, IsOfMail};
+ghost use Rattle.lsm_threads.specs.Following.{IsInStep, LeavesFollower, IsShown};
+ghost use Rattle.lsm_threads.specs.declared.ending.Ending.TheVariants.{OutOfMemory};
 
-use crate::both::other_begins;
+use crate::ending::{Ending, OfMail};
 use crate::follower::follower_loop;
 use crate::serve::serve_loop;
 use crossbeam_channel::unbounded;
@@ -15,11 +17,13 @@ use lsm_readers::{LogName, Publisher};
 use lsm_vault::Vault;
 use std::alloc::Global;
 use std::sync::Wait;
-use std::sync::atomic::{AtomicBool, Ordering};
-use std::thread::{Threads, join};
+use std::thread;
+use std::thread::Threads;
 
-/// Lets a follower come to the goal, or to the current version, beside the loop that answers it in a thread of its own. It gets less far if
-/// memory runs out or no thread can be made. Refuses if there is none for channels, and hands both back.
+/// Lets a follower come to the goal, or to the current version, by `follower_loop`, beside the loop that answers it in a thread of its own,
+/// and returns how it ended; if a channel was closed, how what answers it ended. Refuses if there is no memory for channels, or no thread
+/// can be made, and hands both back.
+#[tactic(auto, using(crate::proofs::Ended::left_by_cause))]
 pub fn come_to<
     'a,
     V: Vault + Send,
@@ -33,11 +37,13 @@ pub fn come_to<
     follower: Follower,
     writer: Publisher<J, &'a R>,
     goal: VersionNumber,
-) -> Result<(Follower, Publisher<J, &'a R>), (Follower, Publisher<J, &'a R>)>
+) -> Result<(Follower, Publisher<J, &'a R>, Ending), (Follower, Publisher<J, &'a R>)>
     requires { IsInStep follower.served writer.taken }
     ensures onward { IfOk result (λ r. follower.served.version.number ≤ r.0.served.version.number) }
     ensures in_step { IfOk result (λ r. IsInStep r.0.served r.1.taken) }
     ensures taken { IfOk result (λ r. IsPrefix writer.entry.taken r.1.taken) }
+    ensures shown { IfOk result (λ r. r.2 ≢ OutOfMemory → IsShown r.0.served r.1) }
+    ensures ends { IfOk result (λ r. EndsAt goal r.0.served.version.number r.2) }
     ensures refused { IfErr result (λ r. (r.0 ≡ follower) × (r.1 ≡ writer.entry)) }
 {
     let Ok((to_coordinator, questions)) = unbounded(alloc) else {
@@ -46,22 +52,33 @@ pub fn come_to<
     let Ok((answers, inbox)) = unbounded(alloc) else {
         return Err((follower, writer));
     };
-    let has_begun = AtomicBool::new(false);
-    let begun = &has_begun;
-    let (followed, ()) = join(
+    thread::scope(
+        thread::scope_env(),
         rt,
-        move || -> (Follower, Publisher<J, &R>)
+        move |scope| -> Result<(Follower, Publisher<J, &R>, Ending), (Follower, Publisher<J, &R>)>
             requires { IsInStep follower.served writer.taken }
-            ensures { (follower.served.version.number ≤ result.0.served.version.number) × IsInStep result.0.served result.1.taken × IsPrefix writer.entry.taken result.1.taken }
+            ensures ok { IfOk result (λ r. (follower.served.version.number ≤ r.0.served.version.number) × IsInStep r.0.served r.1.taken × IsPrefix writer.entry.taken r.1.taken × LeavesFollower goal r.0.served r.1 r.2) }
+            ensures err { IfErr result (λ r. (r.0 ≡ follower) × (r.1 ≡ writer.entry)) }
         {
-            begun.store(true, Ordering::SeqCst);
-            follower_loop(rt, alloc, follower, writer, inbox, to_coordinator, goal)
+            let answering = scope.spawn_with(
+                OfMail,
+                move || -> Ending
+                    ensures { IsOfMail result }
+                { serve_loop(rt, alloc, hub, questions, answers) },
+            );
+            let Ok(answering) = answering else {
+                return Err((follower, writer));
+            };
+            let (follower, writer, ending) = follower_loop(
+                rt,
+                alloc,
+                follower,
+                writer,
+                inbox,
+                to_coordinator,
+                goal,
+            );
+            Ok((follower, writer, ending.cause(answering.join(rt))))
         },
-        move || {
-            if other_begins(begun) {
-                serve_loop(rt, alloc, hub, questions, answers);
-            }
-        },
-    );
-    Ok(followed)
+    )
 }

@@ -3,10 +3,11 @@
 ghost use Rattle.std.specs.Prelude.{◌≡◌, ◌+◌, ◌<◌, ◌^◌, IfErr, IfOk};
 ghost use Rattle.lsm_nodes.specs.Tallies.{IsDispatched};
 
-use crate::both::other_begins;
+use crate::ending::Ending;
 use crate::link::ChannelLink;
 use crate::worker::worker_loop;
-use crossbeam_channel::unbounded;
+use bytes::Bytes;
+use crossbeam_channel::{Receiver, Sender, unbounded};
 use lsm_msg::NodeIndex;
 use lsm_nodes::{Hub, Link, Start, Tally, Witness, dispatch};
 use lsm_vault::Vault;
@@ -14,11 +15,13 @@ use lsm_work::Worker;
 use std::alloc::Global;
 use std::sync::Wait;
 use std::sync::atomic::{AtomicBool, Ordering};
-use std::thread::{Threads, join};
+use std::thread;
+use std::thread::Threads;
 
 /// At most so many rounds of a dispatcher, beside a new worker in a thread of its own. A round is the last one if the flag is set, or if it
-/// installs nothing: nothing is due, or the worker may have ended, or has no thread. Each job that it was given is settled. Refuses if there is
-/// no memory for channels, and hands the tally back.
+/// installs nothing: nothing is due, memory ran out, or the worker has ended. Each job that it was given is settled. Says too, if the last job
+/// came back without a result, why: how the link ended, or the worker if it closed its channels.
+/// Refuses if there is no memory for channels, or no thread can be made, and hands the tally back.
 pub fn dispatch_with_worker<
     V: Vault + Send,
     J: Start + Send + Sync,
@@ -32,10 +35,10 @@ pub fn dispatch_with_worker<
     rounds: u64,
     is_over: &AtomicBool,
     tally: Tally<J>,
-) -> Result<Tally<J>, Tally<J>>
+) -> Result<(Tally<J>, Option<Ending>), Tally<J>>
     requires part { 0 < tally.parts }
     requires fits { tally.picked + rounds < 2 ^ 64 }
-    ensures dispatched { IfOk result (IsDispatched tally rounds) }
+    ensures dispatched { IfOk result (λ r. IsDispatched tally rounds r.0) }
     ensures refused { IfErr result (λ t. t ≡ tally) }
 {
     let Ok((to_worker, inbox)) = unbounded(alloc) else {
@@ -44,25 +47,37 @@ pub fn dispatch_with_worker<
     let Ok((outbox, from_worker)) = unbounded(alloc) else {
         return Err(tally);
     };
-    let has_begun = AtomicBool::new(false);
-    let begun = &has_begun;
-    let (tally, ()) = join(
+    thread::scope(
+        thread::scope_env(),
         rt,
-        move || -> Tally<J>
+        move |scope| -> Result<(Tally<J>, Option<Ending>), Tally<J>>
             requires { (0 < tally.parts) × (tally.picked + rounds < 2 ^ 64) }
-            ensures { IsDispatched tally rounds result }
+            ensures ok { IfOk result (λ r. IsDispatched tally rounds r.0) }
+            ensures err { IfErr result (λ t. t ≡ tally) }
         {
-            begun.store(true, Ordering::SeqCst);
+            let Ok(working) = scope.spawn(move || work(rt, alloc, index, inbox, outbox)) else {
+                return Err(tally);
+            };
             let mut link = ChannelLink::new(rt, alloc, hub, index, to_worker, from_worker);
-            rounds_by(rt, hub, &mut link, rounds, is_over, tally)
+            let tally = rounds_by(rt, hub, &mut link, rounds, is_over, tally);
+            let lost = link.lost();
+            drop(link);
+            let worked = working.join(rt);
+            Ok((tally, lost.map(|ending| ending.cause(worked))))
         },
-        move || {
-            if other_begins(begun) {
-                let _worker = worker_loop(rt, alloc, Worker::new(alloc, index), inbox, outbox);
-            }
-        },
-    );
-    Ok(tally)
+    )
+}
+
+// A worker's loop, and how it ended.
+fn work<R: Wait>(
+    rt: &R,
+    alloc: Global,
+    index: NodeIndex,
+    from: Receiver<Bytes>,
+    to: Sender<Bytes>,
+) -> Ending {
+    let (_worker, ending) = worker_loop(rt, alloc, Worker::new(alloc, index), from, to);
+    ending
 }
 
 // Rounds up to one that installs nothing or sees the flag, at most so many.

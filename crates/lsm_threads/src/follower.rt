@@ -1,12 +1,14 @@
 //! The loop of a follower.
 
-ghost use Rattle.std.specs.Prelude.{◌≤◌, ◌<◌, All, IfSome};
+ghost use Rattle.std.specs.Prelude.{◌≡◌, ◌≢◌, ◌<◌, ◌≤◌, All, IfErr, IfOk, OnOk};
 ghost use Rattle.lsm_msg.specs.Messages.{IsMessage};
 ghost use Rattle.lsm_follow.specs.Onward.{IsOnward};
 ghost use mathlib.Core.List.{IsPrefix};
-ghost use Rattle.lsm_readers.specs.Publications.{IsLater};
-ghost use Rattle.lsm_threads.specs.Following.{IsInStep};
+ghost use Rattle.lsm_threads.specs.Endings.{EndsAt, IsOfMail};
+ghost use Rattle.lsm_threads.specs.Following.{IsInStep, LeavesFollower, IsShown};
+ghost use Rattle.lsm_threads.specs.declared.ending.Ending.TheVariants.{OutOfMemory};
 
+use crate::ending::Ending;
 use crate::mail::{receive, send, send_all};
 use bytes::Bytes;
 use crossbeam_channel::{Receiver, Sender};
@@ -17,11 +19,11 @@ use lsm_readers::{LogName, Publisher};
 use std::alloc::Global;
 use std::sync::Wait;
 
-/// Asks for what comes after a follower's version, hands the follower what comes, sends what it answers, publishes each
-/// version that it moves to, and asks again, also if it gave a version up. Ends, with both, if it is at the goal or past it,
-/// or is told that it is current, a channel is closed, what came is no message, or memory runs out; the version that was then
-/// not published is shown with the next publication, or was not taken. What is published last is the follower's version or an earlier one.
-#[tactic(auto, using(lsm_readers::proofs::Beginnings::prefix_self, lsm_readers::proofs::Beginnings::prefix_trans))]
+/// Publishes a follower's version if readers are not shown it, asks for what comes after it, hands the follower what comes, sends what it
+/// answers, publishes each version that it moves to, and asks again, also if it gave a version up. Ends, with both, at the goal or past
+/// it, or if it is told that it is current, a channel is closed, what came is no message, or memory runs out. Unless memory ran out,
+/// readers are then shown the follower's version; if it did, what was taken last is that or an earlier one, and the next call publishes it.
+#[tactic(auto, using(lsm_readers::proofs::Beginnings::prefix_trans))]
 pub fn follower_loop<J: LogName, R: Wait, W: Wait + Drop>(
     rt: &R,
     alloc: Global,
@@ -30,49 +32,48 @@ pub fn follower_loop<J: LogName, R: Wait, W: Wait + Drop>(
     from: Receiver<Bytes>,
     to: Sender<Bytes>,
     goal: VersionNumber,
-) -> (Follower, Publisher<J, W>)
+) -> (Follower, Publisher<J, W>, Ending)
     requires { IsInStep follower.served writer.taken }
     ensures onward { follower.served.version.number ≤ result.0.served.version.number }
     ensures in_step { IsInStep result.0.served result.1.taken }
     ensures taken { IsPrefix writer.taken result.1.taken }
+    ensures shown { result.2 ≢ OutOfMemory → IsShown result.0.served result.1 }
+    ensures ends { EndsAt goal result.0.served.version.number result.2 }
 {
-    if is_there(&follower, goal) || !send(rt, alloc, &to, &follower.ask()) {
-        return (follower, writer);
+    if let Err(ending) = begin(rt, alloc, &follower, &mut writer, &to, goal) {
+        return (follower, writer, ending);
     }
     for _ in rt.forever() {
-        if !turn(rt, alloc, &mut follower, &mut writer, &from, &to, goal) {
-            break;
+        if let Err(ending) = turn(rt, alloc, &mut follower, &mut writer, &from, &to, goal) {
+            return (follower, writer, ending);
         }
     }
-    (follower, writer)
+    unreachable!()
 }
 
-// Whether there is more to come: the follower is neither current nor at the goal. It asks for it if nothing else is on its way.
-fn goes_on<R: Wait>(
+// Publishes the follower's version if readers are not shown it, and asks for what comes after it, unless the loop ends.
+#[tactic(auto, using(crate::proofs::Ended::left_by_mail))]
+fn begin<J: LogName, R: Wait, W: Wait + Drop>(
     rt: &R,
     alloc: Global,
-    change: FollowChange,
     follower: &Follower,
-    goal: VersionNumber,
+    writer: &mut Publisher<J, W>,
     to: &Sender<Bytes>,
-) -> bool {
-    if is_there(follower, goal) {
-        return false;
-    }
-    match change {
-        FollowChange::Version(_) | FollowChange::Dropped => send(rt, alloc, to, &follower.ask()),
-        FollowChange::Waiting(_) | FollowChange::Ignored => true,
-        FollowChange::Current => false,
-    }
+    goal: VersionNumber,
+) -> Result<(), Ending>
+    requires { IsInStep follower.now.served writer.old.taken }
+    ensures in_step { IsInStep follower.now.served writer.new.taken }
+    ensures taken { IsPrefix writer.old.taken writer.new.taken }
+    ensures ok { OnOk result (IsShown follower.now.served writer.new × (follower.now.served.version.number < goal)) }
+    ensures err { IfErr result (LeavesFollower goal follower.now.served writer.new) }
+{
+    show(follower, writer, goal)?;
+    send(rt, alloc, to, &follower.ask())
 }
 
-fn is_there(follower: &Follower, goal: VersionNumber) -> bool {
-    follower.show().number >= goal
-}
-
-// Waits for a message, hands it to the follower, publishes the version that it moves to, and sends what it answers. Says
-// whether the loop goes on.
-#[tactic(auto, using(crate::proofs::InStep::in_step_onward, crate::proofs::InStep::later_on, lsm_readers::proofs::Beginnings::prefix_self))]
+// Waits for a message, hands it to the follower, publishes the version that it moves to, and sends what it answers and asks, unless the
+// loop ends.
+#[tactic(auto, using(crate::proofs::InStep::in_step_onward, crate::proofs::Ended::left_by_mail, lsm_readers::proofs::Beginnings::prefix_self))]
 fn turn<J: LogName, R: Wait, W: Wait + Drop>(
     rt: &R,
     alloc: Global,
@@ -81,47 +82,63 @@ fn turn<J: LogName, R: Wait, W: Wait + Drop>(
     from: &Receiver<Bytes>,
     to: &Sender<Bytes>,
     goal: VersionNumber,
-) -> bool
-    requires { IsInStep follower.old.served writer.old.taken }
+) -> Result<(), Ending>
+    requires shown { IsShown follower.old.served writer.old }
+    requires behind { follower.old.served.version.number < goal }
     ensures onward { follower.old.served.version.number ≤ follower.new.served.version.number }
     ensures in_step { IsInStep follower.new.served writer.new.taken }
     ensures taken { IsPrefix writer.old.taken writer.new.taken }
+    ensures ok { OnOk result (IsShown follower.new.served writer.new × (follower.new.served.version.number < goal)) }
+    ensures err { IfErr result (LeavesFollower goal follower.new.served writer.new) }
 {
-    let before = follower.show().number;
-    let Some((change, sent)) = hand_over(rt, alloc, follower, from) else {
-        return false;
-    };
-    if follower.show().number > before && !publish(follower, writer) {
-        return false;
+    let (change, sent) = hand_over(rt, alloc, follower, from)?;
+    show(follower, writer, goal)?;
+    send_all(rt, alloc, to, sent.as_slice())?;
+    match change {
+        FollowChange::Version(_) | FollowChange::Dropped => send(rt, alloc, to, &follower.ask()),
+        FollowChange::Waiting(_) | FollowChange::Ignored => Ok(()),
+        FollowChange::Current => Err(Ending::Current),
     }
-    send_all(rt, alloc, to, sent.as_slice()) && goes_on(rt, alloc, change, follower, goal, to)
 }
 
-// What comes of the next message, unless the channel is closed, what came is no message, or memory runs out.
+// What comes of the next message, unless the channel is closed, what came is no message, or memory runs out, which changes nothing.
 fn hand_over<R: Wait>(
     rt: &R,
     alloc: Global,
     follower: &mut Follower,
     from: &Receiver<Bytes>,
-) -> Option<(FollowChange, Vec<Message>)>
+) -> Result<(FollowChange, Vec<Message>), Ending>
     ensures onward { IsOnward follower.old.served follower.new.served }
-    ensures sound { IfSome result (λ r. All IsMessage r.1.items) }
+    ensures sound { IfOk result (λ r. All IsMessage r.1.items) }
+    ensures err { IfErr result (λ e. IsOfMail e × (follower.new.served ≡ follower.old.served)) }
 {
     let message = receive(rt, alloc, from)?;
     let made = follower.on_message(&message);
     drop(message);
     match made {
-        Ok(made) => Some(made),
-        Err(_) => None,
+        Ok(made) => Ok(made),
+        Err(_) => Err(Ending::OutOfMemory),
     }
 }
 
-// Publishes the follower's version, and says whether readers are shown it.
-#[tactic(auto, using(crate::proofs::InStep::in_step_published))]
-fn publish<J: LogName, W: Wait + Drop>(follower: &Follower, writer: &mut Publisher<J, W>) -> bool
-    requires { IsLater writer.old.taken follower.now.served }
+// Publishes the follower's version if readers are not shown it. Refuses if memory runs out, and at the goal.
+#[tactic(auto, using(crate::proofs::InStep::in_step_caught_up))]
+fn show<J: LogName, W: Wait + Drop>(
+    follower: &Follower,
+    writer: &mut Publisher<J, W>,
+    goal: VersionNumber,
+) -> Result<(), Ending>
+    requires { IsInStep follower.now.served writer.old.taken }
     ensures in_step { IsInStep follower.now.served writer.new.taken }
     ensures taken { IsPrefix writer.old.taken writer.new.taken }
+    ensures ok { OnOk result (IsShown follower.now.served writer.new × (follower.now.served.version.number < goal)) }
+    ensures err { IfErr result (LeavesFollower goal follower.now.served writer.new) }
 {
-    writer.publish(follower.served()).is_ok()
+    if writer.catch_up(follower.served()).is_err() {
+        return Err(Ending::OutOfMemory);
+    }
+    if follower.show().number.number() >= goal.number() {
+        return Err(Ending::AtGoal);
+    }
+    Ok(())
 }

@@ -1,14 +1,14 @@
 //! The loops that node threads run, over channels of encoded messages.
 //!
-//! It promises that a follower's loop publishes versions that rise and never goes back, and that readers are then shown no
-//! version later than the follower's. Nothing is claimed of what arrives, nor that anything does: a channel that is closed,
-//! bytes that are no message, and memory that runs out end a loop. It stands on `lsm_work` and `lsm_follow` for what nodes
+//! It promises that a follower's loop publishes versions that rise and never goes back, and that readers are shown the follower's
+//! version when it ends, unless memory ran out. Nothing is claimed of what arrives, nor that anything does: a channel that is
+//! closed, bytes that are no message, and memory that runs out end a loop, which says so (`Ending`). It stands on `lsm_work` and `lsm_follow` for what nodes
 //! do with messages, on `lsm_readers` for a follower's readers, on `lsm_msg` for messages, and on `crossbeam_channel`.
 #![tactic(auto)]
 
-mod both;
 mod coming;
 mod dispatcher;
+mod ending;
 mod error;
 mod follower;
 mod link;
@@ -19,6 +19,7 @@ mod worker;
 
 pub use coming::come_to;
 pub use dispatcher::dispatch_with_worker;
+pub use ending::Ending;
 pub use error::ThreadsError;
 pub use follower::follower_loop;
 pub use link::ChannelLink;

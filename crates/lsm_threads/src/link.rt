@@ -2,6 +2,7 @@
 
 ghost use Rattle.std.specs.Prelude.{◌≡◌, IfErr, IfOk, IfSome};
 
+use crate::ending::Ending;
 use crate::mail::{receive, send};
 use crate::serve::answer;
 use bytes::Bytes;
@@ -14,7 +15,7 @@ use std::alloc::Global;
 use std::sync::Wait;
 
 /// Carries jobs to a worker over a channel, answers what it asks, and takes the result that names the job. It carries
-/// nothing back if a channel is closed, what came is no message, a message is too large, or memory runs out.
+/// nothing back if a channel is closed, what came is no message, a message is too large, or memory runs out, and remembers which.
 #[derive(Drop)]
 pub struct ChannelLink<'a, V: Vault, J: Start, N: Witness + Drop, R: Wait> {
     rt: &'a R,
@@ -23,6 +24,7 @@ pub struct ChannelLink<'a, V: Vault, J: Start, N: Witness + Drop, R: Wait> {
     worker: NodeIndex,
     to: Sender<Bytes>,
     from: Receiver<Bytes>,
+    lost: Option<Ending>,
 }
 
 impl<'a, V: Vault, J: Start, N: Witness + Drop, R: Wait> ChannelLink<'a, V, J, N, R> {
@@ -42,30 +44,51 @@ impl<'a, V: Vault, J: Start, N: Witness + Drop, R: Wait> ChannelLink<'a, V, J, N
             worker,
             to,
             from,
+            lost: None,
         }
     }
 
-    // Sends the worker a job, and says whether it did.
-    fn hand_out(&self, job: Job) -> bool {
-        let message = Message::to_worker(self.worker, job);
-        let is_sent = send(self.rt, self.alloc, &self.to, &message);
-        drop(message);
-        is_sent
+    /// Why the last job came back without a result, if it did.
+    pub fn lost(&self) -> Option<Ending> {
+        self.lost
     }
 
-    // Waits for a message: the result of this job, or a question, which it answers. None if nothing more can come.
-    fn next_result(&self, id: JobId) -> Option<Option<JobResult>>
-        ensures { IfSome result (λ found. IfSome found (λ made. made.job ≡ id)) }
+    // Sends the worker a job.
+    fn hand_out(&self, job: Job) -> Result<(), Ending> {
+        let message = Message::to_worker(self.worker, job);
+        let sent = send(self.rt, self.alloc, &self.to, &message);
+        drop(message);
+        sent
+    }
+
+    // Waits for a message: the result of this job, or a question, which it answers.
+    fn next_result(&self, id: JobId) -> Result<Option<JobResult>, Ending>
+        ensures { IfOk result (λ found. IfSome found (λ made. made.job ≡ id)) }
     {
         let message = receive(self.rt, self.alloc, &self.from)?;
         match result_of(message, id) {
-            Ok(made) => Some(Some(made)),
+            Ok(made) => Ok(Some(made)),
             Err(asked) => {
-                let is_answered = answer(self.rt, self.alloc, self.hub, &asked, &self.to);
+                let answered = answer(self.rt, self.alloc, self.hub, &asked, &self.to);
                 drop(asked);
-                if is_answered { Some(None) } else { None }
+                answered?;
+                Ok(None)
             }
         }
+    }
+
+    // Hands the job out, and waits for its result.
+    fn result_for(&self, job: Job) -> Result<JobResult, Ending>
+        ensures { IfOk result (λ made. made.job ≡ job.id) }
+    {
+        let id = job.id();
+        self.hand_out(job)?;
+        for _ in self.rt.forever() {
+            if let Some(made) = self.next_result(id)? {
+                return Ok(made);
+            }
+        }
+        unreachable!()
     }
 }
 
@@ -73,16 +96,16 @@ impl<V: Vault, J: Start, N: Witness + Drop, R: Wait> Link for ChannelLink<'_, V,
     fn carry(&mut self, job: Job) -> Option<JobResult>
         ensures { IfSome result (λ made. made.job ≡ job.id) }
     {
-        let id = job.id();
-        if !self.hand_out(job) {
-            return None;
-        }
-        for _ in self.rt.forever() {
-            if let Some(made) = self.next_result(id)? {
-                return Some(made);
+        match self.result_for(job) {
+            Ok(made) => {
+                self.lost = None;
+                Some(made)
+            }
+            Err(ending) => {
+                self.lost = Some(ending);
+                None
             }
         }
-        unreachable!()
     }
 }
 

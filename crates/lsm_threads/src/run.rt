@@ -1,11 +1,13 @@
 //! A store that threads share, from its writes to the reads of a follower.
 
-ghost use Rattle.std.specs.Prelude.{◌≡◌, []};
+ghost use Rattle.std.specs.Prelude.{◌≡◌, ◌≤◌, All, IfOk, []};
+ghost use Rattle.lsm_threads.specs.Rounds.{AreSettled};
 
 mod fill;
 mod follow;
 mod merge;
 
+use crate::ending::Ending;
 use crate::error::ThreadsError;
 use bytes::Bytes;
 use fill::{fill, reason_of};
@@ -47,11 +49,16 @@ pub struct FollowerRead {
 }
 
 /// Four flushes of two keys, two dispatchers of one round with a worker each, and a follower with a reader, all in threads of their
-/// own over one new store in memory, whose level 0 is due at two files.
+/// own over one new store in memory, whose level 0 is due at two files. Each dispatcher installs a compaction, and the follower's reads are at
+/// the coordinator's version or a later one.
+/// Refuses: `OutOfMemory` if a loop or a call found no memory, or no thread could be made; `ReadFault` if what came is not what was sent.
 pub fn run_threads<R: Threads + Wait + Sync>(
     rt: &R,
     alloc: Global,
-) -> Result<ThreadsReport, ThreadsError> {
+) -> Result<ThreadsReport, ThreadsError>
+    ensures settled { IfOk result (λ r. AreSettled r.picked r.installed r.returned r.stale) }
+    ensures fresh { IfOk result (λ r. All (λ read. r.shown.number ≤ read.at) r.reads.items) }
+{
     let Some(limits) = Limits::new(2, DEFAULT_BASE, DEFAULT_BLOCK) else {
         return Err(ThreadsError::ReadFault);
     };
@@ -84,6 +91,8 @@ fn over_hub<
     requires start { coord ≡ J.start }
     requires idle { coord.book.live ≡ [] }
     requires log { log ≡ J.log }
+    ensures settled { IfOk result (λ r. AreSettled r.picked r.installed r.returned r.stale) }
+    ensures fresh { IfOk result (λ r. All (λ read. r.shown.number ≤ read.at) r.reads.items) }
 {
     let (hub, tally) = Hub::<V, J, N>::new(alloc, coord, blank);
     let (tally, report) = in_turn(rt, alloc, &hub, tally, log)?;
@@ -114,6 +123,8 @@ fn in_turn<
 ) -> Result<(Tally<J>, ThreadsReport), ThreadsError>
     requires parts { tally.parts ≡ PARTS }
     requires log { log ≡ J.log }
+    ensures settled { IfOk result (λ r. AreSettled r.1.picked r.1.installed r.1.returned r.1.stale) }
+    ensures fresh { IfOk result (λ r. All (λ read. r.1.shown.number ≤ read.at) r.1.reads.items) }
 {
     let mut tally = tally;
     fill(rt, alloc, hub, &mut tally)?;
@@ -132,4 +143,12 @@ fn in_turn<
         reads,
     };
     Ok((tally, report))
+}
+
+// Only memory can be short over a new store in memory.
+fn reason_of_ending(ending: Ending) -> ThreadsError {
+    match ending {
+        Ending::OutOfMemory => ThreadsError::OutOfMemory,
+        _ => ThreadsError::ReadFault,
+    }
 }

@@ -1,7 +1,10 @@
 //! The loop that answers questions.
 
+ghost use Rattle.std.specs.Prelude.{IfErr};
 ghost use Rattle.lsm_msg.specs.Messages.{IsMessage};
+ghost use Rattle.lsm_threads.specs.Endings.{IsOfMail};
 
+use crate::ending::Ending;
 use crate::mail::{receive, send};
 use bytes::Bytes;
 use crossbeam_channel::{Receiver, Sender};
@@ -11,57 +14,59 @@ use lsm_vault::Vault;
 use std::alloc::Global;
 use std::sync::Wait;
 
-/// Answers what nodes ask a shared coordinator, by `Hub::serve`. Ends if a channel is closed, what came is no message, or
-/// memory runs out.
+/// Answers what nodes ask a shared coordinator, by `Hub::serve`. Ends if a channel is closed, what came is no message, an answer is
+/// too large, or memory runs out.
 pub fn serve_loop<V: Vault, J: Start, N: Witness + Drop, R: Wait>(
     rt: &R,
     alloc: Global,
     hub: &Hub<V, J, N>,
     from: Receiver<Bytes>,
     to: Sender<Bytes>,
-) {
+) -> Ending
+    ensures { IsOfMail result }
+{
     for _ in rt.forever() {
-        if !serve_next(rt, alloc, hub, &from, &to) {
-            break;
+        if let Err(ending) = serve_next(rt, alloc, hub, &from, &to) {
+            return ending;
         }
     }
+    unreachable!()
 }
 
-// Waits for a message, and answers it. Says whether the loop goes on.
+// Waits for a message, and answers it, unless the loop ends.
 fn serve_next<V: Vault, J: Start, N: Witness + Drop, R: Wait>(
     rt: &R,
     alloc: Global,
     hub: &Hub<V, J, N>,
     from: &Receiver<Bytes>,
     to: &Sender<Bytes>,
-) -> bool {
-    match receive(rt, alloc, from) {
-        Some(message) => {
-            let is_answered = answer(rt, alloc, hub, &message, to);
-            drop(message);
-            is_answered
-        }
-        None => false,
-    }
+) -> Result<(), Ending>
+    ensures { IfErr result IsOfMail }
+{
+    let message = receive(rt, alloc, from)?;
+    let answered = answer(rt, alloc, hub, &message, to);
+    drop(message);
+    answered
 }
 
-// Answers a question, and ignores any other message. Says whether it did not fail: memory runs out, or the channel is closed.
+// Answers a question, and ignores any other message.
 pub(crate) fn answer<V: Vault, J: Start, N: Witness + Drop, R: Wait>(
     rt: &R,
     alloc: Global,
     hub: &Hub<V, J, N>,
     message: &Message,
     to: &Sender<Bytes>,
-) -> bool
+) -> Result<(), Ending>
     requires { IsMessage message.now }
+    ensures { IfErr result IsOfMail }
 {
     match hub.serve(rt, message) {
         Ok(Some(answer)) => {
-            let is_sent = send(rt, alloc, to, &answer);
+            let sent = send(rt, alloc, to, &answer);
             drop(answer);
-            is_sent
+            sent
         }
-        Ok(None) => true,
-        Err(_) => false,
+        Ok(None) => Ok(()),
+        Err(_) => Err(Ending::OutOfMemory),
     }
 }

@@ -1,5 +1,6 @@
 //! The loop of a worker.
 
+use crate::ending::Ending;
 use crate::mail::{receive, send_all};
 use bytes::Bytes;
 use crossbeam_channel::{Receiver, Sender};
@@ -8,37 +9,39 @@ use std::alloc::Global;
 use std::sync::Wait;
 
 /// Hands a worker what comes, and sends what it answers. Ends, with the worker, if a channel is closed, what came is no
-/// message, memory runs out, or the worker gives its job up.
+/// message, a message is too large, memory runs out, or the worker gives its job up.
 pub fn worker_loop<R: Wait>(
     rt: &R,
     alloc: Global,
     mut worker: Worker,
     from: Receiver<Bytes>,
     to: Sender<Bytes>,
-) -> Worker {
+) -> (Worker, Ending) {
     for _ in rt.forever() {
-        if !turn(rt, alloc, &mut worker, &from, &to) {
-            break;
+        if let Err(ending) = turn(rt, alloc, &mut worker, &from, &to) {
+            return (worker, ending);
         }
     }
-    worker
+    unreachable!()
 }
 
-// Waits for a message, hands it to the worker, and sends what it answers. Says whether the loop goes on.
+// Waits for a message, hands it to the worker, and sends what it answers, unless the loop ends.
 fn turn<R: Wait>(
     rt: &R,
     alloc: Global,
     worker: &mut Worker,
     from: &Receiver<Bytes>,
     to: &Sender<Bytes>,
-) -> bool {
-    let Some(message) = receive(rt, alloc, from) else {
-        return false;
-    };
+) -> Result<(), Ending> {
+    let message = receive(rt, alloc, from)?;
     let made = worker.on_message(&message);
     drop(message);
     let Ok((change, sent)) = made else {
-        return false;
+        return Err(Ending::OutOfMemory);
     };
-    send_all(rt, alloc, to, sent.as_slice()) && change != WorkChange::Dropped
+    send_all(rt, alloc, to, sent.as_slice())?;
+    if change == WorkChange::Dropped {
+        return Err(Ending::Dropped);
+    }
+    Ok(())
 }

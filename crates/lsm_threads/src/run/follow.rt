@@ -1,9 +1,10 @@
 //! A follower with a reader.
 
-ghost use Rattle.std.specs.Prelude.{◌≡◌, [], IfOk};
+ghost use Rattle.std.specs.Prelude.{◌≡◌, ◌≤◌, [], All, IfOk};
 
-use super::{FollowerRead, ThreadsError};
+use super::{FollowerRead, ThreadsError, reason_of_ending};
 use crate::coming::come_to;
+use crate::ending::Ending;
 use bytes::Bytes;
 use lsm_follow::Follower;
 use lsm_key::VersionNumber;
@@ -17,7 +18,7 @@ use std::thread::Threads;
 
 const KEYS: [&[u8]; 2] = [b"a", b"m"];
 
-// The reads of a follower that has come to a version, or to the current one.
+// The reads of a follower that has come to a version.
 pub(super) fn follow<
     V: Vault + Send,
     J: Start + LogName + Send + Sync,
@@ -31,6 +32,7 @@ pub(super) fn follow<
     log: NewLog,
 ) -> Result<Vec<FollowerRead>, ThreadsError>
     requires { log ≡ J.log }
+    ensures { IfOk result (λ reads. All (λ read. goal ≤ read.at) reads.items) }
 {
     let Some(index) = NodeIndex::new(1) else {
         return Err(ThreadsError::ReadFault);
@@ -38,7 +40,7 @@ pub(super) fn follow<
     let (writer, mut reader) = writer_and_reader::<J, R>(rt, alloc, log)?;
     let writer = published_to(rt, alloc, hub, index, writer, goal)?;
     reader.learn(writer.tell());
-    let reads = reads_of(alloc, &mut reader);
+    let reads = reads_of(alloc, &mut reader, goal);
     drop(reader);
     drop(writer);
     reads
@@ -69,7 +71,7 @@ fn writer_and_reader<'a, J: LogName, R: Wait>(
     }
 }
 
-// The writer of a new follower that has come to a version, or to the current one.
+// The writer of a new follower that has come to a version, which readers are shown.
 #[tactic(auto, using(crate::proofs::InStep::in_step_new))]
 fn published_to<
     'a,
@@ -89,12 +91,11 @@ fn published_to<
 {
     let follower = Follower::new(alloc, index);
     match come_to(rt, alloc, hub, follower, writer, goal) {
-        Ok((follower, writer)) => {
-            let number = follower.show().number;
+        Ok((follower, writer, ending)) => {
             drop(follower);
-            if number < goal {
+            if ending != Ending::AtGoal {
                 drop(writer);
-                return Err(ThreadsError::OutOfMemory);
+                return Err(reason_of_ending(ending));
             }
             Ok(writer)
         }
@@ -105,14 +106,17 @@ fn published_to<
     }
 }
 
-// The reads of each key.
+// The reads of each key, at a version or a later one.
 fn reads_of<J: LogName>(
     alloc: Global,
     reader: &mut FollowerReader<J>,
-) -> Result<Vec<FollowerRead>, ThreadsError> {
+    least: VersionNumber,
+) -> Result<Vec<FollowerRead>, ThreadsError>
+    ensures { IfOk result (λ reads. All (λ read. least ≤ read.at) reads.items) }
+{
     let mut reads = Vec::new(alloc);
     for key in KEYS {
-        let read = read(reader, key)?;
+        let read = read(reader, key, least)?;
         if reads.push(read).is_err() {
             return Err(ThreadsError::OutOfMemory);
         }
@@ -120,28 +124,32 @@ fn reads_of<J: LogName>(
     Ok(reads)
 }
 
+// A read at a version or a later one. An earlier one means that there was no memory to publish it.
 fn read<J: LogName>(
     reader: &mut FollowerReader<J>,
     key: &'static [u8],
-) -> Result<FollowerRead, ThreadsError> {
+    least: VersionNumber,
+) -> Result<FollowerRead, ThreadsError>
+    ensures { IfOk result (λ read. least ≤ read.at) }
+{
     let (at, found) = match reader.get(key) {
         Ok(answer) => answer,
         Err(ReadError::OutOfMemory) => return Err(ThreadsError::OutOfMemory),
         Err(ReadError::NotEntered) => return Err(ThreadsError::ReadFault),
     };
-    let Some(found) = found else {
-        return Ok(FollowerRead {
-            key,
-            at,
-            value: None,
-        });
+    if at.number() < least.number() {
+        return Err(ThreadsError::OutOfMemory);
+    }
+    let value = match found {
+        Some(found) => Some(shared(found)?),
+        None => None,
     };
-    match Bytes::from_vec(found) {
-        Ok(value) => Ok(FollowerRead {
-            key,
-            at,
-            value: Some(value),
-        }),
+    Ok(FollowerRead { key, at, value })
+}
+
+fn shared(value: Vec<u8>) -> Result<Bytes, ThreadsError> {
+    match Bytes::from_vec(value) {
+        Ok(value) => Ok(value),
         Err(_) => Err(ThreadsError::OutOfMemory),
     }
 }

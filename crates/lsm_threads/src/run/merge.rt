@@ -1,8 +1,9 @@
 //! Two dispatchers, each with a worker.
 
-ghost use Rattle.std.specs.Prelude.{◌≡◌, ◌+◌, ◌≤◌, IfOk, IfSome};
+ghost use Rattle.std.specs.Prelude.{◌≡◌, ◌+◌, ◌≤◌, IfOk};
+ghost use Rattle.lsm_threads.specs.Rounds.{IsOneInstall};
 
-use super::ThreadsError;
+use super::{ThreadsError, reason_of_ending};
 use crate::dispatcher::dispatch_with_worker;
 use lsm_msg::NodeIndex;
 use lsm_nodes::{Hub, PARTS, Start, Tally, Witness};
@@ -20,7 +21,8 @@ pub(super) fn merge<
     R: Threads + Wait + Sync,
 >(rt: &R, alloc: Global, hub: &Hub<V, J, N>, tally: Tally<J>) -> Result<Tally<J>, ThreadsError>
     requires { tally.parts ≡ PARTS }
-    ensures { IfOk result (λ t. t.parts ≡ PARTS) }
+    ensures parts { IfOk result (λ t. t.parts ≡ PARTS) }
+    ensures settled { IfOk result (λ t. (t.picked ≡ 2) × (t.installed ≡ 2)) }
 {
     let mut tally = tally;
     let Some((one, two)) = workers() else {
@@ -32,30 +34,25 @@ pub(super) fn merge<
     let first = tally.split();
     let second = tally.split();
     let (first, second) = both(rt, alloc, hub, (one, first), (two, second));
-    let Some(tally) = merged(tally, first) else {
-        return Err(ThreadsError::OutOfMemory);
-    };
-    match merged(tally, second) {
-        Some(tally) => Ok(tally),
-        None => Err(ThreadsError::OutOfMemory),
-    }
+    let tally = merged(tally, first?)?;
+    merged(tally, second?)
 }
 
 fn workers() -> Option<(NodeIndex, NodeIndex)> {
     Some((NodeIndex::new(1)?, NodeIndex::new(2)?))
 }
 
-// The tally with that of a dispatcher merged into it. None if there is no other one, or no memory.
-fn merged<J: Start>(tally: Tally<J>, other: Option<Tally<J>>) -> Option<Tally<J>>
+// The tally with that of a dispatcher merged into it.
+fn merged<J: Start>(tally: Tally<J>, other: Tally<J>) -> Result<Tally<J>, ThreadsError>
     requires tally { (tally.parts ≤ PARTS) × (tally.picked ≤ 1) }
-    requires other { IfSome other (λ t. (t.parts ≡ 1) × (t.picked ≤ 1)) }
-    ensures { IfSome result (λ t. (t.parts ≡ tally.parts + 1) × (t.picked ≤ tally.picked + 1)) }
+    requires other { IsOneInstall other }
+    ensures parts { IfOk result (λ t. t.parts ≡ tally.parts + 1) }
+    ensures settled { IfOk result (λ t. (t.picked ≡ tally.picked + 1) × (t.installed ≡ tally.installed + 1)) }
 {
     let mut tally = tally;
-    let other = other?;
     match tally.merge(other) {
-        Ok(()) => Some(tally),
-        Err(_) => None,
+        Ok(()) => Ok(tally),
+        Err(_) => Err(ThreadsError::OutOfMemory),
     }
 }
 
@@ -70,40 +67,56 @@ fn both<
     hub: &Hub<V, J, N>,
     first: (NodeIndex, Tally<J>),
     second: (NodeIndex, Tally<J>),
-) -> (Option<Tally<J>>, Option<Tally<J>>)
+) -> (
+    Result<Tally<J>, ThreadsError>,
+    Result<Tally<J>, ThreadsError>,
+)
     requires first { (first.1.parts ≡ 1) × (first.1.picked ≡ 0) }
     requires second { (second.1.parts ≡ 1) × (second.1.picked ≡ 0) }
-    ensures first { IfSome result.0 (λ t. (t.parts ≡ 1) × (t.picked ≤ 1)) }
-    ensures second { IfSome result.1 (λ t. (t.parts ≡ 1) × (t.picked ≤ 1)) }
+    ensures first { IfOk result.0 IsOneInstall }
+    ensures second { IfOk result.1 IsOneInstall }
 {
     let (one, first) = first;
     let (two, second) = second;
     join(
         rt,
-        move || -> Option<Tally<J>>
+        move || -> Result<Tally<J>, ThreadsError>
             requires { (first.parts ≡ 1) × (first.picked ≡ 0) }
-            ensures { IfSome result (λ t. (t.parts ≡ 1) × (t.picked ≤ 1)) }
+            ensures { IfOk result IsOneInstall }
         { one_round(rt, alloc, hub, one, first) },
-        move || -> Option<Tally<J>>
+        move || -> Result<Tally<J>, ThreadsError>
             requires { (second.parts ≡ 1) × (second.picked ≡ 0) }
-            ensures { IfSome result (λ t. (t.parts ≡ 1) × (t.picked ≤ 1)) }
+            ensures { IfOk result IsOneInstall }
         { one_round(rt, alloc, hub, two, second) },
     )
 }
 
-// A dispatcher of one round. None if there is no memory for the channels of its worker.
+// A dispatcher of one round, which has a compaction to make. Refuses if it was not installed.
 fn one_round<
     V: Vault + Send,
     J: Start + Send + Sync,
     N: Witness + Drop + Send,
     R: Threads + Wait + Sync,
->(rt: &R, alloc: Global, hub: &Hub<V, J, N>, index: NodeIndex, tally: Tally<J>) -> Option<Tally<J>>
+>(
+    rt: &R,
+    alloc: Global,
+    hub: &Hub<V, J, N>,
+    index: NodeIndex,
+    tally: Tally<J>,
+) -> Result<Tally<J>, ThreadsError>
     requires { (tally.parts ≡ 1) × (tally.picked ≡ 0) }
-    ensures { IfSome result (λ t. (t.parts ≡ 1) × (t.picked ≤ 1)) }
+    ensures { IfOk result IsOneInstall }
 {
     let is_over = AtomicBool::new(false);
-    match dispatch_with_worker(rt, alloc, hub, index, 1, &is_over, tally) {
-        Ok(tally) => Some(tally),
-        Err(_) => None,
+    let Ok((tally, lost)) = dispatch_with_worker(rt, alloc, hub, index, 1, &is_over, tally) else {
+        return Err(ThreadsError::OutOfMemory);
+    };
+    if tally.picked() == 1 && tally.installed() == 1 {
+        return Ok(tally);
+    }
+    match lost {
+        // There is one that is due for each, so a pick or an install found no memory.
+        None => Err(ThreadsError::OutOfMemory),
+        Some(ending) => Err(reason_of_ending(ending)),
     }
 }

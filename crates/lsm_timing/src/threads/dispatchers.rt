@@ -68,7 +68,7 @@ fn dispatch_until_over<
             course.flag(),
             tally,
         ) {
-            Ok(tally) => tally,
+            Ok((tally, _lost)) => tally,
             Err(tally) => {
                 course.miss();
                 tally

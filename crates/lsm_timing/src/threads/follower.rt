@@ -60,7 +60,7 @@ fn follow_until_over<
         }
         let (follower, publisher) = followed;
         followed = match come_to(rt, alloc, hub, follower, publisher, goal) {
-            Ok(followed) => followed,
+            Ok((follower, publisher, _ending)) => (follower, publisher),
             Err(followed) => {
                 course.miss();
                 followed

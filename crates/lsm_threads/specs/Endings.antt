@@ -1,0 +1,23 @@
+-- How loops end (the store's own).
+use Rattle.std.specs.Prelude.{ℕ, ◌<◌, ◌≤◌}
+use Rattle.lsm_threads.specs.declared.ending.Ending.{Ending}
+use Rattle.lsm_threads.specs.declared.ending.Ending.TheVariants.{AtGoal, Current, Dropped, Closed, OutOfMemory}
+
+-- what came, or was to be sent, or want of memory ends it
+abbrev pub IsOfMail : Ending → Type 0
+IsOfMail AtGoal = ⊥
+IsOfMail Current = ⊥
+IsOfMail Dropped = ⊥
+IsOfMail ending = Unit {0}
+
+-- why two loops ended, of which each closes the other's channels
+abbrev pub cause_of : Ending → Ending → Ending
+cause_of Closed other = other
+cause_of mine other = mine
+
+-- a follower's loop ends at its goal exactly if its version has reached it, unless memory runs out
+abbrev pub EndsAt : ℕ → ℕ → Ending → Type 0
+EndsAt goal number AtGoal = goal ≤ number
+EndsAt goal number Dropped = ⊥
+EndsAt goal number OutOfMemory = Unit {0}
+EndsAt goal number ending = number < goal
