@@ -4,7 +4,7 @@ use crate::batches::{BATCH, batch_count};
 use crate::bench::Bench;
 use crate::error::TimingError;
 use crate::figure::Figure;
-use crate::fill::{Store, shape_of};
+use crate::fill::{MemoryCoord, new_store, settle, shape_of, write};
 use crate::keys::{or_one, random_below};
 use crate::reads::time_whole;
 use bytes::Bytes;
@@ -19,25 +19,27 @@ const DELETION_EVERY: u64 = 8;
 
 /// Times operations on a quarter as many random keys, one in eight a deletion, and then a scan of what is left.
 pub(crate) fn time_churn(bench: Bench, operations: u64) -> Result<(), TimingError> {
-    let mut store = time_operations(bench, operations)?;
-    time_whole(bench, &mut store.coord, "churn_scan")
+    let coord = time_operations(bench, operations)?;
+    time_whole(bench, &coord, "churn_scan")
 }
 
-fn time_operations(bench: Bench, operations: u64) -> Result<Store, TimingError> {
+fn time_operations(bench: Bench, operations: u64) -> Result<MemoryCoord, TimingError> {
     let figure = Figure::begin(bench, "churn")?;
-    let store = churned(bench, operations)?;
-    figure.end(bench, operations, shape_of(&store))?;
-    Ok(store)
+    let mut coord = churned(bench, operations)?;
+    let checksum = shape_of(bench, &mut coord)?;
+    figure.end(bench, operations, checksum)?;
+    Ok(coord)
 }
 
 // A store after the operations, with no level due.
-fn churned(bench: Bench, operations: u64) -> Result<Store, TimingError> {
-    let mut store = Store::new(bench)?;
+fn churned(bench: Bench, operations: u64) -> Result<MemoryCoord, TimingError> {
+    let mut coord = new_store(bench)?;
     for number in 0..batch_count(operations, BATCH) {
-        store.write(&batch_of_churn(bench, number, operations)?)?;
+        let batch = batch_of_churn(bench, number, operations)?;
+        write(bench, &mut coord, &batch)?;
     }
-    store.settle()?;
-    Ok(store)
+    settle(bench, &mut coord)?;
+    Ok(coord)
 }
 
 // One of the batches, by its number from 0.

@@ -4,69 +4,60 @@ use crate::batches::BATCH;
 use crate::bench::Bench;
 use crate::error::{NO_FOLDER, TimingError, USED_FOLDER};
 use crate::figure::Figure;
-use crate::front::{shape_of, store_over, time_filling};
-use crate::keys::random_below;
-use crate::reads::with_value;
+use crate::fill::{DEFAULT, fill, opened, with_files};
+use crate::reads::get_present;
+use lsm_coord::Coord;
 use lsm_file_vault::{FileVault, HostFolder, open};
-use lsm_store::Store;
 use std::fs;
 
 /// The folder, in the one in which the program runs. It stays there.
 const FOLDER: &str = "lsm_timing.store";
 
 /// A store in a folder.
-type FolderStore = Store<FileVault<HostFolder<HostRuntime>>>;
+type FolderCoord = Coord<FileVault<HostFolder<HostRuntime>>>;
 
 /// Times the filling of a store in a new folder, its opening, and gets of random keys that are there.
 pub(crate) fn time_durable(bench: Bench, entries: u64, reads: u64) -> Result<(), TimingError> {
     if fs::exists(&bench.rt, FOLDER)? {
         return Err(USED_FOLDER);
     }
-    let mut store = opened(bench)?;
-    time_filling(bench, &mut store, "durable_fill", entries, BATCH)?;
-    // Its lock is let go, so that the folder can be opened again.
-    drop(store);
-    let mut store = time_opening(bench, entries)?;
-    time_gets(bench, &mut store, entries, reads)
+    // The folder's lock is let go at its end, so that it can be opened again.
+    time_filling(bench, entries)?;
+    let mut coord = time_opening(bench, entries)?;
+    time_gets(bench, &mut coord, entries, reads)
 }
 
-fn time_opening(bench: Bench, entries: u64) -> Result<FolderStore, TimingError> {
+fn time_filling(bench: Bench, entries: u64) -> Result<(), TimingError> {
+    let mut coord = store_in_folder(bench)?;
+    let figure = Figure::begin(bench, "durable_fill")?;
+    fill(bench, &mut coord, entries, BATCH)?;
+    figure.end(bench, entries, with_files(0, &coord))?;
+    Ok(())
+}
+
+fn time_opening(bench: Bench, entries: u64) -> Result<FolderCoord, TimingError> {
     let figure = Figure::begin(bench, "durable_open")?;
-    let store = opened(bench)?;
-    figure.end(bench, entries, shape_of(&store))?;
-    Ok(store)
+    let coord = store_in_folder(bench)?;
+    figure.end(bench, entries, with_files(0, &coord))?;
+    Ok(coord)
 }
 
 fn time_gets(
     bench: Bench,
-    store: &mut FolderStore,
+    coord: &mut FolderCoord,
     entries: u64,
     reads: u64,
 ) -> Result<(), TimingError> {
     let figure = Figure::begin(bench, "durable_get")?;
-    let checksum = get_present(bench, store, entries, reads)?;
+    let checksum = get_present(bench, coord, entries, reads)?;
     figure.end(bench, reads, checksum)?;
     Ok(())
 }
 
-// Opens the folder, and makes it if there is none.
-fn opened(bench: Bench) -> Result<FolderStore, TimingError> {
-    let Ok(found) = open(&bench.rt, FOLDER) else {
-        return Err(NO_FOLDER);
-    };
-    store_over(bench, found.vault)
-}
-
-fn get_present(
-    bench: Bench,
-    store: &mut FolderStore,
-    entries: u64,
-    reads: u64,
-) -> Result<u64, TimingError> {
-    let mut checksum = 0;
-    for read in 0..reads {
-        let key = bench.shape.key(random_below(entries, read));
-        checksum = with_value(checksum, store.get(key.as_slice(), None)?);
+// The store in the folder, which is made if there is none.
+fn store_in_folder(bench: Bench) -> Result<FolderCoord, TimingError> {
+    match open(&bench.rt, FOLDER) {
+        Ok(found) => opened(bench, found.vault, DEFAULT),
+        Err(_) => Err(NO_FOLDER),
     }
-    Ok(checksum)
 }

@@ -2,248 +2,109 @@
 
 use crate::batches::{batch_count, batch_number};
 use crate::bench::Bench;
-use crate::error::{GONE, STALE, TimingError};
+use crate::error::{NO_EDITS, NO_STORE, TimingError};
 use crate::figure::{Figure, with_number};
 use crate::keys::or_one;
-use crate::watch::Watch;
-use bytes::Bytes;
-use lsm_claim::Claim;
-use lsm_coord::{Coord, CoordError, Install};
-use lsm_key::{
-    Batch, DEFAULT_BASE, DEFAULT_BLOCK, DEFAULT_L0, FileNumber, Items, Limits, NUM_LEVELS,
-    VersionNumber,
-};
-use lsm_msg::{Body, Job, JobResult, Message, Node, NodeIndex};
-use lsm_store::result_of;
-use lsm_table::Table;
-use lsm_vault::MemoryVault;
-use std::alloc::Global;
-use std::io;
+use lsm_coord::{Coord, CoordError};
+use lsm_edit::FileMeta;
+use lsm_key::{Batch, DEFAULT_BASE, DEFAULT_BLOCK, DEFAULT_L0, Limits, MAX_LEVEL, NUM_LEVELS};
+use lsm_store::{compact_once, stats_of};
+use lsm_vault::{MemoryVault, Vault};
+use lsm_versions::edit_of;
 
 /// The number of levels.
 const LEVELS: usize = NUM_LEVELS as usize;
 
-/// A store, and how many bytes of tables it wrote to each level.
-#[derive(Drop)]
-pub(crate) struct Store {
-    pub(crate) coord: Coord<MemoryVault>,
-    pub(crate) bench: Bench,
-    pub(crate) watch: Watch,
-    written: [u64; LEVELS],
+/// The limits of each store.
+pub(crate) const DEFAULT: Limits = Limits {
+    l0: DEFAULT_L0,
+    base: DEFAULT_BASE,
+    block: DEFAULT_BLOCK,
+};
+
+/// A store in memory.
+pub(crate) type MemoryCoord = Coord<MemoryVault>;
+
+/// A new store in memory, with the default limits.
+pub(crate) fn new_store(bench: Bench) -> Result<MemoryCoord, TimingError> {
+    opened(bench, MemoryVault::new(bench.alloc()), DEFAULT)
 }
 
-impl Store {
-    /// A new store, with the default limits.
-    pub(crate) fn new(bench: Bench) -> Result<Store, TimingError> {
-        let limits = Limits {
-            l0: DEFAULT_L0,
-            base: DEFAULT_BASE,
-            block: DEFAULT_BLOCK,
-        };
-        let coord = opened(bench.alloc(), limits)?;
-        Ok(Store {
-            coord,
-            bench,
-            watch: Watch::OFF,
-            written: [0; LEVELS],
-        })
-    }
-
-    /// Writes a batch. If the memtable is full it is flushed first, and all due levels are compacted.
-    pub(crate) fn write(&mut self, batch: &Batch) -> Result<(), TimingError> {
-        match self.accept(batch) {
-            Ok(()) => return Ok(()),
-            Err(CoordError::MemtableFull) => {}
-            Err(why) => return Err(TimingError::from(why)),
-        }
-        self.settle()?;
-        self.accept(batch)?;
-        Ok(())
-    }
-
-    fn accept(&mut self, batch: &Batch) -> Result<(), CoordError> {
-        let start = self.watch.now(self.bench);
-        let done = self.coord.write(batch);
-        self.watch.end(self.bench, start);
-        done?;
-        Ok(())
-    }
-
-    /// Flushes, and compacts until no level needs it.
-    pub(crate) fn settle(&mut self) -> Result<(), TimingError> {
-        self.flush()?;
-        for _merge in 0..u64::MAX {
-            if !self.merge_next()? {
-                return Ok(());
-            }
-        }
-        Ok(())
-    }
-
-    /// Freezes and flushes the memtable, and returns the number of its file.
-    pub(crate) fn flush(&mut self) -> Result<u64, TimingError> {
-        self.freeze()?;
-        let file = self.flush_frozen()?;
-        if let Some(file) = self.coord.show().files.last() {
-            let bytes = file.bytes as u64;
-            self.count(0, bytes);
-        }
-        Ok(file.number())
-    }
-
-    fn freeze(&mut self) -> Result<(), CoordError> {
-        let start = self.watch.now(self.bench);
-        let done = self.coord.freeze();
-        self.watch.end(self.bench, start);
-        done?;
-        Ok(())
-    }
-
-    fn flush_frozen(&mut self) -> Result<FileNumber, CoordError> {
-        let start = self.watch.now(self.bench);
-        let done = self.coord.flush();
-        self.watch.end_flush(self.bench, start);
-        Ok(done?.file)
-    }
-
-    // Counts bytes that were written to a level.
-    fn count(&mut self, level: usize, bytes: u64) {
-        if let Some(total) = self.written.get_mut(level) {
-            *total = total.wrapping_add(bytes);
-        }
-    }
-
-    /// How many bytes of tables it wrote.
-    pub(crate) fn written(&self) -> u64 {
-        let mut total = 0u64;
-        for bytes in &self.written {
-            total = total.wrapping_add(*bytes);
-        }
-        total
-    }
-
-    // Runs the next compaction, and returns whether there was one.
-    fn merge_next(&mut self) -> Result<bool, TimingError> {
-        let Some((claim, job)) = self.pick()? else {
-            return Ok(false);
-        };
-        let made = self.result_of(&job);
-        self.spend(claim, made)
-    }
-
-    fn pick(&mut self) -> Result<Option<(Claim, Job)>, CoordError> {
-        let start = self.watch.now(self.bench);
-        let picked = self.coord.pick();
-        self.watch.end(self.bench, start);
-        picked
-    }
-
-    // The result of a job.
-    fn result_of(&self, job: &Job) -> Result<JobResult, TimingError> {
-        result_of(self.bench.alloc(), &self.coord, job)?.ok_or(GONE)
-    }
-
-    /// A file's table, which shares what the store serves.
-    pub(crate) fn table(&self, file: u64) -> Result<Table, TimingError> {
-        match self.coord.served().table(file) {
-            None => Err(GONE),
-            Some(table) => Ok(table.copy()?),
-        }
-    }
-
-    // Installs what was made, or gives the claim back.
-    fn spend(
-        &mut self,
-        claim: Claim,
-        made: Result<JobResult, TimingError>,
-    ) -> Result<bool, TimingError> {
-        match made {
-            Ok(made) => self.install(claim, &made),
-            Err(why) => {
-                self.coord.give_back(claim);
-                Err(why)
-            }
-        }
-    }
-
-    // Installs a result, and settles its claim.
-    fn install(&mut self, claim: Claim, made: &JobResult) -> Result<bool, TimingError> {
-        let level = (claim.level() as usize).saturating_add(1);
-        let start = self.watch.now(self.bench);
-        let installed = self.coord.install(claim, made);
-        self.watch.end(self.bench, start);
-        match installed {
-            Install::Done(number, _) => {
-                self.count(level, bytes_of(made.tables.as_slice()));
-                self.trim(number)?;
-                Ok(true)
-            }
-            Install::Stale(_, _) => Err(STALE),
-            Install::Kept(claim, why) => {
-                self.coord.give_back(claim);
-                Err(TimingError::from(CoordError::from(why)))
-            }
-        }
-    }
-
-    // Lets the tables of earlier versions go, which nobody reads.
-    fn trim(&mut self, to: VersionNumber) -> Result<(), TimingError> {
-        let start = self.watch.now(self.bench);
-        let trimmed = self.coord.trim(to);
-        self.watch.end(self.bench, start);
-        trimmed?;
-        Ok(())
-    }
-
-    /// The bytes of a file's table, as a worker fetches them.
-    pub(crate) fn fetch(&self, file: u64) -> Result<Bytes, TimingError> {
-        match NodeIndex::new(1) {
-            None => Err(GONE),
-            Some(worker) => self.answer(&Message {
-                src: Node::Worker(worker),
-                dst: Node::Coordinator,
-                body: Body::Fetch(FileNumber::new(file)),
-            }),
-        }
-    }
-
-    fn answer(&self, message: &Message) -> Result<Bytes, TimingError> {
-        match self.coord.serve(message)? {
-            None => Err(GONE),
-            Some(answer) => served(answer.body),
-        }
+/// The store that a vault has.
+pub(crate) fn opened<V: Vault + Drop>(
+    bench: Bench,
+    vault: V,
+    limits: Limits,
+) -> Result<Coord<V>, TimingError> {
+    match Coord::open(bench.alloc(), vault, limits) {
+        Ok(coord) => Ok(coord),
+        Err(_) => Err(NO_STORE),
     }
 }
 
-// The bytes in an answer to a fetch.
-fn served(answer: Body) -> Result<Bytes, TimingError> {
-    match answer {
-        Body::Table(_, bytes) => Ok(bytes),
-        _ => Err(GONE),
+/// Writes a batch. If the memtable is full it is flushed first, and all due levels are compacted.
+pub(crate) fn write<V: Vault>(
+    bench: Bench,
+    coord: &mut Coord<V>,
+    batch: &Batch,
+) -> Result<(), TimingError> {
+    if accept(coord, batch)? {
+        return Ok(());
+    }
+    settle(bench, coord)?;
+    coord.write(batch)?;
+    Ok(())
+}
+
+// Writes a batch if the memtable has room for it.
+fn accept<V: Vault>(coord: &mut Coord<V>, batch: &Batch) -> Result<bool, CoordError> {
+    match coord.write(batch) {
+        Ok(_) => Ok(true),
+        Err(CoordError::MemtableFull) => Ok(false),
+        Err(why) => Err(why),
     }
 }
 
-// How many bytes tables have.
-fn bytes_of(tables: &[Bytes]) -> u64 {
-    let mut total = 0u64;
-    for table in tables {
-        total = total.wrapping_add(table.len() as u64);
+/// Flushes, and compacts until no level needs it.
+pub(crate) fn settle<V: Vault>(bench: Bench, coord: &mut Coord<V>) -> Result<(), CoordError> {
+    coord.flush()?;
+    for _merge in 0..u64::MAX {
+        if !merge_next(bench, coord)? {
+            break;
+        }
     }
-    total
+    Ok(())
 }
 
-/// A store of `entries` entries, put in random order in batches, with no level due.
-pub(crate) fn filled(bench: Bench, entries: u64, batch: u64) -> Result<Store, TimingError> {
-    let mut store = Store::new(bench)?;
-    fill(&mut store, entries, batch)?;
-    Ok(store)
+// Runs the next compaction, lets the tables go that it replaced, and returns whether there was one.
+fn merge_next<V: Vault>(bench: Bench, coord: &mut Coord<V>) -> Result<bool, CoordError> {
+    let Some((number, _files)) = compact_once(bench.alloc(), coord)? else {
+        return Ok(false);
+    };
+    coord.trim(number)?;
+    Ok(true)
 }
 
-fn fill(store: &mut Store, entries: u64, batch: u64) -> Result<(), TimingError> {
+/// A store of `entries` entries in memory, put in random order in batches, with no level due.
+pub(crate) fn filled(bench: Bench, entries: u64, batch: u64) -> Result<MemoryCoord, TimingError> {
+    let mut coord = new_store(bench)?;
+    fill(bench, &mut coord, entries, batch)?;
+    Ok(coord)
+}
+
+/// Puts entries in random order in batches, until no level is due.
+pub(crate) fn fill<V: Vault>(
+    bench: Bench,
+    coord: &mut Coord<V>,
+    entries: u64,
+    batch: u64,
+) -> Result<(), TimingError> {
     for number in 0..batch_count(entries, batch) {
-        store.write(&batch_number(store.bench, number, entries, batch)?)?;
+        let puts = batch_number(bench, number, entries, batch)?;
+        write(bench, coord, &puts)?;
     }
-    store.settle()
+    settle(bench, coord)?;
+    Ok(())
 }
 
 // Makes the same batches, and drops them: the part of a fill that is not the store's.
@@ -260,8 +121,8 @@ fn made(bench: Bench, entries: u64, batch: u64) -> Result<u64, TimingError> {
 /// levels.
 pub(crate) fn time_fill(bench: Bench, entries: u64, batch: u64) -> Result<(), TimingError> {
     time_making(bench, entries, batch)?;
-    let store = time_filling(bench, entries, batch)?;
-    tell_sizes(bench, entries, &store)
+    let mut coord = time_filling(bench, entries, batch)?;
+    tell_sizes(bench, entries, &mut coord)
 }
 
 fn time_making(bench: Bench, entries: u64, batch: u64) -> Result<(), TimingError> {
@@ -271,53 +132,79 @@ fn time_making(bench: Bench, entries: u64, batch: u64) -> Result<(), TimingError
     Ok(())
 }
 
-fn time_filling(bench: Bench, entries: u64, batch: u64) -> Result<Store, TimingError> {
+fn time_filling(bench: Bench, entries: u64, batch: u64) -> Result<MemoryCoord, TimingError> {
     let figure = Figure::begin(bench, "fill")?;
-    let store = filled(bench, entries, batch)?;
-    figure.end(bench, entries, shape_of(&store))?;
-    Ok(store)
+    let mut coord = filled(bench, entries, batch)?;
+    let checksum = shape_of(bench, &mut coord)?;
+    figure.end(bench, entries, checksum)?;
+    Ok(coord)
 }
 
-fn tell_sizes(bench: Bench, entries: u64, store: &Store) -> Result<(), TimingError> {
+fn tell_sizes(bench: Bench, entries: u64, coord: &mut MemoryCoord) -> Result<(), TimingError> {
+    let written = written_by(bench, coord)?;
     let put = entries.wrapping_mul(bench.shape.entry_bytes());
-    let percent = store.written().wrapping_mul(100) / or_one(put);
+    let percent = sum_of(&written).wrapping_mul(100) / or_one(put);
     eprintln!(bench.rt; "write_amplification_percent {entries} {percent}")?;
-    for (level, written) in store.written.iter().enumerate() {
-        eprintln!(bench.rt; "bytes_written_to_level_{level} {entries} {written}")?;
-        tell_bytes_in(bench, entries, level, bytes_in(&store.coord, level))?;
+    for level in 0..=MAX_LEVEL {
+        let bytes = written.get(level as usize).copied().unwrap_or(0);
+        eprintln!(bench.rt; "bytes_written_to_level_{level} {entries} {bytes}")?;
+        let left = stats_of(coord.show().files, level).bytes;
+        eprintln!(bench.rt; "bytes_in_level_{level} {entries} {left}")?;
     }
     Ok(())
 }
 
-fn tell_bytes_in(bench: Bench, entries: u64, level: usize, bytes: u64) -> io::Result<()> {
-    eprintln!(bench.rt; "bytes_in_level_{level} {entries} {bytes}")
-}
-
-// A new store, over a vault in memory.
-fn opened(alloc: Global, limits: Limits) -> Result<Coord<MemoryVault>, TimingError> {
-    match Coord::open(alloc, MemoryVault::new(alloc), limits) {
-        Ok(coord) => Ok(coord),
-        Err((why, _vault)) => Err(TimingError::from(why)),
-    }
-}
-
-// How many bytes the files of a level have.
-fn bytes_in(coord: &Coord<MemoryVault>, level: usize) -> u64 {
-    let mut bytes = 0u64;
-    for file in coord.show().files {
-        if file.level as usize == level {
-            bytes = bytes.wrapping_add(file.bytes as u64);
+// How many bytes of tables were written to each level, by the edits of the manifest.
+fn written_by<V: Vault>(bench: Bench, coord: &mut Coord<V>) -> Result<[u64; LEVELS], TimingError> {
+    let Ok(edits) = coord.edits() else {
+        return Err(NO_EDITS);
+    };
+    let mut written = [0; LEVELS];
+    for text in edits {
+        if let Some(edit) = edit_of(bench.alloc(), &text)? {
+            count(&mut written, edit.added.as_slice());
         }
     }
-    bytes
+    Ok(written)
 }
 
-/// A checksum of the files that a store has.
-pub(crate) fn shape_of(store: &Store) -> u64 {
-    let mut checksum = store.written();
-    for file in store.coord.show().files {
-        checksum = with_number(checksum, file.number);
-        checksum = with_number(checksum, file.bytes as u64);
+// Counts the bytes of files by their levels.
+fn count(written: &mut [u64; LEVELS], files: &[FileMeta]) {
+    for file in files {
+        if let Some(total) = written.get_mut(file.level as usize) {
+            *total = total.wrapping_add(file.bytes as u64);
+        }
     }
-    checksum
+}
+
+fn sum_of(written: &[u64; LEVELS]) -> u64 {
+    let mut total = 0u64;
+    for bytes in written {
+        total = total.wrapping_add(*bytes);
+    }
+    total
+}
+
+/// How many bytes of tables a store wrote.
+pub(crate) fn bytes_written<V: Vault>(
+    bench: Bench,
+    coord: &mut Coord<V>,
+) -> Result<u64, TimingError> {
+    Ok(sum_of(&written_by(bench, coord)?))
+}
+
+/// A checksum of what a store wrote and of the files that it has.
+pub(crate) fn shape_of<V: Vault>(bench: Bench, coord: &mut Coord<V>) -> Result<u64, TimingError> {
+    let written = bytes_written(bench, coord)?;
+    Ok(with_files(written, coord))
+}
+
+/// A checksum with the files of a store in it.
+pub(crate) fn with_files<V: Vault>(checksum: u64, coord: &Coord<V>) -> u64 {
+    let mut sum = checksum;
+    for file in coord.show().files {
+        sum = with_number(sum, file.number);
+        sum = with_number(sum, file.bytes as u64);
+    }
+    sum
 }

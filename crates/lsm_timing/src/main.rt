@@ -11,8 +11,6 @@ mod error;
 mod figure;
 mod fill;
 mod forms;
-mod front;
-mod globals;
 mod keys;
 mod memory;
 mod merges;
@@ -23,18 +21,18 @@ mod reads;
 mod script;
 mod tables;
 mod threads;
-mod watch;
 
 use bench::Bench;
-use error::{OUT_OF_MEMORY, STREAM, TimingError};
+use error::{OUT_OF_MEMORY, TimingError};
+use forms::Task;
 use keys::{KeyShape, Shape};
-use options::{Task, request_of};
+use options::{Refusal, Request, print_help, request_of};
 use std::io::ErrorKind;
 use std::process::ExitCode;
 use std::sync::Wait;
 use std::thread::Threads;
 use std::{env, io};
-use threads::Crew;
+use threads::time_threads;
 
 /// The exit status if the arguments are refused.
 const REFUSED: u8 = 2;
@@ -49,16 +47,15 @@ fn fail(rt: &HostRuntime, error: TimingError) -> ExitCode {
 }
 
 /// Reports what is wrong with the arguments on standard error, or prints the help that they ask for on standard output.
-fn answer(rt: &HostRuntime, error: clap::Error) -> ExitCode {
-    if error.kind() == clap::error::ErrorKind::OutOfMemory {
-        return fail(rt, OUT_OF_MEMORY);
+fn answer(rt: &HostRuntime, refusal: Refusal<'_>) -> ExitCode {
+    if let Refusal::Help = refusal {
+        return match print_help(rt) {
+            Ok(()) => ExitCode::SUCCESS,
+            Err(error) => fail(rt, TimingError::from(error)),
+        };
     }
-    let is_refused = error.use_stderr();
-    match error.print(rt) {
-        _ if is_refused => ExitCode::from(REFUSED),
-        Ok(()) => ExitCode::SUCCESS,
-        Err(_) => fail(rt, STREAM),
-    }
+    let _ = eprintln!(rt; "error: {refusal}");
+    ExitCode::from(REFUSED)
 }
 
 /// The words after the program's name.
@@ -68,30 +65,38 @@ fn words_of(rt: &HostRuntime) -> io::Result<Vec<String>> {
     Ok(words.collect(rt.alloc())?)
 }
 
-fn run<R: Threads + Wait + Sync>(rt: &R, bench: Bench, task: Task) -> Result<(), TimingError> {
-    match task {
-        Task::Fill { entries, batch } => fill::time_fill(bench, entries, batch),
-        Task::Get { entries, reads } => reads::time_gets(bench, entries, reads),
-        Task::Scan { entries, scans } => reads::time_scans(bench, entries, scans),
-        Task::StoreFill { entries, batch } => front::time_store_fill(bench, entries, batch),
-        Task::Durable { entries, reads } => durable::time_durable(bench, entries, reads),
-        Task::Churn { operations } => churn::time_churn(bench, operations),
-        Task::Pauses { entries, batch } => pauses::time_pauses(bench, entries, batch),
-        Task::MemoryFill { entries } => memory::tell_filled(bench, entries),
-        Task::MemoryMemtable { entries } => memory::tell_memtable(bench, entries),
-        Task::MemoryTables { entries } => memory::tell_tables(bench, entries),
-        Task::Merge { megabytes } => merges::time_merge(bench, megabytes),
-        Task::Flush { entries } => tables::time_flush(bench, entries),
-        Task::Open { megabytes } => tables::time_open(bench, megabytes),
-        Task::Pick { files } => picks::time_picks(bench, files),
-        Task::Script { lines } => script::print_script(&bench.rt, lines),
-        Task::Threads(crew) => threads::time_threads(rt, bench, crew),
-        Task::Reads {
-            entries,
-            reads,
-            readers,
-        } => threads::time_still_reads(rt, bench, entries, reads, readers),
+fn run<R: Threads + Wait + Sync>(
+    rt: &R,
+    bench: Bench,
+    request: Request,
+) -> Result<(), TimingError> {
+    let (first, second) = (request.first, request.second);
+    match request.task {
         Task::All => run_all(rt, bench),
+        Task::Threads => time_threads(rt, bench, first, second, true),
+        Task::ThreadsAlone => time_threads(rt, bench, first, second, false),
+        Task::Fill => fill::time_fill(bench, first, second),
+        Task::Get => reads::time_gets(bench, first, second),
+        Task::Scan => reads::time_scans(bench, first, second),
+        Task::Durable => durable::time_durable(bench, first, second),
+        Task::Churn => churn::time_churn(bench, first),
+        Task::Pauses => pauses::time_pauses(bench, first, second),
+        other => run_small(bench, other, first),
+    }
+}
+
+// The figures of tables and of single calls, and the script.
+fn run_small(bench: Bench, task: Task, number: u64) -> Result<(), TimingError> {
+    match task {
+        Task::MemoryFill => memory::tell_filled(bench, number),
+        Task::MemoryMemtable => memory::tell_memtable(bench, number),
+        Task::MemoryTables => memory::tell_tables(bench, number),
+        Task::Merge => merges::time_merge(bench, number),
+        Task::Flush => tables::time_flush(bench, number),
+        Task::Open => tables::time_open(bench, number),
+        Task::Pick => picks::time_picks(bench, number),
+        Task::Script => script::print_script(&bench.rt, number),
+        _ => Ok(()),
     }
 }
 
@@ -108,15 +113,15 @@ const OTHER: Shape = Shape {
 fn run_all<R: Threads + Wait + Sync>(rt: &R, bench: Bench) -> Result<(), TimingError> {
     fill::time_fill(bench, MERGED, 1_000)?;
     reads::time_gets(bench, MERGED, 2_000)?;
-    reads::time_scans(bench, MERGED, None)?;
-    reads::time_scans(bench, 2_000, Some(50))?;
+    reads::time_scans(bench, MERGED, 0)?;
+    reads::time_scans(bench, 2_000, 50)?;
     merges::time_merge(bench, 1)?;
     tables::time_flush(bench, 1_000)?;
     tables::time_open(bench, 1)?;
     picks::time_picks(bench, 5)?;
     script::print_script(&bench.rt, 12)?;
     run_more(bench)?;
-    run_threads(rt, bench)
+    time_threads(rt, bench, 1, 1, true)
 }
 
 fn run_more(bench: Bench) -> Result<(), TimingError> {
@@ -132,19 +137,6 @@ fn run_more(bench: Bench) -> Result<(), TimingError> {
     reads::time_gets(other, 20_000, 500)
 }
 
-fn run_threads<R: Threads + Wait + Sync>(rt: &R, bench: Bench) -> Result<(), TimingError> {
-    threads::time_still_reads(rt, bench, 2_000, 500, 3)?;
-    threads::time_threads(
-        rt,
-        bench,
-        Crew {
-            seconds: 1,
-            readers: 1,
-            has_workers: true,
-        },
-    )
-}
-
 fn main(rt: HostRuntime) -> ExitCode {
     let words = match words_of(&rt) {
         Ok(words) => words,
@@ -156,16 +148,16 @@ fn main(rt: HostRuntime) -> ExitCode {
             return ExitCode::from(REFUSED);
         }
     };
-    let request = match request_of(rt.alloc(), words.as_slice()) {
+    let request = match request_of(words.as_slice()) {
         Ok(request) => request,
-        Err(error) => return answer(&rt, error),
+        Err(refusal) => return answer(&rt, refusal),
     };
     let bench = Bench {
         rt,
         clock: request.clock,
         shape: request.shape,
     };
-    match run(&rt, bench, request.task) {
+    match run(&rt, bench, request) {
         Ok(()) => ExitCode::SUCCESS,
         Err(error) => fail(&rt, error),
     }

@@ -4,9 +4,9 @@ use crate::batches::BATCH;
 use crate::bench::Bench;
 use crate::error::{NO_ACCOUNT, TimingError};
 use crate::figure::tell;
-use crate::fill::{Store, filled, shape_of};
+use crate::fill::{bytes_written, filled, new_store, shape_of};
 use crate::tables::{
-    entries_of, memtable_entries, put_all, sorted_indices, table_entries, unflushed,
+    counts_of, memtable_entries, sorted_indices, table_entries, table_of, unflushed,
 };
 use lsm_table::Table;
 use std::fs;
@@ -22,9 +22,10 @@ const UNIT: u64 = 1_024;
 /// Tells by how much the process grows as a store is filled.
 pub(crate) fn tell_filled(bench: Bench, entries: u64) -> Result<(), TimingError> {
     let before = resident(bench)?;
-    let store = filled(bench, entries, BATCH)?;
+    let mut coord = filled(bench, entries, BATCH)?;
     let growth = growth_since(bench, before)?;
-    tell(bench, "memory_fill", entries, shape_of(&store), growth)?;
+    let checksum = shape_of(bench, &mut coord)?;
+    tell(bench, "memory_fill", entries, checksum, growth)?;
     Ok(())
 }
 
@@ -32,10 +33,11 @@ pub(crate) fn tell_filled(bench: Bench, entries: u64) -> Result<(), TimingError>
 pub(crate) fn tell_memtable(bench: Bench, entries: u64) -> Result<(), TimingError> {
     let entries = entries.min(memtable_entries(bench));
     let before = resident(bench)?;
-    let mut store = unflushed(bench, entries)?;
+    let mut coord = unflushed(bench, entries)?;
     let growth = growth_since(bench, before)?;
-    store.flush()?;
-    tell(bench, "memory_memtable", entries, store.written(), growth)?;
+    coord.flush()?;
+    let checksum = bytes_written(bench, &mut coord)?;
+    tell(bench, "memory_memtable", entries, checksum, growth)?;
     Ok(())
 }
 
@@ -52,13 +54,8 @@ fn tell_tables_of(bench: Bench, indices: &[u64]) -> Result<(), TimingError> {
     let before = resident(bench)?;
     let tables = tables_alone(bench, indices)?;
     let growth = growth_since(bench, before)?;
-    tell(
-        bench,
-        "memory_tables",
-        indices.len() as u64,
-        entries_of(&tables),
-        growth,
-    )?;
+    let count = indices.len() as u64;
+    tell(bench, "memory_tables", count, counts_of(&tables), growth)?;
     Ok(())
 }
 
@@ -66,16 +63,10 @@ fn tell_tables_of(bench: Bench, indices: &[u64]) -> Result<(), TimingError> {
 fn tables_alone(bench: Bench, indices: &[u64]) -> Result<Vec<Table>, TimingError> {
     let mut tables = Vec::new(bench.alloc());
     for chunk in indices.chunks(table_entries(bench)) {
-        tables.push(table_alone(bench, chunk)?)?;
+        let mut coord = new_store(bench)?;
+        tables.push(table_of(bench, &mut coord, chunk)?)?;
     }
     Ok(tables)
-}
-
-fn table_alone(bench: Bench, indices: &[u64]) -> Result<Table, TimingError> {
-    let mut store = Store::new(bench)?;
-    put_all(&mut store, indices)?;
-    let file = store.flush()?;
-    store.table(file)
 }
 
 fn growth_since(bench: Bench, before: u64) -> Result<u128, TimingError> {

@@ -1,11 +1,11 @@
 //! A merge of two levels.
 
 use crate::bench::Bench;
-use crate::error::{NO_JOB, TimingError};
+use crate::error::{NO_JOB, NO_MERGE, TimingError};
 use crate::figure::{Figure, with_bytes};
-use crate::fill::Store;
+use crate::fill::{MemoryCoord, new_store};
 use crate::keys::mix;
-use crate::tables::{entries_in, opened, sorted_indices, tables_of};
+use crate::tables::{entries_in, sorted_indices, tables_of};
 use bytes::Bytes;
 use lsm_claim::JobId;
 use lsm_edit::FileMeta;
@@ -28,7 +28,9 @@ pub(crate) fn time_merge(bench: Bench, megabytes: u64) -> Result<(), TimingError
 
 fn time_job(bench: Bench, tables: &[Table], job: &Job) -> Result<(), TimingError> {
     let figure = Figure::begin(bench, "merge")?;
-    let outputs = merge(bench.alloc(), tables, job)?;
+    let Ok(outputs) = merge(bench.alloc(), tables, job) else {
+        return Err(NO_MERGE);
+    };
     figure.end(bench, entries_of(tables), checksum_of(&outputs))?;
     Ok(())
 }
@@ -36,30 +38,27 @@ fn time_job(bench: Bench, tables: &[Table], job: &Job) -> Result<(), TimingError
 // The tables of the lower level and then those of the upper one, and how many the lower one has.
 fn tables_in(bench: Bench, megabytes: u64) -> Result<(Vec<Table>, usize), TimingError> {
     let keys = entries_in(bench, megabytes).wrapping_mul(8) / 9;
-    let (tables, lower) = spelled_tables(bench, keys)?;
-    Ok((opened(bench.alloc(), &tables)?, lower))
-}
-
-fn spelled_tables(bench: Bench, keys: u64) -> Result<(Vec<Bytes>, usize), TimingError> {
     let indices = sorted_indices(bench.alloc(), keys)?;
-    let mut store = Store::new(bench)?;
-    both_levels(&mut store, &indices)
+    let mut coord = new_store(bench)?;
+    let mut tables = tables_at(bench, &mut coord, &indices, 0)?;
+    let lower = tables.len();
+    let mut upper = tables_at(bench, &mut coord, &indices, 1)?;
+    tables.append(&mut upper)?;
+    Ok((tables, lower))
 }
 
-fn both_levels(store: &mut Store, indices: &[u64]) -> Result<(Vec<Bytes>, usize), TimingError> {
-    let lower = level_of(store, indices, 0)?;
-    let upper = level_of(store, indices, 1)?;
-    let count = lower.len();
-    Ok((joined(lower, upper)?, count))
+// The tables of a level, 0 for the lower and 1 for the upper one.
+fn tables_at(
+    bench: Bench,
+    coord: &mut MemoryCoord,
+    indices: &[u64],
+    level: u64,
+) -> Result<Vec<Table>, TimingError> {
+    let chosen = indices_at(bench.alloc(), indices, level)?;
+    tables_of(bench, coord, &chosen)
 }
 
-fn level_of(store: &mut Store, indices: &[u64], level: u64) -> Result<Vec<Bytes>, TimingError> {
-    let chosen = indices_at(store.bench.alloc(), indices, level)?;
-    tables_of(store, &chosen)
-}
-
-// The indices of the entries of a level, 0 for the lower and 1 for the upper one: every eighth, and a random half of the
-// others.
+// The indices of the entries of a level: every eighth, and a random half of the others.
 fn indices_at(alloc: Global, indices: &[u64], level: u64) -> Result<Vec<u64>, AllocError> {
     let mut chosen = Vec::new(alloc);
     for index in indices {
@@ -70,16 +69,30 @@ fn indices_at(alloc: Global, indices: &[u64], level: u64) -> Result<Vec<u64>, Al
     Ok(chosen)
 }
 
-fn joined(lower: Vec<Bytes>, upper: Vec<Bytes>) -> Result<Vec<Bytes>, AllocError> {
-    let mut tables = lower;
-    for table in upper {
-        tables.push(table)?;
-    }
-    Ok(tables)
-}
-
 // The job that merges the tables, of which the first `lower` are of the lower level.
 fn job_of(alloc: Global, tables: &[Table], lower: usize) -> Result<Job, TimingError> {
+    let inputs = inputs_of(alloc, tables, lower)?;
+    let id = JobId {
+        epoch: 1,
+        number: 1,
+    };
+    let parts = JobParts {
+        id,
+        level: UPPER,
+        block: DEFAULT_BLOCK,
+        points: Items::new(alloc),
+        inputs,
+        deeper: Items::new(alloc),
+    };
+    Job::new(parts).ok_or(NO_JOB)
+}
+
+// The files of the tables.
+fn inputs_of(
+    alloc: Global,
+    tables: &[Table],
+    lower: usize,
+) -> Result<Items<FileMeta>, TimingError> {
     let mut inputs = Items::new(alloc);
     for (place, table) in tables.iter().enumerate() {
         if place >= MAX_INPUTS {
@@ -88,18 +101,7 @@ fn job_of(alloc: Global, tables: &[Table], lower: usize) -> Result<Job, TimingEr
         let level = if place < lower { UPPER + 1 } else { UPPER };
         inputs.push(FileMeta::of_table(place as u64 + 1, level, table)?)?;
     }
-    let parts = JobParts {
-        id: JobId {
-            epoch: 1,
-            number: 1,
-        },
-        level: UPPER,
-        block: DEFAULT_BLOCK,
-        points: Items::new(alloc),
-        inputs,
-        deeper: Items::new(alloc),
-    };
-    Job::new(parts).ok_or(NO_JOB)
+    Ok(inputs)
 }
 
 fn entries_of(tables: &[Table]) -> u64 {

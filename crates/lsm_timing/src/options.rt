@@ -1,243 +1,208 @@
 //! The command line.
 
 use crate::clock::ClockKind;
-use crate::forms::{FORMS, Form, Need, Number};
-use crate::globals::{clock, clock_in, keys, shape_in, value};
-use crate::keys::Shape;
-use crate::threads::Crew;
-use clap::error::ErrorKind;
-use clap::{Arg, ArgMatches, Command, Error, value_parser};
-use std::alloc::{AllocError, Global};
+use crate::forms::{FORMS, Form, Number, Task};
+use crate::keys::{KeyShape, Shape};
+use std::{fmt, io};
 
 /// What the command line asks for.
 #[derive(Clone, Copy)]
 pub(crate) struct Request {
     pub(crate) task: Task,
+    pub(crate) first: u64,
+    pub(crate) second: u64,
     pub(crate) clock: ClockKind,
     pub(crate) shape: Shape,
 }
 
-/// What is timed, and at which size.
+/// Why a command line asks for nothing.
 #[derive(Clone, Copy)]
-pub(crate) enum Task {
-    Fill {
-        entries: u64,
-        batch: u64,
-    },
-    Get {
-        entries: u64,
-        reads: u64,
-    },
-    /// One scan of all, or a number of short ones.
-    Scan {
-        entries: u64,
-        scans: Option<u64>,
-    },
-    /// A fill by the front door.
-    StoreFill {
-        entries: u64,
-        batch: u64,
-    },
-    /// A fill of a folder, its opening, and gets.
-    Durable {
-        entries: u64,
-        reads: u64,
-    },
-    Churn {
-        operations: u64,
-    },
-    Pauses {
-        entries: u64,
-        batch: u64,
-    },
-    MemoryFill {
-        entries: u64,
-    },
-    MemoryMemtable {
-        entries: u64,
-    },
-    MemoryTables {
-        entries: u64,
-    },
-    Merge {
-        megabytes: u64,
-    },
-    Flush {
-        entries: u64,
-    },
-    Open {
-        megabytes: u64,
-    },
-    Pick {
-        files: u64,
-    },
-    Script {
-        lines: u64,
-    },
-    Threads(Crew),
-    /// Gets of several readers at once.
-    Reads {
-        entries: u64,
-        reads: u64,
-        readers: u64,
-    },
-    /// Each at a small size.
-    All,
+pub(crate) enum Refusal<'a> {
+    /// The help is asked for.
+    Help,
+    NoCommand,
+    /// An option or a number is not given its value.
+    NoValue(&'static str),
+    Unexpected(&'a str),
+    /// A word is no value of an option or a number.
+    Invalid(&'a str, &'static str),
 }
 
-fn arg_of<'a>(alloc: Global, number: Number) -> Arg<'a> {
-    let arg = Arg::new(alloc, number.id)
-        .help(number.help)
-        .value_parser(value_parser!(u64).range(1..=number.most));
-    match number.need {
-        Need::Always => arg.required(true),
-        Need::Never => arg,
-        Need::OrElse(default) => arg.default_value(default),
+impl<'a> fmt::Display for Refusal<'a> {
+    fn fmt<W: fmt::Write>(&self, f: &mut fmt::Formatter<W>) -> fmt::Result {
+        match *self {
+            Refusal::Help => Ok(()),
+            Refusal::NoCommand => f.write_str("lsm_timing requires a subcommand"),
+            Refusal::NoValue(name) => write!(f, "a value is required for '{name}'"),
+            Refusal::Unexpected(word) => write!(f, "unexpected argument '{word}' found"),
+            Refusal::Invalid(word, name) => write!(f, "invalid value '{word}' for '{name}'"),
+        }
     }
 }
 
-fn subcommand<'a>(alloc: Global, form: Form) -> Result<Command<'a>, AllocError> {
-    let command = Command::new(alloc, form.name)
-        .about(form.about)
-        .arg(arg_of(alloc, form.number))?;
-    with_arg(alloc, with_arg(alloc, command, form.other)?, form.third)
-}
+const CLOCK: &str = "--clock";
 
-fn with_arg<'a>(
-    alloc: Global,
-    command: Command<'a>,
-    number: Option<Number>,
-) -> Result<Command<'a>, AllocError> {
-    match number {
-        None => Ok(command),
-        Some(number) => command.arg(arg_of(alloc, number)),
-    }
-}
+const KEYS: &str = "--keys";
 
-/// The command line that the program takes.
-fn command<'a>(alloc: Global) -> Result<Command<'a>, AllocError> {
-    let mut command = Command::new(alloc, "lsm_timing")
-        .bin_name("lsm_timing")?
-        .about(
-            "Times the store: 'name n checksum' on standard output, 'name n nanoseconds', or bytes, on standard error",
-        )
-        .no_binary_name(true)
-        .subcommand_required(true)
-        .arg(clock(alloc))?
-        .arg(keys(alloc))?
-        .arg(value(alloc))?;
+const VALUE: &str = "--value";
+
+/// How long a value is, in bytes.
+const BYTES: Number = Number {
+    name: VALUE,
+    most: 1_000,
+    default: Some(100),
+};
+
+// The part of the help that tells the options.
+const OPTIONS: &str = "Options, before or after a command:
+  --clock wall|processor: Take the time that passes, or the processor's time of the process; both in steps of 1 ns
+  --keys scattered|prefixed: Keys of 16 bytes, or the same after a prefix of 16 bytes
+  --value BYTES: Bytes of a value, 100 if not given";
+
+/// Prints the help.
+pub(crate) fn print_help(rt: &HostRuntime) -> io::Result<()> {
+    rt.println(
+        "Times the store: 'name n checksum' on standard output, 'name n nanoseconds', or bytes, on standard error",
+    )?;
+    rt.println(OPTIONS)?;
+    rt.println("Commands:")?;
     for form in FORMS {
-        command = command.subcommand(subcommand(alloc, form)?)?;
+        rt.println(form)?;
     }
-    command.subcommand(Command::new(alloc, "all").about("Each figure at a small size"))
+    Ok(())
 }
 
-// The number of an argument that has one.
-fn number_in(found: &ArgMatches<'_>, id: &str) -> u64 {
-    found.get_one(id).unwrap_or(1)
+// What is read so far.
+#[derive(Clone, Copy)]
+struct Line {
+    // The option whose value comes next.
+    waiting: Option<&'static str>,
+    clock: ClockKind,
+    keys: KeyShape,
+    value_len: u64,
+    form: Option<Form>,
+    first: Option<u64>,
+    second: Option<u64>,
 }
 
-// The threads that are to run. No number of readers is none.
-fn crew_in(found: &ArgMatches<'_>, has_workers: bool) -> Crew {
-    Crew {
-        seconds: number_in(found, "SECONDS"),
-        readers: found.get_one("READERS").unwrap_or(0),
-        has_workers,
+const EMPTY: Line = Line {
+    waiting: None,
+    clock: ClockKind::Wall,
+    keys: KeyShape::Scattered,
+    value_len: 100,
+    form: None,
+    first: None,
+    second: None,
+};
+
+/// What the words after the program's name ask for.
+pub(crate) fn request_of(words: &[String]) -> Result<Request, Refusal<'_>> {
+    let mut line = EMPTY;
+    for word in words {
+        line = with_word(line, word.as_str())?;
     }
+    request_in(line)
 }
 
-fn task_in(name: &str, found: &ArgMatches<'_>) -> Option<Task> {
-    let entries = number_in(found, "N");
-    let megabytes = number_in(found, "MB");
-    match name {
-        "fill" => Some(Task::Fill {
-            entries,
-            batch: number_in(found, "BATCH"),
+fn with_word(line: Line, word: &str) -> Result<Line, Refusal<'_>> {
+    if let Some(name) = line.waiting {
+        return with_value(line, name, word);
+    }
+    match (option_of(word), line.form) {
+        (Some(name), _) => Ok(Line {
+            waiting: Some(name),
+            ..line
         }),
-        "get" => Some(Task::Get {
-            entries,
-            reads: number_in(found, "M"),
+        (None, Some(form)) => with_number(line, form, word),
+        (None, None) => Ok(Line {
+            form: Some(form_of(word)?),
+            ..line
         }),
-        "scan" => Some(Task::Scan {
-            entries,
-            scans: found.get_one("K"),
-        }),
-        "churn" => Some(Task::Churn {
-            operations: entries,
-        }),
-        "pauses" => Some(Task::Pauses {
-            entries,
-            batch: number_in(found, "BATCH"),
-        }),
-        "memory_fill" => Some(Task::MemoryFill { entries }),
-        "memory_memtable" => Some(Task::MemoryMemtable { entries }),
-        "memory_tables" => Some(Task::MemoryTables { entries }),
-        "merge" => Some(Task::Merge { megabytes }),
-        "flush" => Some(Task::Flush { entries }),
-        "open" => Some(Task::Open { megabytes }),
-        "pick" => Some(Task::Pick {
-            files: number_in(found, "FILES"),
-        }),
-        "script" => Some(Task::Script {
-            lines: number_in(found, "LINES"),
-        }),
-        "all" => Some(Task::All),
-        _ => front_in(name, found),
     }
 }
 
-// A task that goes by the front door of the library.
-fn front_in(name: &str, found: &ArgMatches<'_>) -> Option<Task> {
-    let entries = number_in(found, "N");
-    match name {
-        "store_fill" => Some(Task::StoreFill {
-            entries,
-            batch: number_in(found, "BATCH"),
-        }),
-        "durable" => Some(Task::Durable {
-            entries,
-            reads: number_in(found, "M"),
-        }),
-        _ => shared_in(name, found),
-    }
-}
-
-// A task of threads that share a store.
-fn shared_in(name: &str, found: &ArgMatches<'_>) -> Option<Task> {
-    match name {
-        "threads" => Some(Task::Threads(crew_in(found, true))),
-        "threads_alone" => Some(Task::Threads(crew_in(found, false))),
-        "reads" => Some(Task::Reads {
-            entries: number_in(found, "N"),
-            reads: number_in(found, "M"),
-            readers: number_in(found, "READERS"),
-        }),
+fn option_of(word: &str) -> Option<&'static str> {
+    match word {
+        CLOCK => Some(CLOCK),
+        KEYS => Some(KEYS),
+        VALUE => Some(VALUE),
         _ => None,
     }
 }
 
-fn request_in(found: &ArgMatches<'_>) -> Option<Request> {
-    let (name, numbers) = found.subcommand()?;
-    Some(Request {
-        task: task_in(name, numbers)?,
-        clock: clock_in(found),
-        shape: shape_in(found),
+fn with_value<'a>(line: Line, name: &'static str, word: &'a str) -> Result<Line, Refusal<'a>> {
+    let mut line = Line {
+        waiting: None,
+        ..line
+    };
+    match (name, word) {
+        (CLOCK, "wall") => line.clock = ClockKind::Wall,
+        (CLOCK, "processor") => line.clock = ClockKind::Processor,
+        (KEYS, "scattered") => line.keys = KeyShape::Scattered,
+        (KEYS, "prefixed") => line.keys = KeyShape::Prefixed,
+        (VALUE, _) => line.value_len = number_of(BYTES, word)?,
+        _ => return Err(Refusal::Invalid(word, name)),
+    }
+    Ok(line)
+}
+
+fn form_of(word: &str) -> Result<Form, Refusal<'_>> {
+    if word == "--help" || word == "-h" {
+        return Err(Refusal::Help);
+    }
+    for form in FORMS {
+        if word == form.name {
+            return Ok(form);
+        }
+    }
+    Err(Refusal::Unexpected(word))
+}
+
+fn with_number(line: Line, form: Form, word: &str) -> Result<Line, Refusal<'_>> {
+    match (line.first, form.first, line.second, form.second) {
+        (None, Some(number), _, _) => Ok(Line {
+            first: Some(number_of(number, word)?),
+            ..line
+        }),
+        (Some(_), _, None, Some(number)) => Ok(Line {
+            second: Some(number_of(number, word)?),
+            ..line
+        }),
+        _ => Err(Refusal::Unexpected(word)),
+    }
+}
+
+fn number_of(number: Number, word: &str) -> Result<u64, Refusal<'_>> {
+    match word.parse::<u64>() {
+        Ok(value) if value >= 1 && value <= number.most => Ok(value),
+        _ => Err(Refusal::Invalid(word, number.name)),
+    }
+}
+
+fn request_in<'a>(line: Line) -> Result<Request, Refusal<'a>> {
+    if let Some(name) = line.waiting {
+        return Err(Refusal::NoValue(name));
+    }
+    let Some(form) = line.form else {
+        return Err(Refusal::NoCommand);
+    };
+    Ok(Request {
+        task: form.task,
+        first: given(form.first, line.first)?,
+        second: given(form.second, line.second)?,
+        clock: line.clock,
+        shape: Shape {
+            keys: line.keys,
+            value_len: line.value_len,
+        },
     })
 }
 
-fn request_by<'a>(
-    command: &mut Command<'a>,
-    words: &'a [String],
-) -> Result<Option<Request>, Error> {
-    let found = command.try_get_matches_from_mut(words)?;
-    Ok(request_in(&found))
-}
-
-/// What the words after the program's name ask for. Every other line, help too, is an error of `clap`.
-pub(crate) fn request_of<'a>(alloc: Global, words: &'a [String]) -> Result<Request, Error> {
-    let mut command = command(alloc)?;
-    match request_by(&mut command, words)? {
-        Some(request) => Ok(request),
-        None => Err(command.error(ErrorKind::MissingSubcommand, "no figure was requested")?),
+// What a number is. A command that has none takes no notice of it.
+fn given<'a>(number: Option<Number>, value: Option<u64>) -> Result<u64, Refusal<'a>> {
+    match (value, number) {
+        (Some(value), _) => Ok(value),
+        (None, None) => Ok(0),
+        (None, Some(number)) => number.default.ok_or(Refusal::NoValue(number.name)),
     }
 }

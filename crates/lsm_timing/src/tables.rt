@@ -4,11 +4,10 @@ ghost use Rattle.std.specs.Prelude.{◌≤◌};
 
 use crate::batches::batch_of;
 use crate::bench::Bench;
-use crate::error::TimingError;
+use crate::error::{GONE, NO_TABLE, TimingError};
 use crate::figure::{Figure, with_number};
-use crate::fill::Store;
+use crate::fill::{MemoryCoord, bytes_written, new_store};
 use crate::keys::{or_one, scattered_key};
-use bytes::Bytes;
 use lsm_key::MAX_MEMTABLE_WEIGHT;
 use lsm_table::Table;
 use std::alloc::{AllocError, Global};
@@ -41,40 +40,51 @@ pub(crate) fn sorted_indices(alloc: Global, count: u64) -> Result<Vec<u64>, Allo
     Ok(indices)
 }
 
-/// Writes the entries of some indices, in batches, and leaves them in the memtable.
-pub(crate) fn put_all(store: &mut Store, indices: &[u64]) -> Result<(), TimingError> {
+// Writes the entries of some indices, in batches, and leaves them in the memtable.
+fn put_all(bench: Bench, coord: &mut MemoryCoord, indices: &[u64]) -> Result<(), TimingError> {
     for chunk in indices.chunks(BATCH) {
-        let batch = batch_of(store.bench, chunk)?;
-        store.coord.write(&batch)?;
+        let batch = batch_of(bench, chunk)?;
+        coord.write(&batch)?;
     }
     Ok(())
 }
 
-/// The tables of the entries of indices that are in the order of their keys, one table after another.
-pub(crate) fn tables_of(store: &mut Store, indices: &[u64]) -> Result<Vec<Bytes>, TimingError> {
-    let mut tables = Vec::new(store.bench.alloc());
-    for chunk in indices.chunks(table_entries(store.bench)) {
-        put_all(store, chunk)?;
-        let file = store.flush()?;
-        tables.push(store.fetch(file)?)?;
+/// The table that a flush makes of the entries of some indices.
+pub(crate) fn table_of(
+    bench: Bench,
+    coord: &mut MemoryCoord,
+    indices: &[u64],
+) -> Result<Table, TimingError> {
+    put_all(bench, coord, indices)?;
+    let file = coord.flush()?.file.number();
+    match coord.served().table(file) {
+        None => Err(GONE),
+        Some(table) => Ok(table.copy()?),
     }
-    Ok(tables)
 }
 
-/// Opens each of some tables.
-pub(crate) fn opened(alloc: Global, tables: &[Bytes]) -> Result<Vec<Table>, TimingError> {
-    let mut opened = Vec::with_capacity(alloc, tables.len())?;
-    for bytes in tables {
-        opened.push(Table::open(alloc, bytes.clone()?)?)?;
+/// The tables of the entries of indices that are in the order of their keys, one table after another.
+pub(crate) fn tables_of(
+    bench: Bench,
+    coord: &mut MemoryCoord,
+    indices: &[u64],
+) -> Result<Vec<Table>, TimingError> {
+    let mut tables = Vec::new(bench.alloc());
+    for chunk in indices.chunks(table_entries(bench)) {
+        tables.push(table_of(bench, coord, chunk)?)?;
     }
-    Ok(opened)
+    Ok(tables)
 }
 
 /// Times the flush of a memtable of `entries` entries, or of as many as it takes.
 pub(crate) fn time_flush(bench: Bench, entries: u64) -> Result<(), TimingError> {
     let entries = entries.min(memtable_entries(bench));
-    let mut store = unflushed(bench, entries)?;
-    time_flush_of(bench, &mut store, entries)
+    let mut coord = unflushed(bench, entries)?;
+    let figure = Figure::begin(bench, "flush")?;
+    coord.flush()?;
+    let written = bytes_written(bench, &mut coord)?;
+    figure.end(bench, entries, written)?;
+    Ok(())
 }
 
 /// How many entries a memtable takes.
@@ -83,43 +93,44 @@ pub(crate) fn memtable_entries(bench: Bench) -> u64 {
 }
 
 /// A store with `entries` entries in its memtable.
-pub(crate) fn unflushed(bench: Bench, entries: u64) -> Result<Store, TimingError> {
+pub(crate) fn unflushed(bench: Bench, entries: u64) -> Result<MemoryCoord, TimingError> {
     let indices: Vec<u64> = (0..entries).collect(bench.alloc())?;
-    let mut store = Store::new(bench)?;
-    put_all(&mut store, &indices)?;
-    Ok(store)
-}
-
-fn time_flush_of(bench: Bench, store: &mut Store, entries: u64) -> Result<(), TimingError> {
-    let figure = Figure::begin(bench, "flush")?;
-    store.flush()?;
-    figure.end(bench, entries, store.written())?;
-    Ok(())
+    let mut coord = new_store(bench)?;
+    put_all(bench, &mut coord, &indices)?;
+    Ok(coord)
 }
 
 /// Times the opening of tables of `megabytes` MB of keys and values.
 pub(crate) fn time_open(bench: Bench, megabytes: u64) -> Result<(), TimingError> {
     let count = entries_in(bench, megabytes);
     let tables = made(bench, count)?;
-    time_open_of(bench, &tables, count)
-}
-
-// The tables of the entries of the first `count` indices.
-fn made(bench: Bench, count: u64) -> Result<Vec<Bytes>, TimingError> {
-    let indices = sorted_indices(bench.alloc(), count)?;
-    let mut store = Store::new(bench)?;
-    tables_of(&mut store, &indices)
-}
-
-fn time_open_of(bench: Bench, tables: &[Bytes], count: u64) -> Result<(), TimingError> {
     let figure = Figure::begin(bench, "open")?;
-    let opened = opened(bench.alloc(), tables)?;
-    figure.end(bench, count, entries_of(&opened))?;
+    let opened = opened(bench.alloc(), &tables)?;
+    figure.end(bench, count, counts_of(&opened))?;
     Ok(())
 }
 
+// The tables of the entries of the first `count` indices.
+fn made(bench: Bench, count: u64) -> Result<Vec<Table>, TimingError> {
+    let indices = sorted_indices(bench.alloc(), count)?;
+    let mut coord = new_store(bench)?;
+    tables_of(bench, &mut coord, &indices)
+}
+
+// Opens the bytes of each table anew.
+fn opened(alloc: Global, tables: &[Table]) -> Result<Vec<Table>, TimingError> {
+    let mut opened = Vec::with_capacity(alloc, tables.len())?;
+    for table in tables {
+        let Ok(table) = Table::open(alloc, table.bytes().clone()?) else {
+            return Err(NO_TABLE);
+        };
+        opened.push(table)?;
+    }
+    Ok(opened)
+}
+
 /// A checksum of how many entries tables have.
-pub(crate) fn entries_of(tables: &[Table]) -> u64 {
+pub(crate) fn counts_of(tables: &[Table]) -> u64 {
     let mut checksum = 0;
     for table in tables {
         checksum = with_number(checksum, table.count() as u64);

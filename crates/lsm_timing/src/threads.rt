@@ -1,23 +1,22 @@
 //! Threads over one store: two writers, dispatchers with their workers, a follower, and its readers.
 
-ghost use Rattle.std.specs.Prelude.{◌≡◌, ◌<◌, []};
+ghost use Rattle.std.specs.Prelude.{◌≡◌, []};
 
 mod course;
 mod dispatchers;
 mod follower;
 mod reads;
-mod still;
 mod tell;
 mod writer;
 
 use crate::bench::Bench;
-use crate::error::{NO_CLOSE, TimingError};
+use crate::error::{NO_CLOSE, NO_STORE, TimingError};
+use crate::fill::DEFAULT;
 use course::Course;
 use dispatchers::{dispatch_both, merged};
 use follower::follow_and_read;
 use lsm_coord::Coord;
 use lsm_edit::Served;
-use lsm_key::{DEFAULT_BASE, DEFAULT_BLOCK, DEFAULT_L0, Limits};
 use lsm_nodes::{Hub, PARTS, Start, Tally, Witness};
 use lsm_readers::{FollowerReader, LogName, NewLog, Publisher};
 use lsm_vault::{MemoryVault, Vault};
@@ -25,40 +24,29 @@ use reads::{Reads, readers_of};
 use std::marker::Brand;
 use std::snapshot::Snapshot;
 use std::sync::Wait;
+use std::sync::atomic::Ordering;
 use std::sync::ledger::Blank;
 use std::thread::{Threads, join};
-pub(crate) use still::time_still_reads;
 use tell::{Claims, Ends, tell_ends};
 use writer::{Writing, write_until_due};
 
-/// How long threads run, and which there are beside the writers and the follower.
-#[derive(Clone, Copy)]
-pub(crate) struct Crew {
-    pub(crate) seconds: u64,
-    pub(crate) readers: u64,
-    pub(crate) has_workers: bool,
-}
-
-/// Lets all threads run over one new store in memory, and tells what they did. All that they recorded has to be the history of the store.
+/// Lets all threads run over one new store in memory for so many seconds, and tells what they did. All that they recorded has to be the
+/// history of the store.
 pub(crate) fn time_threads<R: Threads + Wait + Sync>(
     rt: &R,
     bench: Bench,
-    crew: Crew,
+    seconds: u64,
+    readers: u64,
+    has_workers: bool,
 ) -> Result<(), TimingError> {
     let alloc = bench.alloc();
-    let limits = Limits {
-        l0: DEFAULT_L0,
-        base: DEFAULT_BASE,
-        block: DEFAULT_BLOCK,
+    let Ok(coord) = Coord::open(alloc, MemoryVault::new(alloc), DEFAULT) else {
+        return Err(NO_STORE);
     };
-    let coord = match Coord::open(alloc, MemoryVault::new(alloc), limits) {
-        Ok(coord) => coord,
-        Err((why, _vault)) => return Err(TimingError::from(why)),
-    };
+    let course = Course::begin(bench, seconds, readers, has_workers)?;
     let ends = over_hub::<MemoryVault, Brand, Snapshot<Served>, R>(
         rt,
-        bench,
-        crew,
+        &course,
         coord,
         Blank::new(PARTS),
         NewLog::new(),
@@ -72,23 +60,15 @@ fn over_hub<
     J: Start + LogName + Send + Sync,
     N: Witness + Drop + Send,
     R: Threads + Wait + Sync,
->(
-    rt: &R,
-    bench: Bench,
-    crew: Crew,
-    coord: Coord<V>,
-    blank: Blank,
-    log: NewLog,
-) -> Result<Ends, TimingError>
+>(rt: &R, course: &Course, coord: Coord<V>, blank: Blank, log: NewLog) -> Result<Ends, TimingError>
     requires ledger { (blank.name ≡ J.name) × (blank.parts ≡ J.parts) × (J.parts ≡ PARTS) }
     requires start { coord ≡ J.start }
     requires idle { coord.book.live ≡ [] }
     requires log { log ≡ J.log }
 {
-    let (publisher, all) = readers_of::<J, R>(rt, bench, crew.readers, log)?;
-    let (hub, tally) = Hub::<V, J, N>::new(bench.alloc(), coord, blank);
-    let course = Course::begin(bench, crew)?;
-    let (ends, tally) = run_all(rt, &course, &hub, tally, publisher, all)?;
+    let (publisher, all) = readers_of::<J, R>(rt, course, log)?;
+    let (hub, tally) = Hub::<V, J, N>::new(course.bench.alloc(), coord, blank);
+    let (ends, tally) = run_all(rt, course, &hub, tally, publisher, all)?;
     match hub.close(tally) {
         Ok(_history) => Ok(ends),
         Err(_) => Err(NO_CLOSE),
@@ -119,11 +99,9 @@ fn run_all<
     let third = tally.split();
     let (written, (dispatched, read)) = join(
         rt,
-        move || -> (Result<Writing, TimingError>, (Tally<J>, Tally<J>))
-            requires { (0 < tally.parts) × (0 < first.parts) }
-        { write_until_due(rt, course, hub, tally, first) },
+        move || write_until_due(rt, course, hub, tally, first),
         move || -> ((Tally<J>, Tally<J>), (u64, Reads))
-            requires { (0 < second.parts) × (0 < third.parts) × (publisher ≡ record { published = []; taken = [] }) }
+            requires { publisher ≡ record { published = []; taken = [] } }
         { run_beside(rt, course, hub, second, third, publisher, readers) },
     );
     ends_of(course, written, dispatched, read)
@@ -142,10 +120,10 @@ fn ends_of<J: Start>(
     let tally = merged(merged(merged(tally, first)?, second)?, third)?;
     let ends = Ends {
         writing: writing?,
-        reads: reads.whole()?,
+        reads,
         claims: claims_of(&tally),
         followed,
-        missed: course.missed(),
+        missed: course.missed.load(Ordering::SeqCst),
     };
     Ok((ends, tally))
 }
@@ -175,15 +153,11 @@ fn run_beside<
     publisher: Publisher<J, &'a R>,
     readers: Vec<FollowerReader<J>>,
 ) -> ((Tally<J>, Tally<J>), (u64, Reads))
-    requires first { 0 < first.parts }
-    requires second { 0 < second.parts }
     requires new { publisher ≡ record { published = []; taken = [] } }
 {
     join(
         rt,
-        move || -> (Tally<J>, Tally<J>)
-            requires { (0 < first.parts) × (0 < second.parts) }
-        { dispatch_both(rt, course, hub, first, second) },
+        move || dispatch_both(rt, course, hub, first, second),
         move || -> (u64, Reads)
             requires { publisher ≡ record { published = []; taken = [] } }
         { follow_and_read(rt, course, hub, publisher, readers) },

@@ -1,7 +1,5 @@
 //! What the threads of a run share.
 
-use super::Crew;
-use super::reads::Gets;
 use crate::bench::Bench;
 use crate::clock::ClockKind;
 use crate::error::{NO_NODE, TimingError};
@@ -19,24 +17,34 @@ const REST: u64 = 1;
 #[derive(Drop)]
 pub(crate) struct Course {
     pub(crate) bench: Bench,
+    /// Whether dispatchers with workers run.
     pub(crate) has_workers: bool,
+    /// How many readers there are.
+    pub(crate) readers: u64,
     // Two indices of nodes of one kind.
     pub(crate) first: NodeIndex,
     pub(crate) second: NodeIndex,
     // When it is over, by the clock of the wall.
     end: Duration,
-    is_over: AtomicBool,
+    pub(crate) is_over: AtomicBool,
     // Whose turn it is to flush.
     turn: Mutex<()>,
-    // How many entries are written.
-    entries: AtomicU64,
-    // How often there was no memory.
-    missed: AtomicU64,
+    /// How many entries are written.
+    pub(crate) entries: AtomicU64,
+    /// How many readers have begun.
+    pub(crate) begun: AtomicU64,
+    /// How often there was no memory.
+    pub(crate) missed: AtomicU64,
 }
 
 impl Course {
     /// Begins a run.
-    pub(crate) fn begin(bench: Bench, crew: Crew) -> Result<Course, TimingError> {
+    pub(crate) fn begin(
+        bench: Bench,
+        seconds: u64,
+        readers: u64,
+        has_workers: bool,
+    ) -> Result<Course, TimingError> {
         let Some(first) = NodeIndex::new(1) else {
             return Err(NO_NODE);
         };
@@ -46,13 +54,15 @@ impl Course {
         let start = ClockKind::Wall.now(&bench.rt)?;
         Ok(Course {
             bench,
-            has_workers: crew.has_workers,
+            has_workers,
+            readers,
             first,
             second,
-            end: start.saturating_add(Duration::from_secs(crew.seconds)),
+            end: start.saturating_add(Duration::from_secs(seconds)),
             is_over: AtomicBool::new(false),
             turn: Mutex::new(()),
             entries: AtomicU64::new(0),
+            begun: AtomicU64::new(0),
             missed: AtomicU64::new(0),
         })
     }
@@ -72,44 +82,14 @@ impl Course {
         self.is_over.load(Ordering::SeqCst)
     }
 
-    /// The flag that is set when it was ended.
-    pub(crate) fn flag(&self) -> &AtomicBool {
-        &self.is_over
-    }
-
-    /// Ends it, for all threads.
-    pub(crate) fn finish(&self) {
-        self.is_over.store(true, Ordering::SeqCst);
-    }
-
     /// Waits until no other writer flushes.
     pub(crate) fn turn<R: Wait>(&self, rt: &R) -> MutexGuard<'_, ()> {
         self.turn.lock(rt)
     }
 
-    /// Counts entries that are written.
-    pub(crate) fn add_entries(&self, entries: u64) {
-        self.entries.fetch_add(entries, Ordering::SeqCst);
-    }
-
-    /// Gets of what is written, until it is over.
-    pub(crate) fn gets(&self) -> Gets<'_> {
-        Gets {
-            bench: self.bench,
-            entries: &self.entries,
-            is_over: &self.is_over,
-            most: u64::MAX,
-        }
-    }
-
     /// Counts that there was no memory.
     pub(crate) fn miss(&self) {
         self.missed.fetch_add(1, Ordering::SeqCst);
-    }
-
-    /// How often there was no memory.
-    pub(crate) fn missed(&self) -> u64 {
-        self.missed.load(Ordering::SeqCst)
     }
 
     /// Counts a call that was refused for want of memory, and says that it is not done. Any other refusal ends the run.

@@ -1,7 +1,5 @@
 //! Two dispatchers, and what becomes of tallies.
 
-ghost use Rattle.std.specs.Prelude.{◌<◌};
-
 use super::course::Course;
 use crate::error::{EXHAUSTED, OUT_OF_MEMORY, TimingError};
 use lsm_msg::NodeIndex;
@@ -29,18 +27,11 @@ pub(crate) fn dispatch_both<
     hub: &Hub<V, J, N>,
     first: Tally<J>,
     second: Tally<J>,
-) -> (Tally<J>, Tally<J>)
-    requires first { 0 < first.parts }
-    requires second { 0 < second.parts }
-{
+) -> (Tally<J>, Tally<J>) {
     join(
         rt,
-        move || -> Tally<J>
-            requires { 0 < first.parts }
-        { dispatch_until_over(rt, course, hub, course.first, first) },
-        move || -> Tally<J>
-            requires { 0 < second.parts }
-        { dispatch_until_over(rt, course, hub, course.second, second) },
+        move || dispatch_until_over(rt, course, hub, course.first, first),
+        move || dispatch_until_over(rt, course, hub, course.second, second),
     )
 }
 
@@ -50,12 +41,13 @@ fn dispatch_until_over<
     J: Start + Send + Sync,
     N: Witness + Drop + Send,
     R: Threads + Wait + Sync,
->(rt: &R, course: &Course, hub: &Hub<V, J, N>, index: NodeIndex, tally: Tally<J>) -> Tally<J>
-    requires { 0 < tally.parts }
-{
+>(rt: &R, course: &Course, hub: &Hub<V, J, N>, index: NodeIndex, tally: Tally<J>) -> Tally<J> {
     let mut tally = tally;
     for _ in rt.forever() {
-        if !course.has_workers || course.is_over() || tally.picked() >= u64::MAX - ROUNDS {
+        if !course.has_workers || course.is_over() {
+            break;
+        }
+        if tally.parts() == 0 || tally.picked() >= u64::MAX - ROUNDS {
             break;
         }
         let installed = tally.installed();
@@ -65,7 +57,7 @@ fn dispatch_until_over<
             hub,
             index,
             ROUNDS,
-            course.flag(),
+            &course.is_over,
             tally,
         ) {
             Ok((tally, _lost)) => tally,

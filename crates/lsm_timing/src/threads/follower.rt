@@ -30,13 +30,12 @@ pub(crate) fn follow_and_read<
 ) -> (u64, Reads)
     requires { publisher ≡ record { published = []; taken = [] } }
 {
-    let gets = course.gets();
     join(
         rt,
         move || -> u64
             requires { publisher ≡ record { published = []; taken = [] } }
         { follow_until_over(rt, course, hub, publisher) },
-        move || read_all(rt, gets, readers),
+        move || read_all(rt, course, readers),
     )
 }
 

@@ -1,15 +1,14 @@
 //! The writers.
 
-ghost use Rattle.std.specs.Prelude.{◌≡◌, ◌<◌};
-
 use super::course::Course;
 use crate::batches::{BATCH, batch_number};
-use crate::error::TimingError;
+use crate::error::{NO_PART, TimingError};
 use lsm_coord::CoordError;
 use lsm_key::Batch;
 use lsm_nodes::{Hub, Start, Tally, Witness};
 use lsm_vault::Vault;
 use std::sync::Wait;
+use std::sync::atomic::Ordering;
 use std::thread::{Threads, join};
 use std::time::Duration;
 
@@ -64,20 +63,13 @@ pub(crate) fn write_until_due<
     hub: &Hub<V, J, N>,
     first: Tally<J>,
     second: Tally<J>,
-) -> (Result<Writing, TimingError>, (Tally<J>, Tally<J>))
-    requires first { 0 < first.parts }
-    requires second { 0 < second.parts }
-{
+) -> (Result<Writing, TimingError>, (Tally<J>, Tally<J>)) {
     let ((one, first), (other, second)) = join(
         rt,
-        move || -> (Result<Writing, TimingError>, Tally<J>)
-            requires { 0 < first.parts }
-        { write_as(rt, course, hub, 0, first) },
-        move || -> (Result<Writing, TimingError>, Tally<J>)
-            requires { 0 < second.parts }
-        { write_as(rt, course, hub, 1, second) },
+        move || write_as(rt, course, hub, 0, first),
+        move || write_as(rt, course, hub, 1, second),
     );
-    course.finish();
+    course.is_over.store(true, Ordering::SeqCst);
     (of_both(one, other), (first, second))
 }
 
@@ -95,9 +87,7 @@ fn write_as<V: Vault, J: Start, N: Witness + Drop, R: Wait>(
     hub: &Hub<V, J, N>,
     index: u64,
     tally: Tally<J>,
-) -> (Result<Writing, TimingError>, Tally<J>)
-    requires { 0 < tally.parts }
-{
+) -> (Result<Writing, TimingError>, Tally<J>) {
     let mut tally = tally;
     let writing = write_timed(rt, course, hub, index, &mut tally);
     (writing, tally)
@@ -109,9 +99,7 @@ fn write_timed<V: Vault, J: Start, N: Witness + Drop, R: Wait>(
     hub: &Hub<V, J, N>,
     index: u64,
     tally: &mut Tally<J>,
-) -> Result<Writing, TimingError>
-    requires { 0 < tally.old.parts }
-{
+) -> Result<Writing, TimingError> {
     let start = course.bench.now()?;
     let writing = write_all(rt, course, hub, index, tally)?;
     let time = course.bench.now()?.saturating_sub(start);
@@ -124,9 +112,7 @@ fn write_all<V: Vault, J: Start, N: Witness + Drop, R: Wait>(
     hub: &Hub<V, J, N>,
     index: u64,
     tally: &mut Tally<J>,
-) -> Result<Writing, TimingError>
-    requires { 0 < tally.old.parts }
-{
+) -> Result<Writing, TimingError> {
     let mut writing = NOTHING;
     for _ in rt.forever() {
         if course.is_due()? {
@@ -145,10 +131,7 @@ fn write_next<V: Vault, J: Start, N: Witness + Drop, R: Wait>(
     index: u64,
     tally: &mut Tally<J>,
     writing: Writing,
-) -> Result<Writing, TimingError>
-    requires { 0 < tally.old.parts }
-    ensures { tally.new.parts ≡ tally.old.parts }
-{
+) -> Result<Writing, TimingError> {
     let before = writing.entries / BATCH;
     let number = before.wrapping_mul(WRITERS).wrapping_add(index);
     let Ok(batch) = batch_number(course.bench, number, u64::MAX, BATCH) else {
@@ -162,7 +145,7 @@ fn write_next<V: Vault, J: Start, N: Witness + Drop, R: Wait>(
     if wrote != Wrote::All {
         return Ok(Writing { longest, ..writing });
     }
-    course.add_entries(BATCH);
+    course.entries.fetch_add(BATCH, Ordering::SeqCst);
     let entries = writing.entries.wrapping_add(BATCH);
     Ok(Writing {
         entries,
@@ -178,10 +161,7 @@ fn write<V: Vault, J: Start, N: Witness + Drop, R: Wait>(
     hub: &Hub<V, J, N>,
     tally: &mut Tally<J>,
     batch: &Batch,
-) -> Result<Wrote, TimingError>
-    requires { 0 < tally.old.parts }
-    ensures { tally.new.parts ≡ tally.old.parts }
-{
+) -> Result<Wrote, TimingError> {
     match write_once(rt, course, hub, tally, batch)? {
         Wrote::Full => {}
         ended => return Ok(ended),
@@ -204,10 +184,10 @@ fn write_once<V: Vault, J: Start, N: Witness + Drop, R: Wait>(
     hub: &Hub<V, J, N>,
     tally: &mut Tally<J>,
     batch: &Batch,
-) -> Result<Wrote, TimingError>
-    requires { 0 < tally.old.parts }
-    ensures { tally.new.parts ≡ tally.old.parts }
-{
+) -> Result<Wrote, TimingError> {
+    if tally.parts() == 0 {
+        return Err(NO_PART);
+    }
     match hub.write(rt, batch, tally) {
         Ok(_) => Ok(Wrote::All),
         Err(CoordError::MemtableFull) => Ok(Wrote::Full),
@@ -224,10 +204,10 @@ fn flush<V: Vault, J: Start, N: Witness + Drop, R: Wait>(
     course: &Course,
     hub: &Hub<V, J, N>,
     tally: &mut Tally<J>,
-) -> Result<bool, TimingError>
-    requires { 0 < tally.old.parts }
-    ensures { tally.new.parts ≡ tally.old.parts }
-{
+) -> Result<bool, TimingError> {
+    if tally.parts() == 0 {
+        return Err(NO_PART);
+    }
     let version = match hub.flush(rt, tally) {
         Ok(flushed) => flushed.number,
         Err(why) => return course.outlive(why),
