@@ -1,6 +1,6 @@
 /* Calls each exported function with the vectors of docs/FORMATS.md, with every beginning of them, with each byte changed or left out, and with each
  * allocation failing in turn. Each run of bytes ends at a page that nobody may touch, and those that are only read can't be written; `out` lies
- * between bytes that have to stay. malloc, realloc and free are counted: a call gives back all that it took. */
+ * between bytes that have to stay. malloc, realloc and free are counted: a call gives back all that it took, and asks for no more than a MiB at once. */
 #include "luddimpa.h"
 
 #include <stdbool.h>
@@ -17,17 +17,21 @@ enum { MOST = 1024, ROOM = 512, CANARY = 0xc5, FILL = 0x5a };
 void *__real_malloc(size_t), *__real_realloc(void *, size_t);
 void __real_free(void *);
 static long held, asked, fails_at;
+static size_t greatest; /* of all that was asked for at once */
 
-static bool fails(void) { return ++asked == fails_at; }
+static bool fails(size_t size) {
+    greatest = size > greatest ? size : greatest;
+    return ++asked == fails_at;
+}
 
 void *__wrap_malloc(size_t size) {
-    void *at = fails() ? NULL : __real_malloc(size);
+    void *at = fails(size) ? NULL : __real_malloc(size);
     held += at != NULL;
     return at;
 }
 
 void *__wrap_realloc(void *old, size_t size) {
-    void *at = fails() ? NULL : __real_realloc(old, size);
+    void *at = fails(size) ? NULL : __real_realloc(old, size);
     held += at != NULL && old == NULL;
     return at;
 }
@@ -283,6 +287,27 @@ static void try_messages(void) {
     tell("messages and their faults");
 }
 
+/* Counts of 4,294,967,295 over bytes that can't hold so many: the fault is that of what is missing, and nothing is reserved for the count. */
+static void try_counts(void) {
+    struct bytes message, table = of("4c534d54 01 00001000 ffffffff ffffffff"), edits = of("00000025 0000000000000001 02 0000000000000000 0000000000000001 0000000000000001 ffffffff");
+    expect(check_table(&table, NULL) == LUDDIMPA_NOT_A_TABLE && checked_table.fault == LUDDIMPA_TRUNCATED, "blocks of a table");
+    table = of(put_hex);
+    memset(table.at + 9, 0xff, 4); /* the count of entries */
+    expect(check_table(&table, NULL) == LUDDIMPA_NOT_A_TABLE && checked_table.fault == LUDDIMPA_BAD_INDEX, "entries of a table");
+    expect(check_edits(&edits, NULL) == LUDDIMPA_NOT_AN_EDIT && checked_edits.fault == LUDDIMPA_TRUNCATED, "files of an edit");
+    static const char *const counted[] = {
+        /* a base's files, a result's tables, and those of one of 60 bytes, which has six of them */
+        "4c534d4d 01 08 0000 0201 0000000000000001 0000000000000000 0000000000000001 0000000000000001 ffffffff",
+        "4c534d4d 01 05 0101 0000 0000000000000001 0000000000000001 ffffffff",
+        "4c534d4d 01 05 0101 0000 0000000000000001 0000000000000001 ffffffff 0000000161 0000000161 0000000161 0000000161 0000000161 0000000161"};
+    for (size_t i = 0; i < sizeof counted / sizeof *counted; i++) {
+        message = of(counted[i]);
+        expect(is_fault(&message, LUDDIMPA_TRUNCATED), "a count in a message");
+    }
+    expect(message.length == 60, "the length of the last message");
+    tell("counts that the bytes can't hold");
+}
+
 static void try_merges(void) {
     struct bytes job = of(job_hex), two = of(two_hex), twice = of(twice_hex), none = {0};
     struct bytes table = listed(put_hex, NULL), both = listed(put_hex, deletion_hex), same = listed(put_hex, put_hex);
@@ -361,7 +386,7 @@ int main(void) {
     setvbuf(stdout, NULL, _IOLBF, 0);
     first = pages_of(), second = pages_of(), third = pages_of();
     held = 0;
-    try_gets(), try_tables(), try_edits(), try_messages(), try_merges();
+    try_gets(), try_tables(), try_edits(), try_messages(), try_counts(), try_merges();
 
     struct bytes table = of(put_hex), deletion = of(deletion_hex), key = of("61"), edits = of(edits_hex), none = {0};
     struct bytes job = of(job_hex), list = listed(put_hex, NULL), two = of(two_hex), both = listed(put_hex, deletion_hex);
@@ -381,6 +406,8 @@ int main(void) {
     spoil(merge, &job, &list, true), spoil(merge, &list, &job, false), spoil(merge, &two, &both, true), spoil(merge, &both, &two, false);
     starve(merge, &job, &list, LUDDIMPA_OK), starve(merge, &two, &both, LUDDIMPA_OK);
     say("luddimpa_merge");
+    expect(greatest <= 1 << 20, "a call asked for more than a MiB at once");
+    tell("no call asks for more than a MiB at once");
     printf("%d passed, %d failed\n", passed, failed);
     return failed != 0;
 }
