@@ -1,5 +1,5 @@
 -- Entries taken in turn from cursors that are read one entry ahead.
-use Rattle.std.proofs.Common.{◌≡◌, ◌<◌, List, [], ◌∷◌, ◌++◌, refl, sym, ap, subst, ◌∙◌, inl, inr, arith}
+use Rattle.std.proofs.Common.{◌≡◌, ◌⊎◌, ◌<◌, List, [], ◌∷◌, ◌++◌, refl, sym, ap, subst, ◌∙◌, inl, inr, arith}
 use Rattle.std.specs.List.Sorted.{IsPermutation}
 use Rattle.std.proofs.lemmas.List.{append-nil, append_assoc}
 use Rattle.std.proofs.lemmas.List.Sorted.{IsPermutation-cons, IsPermutation-refl, IsPermutation-trans, length_permutation}
@@ -7,11 +7,12 @@ use Rattle.lsm_key.specs.declared.entry.Entry.{Entry}
 use Rattle.lsm_key.specs.Order.{IsInOrder}
 use Rattle.lsm_key.specs.Places.{all_entries}
 use Rattle.lsm_key.specs.Sets.{IsIn}
-use Rattle.lsm_key.proofs.Membership.{IsIn-append_cases, IsIn-append_left, IsIn-append_right, IsIn-map, IsIn-one, SameMembers-permutation}
-use Rattle.lsm_table.specs.Heads.{AllInOrder, TakesFirst}
+use Rattle.lsm_key.proofs.Lists.{IsIn-kept}
+use Rattle.lsm_key.proofs.Membership.{IsIn-append_cases, IsIn-append_left, IsIn-append_right, IsIn-map, IsIn-mapped, IsIn-one, SameMembers-permutation}
+use Rattle.lsm_table.specs.Heads.{AllInOrder, TakesFirst, has_entry}
 use Rattle.lsm_table.proofs.ReadLists.{cons_in_order, entries_of_some, some_among, some_in_order}
 use Rattle.lsm_merge.specs.declared.cursor_head.CursorHead.{CursorHead}
-use Rattle.lsm_merge.specs.Laws.{AWalkReadsOneEntryAhead}
+use Rattle.lsm_merge.specs.Laws.{AWalkReadsOneEntryAhead, AWalkTakesFromEachCursor}
 use Rattle.lsm_merge.specs.Walks.{BeginsWalk, IsGivenFirst, GivesInTurn, left_to_merge, cursor_lists, WalkValue}
 
 -- one after another
@@ -62,6 +63,14 @@ module _ (lists : List (List Entry)) (start : WalkValue) (begins : BeginsWalk li
 
 -- ---- one entry ahead
 
+-- what was taken, and then the entry that was taken
+with_last : (given taken : List Entry) (first e : Entry) → first ≡ e → ((f : Entry) → IsIn f given → IsIn f taken) → (f : Entry) → IsIn f (given ++ first ∷ []) → IsIn f (taken ++ e ∷ [])
+with_last given taken first e same was f m =
+    elim (IsIn-append_cases f given (first ∷ []) m) [
+      | inl earlier ↦ IsIn-append_left f taken (e ∷ []) (was f earlier)
+      | inr last ↦ IsIn-append_right f taken (e ∷ []) (inl (IsIn-one f first last ∙ same))
+    ]
+
 -- what the cursor of each head has given, but for that head, was taken
 abbrev AreAhead : List (List Entry) → List Entry → List CursorHead → Type 0
 AreAhead lists taken heads = (h : CursorHead) → IsIn h heads → (given : List Entry) × IsIn (given ++ h.entry ∷ h.rest) lists × ((e : Entry) → IsIn e given → IsIn e taken)
@@ -88,10 +97,7 @@ module _ (lists : List (List Entry)) where
                   ap (λ (es : List Entry). own.0 ++ first.entry ∷ es) (on.1 ∙ ap (λ (g : CursorHead). g.entry ∷ g.rest) (sym same)) ∙ sym (append_assoc own.0 (first.entry ∷ []) (h.entry ∷ h.rest)) in (
                     own.0 ++ first.entry ∷ [],
                     subst (λ (es : List Entry). IsIn es lists) is own.1,
-                    λ f k. elim (IsIn-append_cases f own.0 (first.entry ∷ []) k) [
-                      | inl earlier ↦ IsIn-append_left f taken (e ∷ []) (own.2 f earlier)
-                      | inr last ↦ IsIn-append_right f taken (e ∷ []) (inl (IsIn-one f first.entry last ∙ gives.2))
-                    ],
+                    with_last own.0 taken first.entry e gives.2 own.2,
                   )
             ]
       ]
@@ -109,3 +115,54 @@ reads_ahead lists start last taken kept begins took =
     let in_left : IsIn (h.entry ∷ h.rest) (cursor_lists begins.cursors) = IsIn-map (λ (g : CursorHead). g.entry ∷ g.rest) h begins.cursors among in
     ([], some_among (h.entry ∷ h.rest) lists (subst (IsIn (h.entry ∷ h.rest)) begins.read in_left), λ e k. k))
     took.takes
+
+-- ---- each cursor
+
+-- all of a list was taken, or a head holds what is left of it
+abbrev IsTakenFrom : List Entry → List Entry → List CursorHead → Type 0
+IsTakenFrom list taken heads = ((e : Entry) → IsIn e list → IsIn e taken) ⊎ ((h : CursorHead) × IsIn h heads × (given : List Entry) × (list ≡ given ++ h.entry ∷ h.rest) × ((e : Entry) → IsIn e given → IsIn e taken))
+
+module _ (list : List Entry) where
+  one_from : (taken : List Entry) (old new : List CursorHead) (e : Entry) → IsTakenFrom list taken old → IsGivenFirst old e new → IsTakenFrom list (taken ++ e ∷ []) new
+  one_from taken old new e from gives =
+      elim from [
+        | inl whole ↦ inl (λ f m. IsIn-append_left f taken (e ∷ []) (whole f m))
+        | inr held ↦
+            let first : CursorHead = gives.0 in
+            let advances = gives.3.0 in
+            let others : List CursorHead = advances.0 in
+            let h : CursorHead = held.0 in
+            let given : List Entry = held.2 in
+            let stays : IsIn h new → IsTakenFrom list (taken ++ e ∷ []) new = λ m. inr (h, m, given, held.3, λ f k. IsIn-append_left f taken (e ∷ []) (held.4 f k)) in
+            elim ((SameMembers-permutation old (first ∷ others) advances.1 h).0 held.1) [
+              | inr other ↦ elim advances.2 [
+                | inl ended ↦ stays ((SameMembers-permutation others new ended.1 h).0 other)
+                | inr on ↦ stays ((SameMembers-permutation (on.0 ∷ others) new on.2 h).0 (inr other))
+              ]
+              | inl same ↦
+                  let parts : list ≡ given ++ first.entry ∷ first.rest = held.3 ∙ ap (λ (g : CursorHead). given ++ g.entry ∷ g.rest) same in
+                  let with = with_last given taken first.entry e gives.2 held.4 in
+                  elim advances.2 [
+                    | inl ended ↦ inl (λ f m. with f (subst (IsIn f) (parts ∙ ap (λ (es : List Entry). given ++ first.entry ∷ es) ended.0) m))
+                    | inr on ↦
+                        let next : CursorHead = on.0 in
+                        inr (next, (SameMembers-permutation (next ∷ others) new on.2 next).0 (inl refl), given ++ first.entry ∷ [], parts ∙ ap (λ (es : List Entry). given ++ first.entry ∷ es) on.1 ∙ sym (append_assoc given (first.entry ∷ []) (next.entry ∷ next.rest)), with)
+                  ]
+            ]
+      ]
+
+  all_from : (taken more : List Entry) (old new : List CursorHead) → IsTakenFrom list taken old → GivesInTurn old more new → IsTakenFrom list (taken ++ more) new
+  all_from taken [] old new from takes = rw (takes, append-nil taken) from
+  all_from taken (e ∷ more) old new from takes =
+      subst (λ (es : List Entry). IsTakenFrom list es new) (append_assoc taken (e ∷ []) more) (all_from (taken ++ e ∷ []) more takes.0 new (one_from taken old takes.0 e from takes.1) takes.2)
+
+module _ (lists : List (List Entry)) (start : WalkValue) (begins : BeginsWalk lists start) where
+  begins_from : (list : List Entry) → IsIn list lists → IsTakenFrom list [] start.heads
+  begins_from [] m = inl (λ e k. k)
+  begins_from (e ∷ es) m =
+      let in_left : IsIn (e ∷ es) (cursor_lists begins.cursors) = subst (IsIn (e ∷ es)) (sym begins.read) (IsIn-kept has_entry (e ∷ es) lists m refl) in
+      let read = IsIn-mapped (λ (g : CursorHead). g.entry ∷ g.rest) (e ∷ es) begins.cursors in_left in
+      inr (read.0, (SameMembers-permutation begins.cursors start.heads begins.placed.same read.0).0 read.1, [], read.2, λ f k. absurd k)
+
+pub takes_from_each : AWalkTakesFromEachCursor
+takes_from_each lists start last taken kept begins took list m = all_from list [] taken start.heads last.heads (begins_from lists start begins list m) took.takes

@@ -1,5 +1,5 @@
 -- What the definition of a merge implies (order theory: a set has one strictly ascending list; LevelDB, doc/impl.md: compactions).
-use Rattle.std.specs.Prelude.{◌≡◌, ℕ, false, List, [], ◌∷◌, ◌++◌, All}
+use Rattle.std.specs.Prelude.{◌≡◌, ◌⊎◌, ℕ, false, List, [], ◌∷◌, ◌++◌, All}
 use Rattle.lsm_key.specs.declared.entry.Entry.{Entry}
 use Rattle.lsm_key.specs.Order.{IsAscending}
 use Rattle.lsm_key.specs.Places.{all_entries}
@@ -27,3 +27,8 @@ AWalkIsRefusedForASharedEntry = (lists : List (List Entry)) (start : WalkValue) 
 -- what a cursor has given, but for the one entry that it is read up to, was taken
 abbrev pub AWalkReadsOneEntryAhead : Type 0
 AWalkReadsOneEntryAhead = (lists : List (List Entry)) (start last : WalkValue) (taken kept : List Entry) → BeginsWalk lists start → Took start taken kept last → (h : CursorHead) → IsIn h last.heads → (given : List Entry) × IsIn (given ++ h.entry ∷ h.rest) lists × ((e : Entry) → IsIn e given → IsIn e taken)
+
+-- of each cursor all was taken, or a head holds the entry that it is read up to, and what it gave before that was taken
+abbrev pub AWalkTakesFromEachCursor : Type 0
+AWalkTakesFromEachCursor = (lists : List (List Entry)) (start last : WalkValue) (taken kept : List Entry) → BeginsWalk lists start → Took start taken kept last → (list : List Entry) → IsIn list lists
+    → ((e : Entry) → IsIn e list → IsIn e taken) ⊎ ((h : CursorHead) × IsIn h last.heads × (given : List Entry) × (list ≡ given ++ h.entry ∷ h.rest) × ((e : Entry) → IsIn e given → IsIn e taken))

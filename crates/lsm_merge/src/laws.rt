@@ -3,7 +3,7 @@
 
 ghost use Rattle.std.specs.Prelude.{◌≡◌};
 ghost use Rattle.lsm_merge.specs.declared.outputs.TheConstants.{OUTPUT_TARGET};
-ghost use Rattle.lsm_merge.specs.Laws.{AMergeHasOneOutcome, AWalkIsRefusedForASharedEntry, AWalkReadsOneEntryAhead, AnEndedWalkGaveWhatIsKept};
+ghost use Rattle.lsm_merge.specs.Laws.{AMergeHasOneOutcome, AWalkIsRefusedForASharedEntry, AWalkReadsOneEntryAhead, AWalkTakesFromEachCursor, AnEndedWalkGaveWhatIsKept};
 
 /// The outputs of a job's tables are determined, to the byte: every worker produces the same.
 pub fn a_merge_has_one_outcome()
@@ -20,10 +20,11 @@ pub fn a_walk_is_refused_for_a_shared_entry()
     ensures { AWalkIsRefusedForASharedEntry }
 {}
 
-/// A walk reads each cursor one entry ahead: what a cursor has given, but for the one entry that the walk holds of it, was taken. So
-/// no list of entries is held.
+/// A walk reads each cursor one entry ahead: what a cursor has given, but for the one entry that the walk holds of it, was taken, and
+/// of one that the walk holds no entry of, all was. So no list of entries is held.
 pub fn a_walk_reads_one_entry_ahead()
-    ensures { AWalkReadsOneEntryAhead }
+    ensures ahead { AWalkReadsOneEntryAhead }
+    ensures each { AWalkTakesFromEachCursor }
 {}
 
 /// The limits of a merge are these numbers.
