@@ -171,6 +171,16 @@ fn short_shelf(alloc: Global) -> Result<Shelf, Fail> {
     Ok(Shelf::new(alloc, first, second, NonZeroUsize::MIN)?)
 }
 
+// Two versions of a key, each so long that look-ups ask the cache, in a block of its own; twice.
+fn version_shelf(alloc: Global) -> Result<Shelf, Fail> {
+    let mut builder = TableBuilder::new(alloc, 1);
+    add(&mut builder, long_put(alloc, 0, Seq::new(2))?)?;
+    add(&mut builder, long_put(alloc, 0, Seq::new(1))?)?;
+    let first = builder.finish_open()?;
+    let second = first.copy()?;
+    Ok(Shelf::new(alloc, first, second, NonZeroUsize::MIN)?)
+}
+
 // Without memory a cache holds fewer blocks, and answers are the same.
 fn are_so_many(held: usize, count: usize) -> Result<(), Fail> {
     if held < count {
@@ -229,10 +239,16 @@ fn unlike_key(alloc: Global, shelf: &mut Shelf, numbers: &[u8]) -> Result<Option
     Ok(None)
 }
 
-// The first sequence at which a look-up of the worked example finds something else.
-fn wrong_row(alloc: Global, shelf: &mut Shelf) -> Result<Option<u64>, AllocError> {
-    for (at, want) in [(2, (2, 0)), (1, (1, 1)), (2, (2, 0)), (1, (1, 1))] {
-        if told(&shelf.of_first(alloc, b"a", Seq::new(at))?) != Some(want) {
+// The first sequence at which a look-up of a key with two versions finds something else than these, which are asked by turns, twice.
+fn wrong_version(
+    alloc: Global,
+    shelf: &mut Shelf,
+    key: &[u8],
+    later: (u64, usize),
+    earlier: (u64, usize),
+) -> Result<Option<u64>, AllocError> {
+    for (at, want) in [(2, later), (1, earlier), (2, later), (1, earlier)] {
+        if told(&shelf.of_first(alloc, key, Seq::new(at))?) != Some(want) {
             return Ok(Some(at));
         }
     }
@@ -244,11 +260,24 @@ fn wrong_row(alloc: Global, shelf: &mut Shelf) -> Result<Option<u64>, AllocError
 #[test]
 fn the_worked_row(rt: HostRuntime) -> Result<(), Fail> {
     let mut shelf = short_shelf(rt.alloc())?;
-    let wrong = wrong_row(rt.alloc(), &mut shelf);
+    let wrong = wrong_version(rt.alloc(), &mut shelf, b"a", (2, 0), (1, 1));
     drop(shelf);
     let wrong = wrong?;
     assert!(rt; wrong.is_none(), "at {wrong:?}");
     Ok(())
+}
+
+#[test]
+fn versions_of_a_key_are_found_through_the_cache(rt: HostRuntime) -> Result<(), Fail> {
+    let mut shelf = version_shelf(rt.alloc())?;
+    let (later, earlier) = ((2, 65_536), (1, 65_536));
+    let wrong = wrong_version(rt.alloc(), &mut shelf, &key_of(0), later, earlier);
+    let held = shelf.held();
+    drop(shelf);
+    let wrong = wrong?;
+    assert!(rt; wrong.is_none(), "at {wrong:?}");
+    assert!(rt; held <= 1);
+    are_so_many(held, 1)
 }
 
 #[test]
