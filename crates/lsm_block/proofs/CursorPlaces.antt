@@ -10,7 +10,7 @@ use Rattle.lsm_key.specs.Entries.{IsEntry}
 use Rattle.lsm_key.specs.Order.{key_le}
 use Rattle.std.specs.List.{filter}
 use Rattle.lsm_block.specs.Blocks.{HasSequence, entry, entries}
-use Rattle.lsm_block.specs.BlockReading.{entry_at}
+use Rattle.lsm_block.specs.BlockReading.{entry_at, entry_within}
 use Rattle.lsm_block.specs.Cursors.{IsPlaceIn, entries_from}
 use Rattle.lsm_block.specs.Indexed.{block_entries}
 use Rattle.lsm_block.specs.Ranges.{IsLowerPlace}
@@ -22,7 +22,7 @@ use Rattle.lsm_block.proofs.SpanFronts.{apart, step}
 use Rattle.lsm_block.proofs.SpanRanges.{more_span}
 
 entry_of_none : entry_at [] ≡ Err Truncated
-unfolding entry_at key_at
+unfolding entry_within key_at
 entry_of_none = refl
 
 -- an entry that is read in front of a span is its first one, and begins its bytes

@@ -12,6 +12,7 @@ use Rattle.std.proofs.Math.Seq.{take-append_seam}
 use Rattle.std.proofs.lemmas.List.{append-nil, length-append, get_or_append_left, get_or_past, drop_at}
 use Rattle.std.proofs.lemmas.List.Concat.{flat_map-append, flat_map-cons}
 use Rattle.lsm_key.specs.declared.entry.Entry.{Entry}
+use Rattle.lsm_key.specs.declared.limits.TheConstants.{MAX_KEY_BYTES}
 use Rattle.lsm_key.specs.Order.{Precedes, key_lt, place_cmp}
 use Rattle.lsm_key.specs.Prefix.{prefix_of}
 use Rattle.lsm_key.specs.Spelling.{key, trailer}
@@ -25,7 +26,7 @@ use Rattle.lsm_block.specs.Fences.{AreFences, MayBegin, MayEnd}
 use Rattle.lsm_block.specs.Handles.{IsPartAt, IsHandleFor}
 use Rattle.lsm_block.specs.Spans.{IsSpan}
 use Rattle.lsm_block.specs.declared.handle.BlockHandle.{BlockHandle}
-use Rattle.lsm_block.proofs.BlockRuns.{entry_some}
+use Rattle.lsm_block.proofs.BlockRuns.{all_short, entry_some}
 use Rattle.lsm_block.proofs.BlocksInTurn.{sound_front}
 use Rattle.lsm_block.proofs.EntriesGrow.{has_some}
 use Rattle.lsm_block.proofs.FencedSpans.{front_hides_nothing, sound_rest}
@@ -182,20 +183,22 @@ handle_found front bytes prefixes places es k begin end span fits key_is fenced 
 
 -- ---- the bytes of a handle
 
-module _ (bytes : List ℕ) (es : List Entry) (handle : BlockHandle) (part : List Entry) (is : IsBlock bytes es) (at : IsPartAt es handle part) where
+module _ (bytes : List ℕ) (es : List Entry) (handle : BlockHandle) (part : List Entry) (is : IsBlock MAX_KEY_BYTES bytes es) (at : IsPartAt es handle part) where
   split : bytes ≡ entries at.before ++ (entries part ++ entries at.after)
   split = is.spelled ∙ ap (λ (xs : List Entry). entries xs) at.parts ∙ flat_map-append entry at.before (part ++ at.after) ∙ ap (λ (b : List ℕ). entries at.before ++ b) (flat_map-append entry part at.after)
 
   pub part_within : handle.offset + handle.size ≤ length bytes
   part_within = omega (arith, at.begins, at.sized, ap length split, length-append (entries at.before) (entries part ++ entries at.after), length-append (entries part) (entries at.after))
 
-  pub part_block : 0 < length part → IsBlock (slice_range bytes handle.offset (handle.offset + handle.size)) part
+  pub part_block : 0 < length part → IsBlock MAX_KEY_BYTES (slice_range bytes handle.offset (handle.offset + handle.size)) part
   part_block some =
       let size : handle.offset + handle.size - handle.offset ≡ length (entries part) = omega (arith, at.sized) in
       let behind : drop handle.offset bytes ≡ entries part ++ entries at.after = ap (drop handle.offset) split ∙ drop_at (entries at.before) (entries part ++ entries at.after) handle.offset (sym at.begins) in
+      let sound = sound_front part at.after (sound_rest at.before (part ++ at.after) (subst AreEntries at.parts is.sound)) in
       record {
         some = some;
-        sound = sound_front part at.after (sound_rest at.before (part ++ at.after) (subst AreEntries at.parts is.sound));
+        sound = sound;
+        short = all_short part sound.each;
         spelled = ap (λ (n : ℕ). take n (drop handle.offset bytes)) size ∙ ap (take (length (entries part))) behind ∙ take-append_seam (entries part) (entries at.after);
       }
 

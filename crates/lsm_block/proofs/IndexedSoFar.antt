@@ -7,10 +7,11 @@ use Rattle.std.proofs.Math.Seq.{get_or-append_seam}
 use Rattle.std.proofs.lemmas.List.{length-append, append-nil, get_or_append_left, nil_from_length, take-append-drop}
 use Rattle.std.proofs.lemmas.List.Concat.{flat_map-append}
 use Rattle.lsm_key.specs.declared.entry.Entry.{Entry}
+use Rattle.lsm_key.specs.declared.limits.TheConstants.{MAX_KEY_BYTES}
 use Rattle.lsm_key.specs.Order.{place_cmp}
 use Rattle.lsm_key.specs.Prefix.{prefix_of}
 use Rattle.lsm_block.specs.Blocks.{entry, entries}
-use Rattle.lsm_block.specs.BlockReading.{last_of, may_follow, entry_at, next_at, entries_at}
+use Rattle.lsm_block.specs.BlockReading.{last_of, may_follow, entry_within, next_at, entries_at}
 use Rattle.lsm_block.specs.declared.fault.BlockFault.{BlockFault}
 use Rattle.lsm_block.specs.declared.fault.BlockFault.TheVariants.{OutOfOrder}
 use Rattle.lsm_block.specs.Fences.{AreFences, IsFence}
@@ -43,17 +44,17 @@ may_follow_key es key seq e is some = by (last_of es) is
     by (Some l) own = λ i. is_lt (place_cmp (own.0 i) (own.1 i) e.ikey.key e.ikey.seq)
 
 -- the entry in front is the next one if it comes after the last key
-pub next_read : (es : List Entry) (key : List ℕ) (seq : ℕ) (rest : List ℕ) (e : Entry) (after : List ℕ) (b : Bool) → IsBytes rest → IsLastKey es key seq → entry_at rest ≡ Ok (e, after)
-    → is_lt (place_cmp key seq e.ikey.key e.ikey.seq) ≡ b → next_at es rest ≡ cond b (Ok (e, after)) (Err OutOfOrder)
+pub next_read : (limit : ℕ) → limit ≤ MAX_KEY_BYTES → (es : List Entry) (key : List ℕ) (seq : ℕ) (rest : List ℕ) (e : Entry) (after : List ℕ) (b : Bool) → IsBytes rest → IsLastKey es key seq → entry_within limit rest ≡ Ok (e, after)
+    → is_lt (place_cmp key seq e.ikey.key e.ikey.seq) ≡ b → next_at limit es rest ≡ cond b (Ok (e, after)) (Err OutOfOrder)
 unfolding next_at
-next_read es key seq rest e after b fits is read h =
-    let one = (entry_takes rest (e, after) fits read).1 in
+next_read limit le es key seq rest e after b fits is read h =
+    let one = (entry_takes limit le rest (e, after) fits read).1 in
     let follows : may_follow (last_of es) e ≡ b = may_follow_key es key seq e is (omega (arith, one.key.0)) ∙ h in
     rw (read, follows) refl
 
-pub next_faulty : (es : List Entry) (rest : List ℕ) (f : BlockFault) → entry_at rest ≡ Err f → next_at es rest ≡ Err f
+pub next_faulty : (limit : ℕ) (es : List Entry) (rest : List ℕ) (f : BlockFault) → entry_within limit rest ≡ Err f → next_at limit es rest ≡ Err f
 unfolding next_at
-next_faulty es rest f h = rw h refl
+next_faulty limit es rest f h = rw h refl
 
 -- ---- fences
 
@@ -101,8 +102,8 @@ module _ (front : List ℕ) (es : List Entry) (prefixes places : List ℕ) (are 
 -- ---- the walk
 
 -- entries read so far, the key of the last, their count and fences
-pub record Walked (given : Result (List Entry) BlockFault) (bytes : List ℕ) (es : List Entry) (rest key : List ℕ) (seq : ℕ) (front prefixes places : List ℕ) (count : ℕ) : Type 0 where
-  pub so_far : ReadSoFar given es rest
+pub record Walked (limit : ℕ) (given : Result (List Entry) BlockFault) (bytes : List ℕ) (es : List Entry) (rest key : List ℕ) (seq : ℕ) (front prefixes places : List ℕ) (count : ℕ) : Type 0 where
+  pub so_far : ReadSoFar limit given es rest
   pub parts : bytes ≡ entries es ++ rest
   pub last : IsLastKey es key seq
   pub fenced : AreFences front es prefixes places
@@ -110,12 +111,12 @@ pub record Walked (given : Result (List Entry) BlockFault) (bytes : List ℕ) (e
   pub few : length es ≤ length (entries es)
 
 -- what was found before the place where the walk begins
-pub walk_starts : (bytes : List ℕ) (begin : ℕ) (found : Indexed) (key : List ℕ) (seq : ℕ) → IsBytes bytes → IsReadTo bytes begin found → IsLastKey (entries_before bytes begin) key seq
-    → Walked (entries_at (length (drop begin bytes) + 1) (entries_before bytes begin) (drop begin bytes)) bytes (entries_before bytes begin) (drop begin bytes) key seq found.fences.front found.fences.prefixes.items found.fences.places.items found.count
-walk_starts bytes begin found key seq fits known last =
+pub walk_starts : (limit : ℕ) (bytes : List ℕ) (begin : ℕ) (found : Indexed) (key : List ℕ) (seq : ℕ) → IsBytes bytes → IsReadTo bytes begin found → IsLastKey (entries_before bytes begin) key seq
+    → Walked limit (entries_at limit (length (drop begin bytes) + 1) (entries_before bytes begin) (drop begin bytes)) bytes (entries_before bytes begin) (drop begin bytes) key seq found.fences.front found.fences.prefixes.items found.fences.places.items found.count
+walk_starts limit bytes begin found key seq fits known last =
     let es = entries_before bytes begin in
     record {
-      so_far = starts es (drop begin bytes) known.span.sound (IsBytes-drop begin bytes fits);
+      so_far = starts limit es (drop begin bytes) known.span.sound (IsBytes-drop begin bytes fits);
       parts = sym (take-append-drop begin bytes) ∙ ap (λ (b : List ℕ). b ++ drop begin bytes) known.span.spelled;
       last = last;
       fenced = known.index.fenced;
@@ -123,16 +124,16 @@ walk_starts bytes begin found key seq fits known last =
       few = as_long es;
     }
 
-module _ (given : Result (List Entry) BlockFault) (bytes : List ℕ) (es : List Entry) (rest key : List ℕ) (seq : ℕ) (front prefixes places : List ℕ) (count : ℕ) (w : Walked given bytes es rest key seq front prefixes places count) where
+module _ (limit : ℕ) (le : limit ≤ MAX_KEY_BYTES) (given : Result (List Entry) BlockFault) (bytes : List ℕ) (es : List Entry) (rest key : List ℕ) (seq : ℕ) (front prefixes places : List ℕ) (count : ℕ) (w : Walked limit given bytes es rest key seq front prefixes places count) where
   pub place_is : length bytes - length rest ≡ length (entries es)
   place_is = omega (arith, ap length w.parts, length-append (entries es) rest)
 
-  pub walk_fails : (f : BlockFault) → next_at es rest ≡ Err f → given ≡ Err f
-  walk_fails f h = faulty given es rest (Fault f) w.so_far h
+  pub walk_fails : (f : BlockFault) → next_at limit es rest ≡ Err f → given ≡ Err f
+  walk_fails f h = faulty limit given es rest (Fault f) w.so_far h
 
-  module _ (e : Entry) (after : List ℕ) (read : next_at es rest ≡ Ok (e, after)) where
+  module _ (e : Entry) (after : List ℕ) (read : next_at limit es rest ≡ Ok (e, after)) where
     pub walk_shortens : length after < length rest
-    walk_shortens = (goes_on given es rest e after w.so_far read).0
+    walk_shortens = (goes_on limit le given es rest e after w.so_far read).0
 
     -- so many entries are no more than the bytes
     pub count_fits : count + 1 ≤ length bytes
@@ -140,14 +141,14 @@ module _ (given : Result (List Entry) BlockFault) (bytes : List ℕ) (es : List 
 
     split : bytes ≡ entries (es ++ e ∷ []) ++ after
     split =
-        let takes = (next_takes es rest (e, after) w.so_far.fits w.so_far.sound read).0 in
+        let takes = (next_takes limit le es rest (e, after) w.so_far.fits w.so_far.sound read).0 in
         let more_is : entries (es ++ e ∷ []) ≡ entries es ++ entry e = flat_map-append entry es (e ∷ []) ∙ ap (λ (b : List ℕ). entries es ++ b) (append-nil (entry e)) in
         w.parts ∙ ap (λ (b : List ℕ). entries es ++ b) takes.parts ∙ sym (append_assoc (entries es) (entry e) after) ∙ ap (λ (b : List ℕ). b ++ after) (sym more_is)
 
     module _ (others : List ℕ) (more : List ℕ) (ahead : List ℕ) (fenced : AreFences others (es ++ e ∷ []) more ahead) where
-      pub walk_goes_on : (length after ≡ 0 → ⊥) → Walked given bytes (es ++ e ∷ []) after e.ikey.key e.ikey.seq others more ahead (count + 1)
+      pub walk_goes_on : (length after ≡ 0 → ⊥) → Walked limit given bytes (es ++ e ∷ []) after e.ikey.key e.ikey.seq others more ahead (count + 1)
       walk_goes_on some = record {
-        so_far = (goes_on given es rest e after w.so_far read).2 some;
+        so_far = (goes_on limit le given es rest e after w.so_far read).2 some;
         parts = split;
         last = rw (last_added es e) (refl, refl);
         fenced = fenced;
@@ -157,9 +158,9 @@ module _ (given : Result (List Entry) BlockFault) (bytes : List ℕ) (es : List 
 
       pub walk_ends : length after ≡ 0 → (given ≡ Ok (es ++ e ∷ [])) × IsSpan bytes (es ++ e ∷ [])
       walk_ends none = (
-        (goes_on given es rest e after w.so_far read).3 none,
+        (goes_on limit le given es rest e after w.so_far read).3 none,
         record {
-          sound = (goes_on given es rest e after w.so_far read).1;
+          sound = (goes_on limit le given es rest e after w.so_far read).1;
           spelled = split ∙ ap (λ (b : List ℕ). entries (es ++ e ∷ []) ++ b) (nil_from_length after none) ∙ append-nil (entries (es ++ e ∷ []));
         },
       )

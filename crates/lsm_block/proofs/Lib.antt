@@ -1,6 +1,7 @@
 pub mod EntriesGrow
 pub mod BlockFields
 pub mod BlockRuns
+pub mod WiderBlocks
 pub mod FencedSpans
 pub mod IndexedSoFar
 pub mod BlockEntries
@@ -11,6 +12,7 @@ pub mod SpanRanges
 pub mod RangeFilters
 pub mod RangeLoops
 pub mod BlocksInTurn
+pub mod BlockBeginnings
 pub mod HandleParts
 pub mod EntryParts
 pub mod CursorPlaces

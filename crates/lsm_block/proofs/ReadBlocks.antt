@@ -5,23 +5,24 @@ use Rattle.std.proofs.lemmas.List.{take_rest, take_all, take-append-drop, take-t
 use Rattle.std.proofs.Math.Seq.{take-add}
 use Rattle.std.proofs.lemmas.List.Concat.{flat_map-append}
 use Rattle.lsm_key.specs.declared.entry.Entry.{Entry}
+use Rattle.lsm_key.specs.declared.limits.TheConstants.{MAX_KEY_BYTES}
 use Rattle.lsm_key.specs.declared.refused.Refused.{Refused}
 use Rattle.lsm_key.specs.Reading.{Fails, key_at}
 use Rattle.lsm_block.specs.declared.fault.BlockFault.{BlockFault}
 use Rattle.lsm_block.specs.declared.indexing.Indexed.{Indexed}
 use Rattle.lsm_block.specs.Blocks.{entry, entries, IsBlock}
-use Rattle.lsm_block.specs.BlockReading.{last_of, entry_at, next_at, entries_at, read_block}
+use Rattle.lsm_block.specs.BlockReading.{last_of, entry_at, entry_within, next_at, entries_at, read_block}
 use Rattle.lsm_block.specs.Indexed.{AreIndexed, IsIndexedBlock, IsLastKey, IsReadTo, block_entries, entries_read, entries_before}
 use Rattle.lsm_block.specs.Spans.{IsSpan}
 use Rattle.lsm_block.proofs.EntriesGrow.{no_entries}
-use Rattle.lsm_block.proofs.BlockRuns.{as_long, block_again}
+use Rattle.lsm_block.proofs.BlockRuns.{all_short, as_long, block_again}
 use Rattle.lsm_block.proofs.BlockEntries.{last_read}
 use Rattle.lsm_block.proofs.FencedSpans.{rest_span}
 use Rattle.lsm_block.proofs.SpanFronts.{faultless}
 
 -- no bytes are no block
 pub none_read : block_entries [] ≡ []
-unfolding read_block entries_at next_at entry_at key_at
+unfolding read_block entries_at next_at entry_within key_at
 none_read = refl
 
 -- nothing is read yet
@@ -33,11 +34,11 @@ read_none bytes found is = record {
 }
 
 -- the entries of a span that has some
-pub block_of : (bytes : List ℕ) (es : List Entry) → 0 < length es → IsSpan bytes es → IsBlock bytes es
-block_of bytes es some span = record { some = some; sound = span.sound; spelled = span.spelled }
+pub block_of : (bytes : List ℕ) (es : List Entry) → 0 < length es → IsSpan bytes es → IsBlock MAX_KEY_BYTES bytes es
+block_of bytes es some span = record { some = some; sound = span.sound; short = all_short es span.sound.each; spelled = span.spelled }
 
 pub entries_of : (bytes : List ℕ) (es : List Entry) → 0 < length es → IsSpan bytes es → block_entries bytes ≡ es
-entries_of bytes es some span = ap entries_read (block_again bytes es (block_of bytes es some span))
+entries_of bytes es some span = ap entries_read (block_again MAX_KEY_BYTES bytes es (block_of bytes es some span))
 
 pub of_span : (bytes : List ℕ) (es : List Entry) → IsSpan bytes es → block_entries bytes ≡ es
 of_span bytes [] span = ap block_entries span.spelled ∙ none_read
@@ -80,10 +81,10 @@ read_all bytes read found is more none =
     let es = entries_before bytes read in
     let same : block_entries bytes ≡ es = all_entries bytes read none in
     let whole : take read bytes ≡ bytes = take_all read bytes (omega (arith, length-drop read bytes, ap length none)) in
-    let block : IsBlock bytes es = block_of bytes es more (subst (λ (b : List ℕ). IsSpan b es) whole is.span) in
+    let block : IsBlock MAX_KEY_BYTES bytes es = block_of bytes es more (subst (λ (b : List ℕ). IsSpan b es) whole is.span) in
     record {
-      read = block_again bytes es block ∙ ap (λ (zs : List Entry). Ok zs) (sym same);
-      block = subst (IsBlock bytes) (sym same) block;
+      read = block_again MAX_KEY_BYTES bytes es block ∙ ap (λ (zs : List Entry). Ok zs) (sym same);
+      block = subst (IsBlock MAX_KEY_BYTES bytes) (sym same) block;
       index = subst (λ (zs : List Entry). AreIndexed zs found) (sym same) is.index;
     }
 
@@ -128,49 +129,49 @@ pub key_of_none : (es : List Entry) (seq : ℕ) → None ≡ last_of es → IsLa
 key_of_none es seq is = rw (← is) refl
 
 -- a walk over all bytes from their front is the reading of a block
-pub from_front : (bytes : List ℕ) → entries_at (length bytes - 0 + 1) (entries_before bytes 0) (take (length bytes - 0) (drop 0 bytes)) ≡ read_block bytes
+pub from_front : (limit : ℕ) (bytes : List ℕ) → entries_at limit (length bytes - 0 + 1) (entries_before bytes 0) (take (length bytes - 0) (drop 0 bytes)) ≡ read_block limit bytes
 unfolding read_block
-from_front bytes =
+from_front limit bytes =
     let n : length bytes - 0 ≡ length bytes = omega arith in
-    ap (λ (i : ℕ). entries_at (i + 1) (entries_before bytes 0) (take i bytes)) n
-    ∙ ap (λ (b : List ℕ). entries_at (length bytes + 1) (entries_before bytes 0) b) (take_all (length bytes) bytes (omega arith))
-    ∙ ap (λ (es : List Entry). entries_at (length bytes + 1) es bytes) none_read
+    ap (λ (i : ℕ). entries_at limit (i + 1) (entries_before bytes 0) (take i bytes)) n
+    ∙ ap (λ (b : List ℕ). entries_at limit (length bytes + 1) (entries_before bytes 0) b) (take_all (length bytes) bytes (omega arith))
+    ∙ ap (λ (es : List Entry). entries_at limit (length bytes + 1) es bytes) none_read
 
 -- a walk over the bytes up to an end is one over those between
-pub cut_same : (bytes : List ℕ) (begin end : ℕ) → begin ≤ end → end ≤ length bytes
-    → entries_at (length (drop begin (take end bytes)) + 1) (entries_before (take end bytes) begin) (drop begin (take end bytes)) ≡ entries_at (end - begin + 1) (entries_before bytes begin) (take (end - begin) (drop begin bytes))
-cut_same bytes begin end le within =
+pub cut_same : (limit : ℕ) (bytes : List ℕ) (begin end : ℕ) → begin ≤ end → end ≤ length bytes
+    → entries_at limit (length (drop begin (take end bytes)) + 1) (entries_before (take end bytes) begin) (drop begin (take end bytes)) ≡ entries_at limit (end - begin + 1) (entries_before bytes begin) (take (end - begin) (drop begin bytes))
+cut_same limit bytes begin end le within =
     let len : length (drop begin (take end bytes)) ≡ end - begin = omega (arith, length-drop begin (take end bytes), length-take-le end bytes within) in
-    ap (λ (n : ℕ). entries_at (n + 1) (entries_before (take end bytes) begin) (drop begin (take end bytes))) len
-    ∙ ap (λ (es : List Entry). entries_at (end - begin + 1) es (drop begin (take end bytes))) (same_before bytes begin end le)
-    ∙ ap (λ (b : List ℕ). entries_at (end - begin + 1) (entries_before bytes begin) b) (same_after bytes begin end le within)
+    ap (λ (n : ℕ). entries_at limit (n + 1) (entries_before (take end bytes) begin) (drop begin (take end bytes))) len
+    ∙ ap (λ (es : List Entry). entries_at limit (end - begin + 1) es (drop begin (take end bytes))) (same_before bytes begin end le)
+    ∙ ap (λ (b : List ℕ). entries_at limit (end - begin + 1) (entries_before bytes begin) b) (same_after bytes begin end le within)
 
 -- so is what it found
-pub cut_read : (bytes : List ℕ) (begin end : ℕ) (found : Indexed) → begin ≤ end → end ≤ length bytes
-    → (entries_at (length (drop begin (take end bytes)) + 1) (entries_before (take end bytes) begin) (drop begin (take end bytes)) ≡ Ok (entries_before (take end bytes) (length (take end bytes)))) × IsReadTo (take end bytes) (length (take end bytes)) found
-    → (entries_at (end - begin + 1) (entries_before bytes begin) (take (end - begin) (drop begin bytes)) ≡ Ok (entries_before bytes end)) × IsReadTo bytes end found
-cut_read bytes begin end found le within is = (
-  sym (cut_same bytes begin end le within) ∙ is.0 ∙ ap (λ (b : List ℕ). Ok (block_entries b)) (take_all (length (take end bytes)) (take end bytes) (omega arith)),
+pub cut_read : (limit : ℕ) (bytes : List ℕ) (begin end : ℕ) (found : Indexed) → begin ≤ end → end ≤ length bytes
+    → (entries_at limit (length (drop begin (take end bytes)) + 1) (entries_before (take end bytes) begin) (drop begin (take end bytes)) ≡ Ok (entries_before (take end bytes) (length (take end bytes)))) × IsReadTo (take end bytes) (length (take end bytes)) found
+    → (entries_at limit (end - begin + 1) (entries_before bytes begin) (take (end - begin) (drop begin bytes)) ≡ Ok (entries_before bytes end)) × IsReadTo bytes end found
+cut_read limit bytes begin end found le within is = (
+  sym (cut_same limit bytes begin end le within) ∙ is.0 ∙ ap (λ (b : List ℕ). Ok (block_entries b)) (take_all (length (take end bytes)) (take end bytes) (omega arith)),
   read_behind bytes end found within is.1,
 )
 
 -- what reading gives of the next bytes
-pub read_on : (bytes slice : List ℕ) (read len : ℕ) (found : Indexed) → slice ≡ bytes
-    → (entries_at (read + len - read + 1) (entries_before slice read) (take (read + len - read) (drop read slice)) ≡ Ok (entries_before slice (read + len))) × IsReadTo slice (read + len) found
-    → (entries_at (len + 1) (entries_before bytes read) (take len (drop read bytes)) ≡ Ok (entries_before bytes (read + len))) × IsReadTo bytes (read + len) found
-read_on bytes slice read len found is given =
+pub read_on : (limit : ℕ) (bytes slice : List ℕ) (read len : ℕ) (found : Indexed) → slice ≡ bytes
+    → (entries_at limit (read + len - read + 1) (entries_before slice read) (take (read + len - read) (drop read slice)) ≡ Ok (entries_before slice (read + len))) × IsReadTo slice (read + len) found
+    → (entries_at limit (len + 1) (entries_before bytes read) (take len (drop read bytes)) ≡ Ok (entries_before bytes (read + len))) × IsReadTo bytes (read + len) found
+read_on limit bytes slice read len found is given =
     let n : read + len - read ≡ len = omega arith in
-    let all = subst (λ (b : List ℕ). (entries_at (read + len - read + 1) (entries_before b read) (take (read + len - read) (drop read b)) ≡ Ok (entries_before b (read + len))) × IsReadTo b (read + len) found) is given in
-    (ap (λ (i : ℕ). entries_at (i + 1) (entries_before bytes read) (take i (drop read bytes))) (sym n) ∙ all.0, all.1)
+    let all = subst (λ (b : List ℕ). (entries_at limit (read + len - read + 1) (entries_before b read) (take (read + len - read) (drop read b)) ≡ Ok (entries_before b (read + len))) × IsReadTo b (read + len) found) is given in
+    (ap (λ (i : ℕ). entries_at limit (i + 1) (entries_before bytes read) (take i (drop read bytes))) (sym n) ∙ all.0, all.1)
 
 -- after a refusal nothing is read, and all bytes are left
 pub all_left : (bytes : List ℕ) (read : ℕ) (found : Indexed) → IsReadTo bytes read found → drop 0 bytes ≡ entries (entries_before bytes read) ++ drop read bytes
 all_left bytes read found is = sym (take-append-drop read bytes) ∙ ap (λ (b : List ℕ). b ++ drop read bytes) is.span.spelled
 
-pub fails_on : (bytes slice : List ℕ) (read len : ℕ) (e : Refused BlockFault) → slice ≡ bytes
-    → Fails e (entries_at (read + len - read + 1) (entries_before slice read) (take (read + len - read) (drop read slice)))
-    → Fails e (entries_at (len + 1) (entries_before bytes read) (take len (drop read bytes)))
-fails_on bytes slice read len e is failed =
+pub fails_on : (limit : ℕ) (bytes slice : List ℕ) (read len : ℕ) (e : Refused BlockFault) → slice ≡ bytes
+    → Fails e (entries_at limit (read + len - read + 1) (entries_before slice read) (take (read + len - read) (drop read slice)))
+    → Fails e (entries_at limit (len + 1) (entries_before bytes read) (take len (drop read bytes)))
+fails_on limit bytes slice read len e is failed =
     let n : read + len - read ≡ len = omega arith in
-    subst (λ (b : List ℕ). Fails e (entries_at (len + 1) (entries_before b read) (take len (drop read b)))) is
-    (subst (λ (i : ℕ). Fails e (entries_at (i + 1) (entries_before slice read) (take i (drop read slice)))) n failed)
+    subst (λ (b : List ℕ). Fails e (entries_at limit (len + 1) (entries_before b read) (take len (drop read b)))) is
+    (subst (λ (i : ℕ). Fails e (entries_at limit (i + 1) (entries_before slice read) (take i (drop read slice)))) n failed)

@@ -17,13 +17,17 @@ value_at kind bytes = do
   n ← number_at Truncated w32 bytes
   if nat_lt (longest kind) n.0 then Err BadLength else piece_at Truncated n.0 n.1
 
--- an entry: its key, its trailer, its value
-unfoldable pub entry_at : List ℕ → Result (Entry × List ℕ) BlockFault
-entry_at bytes = do
-  key ← key_at MAX_KEY_BYTES Truncated BadLength bytes
+-- an entry: its key, which has at most limit bytes, its trailer, its value
+unfoldable pub entry_within : ℕ → List ℕ → Result (Entry × List ℕ) BlockFault
+entry_within limit bytes = do
+  key ← key_at limit Truncated BadLength bytes
   tag ← trailer_at Truncated BadKind key.1
   value ← value_at tag.0.1 tag.1
   Ok (record { ikey = record { key = key.0; seq = tag.0.0; kind = tag.0.1 }; value = value.0 }, value.1)
+
+-- an entry of any key
+abbrev pub entry_at : List ℕ → Result (Entry × List ℕ) BlockFault
+entry_at bytes = entry_within MAX_KEY_BYTES bytes
 
 abbrev pub last_of : List Entry → Option Entry
 last_of es = slice_get es (length es - 1)
@@ -34,18 +38,18 @@ may_follow None e = true
 may_follow (Some l) e = is_lt (place_cmp l.ikey.key l.ikey.seq e.ikey.key e.ikey.seq)
 
 -- the entry after these ones
-unfoldable pub next_at : List Entry → List ℕ → Result (Entry × List ℕ) BlockFault
-next_at es bytes = do
-  x ← entry_at bytes
+unfoldable pub next_at : ℕ → List Entry → List ℕ → Result (Entry × List ℕ) BlockFault
+next_at limit es bytes = do
+  x ← entry_within limit bytes
   if may_follow (last_of es) x.0 then Ok x else Err OutOfOrder
 
 -- entries to the end of the bytes, after these ones, fewer than n of them
-unfoldable pub entries_at : ℕ → List Entry → List ℕ → Result (List Entry) BlockFault
-entries_at zero es bytes = Err Truncated
-entries_at (suc n) es bytes = do
-  x ← next_at es bytes
-  if length x.1 == 0 then Ok (es ++ x.0 ∷ []) else entries_at n (es ++ x.0 ∷ []) x.1
+unfoldable pub entries_at : ℕ → ℕ → List Entry → List ℕ → Result (List Entry) BlockFault
+entries_at limit zero es bytes = Err Truncated
+entries_at limit (suc n) es bytes = do
+  x ← next_at limit es bytes
+  if length x.1 == 0 then Ok (es ++ x.0 ∷ []) else entries_at limit n (es ++ x.0 ∷ []) x.1
 
--- all of the bytes, which have no more entries than bytes
-unfoldable pub read_block : List ℕ → Result (List Entry) BlockFault
-read_block bytes = entries_at (length bytes + 1) [] bytes
+-- all of the bytes, which have no more entries than bytes; no key has more than limit bytes
+unfoldable pub read_block : ℕ → List ℕ → Result (List Entry) BlockFault
+read_block limit bytes = entries_at limit (length bytes + 1) [] bytes

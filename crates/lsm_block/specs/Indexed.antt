@@ -1,6 +1,7 @@
 -- What a walk over the bytes of a block finds.
 use Rattle.std.specs.Prelude.{◌≡◌, ℕ, ◌<◌, ◌≤◌, List, [], ◌∷◌, ◌++◌, length, take, MatchOption, Result, Ok, Err}
 use Rattle.lsm_key.specs.declared.entry.Entry.{Entry}
+use Rattle.lsm_key.specs.declared.limits.TheConstants.{MAX_KEY_BYTES}
 use Rattle.lsm_block.specs.declared.indexing.Indexed.{Indexed}
 use Rattle.lsm_block.specs.declared.fault.BlockFault.{BlockFault}
 use Rattle.lsm_block.specs.Blocks.{entries, IsBlock}
@@ -30,14 +31,14 @@ abbrev pub entries_read : Result (List Entry) BlockFault → List Entry
 entries_read (Ok es) = es
 entries_read (Err f) = []
 
--- the entries of the block that the bytes are
+-- the entries of the block that the bytes are, whatever the limit by which they were read as one
 abbrev pub block_entries : List ℕ → List Entry
-block_entries bytes = entries_read (read_block bytes)
+block_entries bytes = entries_read (read_block MAX_KEY_BYTES bytes)
 
 -- the bytes are a block, and its index was found
 pub record IsIndexedBlock (bytes : List ℕ) (found : Indexed) : Type 0 where
-  pub read : read_block bytes ≡ Ok (block_entries bytes)
-  pub block : IsBlock bytes (block_entries bytes)
+  pub read : read_block MAX_KEY_BYTES bytes ≡ Ok (block_entries bytes)
+  pub block : IsBlock MAX_KEY_BYTES bytes (block_entries bytes)
   pub index : AreIndexed (block_entries bytes) found
 
 -- the entries of the first so many bytes

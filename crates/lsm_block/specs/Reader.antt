@@ -2,7 +2,8 @@
 use Rattle.std.specs.Prelude.{ℕ, List}
 use Rattle.lsm_key.specs.declared.entry.Entry.{Entry}
 
--- the value of a reader: the entries of the blocks that it has read, and the bytes after them
+-- the value of a reader: the most bytes of a key, the entries of the blocks that it has read, and the bytes after them
 pub record ReaderValue : Type 0 where
+  pub limit : ℕ
   pub entries : List Entry
   pub rest : List ℕ

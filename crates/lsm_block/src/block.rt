@@ -1,6 +1,6 @@
 //! Blocks: one or more entries in the order of their internal keys, without a gap.
 
-ghost use Rattle.std.specs.Prelude.{◌≡◌, List, [], IfOk, Ok, Some, filter, length, slice_get};
+ghost use Rattle.std.specs.Prelude.{◌≡◌, ◌≤◌, List, [], IfOk, Ok, Some, filter, length, slice_get};
 ghost use Rattle.std.specs.Option.{option_map};
 ghost use Rattle.lsm_key.specs.declared.entry.Entry.{Entry};
 ghost use Rattle.lsm_key.specs.Visible.{visible, lent_entry};
@@ -20,7 +20,7 @@ use crate::indexing::{Indexed, index_block};
 use crate::ranges::{entries_between, entries_in, lower_in};
 use crate::reading::read_entry;
 use bytes::Bytes;
-use lsm_key::{Entry, EntryRef, Seq, know_bytes};
+use lsm_key::{Entry, EntryRef, MAX_KEY_BYTES, Seq, know_bytes};
 use std::alloc::{AllocError, Global};
 use std::marker::Model;
 use std::sync::Arc;
@@ -107,7 +107,7 @@ impl Block {
         let _most = self.bytes.len();
         let end = handle.offset + handle.size;
         let bytes = self.bytes.slice(handle.offset..end)?;
-        match decode_with_hints(alloc, bytes, Bytes::new(), 0) {
+        match decode_with_hints(alloc, bytes, Bytes::new(), 0, MAX_KEY_BYTES) {
             Ok(part) => Ok(part),
             // Memory ran out: whole entries of a block have no fault.
             Err(_) => Err(AllocError),
@@ -167,30 +167,35 @@ impl Block {
     }
 }
 
-/// The block that the bytes encode, all of them. Shares the bytes. The hints are what most of its keys begin with, and about how many
-/// entries it has. Any will do: with good ones a look-up is fast, and no memory is moved.
+/// The block that the bytes encode, all of them. Shares the bytes. No key has more than `max_key` bytes, which is no more than
+/// `MAX_KEY_BYTES`. The hints are what most of its keys begin with, and about how many entries it has. Any will do: with good ones a look-up
+/// is fast, and no memory is moved.
 pub fn decode_with_hints(
     alloc: Global,
     bytes: Bytes,
     front: Bytes,
     about: usize,
+    max_key: usize,
 ) -> Result<Block, BlockError>
-    ensures { Gives (λ b. b) result (read_block bytes) }
+    requires { max_key ≤ MAX_KEY_BYTES }
+    ensures { Gives (λ b. b) result (read_block max_key bytes) }
 {
     know_bytes(&bytes);
-    let index = index_block(alloc, bytes.as_slice(), front, about)?;
+    let index = index_block(alloc, bytes.as_slice(), front, about, max_key)?;
     Ok(Block::with_index(alloc, bytes, index)?)
 }
 
-/// The block that the bytes encode, all of them. Shares the bytes.
-pub fn decode_block(alloc: Global, bytes: Bytes) -> Result<Block, BlockError>
+/// The block that the bytes encode, all of them. Shares the bytes. No key has more than `max_key` bytes, which is no more than
+/// `MAX_KEY_BYTES`: a longer one is a `BadLength`.
+pub fn decode_block(alloc: Global, bytes: Bytes, max_key: usize) -> Result<Block, BlockError>
+    requires { max_key ≤ MAX_KEY_BYTES }
     // What is decoded encodes to these bytes.
-    ensures found { IfOk result (λ b. IsBlock bytes b) }
+    ensures found { IfOk result (λ b. IsBlock max_key bytes b) }
     // What encodes to these bytes is decoded, unless memory runs out.
-    ensures only { (es : List Entry) → IsBlock bytes es → Gives (λ b. b) result (Ok es) }
+    ensures only { (es : List Entry) → IsBlock max_key bytes es → Gives (λ b. b) result (Ok es) }
     // The fault is the first one.
-    ensures exact { Gives (λ b. b) result (read_block bytes) }
+    ensures exact { Gives (λ b. b) result (read_block max_key bytes) }
 {
     know_bytes(&bytes);
-    decode_with_hints(alloc, bytes, Bytes::new(), 0)
+    decode_with_hints(alloc, bytes, Bytes::new(), 0, max_key)
 }

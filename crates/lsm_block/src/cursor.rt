@@ -1,6 +1,7 @@
 //! Going through the entries of a block, one after the other.
 
 ghost use Rattle.std.specs.Prelude.{◌≡◌, ◌≢◌, ◌∷◌, [], IfErr, IfOk, MatchOption, OnErr, length};
+ghost use Rattle.lsm_key.specs.Order.{IsAscending};
 ghost use Rattle.lsm_block.specs.Cursors.{GivesNext, IsPlaceIn, entries_from};
 
 use crate::block_entry::BlockEntry;
@@ -43,6 +44,8 @@ impl<'a> Cursor<'a> {
         ensures gives { IfOk result (λ e. GivesNext self.old e self.new) }
         ensures err { OnErr result (self.new ≡ self.old) }
         ensures refused { IfErr result (λ _. self.old ≢ []) }
+        // The entries that were left are in order.
+        ensures sound { IsAscending self.old }
     {
         let bytes = self.bytes;
         let place = self.place;

@@ -15,9 +15,9 @@ ghost use Rattle.lsm_block.specs.Spans.{IsSpan};
 
 use crate::fault::{BlockError, BlockFault};
 use crate::fences::Fences;
-use crate::lent::entry_in;
+use crate::lent::{entry_in, entry_within};
 use bytes::Bytes;
-use lsm_key::{ENTRY_OVERHEAD, EntryRef, Refused, Seq, know_slice};
+use lsm_key::{ENTRY_OVERHEAD, EntryRef, MAX_KEY_BYTES, Refused, Seq, know_slice};
 use std::alloc::{AllocError, Global};
 use std::cmp::Ordering;
 
@@ -54,11 +54,18 @@ fn comes_after(entry: &EntryRef<'_>, key: &[u8], seq: Seq) -> bool
     }
 }
 
-// The next entry, which must come after the one before it, of this key and sequence: before the first one stands the empty key.
-fn next_in<'a>(key: &[u8], seq: Seq, rest: &'a [u8]) -> Result<(EntryRef<'a>, &'a [u8]), BlockFault>
-    ensures { (es : List Entry) → IsLastKey es key.now seq → Reads (λ x. (lent_entry x.0, x.1.now)) result (next_at es rest.now) }
+// The next entry, which must come after the one before it, of this key and sequence: before the first one stands the empty key. Its own key
+// has at most `max_key` bytes.
+fn next_in<'a>(
+    key: &[u8],
+    seq: Seq,
+    rest: &'a [u8],
+    max_key: usize,
+) -> Result<(EntryRef<'a>, &'a [u8]), BlockFault>
+    requires { max_key ≤ MAX_KEY_BYTES }
+    ensures { (es : List Entry) → IsLastKey es key.now seq → Reads (λ x. (lent_entry x.0, x.1.now)) result (next_at max_key es rest.now) }
 {
-    let (entry, after) = match entry_in(rest) {
+    let (entry, after) = match entry_within(rest, max_key) {
         Ok(found) => found,
         Err(fault) => return Err(fault),
     };
@@ -99,18 +106,21 @@ pub(crate) fn no_index(
     })
 }
 
-// Reads the entries from `begin` to the end of the bytes. The last one before them is of this key and sequence.
+// Reads the entries from `begin` to the end of the bytes. The last one before them is of this key and sequence. No key of theirs has more than
+// `max_key` bytes.
 fn walk_on<'a>(
     found: &mut Indexed,
     bytes: &'a [u8],
     begin: usize,
     last_key: &'a [u8],
     last_seq: Seq,
+    max_key: usize,
 ) -> Result<(), BlockError>
+    requires limit { max_key ≤ MAX_KEY_BYTES }
     requires known { IsReadTo bytes.now begin found.old }
     requires last { IsLastKey (entries_before bytes.now begin) last_key.now last_seq }
-    ensures ok { OnOk result ((entries_at (length (drop begin bytes.now) + 1) (entries_before bytes.now begin) (drop begin bytes.now) ≡ Ok (entries_before bytes.now (length bytes.now))) × IsReadTo bytes.now (length bytes.now) found.new) }
-    ensures err { IfErr result (λ e. Fails e (entries_at (length (drop begin bytes.now) + 1) (entries_before bytes.now begin) (drop begin bytes.now))) }
+    ensures ok { OnOk result ((entries_at max_key (length (drop begin bytes.now) + 1) (entries_before bytes.now begin) (drop begin bytes.now) ≡ Ok (entries_before bytes.now (length bytes.now))) × IsReadTo bytes.now (length bytes.now) found.new) }
+    ensures err { IfErr result (λ e. Fails e (entries_at max_key (length (drop begin bytes.now) + 1) (entries_before bytes.now begin) (drop begin bytes.now))) }
 {
     know_slice(bytes);
     let mut rest = &bytes[begin..];
@@ -118,7 +128,7 @@ fn walk_on<'a>(
     let mut seq = last_seq;
     loop {
         let place = bytes.len() - rest.len();
-        let (entry, after) = match next_in(key, seq, rest) {
+        let (entry, after) = match next_in(key, seq, rest, max_key) {
             Ok(found) => found,
             Err(fault) => return Err(Refused::Fault(fault)),
         };
@@ -149,39 +159,43 @@ pub(crate) fn last_in<'a>(bytes: &'a [u8], found: &Indexed) -> Option<EntryRef<'
     }
 }
 
-/// Reads the entries from `begin` to `end`, after those that were found before `begin`. After a refusal what was found is
-/// of no use.
+/// Reads the entries from `begin` to `end`, after those that were found before `begin`: no key of theirs has more than `max_key` bytes. After
+/// a refusal what was found is of no use.
 pub(crate) fn index_more(
     found: &mut Indexed,
     bytes: &[u8],
     begin: usize,
     end: usize,
+    max_key: usize,
 ) -> Result<(), BlockError>
+    requires limit { max_key ≤ MAX_KEY_BYTES }
     requires known { IsReadTo bytes.now begin found.old }
     requires order { begin ≤ end }
     requires within { end ≤ length bytes.now }
-    ensures ok { OnOk result ((entries_at (end - begin + 1) (entries_before bytes.now begin) (take (end - begin) (drop begin bytes.now)) ≡ Ok (entries_before bytes.now end)) × IsReadTo bytes.now end found.new) }
-    ensures err { IfErr result (λ e. Fails e (entries_at (end - begin + 1) (entries_before bytes.now begin) (take (end - begin) (drop begin bytes.now)))) }
+    ensures ok { OnOk result ((entries_at max_key (end - begin + 1) (entries_before bytes.now begin) (take (end - begin) (drop begin bytes.now)) ≡ Ok (entries_before bytes.now end)) × IsReadTo bytes.now end found.new) }
+    ensures err { IfErr result (λ e. Fails e (entries_at max_key (end - begin + 1) (entries_before bytes.now begin) (take (end - begin) (drop begin bytes.now)))) }
 {
     match last_in(&bytes[..begin], found) {
-        Some(last) => walk_on(found, &bytes[..end], begin, last.key, last.seq),
-        None => walk_on(found, &bytes[..end], begin, &[], Seq::new(0)),
+        Some(last) => walk_on(found, &bytes[..end], begin, last.key, last.seq, max_key),
+        None => walk_on(found, &bytes[..end], begin, &[], Seq::new(0), max_key),
     }
 }
 
-/// The index of the block that the bytes encode, all of them. Room is reserved for as many fences as `about` entries have, if the bytes
-/// can hold them.
+/// The index of the block that the bytes encode, all of them: no key has more than `max_key` bytes. Room is reserved for as many
+/// fences as `about` entries have, if the bytes can hold them.
 pub(crate) fn index_block(
     alloc: Global,
     bytes: &[u8],
     front: Bytes,
     about: usize,
+    max_key: usize,
 ) -> Result<Indexed, BlockError>
-    ensures ok { IfOk result (λ found. (read_block bytes.now ≡ Ok (block_entries bytes.now)) × IsReadTo bytes.now (length bytes.now) found) }
-    ensures err { IfErr result (λ e. Fails e (read_block bytes.now)) }
+    requires { max_key ≤ MAX_KEY_BYTES }
+    ensures ok { IfOk result (λ found. (read_block max_key bytes.now ≡ Ok (block_entries bytes.now)) × IsReadTo bytes.now (length bytes.now) found) }
+    ensures err { IfErr result (λ e. Fails e (read_block max_key bytes.now)) }
 {
     let mut found = no_index(alloc, front, about, bytes.len())?;
-    match index_more(&mut found, bytes, 0, bytes.len()) {
+    match index_more(&mut found, bytes, 0, bytes.len(), max_key) {
         Ok(()) => Ok(found),
         Err(fault) => Err(fault),
     }

@@ -2,7 +2,7 @@
 
 ghost use Rattle.lsm_key.specs.Visible.{lent_entry};
 ghost use Rattle.lsm_key.specs.Reading.{Reads};
-ghost use Rattle.lsm_block.specs.BlockReading.{value_at, entry_at};
+ghost use Rattle.lsm_block.specs.BlockReading.{value_at, entry_at, entry_within};
 
 use crate::fault::BlockFault;
 use lsm_key::{
@@ -27,16 +27,21 @@ fn value_in(kind: Kind, bytes: &[u8]) -> Result<(&[u8], &[u8]), BlockFault>
 }
 
 /// The entry at the front, which borrows the bytes, and the bytes after it.
-#[tactic(auto, unfolding(crate::specs::BlockReading::entry_at))]
 pub fn entry_in<'a>(bytes: &'a [u8]) -> Result<(EntryRef<'a>, &'a [u8]), BlockFault>
     ensures { Reads (λ x. (lent_entry x.0, x.1.now)) result (entry_at bytes.now) }
 {
-    let (key, rest) = match key_in(
-        bytes,
-        MAX_KEY_BYTES,
-        BlockFault::Truncated,
-        BlockFault::BadLength,
-    ) {
+    entry_within(bytes, MAX_KEY_BYTES)
+}
+
+/// The same of an entry whose key has at most `max_key` bytes.
+#[tactic(auto, unfolding(crate::specs::BlockReading::entry_within))]
+pub(crate) fn entry_within<'a>(
+    bytes: &'a [u8],
+    max_key: usize,
+) -> Result<(EntryRef<'a>, &'a [u8]), BlockFault>
+    ensures { Reads (λ x. (lent_entry x.0, x.1.now)) result (entry_within max_key bytes.now) }
+{
+    let (key, rest) = match key_in(bytes, max_key, BlockFault::Truncated, BlockFault::BadLength) {
         Ok(found) => found,
         Err(fault) => return Err(fault),
     };

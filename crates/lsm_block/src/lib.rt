@@ -14,6 +14,7 @@ mod fault;
 mod fences;
 mod handle;
 mod indexing;
+mod laws;
 mod lent;
 mod ranges;
 mod reader;
@@ -26,6 +27,10 @@ pub use block_entry::BlockEntry;
 pub use cursor::Cursor;
 pub use fault::{BlockError, BlockFault};
 pub use handle::BlockHandle;
+pub use laws::{
+    a_beginning_of_a_block_is_shorter_or_truncated, a_block_of_short_keys_is_a_block,
+    a_change_is_refused_or_another_block,
+};
 pub use lent::entry_in;
 pub use reader::BlocksReader;
 pub use walk::seek_in;

@@ -28,7 +28,7 @@ fn read_value(kind: Kind, rest: &mut Bytes) -> Result<Bytes, BlockError>
 }
 
 // An entry, which shares the bytes.
-#[tactic(auto, unfolding(crate::specs::BlockReading::entry_at))]
+#[tactic(auto, unfolding(crate::specs::BlockReading::entry_within))]
 pub(crate) fn read_entry(rest: &mut Bytes) -> Result<Entry, BlockError>
     ensures { Gives (λ e. (e, rest.new)) result (entry_at rest.old) }
 {

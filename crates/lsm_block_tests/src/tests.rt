@@ -1,8 +1,10 @@
 //! A block of keys that are easily mistaken for one another, each with some versions, beside the list of these keys.
 
+mod damage;
+
 use bytes::{BufMut, Bytes, BytesMut};
 use lsm_block::{Block, BlocksReader, Cursor, decode_block, decode_with_hints, seek_in};
-use lsm_key::{Entry, Refused, Seq};
+use lsm_key::{Entry, MAX_KEY_BYTES, Refused, Seq};
 use std::alloc::{AllocError, Global};
 use std::test::Fail;
 
@@ -51,7 +53,8 @@ fn bytes_of(alloc: Global) -> Result<Bytes, AllocError> {
 }
 
 fn block_of(alloc: Global, front: &'static [u8]) -> Result<Block, Fail> {
-    match decode_with_hints(alloc, bytes_of(alloc)?, Bytes::from_static(front), 42) {
+    let front = Bytes::from_static(front);
+    match decode_with_hints(alloc, bytes_of(alloc)?, front, 42, MAX_KEY_BYTES) {
         Ok(block) => Ok(block),
         Err(Refused::OutOfMemory) => Err("out of memory")?,
         Err(Refused::Fault(_)) => Err("no block")?,
@@ -190,7 +193,7 @@ fn a_range_has_the_versions_of_its_keys(rt: HostRuntime) -> Result<(), Fail> {
 
 #[test]
 fn a_copy_has_all_entries(rt: HostRuntime) -> Result<(), Fail> {
-    let block = match decode_block(rt.alloc(), bytes_of(rt.alloc())?) {
+    let block = match decode_block(rt.alloc(), bytes_of(rt.alloc())?, MAX_KEY_BYTES) {
         Ok(block) => block,
         Err(Refused::OutOfMemory) => Err("out of memory")?,
         Err(Refused::Fault(_)) => Err("no block")?,
@@ -234,7 +237,8 @@ fn finished(alloc: Global, reader: BlocksReader) -> Result<Block, Fail> {
 #[test]
 fn blocks_in_a_row_are_read_as_one(rt: HostRuntime) -> Result<(), Fail> {
     let front = Bytes::from_static(b"user:");
-    let mut reader = BlocksReader::new(rt.alloc(), bytes_of(rt.alloc())?, front, 42)?;
+    let bytes = bytes_of(rt.alloc())?;
+    let mut reader = BlocksReader::new(rt.alloc(), bytes, front, 42, MAX_KEY_BYTES)?;
     // The first key has one byte: its versions take 16, 15 and 16.
     for len in [16, 15 + 16] {
         read_next(&mut reader, len)?;

@@ -14,7 +14,7 @@ pub returns-in-Ok-clause-ok : goal.returns-in-Ok-clause-ok
 returns-in-Ok-clause-ok c =
     let bytes = c.args.bytes.now in
     let read = c.in-Ok.ensures.ok in
-    (sym (from_front bytes) ∙ read.0 ∙ ap (λ b. Ok (block_entries b)) (take_all (length bytes) bytes (omega arith)), read.1)
+    (sym (from_front c.args.max_key bytes) ∙ read.0 ∙ ap (λ b. Ok (block_entries b)) (take_all (length bytes) bytes (omega arith)), read.1)
 
 pub returns-in-Err-clause-err : goal.returns-in-Err-clause-err
-returns-in-Err-clause-err c = subst (λ (r : Result (List Entry) BlockFault). Fails c.in-Err.fault r) (from_front c.args.bytes.now) c.in-Err.ensures.err
+returns-in-Err-clause-err c = subst (λ (r : Result (List Entry) BlockFault). Fails c.in-Err.fault r) (from_front c.args.max_key c.args.bytes.now) c.in-Err.ensures.err

@@ -9,7 +9,7 @@ abbrev pub invariant-loop-found : goal.invariant-loop-found
 invariant-loop-found l =
     let left = drop l.fn.begin l.fn.bytes in
     let found = l.found in
-    (es : List Entry) × Walked (entries_at (length left + 1) (entries_before l.fn.bytes l.fn.begin) left) l.fn.bytes es l.rest l.key l.seq found.fences.front found.fences.prefixes.items found.fences.places.items found.count
+    (es : List Entry) × Walked l.fn.max_key (entries_at l.fn.max_key (length left + 1) (entries_before l.fn.bytes l.fn.begin) left) l.fn.bytes es l.rest l.key l.seq found.fences.front found.fences.prefixes.items found.fences.places.items found.count
 
 abbrev pub decreases-loop-found : goal.decreases-loop-found
 decreases-loop-found l = length l.rest

@@ -1,5 +1,6 @@
 use Rattle.std.proofs.Common.{List, ℕ, arith, sym, subst}
 use Rattle.lsm_key.specs.declared.entry.Entry.{Entry}
+use Rattle.lsm_key.specs.declared.limits.TheConstants.{MAX_KEY_BYTES}
 use Rattle.lsm_block.specs.Blocks.{IsBlock}
 use Rattle.lsm_block.specs.Handles.{IsPartAt}
 use Rattle.lsm_block.specs.Indexed.{block_entries}
@@ -23,5 +24,5 @@ pub returns-in-Ok : goal.returns-in-Ok
 returns-in-Ok c =
     let bytes = c.self.inside.bytes in
     let at = subst (λ (es : List Entry). IsPartAt es c.args.handle c.requires.part) (sym c.self.view_is) c.requires.at in
-    let block : IsBlock c.in_ok-bytes.bytes c.requires.part = subst (λ (b : List ℕ). IsBlock b c.requires.part) (sym c.in_ok-bytes.ensures.ok) (part_block bytes (block_entries bytes) c.args.handle c.requires.part c.self.invariant.block at c.requires.some) in
-    subst (IsPartAt c.args.self.now c.args.handle) (block_one c.in_ok-bytes.bytes c.requires.part c.in-Ok.part block c.in-Ok.ensures) c.requires.at
+    let block : IsBlock MAX_KEY_BYTES c.in_ok-bytes.bytes c.requires.part = subst (λ (b : List ℕ). IsBlock MAX_KEY_BYTES b c.requires.part) (sym c.in_ok-bytes.ensures.ok) (part_block bytes (block_entries bytes) c.args.handle c.requires.part c.self.invariant.block at c.requires.some) in
+    subst (IsPartAt c.args.self.now c.args.handle) (block_one MAX_KEY_BYTES c.in_ok-bytes.bytes c.requires.part c.in-Ok.part block c.in-Ok.ensures) c.requires.at
