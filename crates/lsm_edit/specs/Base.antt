@@ -1,7 +1,7 @@
 -- Bases: whole versions, and how they are encoded (LevelDB, implementation notes: a manifest begins with a snapshot of the version).
 use Rattle.std.specs.Prelude.{◌≡◌, ℕ, ◌+◌, ◌-◌, ◌≤◌, ◌<◌, ◌^◌, List, [], ◌∷◌, ◌++◌, length, Result, Ok, Err, ◌==◌, if◌then◌else◌}
 use Rattle.std.specs.Int.{w32, w64, to_be_bytes}
-use Rattle.lsm_key.specs.declared.limits.TheConstants.{MAX_NUMBER, MAX_LEVEL}
+use Rattle.lsm_key.specs.declared.limits.TheConstants.{MAX_KEY_BYTES, MAX_NUMBER, MAX_LEVEL}
 use Rattle.lsm_key.specs.Reading.{◌>>=◌, ranged_number_at}
 use Rattle.lsm_edit.specs.declared.file.FileBounds.{FileBounds}
 use Rattle.lsm_edit.specs.declared.file.FileMeta.{FileMeta}
@@ -30,28 +30,28 @@ pub record IsSpelledBase (bytes : List ℕ) (v : VersionValue) : Type 0 where
 abbrev pub after_version_file : FileBounds × List FileMeta → FileMeta → FileBounds × List FileMeta
 after_version_file from f = (record from.0 { least = f.number + 1 }, from.1 ++ f ∷ [])
 
--- count files of a version
-abbrev pub version_files_at : {F : Type 0} → F → F → ℕ → FileBounds × List FileMeta → List ℕ → Result (List FileMeta × List ℕ) F
-version_files_at short bad count from bytes = items_at (λ from. file_at short bad from.0 from.1) after_version_file count from bytes
+-- count files of a version, with keys of at most limit bytes
+abbrev pub version_files_at : {F : Type 0} → ℕ → F → F → ℕ → FileBounds × List FileMeta → List ℕ → Result (List FileMeta × List ℕ) F
+version_files_at limit short bad count from bytes = items_at (λ from. file_at limit short bad from.0 from.1) after_version_file count from bytes
 
 -- a count, and that many files of a version with this next file number
-unfoldable pub listed_at : {F : Type 0} → F → F → ℕ → List ℕ → Result (List FileMeta × List ℕ) F
-listed_at short bad next_file bytes = do
+unfoldable pub listed_at : {F : Type 0} → ℕ → F → F → ℕ → List ℕ → Result (List FileMeta × List ℕ) F
+listed_at limit short bad next_file bytes = do
   count ← ranged_number_at short bad w32 0 4294967295 bytes
-  version_files_at short bad count.0 (record { least = 1; most = next_file - 1; lowest = 0; deepest = MAX_LEVEL }, []) count.1
+  version_files_at limit short bad count.0 (record { least = 1; most = next_file - 1; lowest = 0; deepest = MAX_LEVEL }, []) count.1
 
--- a base from the front
-unfoldable pub base_at : {F : Type 0} → F → F → List ℕ → Result (VersionValue × List ℕ) F
-base_at short bad bytes = do
+-- a base from the front, with keys of at most limit bytes
+unfoldable pub base_at : {F : Type 0} → ℕ → F → F → List ℕ → Result (VersionValue × List ℕ) F
+base_at limit short bad bytes = do
   number ← ranged_number_at short bad w64 1 MAX_NUMBER bytes
   flushed ← ranged_number_at short bad w64 0 (2 ^ 56 - 1) number.1
   epoch ← ranged_number_at short bad w64 1 MAX_NUMBER flushed.1
   next_file ← ranged_number_at short bad w64 1 MAX_NUMBER epoch.1
-  files ← listed_at short bad next_file.0 next_file.1
+  files ← listed_at limit short bad next_file.0 next_file.1
   Ok (record { number = number.0; flushed = flushed.0; epoch = epoch.0; next_file = next_file.0; files = files.0 }, files.1)
 
 -- a base, all of the bytes
 unfoldable pub read_base : List ℕ → Result VersionValue FormatFault
 read_base bytes = do
-  v ← base_at Truncated BadField bytes
+  v ← base_at MAX_KEY_BYTES Truncated BadField bytes
   if length v.1 == 0 then Ok v.0 else Err TrailingBytes

@@ -2,7 +2,7 @@
 use Rattle.std.specs.Prelude.{◌≡◌, ℕ, zero, suc, ◌+◌, ◌<◌, ◌≤◌, ◌-◌, ◌^◌, List, [], ◌∷◌, ◌++◌, length, Result, Ok, Err, ◌==◌, All, AllPairs, if◌then◌else◌}
 use Rattle.std.specs.Int.{w8, w32, w64, to_be_bytes}
 use Rattle.std.specs.List.{flat_map}
-use Rattle.lsm_key.specs.declared.limits.TheConstants.{MAX_NUMBER}
+use Rattle.lsm_key.specs.declared.limits.TheConstants.{MAX_KEY_BYTES, MAX_NUMBER}
 use Rattle.lsm_key.specs.Reading.{◌>>=◌, number_at, ranged_number_at}
 use Rattle.lsm_edit.specs.declared.file.FileMeta.{FileMeta}
 use Rattle.lsm_edit.specs.declared.file.FileBounds.{FileBounds}
@@ -98,34 +98,34 @@ numbers_at short bad most count least bytes = items_at (λ from. ranged_number_a
 abbrev pub after_file : FileBounds → FileMeta → FileBounds
 after_file within f = record { least = f.number + 1; most = within.most; lowest = f.level; deepest = f.level }
 
--- count files of one level, with ascending numbers
-abbrev pub files_at : {F : Type 0} → F → F → ℕ → FileBounds → List ℕ → Result (List FileMeta × List ℕ) F
-files_at short bad count within bytes = items_at (λ within. file_at short bad within []) after_file count within bytes
+-- count files of one level, with ascending numbers and keys of at most limit bytes
+abbrev pub files_at : {F : Type 0} → ℕ → F → F → ℕ → FileBounds → List ℕ → Result (List FileMeta × List ℕ) F
+files_at limit short bad count within bytes = items_at (λ within. file_at limit short bad within []) after_file count within bytes
 
 unfoldable pub removed_at : {F : Type 0} → F → F → EditKind → List ℕ → Result (List ℕ × List ℕ) F
 removed_at short bad kind bytes = do
   count ← ranged_number_at short bad w32 (shape kind).least_removed (shape kind).most_removed bytes
   numbers_at short bad MAX_NUMBER count.0 1 count.1
 
-unfoldable pub added_at : {F : Type 0} → F → F → EditKind → List ℕ → Result (List FileMeta × List ℕ) F
-added_at short bad kind bytes = do
+unfoldable pub added_at : {F : Type 0} → ℕ → F → F → EditKind → List ℕ → Result (List FileMeta × List ℕ) F
+added_at limit short bad kind bytes = do
   count ← ranged_number_at short bad w32 (shape kind).least_added (shape kind).most_added bytes
-  files_at short bad count.0 (record { least = 1; most = MAX_NUMBER; lowest = (shape kind).lowest; deepest = (shape kind).deepest }) count.1
+  files_at limit short bad count.0 (record { least = 1; most = MAX_NUMBER; lowest = (shape kind).lowest; deepest = (shape kind).deepest }) count.1
 
--- an edit from the front
-unfoldable pub edit_at : {F : Type 0} → F → F → List ℕ → Result (Edit × List ℕ) F
-edit_at short bad bytes = do
+-- an edit from the front, with keys of at most limit bytes
+unfoldable pub edit_at : {F : Type 0} → ℕ → F → F → List ℕ → Result (Edit × List ℕ) F
+edit_at limit short bad bytes = do
   number ← ranged_number_at short bad w64 1 MAX_NUMBER bytes
   kind ← edit_kind_at short bad number.1
   flushed ← ranged_number_at short bad w64 0 (2 ^ 56 - 1) kind.1
   epoch ← ranged_number_at short bad w64 1 MAX_NUMBER flushed.1
   next_file ← ranged_number_at short bad w64 1 MAX_NUMBER epoch.1
   removed ← removed_at short bad kind.0 next_file.1
-  added ← added_at short bad kind.0 removed.1
+  added ← added_at limit short bad kind.0 removed.1
   Ok (record { number = number.0; kind = kind.0; flushed = flushed.0; epoch = epoch.0; next_file = next_file.0; removed = removed.0; added = added.0 }, added.1)
 
 -- an edit, all of the bytes
 unfoldable pub read_edit : List ℕ → Result Edit FormatFault
 read_edit bytes = do
-  e ← edit_at Truncated BadField bytes
+  e ← edit_at MAX_KEY_BYTES Truncated BadField bytes
   if length e.1 == 0 then Ok e.0 else Err TrailingBytes

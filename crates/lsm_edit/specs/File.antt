@@ -44,13 +44,13 @@ size bytes = min (length bytes) (2 ^ 64 - 1)
 abbrev pub meets_file : ℕ → List ℕ → List ℕ → FileMeta → Bool
 meets_file level smallest largest f = nat_eq f.level level && (nat_lt 0 f.level && ranges_meet f.smallest f.largest smallest largest)
 
--- a record within bounds that meets no earlier file; the fault is short if the bytes end inside a field, and bad if a field breaks its rule
-unfoldable pub file_at : {F : Type 0} → F → F → FileBounds → List FileMeta → List ℕ → Result (FileMeta × List ℕ) F
-file_at short bad within earlier bytes = do
+-- a record within bounds that meets no earlier file, with keys of at most limit bytes; the fault is short if the bytes end inside a field, and bad if a field breaks its rule
+unfoldable pub file_at : {F : Type 0} → ℕ → F → F → FileBounds → List FileMeta → List ℕ → Result (FileMeta × List ℕ) F
+file_at limit short bad within earlier bytes = do
   number ← ranged_number_at short bad w64 within.least within.most bytes
   level ← ranged_number_at short bad w8 within.lowest within.deepest number.1
-  smallest ← key_at MAX_KEY_BYTES short bad level.1
-  largest ← key_at MAX_KEY_BYTES short bad smallest.1
+  smallest ← key_at limit short bad level.1
+  largest ← key_at limit short bad smallest.1
   if not (key_le smallest.0 largest.0) || list_any (meets_file level.0 smallest.0 largest.0) earlier then Err bad else
       (do
         size ← ranged_number_at short bad w32 1 MAX_TABLE_BYTES largest.1

@@ -14,7 +14,10 @@ use crate::edit::write_files;
 use crate::file::{FileBounds, files_bytes, read_file};
 use crate::{FileMeta, FormatError, FormatFault, Version};
 use bytes::{BufMut, Bytes, BytesMut};
-use lsm_key::{MAX_LEVEL, MAX_NUMBER, Refused, Seq, know_bytes, read_ranged_u32, read_ranged_u64};
+use lsm_key::{
+    MAX_KEY_BYTES, MAX_LEVEL, MAX_NUMBER, Refused, Seq, know_bytes, read_ranged_u32,
+    read_ranged_u64,
+};
 use std::alloc::{AllocError, Global};
 
 // The size of a base without its files: four numbers of eight bytes, and a count.
@@ -51,17 +54,19 @@ pub fn encode_base(alloc: Global, version: &Version) -> Result<Bytes, AllocError
     Ok(out.freeze()?)
 }
 
-// `count` files of a version, with numbers below `next_file`. Each is compared with all before it.
+// `count` files of a version, with numbers below `next_file` and keys of at most `max_key` bytes. Each is compared with
+// all before it.
 fn read_version_files<F: Copy>(
     alloc: Global,
     count: u32,
     next_file: u64,
     rest: &mut Bytes,
+    max_key: usize,
     short: F,
     bad: F,
 ) -> Result<Vec<FileMeta>, Refused<F>>
     requires { (1 ≤ next_file) × (next_file ≤ MAX_NUMBER) }
-    ensures { Gives (λ files. (files.items, rest.new)) result (version_files_at short bad count (record { least = 1; most = next_file - 1; lowest = 0; deepest = MAX_LEVEL }, []) rest.old) }
+    ensures { Gives (λ files. (files.items, rest.new)) result (version_files_at max_key short bad count (record { least = 1; most = next_file - 1; lowest = 0; deepest = MAX_LEVEL }, []) rest.old) }
 {
     let mut files = Vec::new(alloc);
     let mut least = 1;
@@ -72,7 +77,7 @@ fn read_version_files<F: Copy>(
             lowest: 0,
             deepest: MAX_LEVEL,
         };
-        let file = read_file(rest, within, files.as_slice(), short, bad)?;
+        let file = read_file(rest, max_key, within, files.as_slice(), short, bad)?;
         least = file.number + 1;
         files.push(file)?;
     }
@@ -85,33 +90,36 @@ fn read_listed<F: Copy>(
     alloc: Global,
     next_file: u64,
     rest: &mut Bytes,
+    max_key: usize,
     short: F,
     bad: F,
 ) -> Result<Vec<FileMeta>, Refused<F>>
     requires { (1 ≤ next_file) × (next_file ≤ MAX_NUMBER) }
-    ensures { Gives (λ files. (files.items, rest.new)) result (listed_at short bad next_file rest.old) }
+    ensures { Gives (λ files. (files.items, rest.new)) result (listed_at max_key short bad next_file rest.old) }
 {
     let count = read_ranged_u32(rest, 0, u32::MAX, short, bad)?;
-    read_version_files(alloc, count, next_file, rest, short, bad)
+    read_version_files(alloc, count, next_file, rest, max_key, short, bad)
 }
 
-/// A version from the front. The fault is `short` if the bytes end inside a field, and `bad` if a field breaks its
-/// rule. The time is quadratic in the number of files.
+/// A version from the front, with keys of at most `max_key` bytes. The fault is `short` if the bytes end inside a field,
+/// and `bad` if a field breaks its rule. The time is quadratic in the number of files.
 #[tactic(auto, unfolding(crate::specs::Base::base_at))]
 pub fn read_base<F: Copy>(
     alloc: Global,
     rest: &mut Bytes,
+    max_key: usize,
     short: F,
     bad: F,
 ) -> Result<Version, Refused<F>>
-    ensures { Gives (λ v. (v, rest.new)) result (base_at short bad rest.old) }
+    requires { max_key ≤ MAX_KEY_BYTES }
+    ensures { Gives (λ v. (v, rest.new)) result (base_at max_key short bad rest.old) }
 {
     know_bytes(rest);
     let number = read_ranged_u64(rest, 1, MAX_NUMBER, short, bad)?;
     let flushed = read_ranged_u64(rest, 0, Seq::MAX, short, bad)?;
     let epoch = read_ranged_u64(rest, 1, MAX_NUMBER, short, bad)?;
     let next_file = read_ranged_u64(rest, 1, MAX_NUMBER, short, bad)?;
-    let files = read_listed(alloc, next_file, rest, short, bad)?;
+    let files = read_listed(alloc, next_file, rest, max_key, short, bad)?;
     Ok(Version::from_parts(alloc, number, Seq::new(flushed), epoch, next_file, files))
 }
 
@@ -138,6 +146,7 @@ fn read_whole(alloc: Global, bytes: Bytes) -> Result<Version, FormatError>
     let version = read_base(
         alloc,
         &mut rest,
+        MAX_KEY_BYTES,
         FormatFault::Truncated,
         FormatFault::BadField,
     )?;

@@ -13,8 +13,8 @@ use crate::file::{FileBounds, files_bytes, read_file, same_files, write_file};
 use crate::{FileMeta, FormatError, FormatFault};
 use bytes::{BufMut, Bytes, BytesMut};
 use lsm_key::{
-    Items, MAX_LEVEL, MAX_NUMBER, Refused, Seq, know_bytes, read_ranged_u32, read_ranged_u64,
-    read_u8, read_u32,
+    Items, MAX_KEY_BYTES, MAX_LEVEL, MAX_NUMBER, Refused, Seq, know_bytes, read_ranged_u32,
+    read_ranged_u64, read_u8, read_u32,
 };
 use std::alloc::{AllocError, Global};
 
@@ -192,22 +192,23 @@ fn read_removed<F: Copy>(
     read_numbers(alloc, count, 1, MAX_NUMBER, rest, short, bad)
 }
 
-// `count` files of one level within bounds, with ascending numbers.
+// `count` files of one level within bounds, with ascending numbers and keys of at most `max_key` bytes.
 fn read_files<F: Copy>(
     alloc: Global,
     count: u32,
     within: FileBounds,
     rest: &mut Bytes,
+    max_key: usize,
     short: F,
     bad: F,
 ) -> Result<Items<FileMeta>, Refused<F>>
     requires { within.most < 2 ^ 64 - 1 }
-    ensures { Gives (λ files. (files, rest.new)) result (files_at short bad count within rest.old) }
+    ensures { Gives (λ files. (files, rest.new)) result (files_at max_key short bad count within rest.old) }
 {
     let mut files = Items::new(alloc);
     let mut within = within;
     for _place in 0..count {
-        let file = read_file(rest, within, &[], short, bad)?;
+        let file = read_file(rest, max_key, within, &[], short, bad)?;
         within = FileBounds {
             least: file.number + 1,
             most: within.most,
@@ -225,10 +226,11 @@ fn read_added<F: Copy>(
     alloc: Global,
     kind: EditKind,
     rest: &mut Bytes,
+    max_key: usize,
     short: F,
     bad: F,
 ) -> Result<Items<FileMeta>, Refused<F>>
-    ensures { Gives (λ files. (files, rest.new)) result (added_at short bad kind rest.old) }
+    ensures { Gives (λ files. (files, rest.new)) result (added_at max_key short bad kind rest.old) }
 {
     let shape = kind.shape();
     let count = read_ranged_u32(rest, shape.least_added, shape.most_added, short, bad)?;
@@ -238,18 +240,20 @@ fn read_added<F: Copy>(
         lowest: shape.lowest,
         deepest: shape.deepest,
     };
-    read_files(alloc, count, within, rest, short, bad)
+    read_files(alloc, count, within, rest, max_key, short, bad)
 }
 
-/// An edit from the front. The fault is `short` if the bytes end inside a field, and `bad` if a field breaks its rule.
+/// An edit from the front, with keys of at most `max_key` bytes. The fault is `short` if the bytes end inside a field,
+/// and `bad` if a field breaks its rule.
 #[tactic(auto, unfolding(crate::specs::Edit::edit_at))]
 pub fn read_edit<F: Copy>(
     alloc: Global,
     rest: &mut Bytes,
+    max_key: usize,
     short: F,
     bad: F,
 ) -> Result<Edit, Refused<F>>
-    ensures { Gives (λ e. (e, rest.new)) result (edit_at short bad rest.old) }
+    ensures { Gives (λ e. (e, rest.new)) result (edit_at max_key short bad rest.old) }
 {
     let number = read_ranged_u64(rest, 1, MAX_NUMBER, short, bad)?;
     let kind = read_kind(rest, short, bad)?;
@@ -257,7 +261,7 @@ pub fn read_edit<F: Copy>(
     let epoch = read_ranged_u64(rest, 1, MAX_NUMBER, short, bad)?;
     let next_file = read_ranged_u64(rest, 1, MAX_NUMBER, short, bad)?;
     let removed = read_removed(alloc, kind, rest, short, bad)?;
-    let added = read_added(alloc, kind, rest, short, bad)?;
+    let added = read_added(alloc, kind, rest, max_key, short, bad)?;
     Ok(Edit {
         number,
         kind,
@@ -291,6 +295,7 @@ fn read_whole(alloc: Global, bytes: Bytes) -> Result<Edit, FormatError>
     let edit = read_edit(
         alloc,
         &mut rest,
+        MAX_KEY_BYTES,
         FormatFault::Truncated,
         FormatFault::BadField,
     )?;

@@ -10,8 +10,8 @@ ghost use Rattle.lsm_edit.specs.File.{IsFile, file, file_at, meets_file, size};
 
 use bytes::{BufMut, Bytes, BytesMut};
 use lsm_key::{
-    KeyRangeRef, MAX_KEY_BYTES, MAX_TABLE_BYTES, Refused, read_key, read_ranged_u8,
-    read_ranged_u32, read_ranged_u64, write_key,
+    KeyRangeRef, MAX_TABLE_BYTES, Refused, read_key, read_ranged_u8, read_ranged_u32,
+    read_ranged_u64, write_key,
 };
 use std::alloc::AllocError;
 
@@ -45,22 +45,24 @@ pub struct FileBounds {
     pub deepest: u8,
 }
 
-/// A record within bounds from the front, of a file that overlaps none of the earlier ones of its level, if it is not
-/// level 0. The fault is `short` if the bytes end inside a field, and `bad` if a field breaks its rule.
+/// A record within bounds from the front, with keys of at most `max_key` bytes, of a file that overlaps none of the
+/// earlier ones of its level, if it is not level 0. The fault is `short` if the bytes end inside a field, and `bad` if a
+/// field breaks its rule.
 #[tactic(auto, unfolding(crate::specs::File::file_at))]
 pub fn read_file<F: Copy>(
     rest: &mut Bytes,
+    max_key: usize,
     within: FileBounds,
     earlier: &[FileMeta],
     short: F,
     bad: F,
 ) -> Result<FileMeta, Refused<F>>
-    ensures { Gives (λ f. (f, rest.new)) result (file_at short bad within earlier.now rest.old) }
+    ensures { Gives (λ f. (f, rest.new)) result (file_at max_key short bad within earlier.now rest.old) }
 {
     let number = read_ranged_u64(rest, within.least, within.most, short, bad)?;
     let level = read_ranged_u8(rest, within.lowest, within.deepest, short, bad)?;
-    let smallest = read_key(rest, MAX_KEY_BYTES, short, bad)?;
-    let largest = read_key(rest, MAX_KEY_BYTES, short, bad)?;
+    let smallest = read_key(rest, max_key, short, bad)?;
+    let largest = read_key(rest, max_key, short, bad)?;
     if smallest.cmp(&largest).is_gt() || meets_any(level, &smallest, &largest, earlier) {
         return Err(Refused::Fault(bad));
     }

@@ -1,6 +1,12 @@
-//! What edits that apply in turn keep, and some that are written out. The functions do nothing: each is the proof of its
-//! contract.
+//! What edits that apply in turn keep, some that are written out, and what damaged bytes are told as. The functions do
+//! nothing: each is the proof of its contract.
 
+ghost use Rattle.std.specs.Prelude.{◌≡◌, ◌≢◌, ℕ, ◌<◌, List, length, take, slice_index, IfOk, Err};
+ghost use Rattle.lsm_edit.specs.declared.edit.Edit.{Edit};
+ghost use Rattle.lsm_edit.specs.declared.format.FormatFault.TheVariants.{Truncated};
+ghost use Rattle.lsm_edit.specs.Edit.{IsSpelledEdit, read_edit};
+ghost use Rattle.lsm_edit.specs.Base.{IsSpelledBase, read_base};
+ghost use Rattle.lsm_edit.specs.Version.{VersionValue};
 ghost use Rattle.lsm_edit.specs.Laws.{AGivenNumberDoesNot, AMergeApplies, ANumberNamesOneFile, ASecondRemovalDoesNot, NoFileIsRemovedTwice};
 
 /// Of edits that apply in turn no two remove one file.
@@ -19,4 +25,26 @@ pub fn worked_edits()
     ensures merge { AMergeApplies }
     ensures removed { ASecondRemovalDoesNot }
     ensures given { AGivenNumberDoesNot }
+{}
+
+/// A proper beginning of an edit is told as truncated.
+pub fn a_beginning_of_an_edit_is_truncated()
+    ensures { (bytes : List ℕ) (e : Edit) (n : ℕ) → IsSpelledEdit bytes e → n < length bytes → read_edit (take n bytes) ≡ Err Truncated }
+{}
+
+/// Bytes other than those of an edit are refused by the named fault, or are those of another edit alone.
+pub fn changed_bytes_of_an_edit_are_told()
+    ensures { (bytes changed : List ℕ) (e : Edit) → IsSpelledEdit bytes e → ((i : ℕ) → slice_index changed i < 256) → changed ≢ bytes
+        → IfOk (read_edit changed) (λ other. IsSpelledEdit changed other × (other ≢ e)) }
+{}
+
+/// A proper beginning of a base is told as truncated.
+pub fn a_beginning_of_a_base_is_truncated()
+    ensures { (bytes : List ℕ) (v : VersionValue) (n : ℕ) → IsSpelledBase bytes v → n < length bytes → read_base (take n bytes) ≡ Err Truncated }
+{}
+
+/// Bytes other than those of a base are refused by the named fault, or are those of another base alone.
+pub fn changed_bytes_of_a_base_are_told()
+    ensures { (bytes changed : List ℕ) (v : VersionValue) → IsSpelledBase bytes v → ((i : ℕ) → slice_index changed i < 256) → changed ≢ bytes
+        → IfOk (read_base changed) (λ other. IsSpelledBase changed other × (other ≢ v)) }
 {}

@@ -17,5 +17,5 @@ pub from_parts-requires : goal.from_parts-requires
 unfolding base_at
 from_parts-requires g c =
     let made : VersionValue = record { number = c.in_ok-number.number; flushed = c.new.result; epoch = c.in_ok-epoch.epoch; next_file = c.in_ok-next_file.next_file; files = c.in_ok-files.files.items } in
-    let read : base_at c.args.short c.args.bad c.args.rest.now ≡ Ok (made, c.read_listed.new.rest) = rw (c.in_ok-number.ensures, c.in_ok-flushed.ensures, c.in_ok-epoch.ensures, c.in_ok-next_file.ensures, c.in_ok-files.ensures, c.new.ensures) refl in
-    ((base_reads c.args.short c.args.bad).takes c.args.rest.now (made, c.read_listed.new.rest) c.know_bytes.ensures read).1.0.version
+    let read : base_at c.args.max_key c.args.short c.args.bad c.args.rest.now ≡ Ok (made, c.read_listed.new.rest) = rw (c.in_ok-number.ensures, c.in_ok-flushed.ensures, c.in_ok-epoch.ensures, c.in_ok-next_file.ensures, c.in_ok-files.ensures, c.new.ensures) refl in
+    ((base_reads c.args.short c.args.bad c.args.max_key c.requires).takes c.args.rest.now (made, c.read_listed.new.rest) c.know_bytes.ensures read).1.0.0.version
