@@ -5,7 +5,7 @@ ghost use Rattle.lsm_table.specs.Index.{index_entry};
 ghost use Rattle.lsm_table.specs.TableReading.{index_at, sum_at};
 
 use crate::fault::TableFault;
-use lsm_key::{Kind, MAX_KEY_BYTES, Seq, key_in, trailer_in, u32_in};
+use lsm_key::{Kind, Seq, key_in, trailer_in, u32_in};
 
 /// What the index tells of a block: its length in bytes, and the internal key of its last entry. It borrows the index.
 #[derive(Clone, Copy, Debug)]
@@ -25,21 +25,19 @@ pub(crate) struct IndexSum<'a> {
     pub(crate) rest: &'a [u8],
 }
 
-/// What the index tells of the next block, and the bytes after that.
+/// What the index tells of the next block, whose last key has at most `max_key` bytes, and the bytes after that.
 #[tactic(auto, unfolding(crate::specs::TableReading::index_at))]
-pub(crate) fn index_in<'a>(bytes: &'a [u8]) -> Result<(IndexEntry<'a>, &'a [u8]), TableFault>
-    ensures { Reads (λ x. (index_entry x.0, x.1.now)) result (index_at bytes.now) }
+pub(crate) fn index_in<'a>(
+    bytes: &'a [u8],
+    max_key: usize,
+) -> Result<(IndexEntry<'a>, &'a [u8]), TableFault>
+    ensures { Reads (λ x. (index_entry x.0, x.1.now)) result (index_at max_key bytes.now) }
 {
     let (len, rest) = u32_in(bytes, TableFault::Truncated)?;
     if len == 0 {
         return Err(TableFault::BadIndex);
     }
-    let (key, rest) = match key_in(
-        rest,
-        MAX_KEY_BYTES,
-        TableFault::Truncated,
-        TableFault::BadIndex,
-    ) {
+    let (key, rest) = match key_in(rest, max_key, TableFault::Truncated, TableFault::BadIndex) {
         Ok(found) => found,
         Err(fault) => return Err(fault),
     };
@@ -56,16 +54,20 @@ pub(crate) fn index_in<'a>(bytes: &'a [u8]) -> Result<(IndexEntry<'a>, &'a [u8])
     Ok((entry, rest))
 }
 
-/// What the index tells of so many blocks. It reserves nothing by their count.
-pub(crate) fn sum_index<'a>(index: &'a [u8], blocks: u32) -> Result<IndexSum<'a>, TableFault>
-    ensures { Reads (λ s. (s.total, s.rest.now)) result (sum_at blocks 0 index.now) }
+/// What the index tells of so many blocks, whose last keys have at most `max_key` bytes. It reserves nothing by their count.
+pub(crate) fn sum_index<'a>(
+    index: &'a [u8],
+    blocks: u32,
+    max_key: usize,
+) -> Result<IndexSum<'a>, TableFault>
+    ensures { Reads (λ s. (s.total, s.rest.now)) result (sum_at max_key blocks 0 index.now) }
 {
     let mut rest = index;
     let mut last: &[u8] = &[];
     let mut total = 0u64;
     let mut left = blocks;
     while left > 0 {
-        let (entry, after) = match index_in(rest) {
+        let (entry, after) = match index_in(rest, max_key) {
             Ok(found) => found,
             Err(fault) => return Err(fault),
         };

@@ -9,7 +9,7 @@ ghost use Rattle.std.specs.Prelude.{◌≡◌, ◌≤◌, length};
 
 use bytes::Bytes;
 use lsm_block::{BlockFault, decode_block, encode_block};
-use lsm_key::{DEFAULT_BLOCK, Entry, InternalKey, Kind, Refused, Seq};
+use lsm_key::{DEFAULT_BLOCK, Entry, InternalKey, Kind, MAX_KEY_BYTES, Refused, Seq};
 use lsm_table::{BuildError, Table, TableBuilder, encode_table};
 use std::alloc::Global;
 use std::test::Fail;
@@ -78,7 +78,7 @@ fn deletion() -> Entry
 // The fault of the bytes as a block, or none.
 fn block_fault(alloc: Global, bytes: &[u8]) -> Result<Option<BlockFault>, Fail> {
     let bytes = Bytes::copy_from_slice(alloc, bytes)?;
-    match decode_block(alloc, bytes) {
+    match decode_block(alloc, bytes, MAX_KEY_BYTES) {
         Ok(_) => Ok(None),
         Err(Refused::Fault(fault)) => Ok(Some(fault)),
         Err(Refused::OutOfMemory) => Err("out of memory")?,

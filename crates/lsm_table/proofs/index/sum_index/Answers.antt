@@ -6,7 +6,7 @@ use Rattle.lsm_table.proofs.index.sum_index.Goals as goal
 
 pub returns-in-Err : goal.returns-in-Err
 returns-in-Err c =
-    c.loop-left.invariant.2 ∙ sum_fails c.loop-left.left c.loop-left.total c.loop-left.rest.now c.in-Err.fault (c.loop-left-test.true) c.in-Err.ensures
+    c.loop-left.invariant.2 ∙ sum_fails c.args.max_key c.loop-left.left c.loop-left.total c.loop-left.rest.now c.in-Err.fault (c.loop-left-test.true) c.in-Err.ensures
 
 pub loop-left-preserved : goal.loop-left-preserved
 loop-left-preserved c =
@@ -15,11 +15,11 @@ loop-left-preserved c =
     let fits = c.from-total.type_inv in (
       omega (arith, i.0),
       omega (arith, i.0, i.1, some, fits),
-      i.2 ∙ sum_more c.loop-left.left c.loop-left.total c.loop-left.rest.now (index_entry c.in-Ok.found.0) c.in-Ok.found.1.now some c.in-Ok.ensures
-          ∙ ap (λ (n : ℕ). sum_at (c.loop-left.left - 1) (c.loop-left.total + n) c.in-Ok.found.1.now) (sym c.from-total.ensures),
+      i.2 ∙ sum_more c.args.max_key c.loop-left.left c.loop-left.total c.loop-left.rest.now (index_entry c.in-Ok.found.0) c.in-Ok.found.1.now some c.in-Ok.ensures
+          ∙ ap (λ (n : ℕ). sum_at c.args.max_key (c.loop-left.left - 1) (c.loop-left.total + n) c.in-Ok.found.1.now) (sym c.from-total.ensures),
     )
 
 pub returns : goal.returns
 returns c =
     let none : c.loop-left.left ≡ 0 = (let no = c.loop-left-test.false in omega (arith, no)) in
-    c.loop-left.invariant.2 ∙ ap (λ (n : ℕ). sum_at n c.loop-left.total c.loop-left.rest.now) none ∙ sum_none c.loop-left.total c.loop-left.rest.now
+    c.loop-left.invariant.2 ∙ ap (λ (n : ℕ). sum_at c.args.max_key n c.loop-left.total c.loop-left.rest.now) none ∙ sum_none c.args.max_key c.loop-left.total c.loop-left.rest.now

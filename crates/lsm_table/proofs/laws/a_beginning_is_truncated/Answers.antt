@@ -1,0 +1,5 @@
+use Rattle.lsm_table.proofs.TableBeginnings.{table_cut}
+use Rattle.lsm_table.proofs.laws.a_beginning_is_truncated.Goals as goal
+
+pub returns : goal.returns
+returns c = table_cut
