@@ -21,7 +21,7 @@ module _ {X : Type 0} (Is : X → Type 0) where
   turn_of_each (x ∷ xs) each = (each zero x (omega arith), turn_of_each xs (λ k d lt. each (suc k) d (omega (arith, lt))))
 
   -- a count of four bytes, and that many items
-  pub counted_each : (read : List ℕ → Result (X × List ℕ) MsgFault) (spell : X → List ℕ) → Reads read spell Is → (low high : ℕ) → high < 2 ^ 32
-      → Reads (λ bytes. ranged_number_at Truncated BadField w32 low high bytes >>= λ count. each_at read count.0 count.1) (λ xs. to_be_bytes w32 (length xs) ++ flat_map spell xs) (λ xs. (low ≤ length xs) × (length xs ≤ high) × All Is xs)
+  pub counted_each : (read : List ℕ → Result (X × List ℕ) MsgFault) (spell : X → List ℕ) → Reads Truncated read spell Is → (low high : ℕ) → high < 2 ^ 32
+      → Reads Truncated (λ bytes. ranged_number_at Truncated BadField w32 low high bytes >>= λ count. each_at read count.0 count.1) (λ xs. to_be_bytes w32 (length xs) ++ flat_map spell xs) (λ xs. (low ≤ length xs) × (length xs ≤ high) × All Is xs)
   counted_each read spell reads low high lt = reads_as (λ xs is. (is.0, is.1, each_of_turn xs is.2)) (λ xs is. (is.0, is.1, turn_of_each xs is.2))
-      (counted_reads {S = Unit {0}} (λ s. Unit {0}) (λ s. Is) (λ s. read) (λ s x. s) spell (λ s good. reads) (λ s x good is. tt) Truncated BadField w32 (2 ^ 32) wide32 low high tt lt tt)
+      (counted_reads {S = Unit {0}} (λ s. Unit {0}) (λ s. Is) (λ s. read) (λ s x. s) spell (λ s good. reads) (λ s x good is. tt) BadField w32 (2 ^ 32) wide32 low high tt lt tt)

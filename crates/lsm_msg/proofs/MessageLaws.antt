@@ -1,12 +1,13 @@
 -- A decoded message encodes to the bytes, and what encodes to the bytes is decoded.
-use Rattle.std.proofs.Common.{◌≡◌, ℕ, zero, suc, ◌^◌, ◌<◌, ◌≤◌, ◌||◌, Bool, false, cond, ltb, eqb, List, [], ◌++◌, length, Result, Ok, Err, refl, sym, ap, subst, ◌∙◌, append_assoc, arith}
+use Rattle.std.proofs.Common.{◌≡◌, ℕ, zero, suc, ◌^◌, ◌<◌, ◌≤◌, ◌||◌, Bool, false, cond, ltb, eqb, List, [], ◌++◌, length, take, Result, Ok, Err, refl, sym, ap, subst, ◌∙◌, append_assoc, arith}
 use Rattle.std.specs.Prelude.{IfOk}
 use Rattle.std.specs.Int.{Width, w8, w32, to_be_bytes}
-use Rattle.std.proofs.lemmas.List.{append-nil, nil_from_length}
+use Rattle.std.proofs.lemmas.List.{append-nil, length-take-le, nil_from_length}
 use Rattle.std.proofs.lemmas.Bool.{eqb-true, eqb-false, le-ltb, ltb-false, ne_eqb, or_from, or_parts}
-use Rattle.lsm_key.specs.declared.limits.TheConstants.{MAX_NODES}
+use Rattle.lsm_key.specs.declared.limits.TheConstants.{MAX_NODES, MAX_SHORT_KEY_BYTES}
 use Rattle.lsm_key.specs.declared.refused.Refused.{Refused}
 use Rattle.lsm_key.specs.Reading.{◌>>=◌, number_at, ranged_number_at, fixed_at, Gives}
+use Rattle.lsm_key.proofs.Beginnings.{cut_then, fixed_cut, number_cut}
 use Rattle.lsm_key.proofs.FieldLaws.{IsBytes, IsWide, Takes, Takes-then, bind_ok, guard_ok, guard_held, ok_is, fixed_takes, fixed_again, number_takes, number_again, wide8, wide32}
 use Rattle.lsm_key.proofs.ReaderLaws.{Reads, Goes, field, field_as, done, whole, within_reads}
 use Rattle.lsm_msg.specs.declared.fault.MsgFault.{MsgFault}
@@ -19,7 +20,7 @@ use Rattle.lsm_msg.specs.declared.node.Node.{Node}
 use Rattle.lsm_msg.specs.declared.node.Node.TheVariants.{Coordinator, Worker, Follower}
 use Rattle.lsm_msg.specs.Messages.{IsBody, IsMessage, IsNode, IsSpelled, body_text, message_kind_code, kind_of, message, message_magic, node}
 use Rattle.lsm_msg.specs.MessageReading.{message_kind_at, message_kind_from, message_at, node_at, node_from, read_message}
-use Rattle.lsm_msg.proofs.BodyLaws.{IsCounted, body_reads}
+use Rattle.lsm_msg.proofs.BodyLaws.{BodyHasKeysWithin, IsCounted, body_reads, body_within}
 use Rattle.lsm_msg.proofs.MessageSizes.{body_short, counted_of}
 
 -- ---- kinds
@@ -75,7 +76,7 @@ code_small kind.Edit = omega arith
 code_small kind.Base = omega arith
 code_small kind.Current = omega arith
 
-kind_reads : Reads message_kind_at (λ k. to_be_bytes w8 (message_kind_code k)) (λ k. Unit {0})
+kind_reads : Reads Truncated message_kind_at (λ k. to_be_bytes w8 (message_kind_code k)) (λ k. Unit {0})
 kind_reads = record {
   takes = λ bytes k fits e.
       let a = bind_ok (number_at Truncated w8 bytes) (λ code. message_kind_from code.0 >>= λ kind. Ok (kind, code.1)) k e in
@@ -85,6 +86,7 @@ kind_reads = record {
       let text : Takes bytes (to_be_bytes w8 (message_kind_code b.0)) a.0.1 = subst (λ n. Takes bytes (to_be_bytes w8 n) a.0.1) (message_kind_from-is a.0.0 b.0 b.1) t.0 in
       (subst (λ (p : MessageKind × List ℕ). Takes bytes (to_be_bytes w8 (message_kind_code p.0)) p.1) same text, tt);
   again = λ k rest is. rw (number_again Truncated w8 (2 ^ 8) wide8 (message_kind_code k) rest (code_small k), message_kind_from-again k) refl;
+  cuts = λ k is n lt. ap (λ (r : Result (ℕ × List ℕ) MsgFault). r >>= λ code. message_kind_from code.0 >>= λ kind. Ok (kind, code.1)) (number_cut Truncated w8 (2 ^ 8) wide8 (message_kind_code k) n lt);
 }
 
 -- ---- nodes
@@ -125,7 +127,21 @@ node_again Coordinator rest is = two_again 0 0 Coordinator rest (omega arith) (o
 node_again (Worker index) rest is = two_again 1 index (Worker index) rest (omega arith) (let m = is.1 in omega (arith, m)) (ap (λ (b : Bool). cond b (Err BadField) (Ok (Worker index))) (in_range index is.0 is.1))
 node_again (Follower index) rest is = two_again 2 index (Follower index) rest (omega arith) (let m = is.1 in omega (arith, m)) (ap (λ (b : Bool). cond b (Err BadField) (Ok (Follower index))) (in_range index is.0 is.1))
 
-node_reads : Reads node_at node IsNode
+-- a role, and then a number
+two_cut : (role index : ℕ) → role ≤ 2 → (n : ℕ) → n < length (to_be_bytes w8 role ++ to_be_bytes w8 index) → node_at (take n (to_be_bytes w8 role ++ to_be_bytes w8 index)) ≡ Err Truncated
+unfolding node_at
+two_cut role index low n lt =
+    let roles = within_reads Truncated BadField w8 (2 ^ 8) wide8 0 2 (omega arith) in
+    cut_then Truncated (ranged_number_at Truncated BadField w8 0 2) (λ role. number_at Truncated w8 role.1 >>= λ index. node_from role.0 index.0 >>= λ node. Ok (node, index.1)) (to_be_bytes w8 role) (to_be_bytes w8 index) (λ rest. (role, rest))
+    (roles.cuts role (omega arith, low)) (λ rest. roles.again role rest (omega arith, low))
+    (λ m left. ap (λ (r : Result (ℕ × List ℕ) MsgFault). r >>= λ index. node_from role index.0 >>= λ node. Ok (node, index.1)) (number_cut Truncated w8 (2 ^ 8) wide8 index m left)) n lt
+
+node_cut : (p : Node) (n : ℕ) → n < length (node p) → node_at (take n (node p)) ≡ Err Truncated
+node_cut Coordinator n lt = two_cut 0 0 (omega arith) n lt
+node_cut (Worker index) n lt = two_cut 1 index (omega arith) n lt
+node_cut (Follower index) n lt = two_cut 2 index (omega arith) n lt
+
+node_reads : Reads Truncated node_at node IsNode
 unfolding node_at
 node_reads = record {
   takes = λ bytes z fits e.
@@ -138,13 +154,14 @@ node_reads = record {
       let text : Takes bytes (node d.0) b.0.1 = subst (λ (x : List ℕ). Takes bytes x b.0.1) is.1 (Takes-then bytes (to_be_bytes w8 a.0.0) a.0.1 (to_be_bytes w8 b.0.0) b.0.1 t.0 u.0) in
       subst (λ (p : Node × List ℕ). Takes bytes (node p.0) p.1 × IsNode p.0) (ok_is {F = MsgFault} (d.0, b.0.1) z d.2) (text, is.0);
   again = node_again;
+  cuts = λ p is n lt. node_cut p n lt;
 }
 
 -- ---- whole messages
 
 -- a number that is known, and then what follows it
 constant : {Z : Type 0} {Known : Z → Type 0} {tail : Z → List ℕ} {IsZ : Z → Type 0} (k : List ℕ → Result (Z × List ℕ) MsgFault) (bad : MsgFault) (w : Width) (limit : ℕ) → IsWide w limit → (n : ℕ) → n < limit
-    → Goes Known k tail IsZ → Goes Known (λ bytes. fixed_at Truncated bad w n bytes >>= k) (λ z. to_be_bytes w n ++ tail z) IsZ
+    → Goes Truncated Known k tail IsZ → Goes Truncated Known (λ bytes. fixed_at Truncated bad w n bytes >>= k) (λ z. to_be_bytes w n ++ tail z) IsZ
 constant {Z} {Known} {tail} {IsZ} k bad w limit wide n small then = record {
   takes = λ bytes z fits e.
       let a = bind_ok (fixed_at Truncated bad w n bytes) k z e in
@@ -155,15 +172,18 @@ constant {Z} {Known} {tail} {IsZ} k bad w limit wide n small then = record {
       ap (λ (bytes : List ℕ). fixed_at Truncated bad w n bytes >>= k) (append_assoc (to_be_bytes w n) (tail z) rest)
       ∙ ap (λ (r : Result (List ℕ) MsgFault). r >>= k) (fixed_again Truncated bad w limit wide n (tail z ++ rest) small)
       ∙ then.again z rest known is;
+  cuts = λ z known is m lt.
+      cut_then Truncated (fixed_at Truncated bad w n) k (to_be_bytes w n) (tail z) (λ rest. rest)
+      (fixed_cut Truncated bad w limit wide n) (λ rest. fixed_again Truncated bad w limit wide n rest small) (then.cuts z known is) m lt;
 }
 
 abbrev fields_spelled : Message → List ℕ
 fields_spelled m = to_be_bytes w32 message_magic ++ (to_be_bytes w8 1 ++ (to_be_bytes w8 (message_kind_code (kind_of m.body)) ++ (node m.src ++ (node m.dst ++ (body_text m.body ++ [])))))
 
 abbrev FieldRules : Message → Type 0
-FieldRules m = Unit {0} × (IsNode m.src × (IsNode m.dst × ((IsBody m.body × IsCounted m.body) × Unit {0})))
+FieldRules m = Unit {0} × (IsNode m.src × (IsNode m.dst × ((IsBody m.body × IsCounted m.body × BodyHasKeysWithin MAX_SHORT_KEY_BYTES m.body) × Unit {0})))
 
-message_goes : Goes (λ m. Unit {0}) message_at fields_spelled FieldRules
+message_goes : Goes Truncated (λ m. Unit {0}) message_at fields_spelled FieldRules
 unfolding message_at
 message_goes =
     constant _ BadMagic w32 (2 ^ 32) wide32 message_magic (omega arith) (
@@ -171,18 +191,18 @@ message_goes =
     field _ (λ (m : Message). kind_of m.body) kind_reads (λ k _.
     field _ (λ (m : Message). m.src) node_reads (λ src _.
     field _ (λ (m : Message). m.dst) node_reads (λ dst _.
-    field_as _ (λ (m : Message). m.body) (λ m. IsBody m.body × IsCounted m.body) (λ m known is. (is.0, is.1)) (λ m known is. (is.0, is.1, known.0.0.1)) (body_reads k) (λ body is.
+    field_as _ (λ (m : Message). m.body) (λ m. IsBody m.body × IsCounted m.body × BodyHasKeysWithin MAX_SHORT_KEY_BYTES m.body) (λ m known is. (is.0, is.1, is.2)) (λ m known is. (is.0, is.1, is.2, known.0.0.1)) (body_reads MAX_SHORT_KEY_BYTES (omega arith) k) (λ body is.
     done (λ m. Unit {0}) (record { src = src; dst = dst; body = body })
-    ((((tt, is.2), refl), refl), refl) tt
+    ((((tt, is.3), refl), refl), refl) tt
     (λ m known is i. record { src = known.0.0.1 i; dst = known.0.1 i; body = known.1 i })))))))
 
 abbrev IsCountedMessage : Message → Type 0
 IsCountedMessage m = IsMessage m × IsCounted m.body
 
-message_reads : Reads message_at message IsCountedMessage
+message_reads : Reads Truncated message_at message IsCountedMessage
 message_reads = whole message IsCountedMessage (λ m is. simp (append_assoc, append-nil) refl)
     (λ m r. (record { src = r.1.0; dst = r.1.1.0; body = r.1.1.1.0.0 }, r.1.1.1.0.1))
-    (λ m is. (tt, (is.0.src, (is.0.dst, ((is.0.body, is.1), tt)))))
+    (λ m is. (tt, (is.0.src, (is.0.dst, ((is.0.body, is.1, body_within m.body is.0.body is.1), tt)))))
     message_goes
 
 pub message_takes : (bytes : List ℕ) (m : Message) → IsBytes bytes → read_message bytes ≡ Ok m → IsSpelled bytes m
@@ -204,6 +224,25 @@ message_again bytes m is =
     let a : message_at bytes ≡ Ok (m, []) = ap message_at (is.spelled ∙ sym (append-nil (message m))) ∙ message_reads.again m [] (is.sound, few) in
     rw (small, a) refl
 
+pub message_cut : (bytes : List ℕ) (m : Message) (n : ℕ) → IsSpelled bytes m → n < length bytes → read_message (take n bytes) ≡ Err Truncated
+unfolding read_message
+message_cut bytes m n is lt =
+    let short = length-take-le n bytes (omega (arith, lt)) in
+    let most = is.small in
+    let small : ltb MAX_MESSAGE_BYTES (length (take n bytes)) ≡ false = le-ltb MAX_MESSAGE_BYTES (length (take n bytes)) (omega (arith, short, most, lt)) in
+    let few = counted_of m.body (let long = body_short m in let e = ap length is.spelled in omega (arith, long, e, most)) in
+    let a : message_at (take n bytes) ≡ Err Truncated =
+    ap (λ (text : List ℕ). message_at (take n text)) is.spelled ∙ message_reads.cuts m (is.sound, few) n (subst (λ (text : List ℕ). n < length text) is.spelled lt) in
+    rw (small, a) refl
+
 pub message_found : (bytes : List ℕ) (r : Result Message (Refused MsgFault)) → IsBytes bytes → Gives (λ b. b) r (read_message bytes) → IfOk r (λ m. IsSpelled bytes m)
 message_found bytes (Ok m) fits given = message_takes bytes m fits given
 message_found bytes (Err f) fits given = tt
+
+-- other bytes are no message's, or another's
+pub other_message : (bytes other : List ℕ) (m : Message) → IsSpelled bytes m → IsBytes other → (other ≡ bytes → ⊥) → IfOk (read_message other) (λ changed. IsSpelled other changed × (changed ≡ m → ⊥))
+other_message bytes other m is fits differ = by (read_message other) refl
+  where
+    by : (r : Result Message MsgFault) → read_message other ≡ r → IfOk r (λ changed. IsSpelled other changed × (changed ≡ m → ⊥))
+    by (Ok changed) read = (let own = message_takes other changed fits read in (own, λ same. differ (own.spelled ∙ ap message same ∙ sym is.spelled)))
+    by (Err fault) read = tt

@@ -1,7 +1,7 @@
 -- How a message is read, with the first fault from left to right. A rule over several fields is tested at the last of them.
 use Rattle.std.specs.Prelude.{ℕ, ◌+◌, ◌-◌, ◌^◌, false, not, ◌&&◌, ◌||◌, List, [], length, Result, Ok, Err, ◌==◌, nat_eq, nat_lt, if◌then◌else◌}
 use Rattle.std.specs.Int.{w8, w16, w32, w64}
-use Rattle.lsm_key.specs.declared.limits.TheConstants.{MAX_DEEPER, MAX_INPUTS, MAX_JOB_LEVEL, MAX_KEY_BYTES, MAX_NODES, MAX_NUMBER, MAX_POINTS, MAX_TABLE_BYTES}
+use Rattle.lsm_key.specs.declared.limits.TheConstants.{MAX_DEEPER, MAX_INPUTS, MAX_JOB_LEVEL, MAX_NODES, MAX_NUMBER, MAX_POINTS, MAX_SHORT_KEY_BYTES, MAX_TABLE_BYTES}
 use Rattle.lsm_key.specs.declared.range.KeyRange.{KeyRange}
 use Rattle.lsm_key.specs.Order.{key_le}
 use Rattle.lsm_key.specs.Reading.{◌>>=◌, number_at, ranged_number_at, piece_at, fixed_at, key_at}
@@ -81,38 +81,40 @@ input_bounds s = record { least = s.least; most = MAX_NUMBER; lowest = s.level; 
 abbrev pub after_input : InputsLeft → FileMeta → InputsLeft
 after_input s f = record { least = f.number + 1; level = s.level; left = s.left - 1; own = s.own || nat_eq f.level s.level }
 
--- so many inputs
-abbrev pub each_input_at : ℕ → InputsLeft → List ℕ → Result (List FileMeta × List ℕ) MsgFault
-each_input_at count s bytes = items_at (λ s. file_at Truncated BadField (input_bounds s) []) after_input count s bytes
+-- so many inputs, with keys of at most limit bytes
+abbrev pub each_input_at : ℕ → ℕ → InputsLeft → List ℕ → Result (List FileMeta × List ℕ) MsgFault
+each_input_at limit count s bytes = items_at (λ s. file_at limit Truncated BadField (input_bounds s) []) after_input count s bytes
 
-unfoldable pub inputs_at : ℕ → List ℕ → Result (List FileMeta × List ℕ) MsgFault
-inputs_at level bytes = do
+unfoldable pub inputs_at : ℕ → ℕ → List ℕ → Result (List FileMeta × List ℕ) MsgFault
+inputs_at limit level bytes = do
   count ← ranged_number_at Truncated BadField w16 1 MAX_INPUTS bytes
-  each_input_at count.0 (record { least = 1; level = level; left = count.0; own = false }) count.1
+  each_input_at limit count.0 (record { least = 1; level = level; left = count.0; own = false }) count.1
 
-unfoldable pub range_at : List ℕ → Result (KeyRange × List ℕ) MsgFault
-range_at bytes = do
-  lo ← key_at MAX_KEY_BYTES Truncated BadField bytes
-  hi ← key_at MAX_KEY_BYTES Truncated BadField lo.1
+-- two keys of at most limit bytes
+unfoldable pub range_at : ℕ → List ℕ → Result (KeyRange × List ℕ) MsgFault
+range_at limit bytes = do
+  lo ← key_at limit Truncated BadField bytes
+  hi ← key_at limit Truncated BadField lo.1
   if not (key_le lo.0 hi.0) then Err BadField else Ok (record { lo = lo.0; hi = hi.0 }, hi.1)
 
 -- so many items of one kind
 abbrev pub each_at : {X : Type 0} → (List ℕ → Result (X × List ℕ) MsgFault) → ℕ → List ℕ → Result (List X × List ℕ) MsgFault
 each_at {X} read count bytes = items_at {S = Unit {0}} (λ s. read) (λ s x. s) count tt bytes
 
-unfoldable pub ranges_at : List ℕ → Result (List KeyRange × List ℕ) MsgFault
-ranges_at bytes = do
+unfoldable pub ranges_at : ℕ → List ℕ → Result (List KeyRange × List ℕ) MsgFault
+ranges_at limit bytes = do
   count ← ranged_number_at Truncated BadField w32 0 MAX_DEEPER bytes
-  each_at range_at count.0 count.1
+  each_at (range_at limit) count.0 count.1
 
-unfoldable pub job_at : List ℕ → Result (JobParts × List ℕ) MsgFault
-job_at bytes = do
+-- a job, with keys of at most limit bytes
+unfoldable pub job_at : ℕ → List ℕ → Result (JobParts × List ℕ) MsgFault
+job_at limit bytes = do
   id ← job_id_at bytes
   level ← ranged_number_at Truncated BadField w8 0 MAX_JOB_LEVEL id.1
   block ← ranged_number_at Truncated BadField w32 1 MAX_TABLE_BYTES level.1
   points ← points_at block.1
-  inputs ← inputs_at level.0 points.1
-  deeper ← ranges_at inputs.1
+  inputs ← inputs_at limit level.0 points.1
+  deeper ← ranges_at limit inputs.1
   Ok (record { id = id.0; level = level.0; block = block.0; points = points.0; inputs = inputs.0; deeper = deeper.0 }, deeper.1)
 
 -- ---- tables and results
@@ -153,16 +155,17 @@ abbrev pub as_body : {X : Type 0} → (X → Body) → Result (X × List ℕ) Ms
 as_body make (Ok x) = Ok (make x.0, x.1)
 as_body make (Err e) = Err e
 
-abbrev pub body_at : MessageKind → List ℕ → Result (Body × List ℕ) MsgFault
-body_at kind.Job bytes = as_body (λ j. body.Job j) (job_at bytes)
-body_at kind.Fetch bytes = as_body (λ n. body.Fetch n) (file_number_at bytes)
-body_at kind.Table bytes = table_body_at bytes
-body_at kind.Gone bytes = as_body (λ n. body.Gone n) (file_number_at bytes)
-body_at kind.Result bytes = as_body (λ r. body.Result r) (result_at bytes)
-body_at kind.Ask bytes = as_body (λ n. body.Ask n) (version_number_at bytes)
-body_at kind.Edit bytes = as_body (λ e. body.Edit e) (edit_at Truncated BadField bytes)
-body_at kind.Base bytes = as_body (λ v. body.Base v) (base_at Truncated BadField bytes)
-body_at kind.Current bytes = as_body (λ n. body.Current n) (version_number_at bytes)
+-- a body of the kind, with keys of at most limit bytes
+abbrev pub body_at : ℕ → MessageKind → List ℕ → Result (Body × List ℕ) MsgFault
+body_at limit kind.Job bytes = as_body (λ j. body.Job j) (job_at limit bytes)
+body_at limit kind.Fetch bytes = as_body (λ n. body.Fetch n) (file_number_at bytes)
+body_at limit kind.Table bytes = table_body_at bytes
+body_at limit kind.Gone bytes = as_body (λ n. body.Gone n) (file_number_at bytes)
+body_at limit kind.Result bytes = as_body (λ r. body.Result r) (result_at bytes)
+body_at limit kind.Ask bytes = as_body (λ n. body.Ask n) (version_number_at bytes)
+body_at limit kind.Edit bytes = as_body (λ e. body.Edit e) (edit_at limit Truncated BadField bytes)
+body_at limit kind.Base bytes = as_body (λ v. body.Base v) (base_at limit Truncated BadField bytes)
+body_at limit kind.Current bytes = as_body (λ n. body.Current n) (version_number_at bytes)
 
 -- a message from the front
 unfoldable pub message_at : List ℕ → Result (Message × List ℕ) MsgFault
@@ -172,7 +175,7 @@ message_at bytes = do
   kind ← message_kind_at b
   src ← node_at kind.1
   dst ← node_at src.1
-  body ← body_at kind.0 dst.1
+  body ← body_at MAX_SHORT_KEY_BYTES kind.0 dst.1
   Ok (record { src = src.0; dst = dst.0; body = body.0 }, body.1)
 
 -- a message, all of the bytes

@@ -1,6 +1,11 @@
-//! What the definition of a merge implies, and what installs and flushes leave unchanged. The functions do nothing: each
-//! is the proof of its contract.
+//! What the definition of a merge implies, what installs and flushes leave unchanged, and what damaged messages are told
+//! as. The functions do nothing: each is the proof of its contract.
 
+ghost use Rattle.std.specs.Prelude.{◌≡◌, ◌≢◌, ℕ, ◌<◌, List, length, take, slice_index, IfOk, Err};
+ghost use Rattle.lsm_msg.specs.declared.fault.MsgFault.TheVariants.{Truncated};
+ghost use Rattle.lsm_msg.specs.declared.message.Message.{Message};
+ghost use Rattle.lsm_msg.specs.Messages.{IsSpelled};
+ghost use Rattle.lsm_msg.specs.MessageReading.{read_message};
 ghost use Rattle.lsm_msg.specs.Laws.{KeptAreInputs, HiddenEntriesGo, ReadsStay, ASnapshotKeepsBoth, BothGo, ADeeperFileKeepsTheDeletion};
 ghost use Rattle.lsm_msg.specs.InstallLaws.{InstallsKeepReads, InstallsAddNoEntry, InstallsKeepOrder, InstallsKeepJobs, FlushesKeepOrder, FlushesKeepJobs};
 
@@ -55,4 +60,15 @@ pub fn worked_merges()
     ensures snapshot { ASnapshotKeepsBoth }
     ensures alone { BothGo }
     ensures deeper { ADeeperFileKeepsTheDeletion }
+{}
+
+/// A proper beginning of a message is told as truncated.
+pub fn a_beginning_is_truncated()
+    ensures { (bytes : List ℕ) (m : Message) (n : ℕ) → IsSpelled bytes m → n < length bytes → read_message (take n bytes) ≡ Err Truncated }
+{}
+
+/// Bytes other than those of a message are refused by the named fault, or are those of another message alone.
+pub fn changed_bytes_are_told()
+    ensures { (bytes changed : List ℕ) (m : Message) → IsSpelled bytes m → ((i : ℕ) → slice_index changed i < 256) → changed ≢ bytes
+        → IfOk (read_message changed) (λ other. IsSpelled changed other × (other ≢ m)) }
 {}

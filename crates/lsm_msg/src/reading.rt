@@ -8,7 +8,8 @@ mod inputs;
 mod job;
 mod result;
 
-ghost use Rattle.std.specs.Prelude.{◌≡◌, IfOk, Ok};
+ghost use Rattle.std.specs.Prelude.{◌≡◌, ◌≤◌, IfOk, Ok};
+ghost use Rattle.lsm_key.specs.declared.limits.TheConstants.{MAX_KEY_BYTES};
 ghost use Rattle.lsm_key.specs.Reading.{Gives};
 ghost use Rattle.lsm_msg.specs.declared.message.Message.{Message};
 ghost use Rattle.lsm_msg.specs.Messages.{IsSpelled};
@@ -22,8 +23,8 @@ use bytes::Bytes;
 use job::read_job;
 use lsm_edit::{read_base, read_edit};
 use lsm_key::{
-    FileNumber, MAX_NUMBER, Refused, VersionNumber, know_bytes, read_ranged_u8, read_ranged_u64,
-    read_u8, read_u32,
+    FileNumber, MAX_NUMBER, MAX_SHORT_KEY_BYTES, Refused, VersionNumber, know_bytes,
+    read_ranged_u8, read_ranged_u64, read_u8, read_u32,
 };
 use result::{read_result, read_sized};
 use std::alloc::Global;
@@ -81,7 +82,7 @@ fn read_front(alloc: Global, rest: &mut Bytes) -> Result<Message, MsgError>
     let kind = read_kind(rest)?;
     let src = read_node(rest)?;
     let dst = read_node(rest)?;
-    let body = read_body(alloc, kind, rest)?;
+    let body = read_body(alloc, kind, rest, MAX_SHORT_KEY_BYTES)?;
     Ok(Message { src, dst, body })
 }
 
@@ -112,19 +113,25 @@ fn node_of(role: u8, index: u8) -> Result<Node, MsgError>
     }
 }
 
-// A body of the kind from the front.
-fn read_body(alloc: Global, kind: MessageKind, rest: &mut Bytes) -> Result<Body, MsgError>
-    ensures { Gives (λ b. (b, rest.new)) result (body_at kind rest.old) }
+// A body of the kind from the front, with keys of at most `max_key` bytes.
+fn read_body(
+    alloc: Global,
+    kind: MessageKind,
+    rest: &mut Bytes,
+    max_key: usize,
+) -> Result<Body, MsgError>
+    requires { max_key ≤ MAX_KEY_BYTES }
+    ensures { Gives (λ b. (b, rest.new)) result (body_at max_key kind rest.old) }
 {
     match kind {
-        MessageKind::Job => Ok(Body::Job(read_job(alloc, rest)?)),
+        MessageKind::Job => Ok(Body::Job(read_job(alloc, rest, max_key)?)),
         MessageKind::Fetch => Ok(Body::Fetch(read_file_number(rest)?)),
         MessageKind::Table => read_table(rest),
         MessageKind::Gone => Ok(Body::Gone(read_file_number(rest)?)),
         MessageKind::Result => Ok(Body::Result(read_result(alloc, rest)?)),
         MessageKind::Ask => Ok(Body::Ask(read_version_number(rest)?)),
-        MessageKind::Edit => Ok(Body::Edit(read_edit(alloc, rest, SHORT, BAD)?)),
-        MessageKind::Base => Ok(Body::Base(read_base(alloc, rest, SHORT, BAD)?)),
+        MessageKind::Edit => Ok(Body::Edit(read_edit(alloc, rest, max_key, SHORT, BAD)?)),
+        MessageKind::Base => Ok(Body::Base(read_base(alloc, rest, max_key, SHORT, BAD)?)),
         MessageKind::Current => Ok(Body::Current(read_version_number(rest)?)),
     }
 }

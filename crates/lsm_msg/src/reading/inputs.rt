@@ -63,15 +63,16 @@ impl InputsLeft {
     }
 }
 
-/// A count, and that many inputs of a job of the level.
+/// A count, and that many inputs of a job of the level, with keys of at most `max_key` bytes.
 #[tactic(auto, unfolding(crate::specs::MessageReading::inputs_at))]
 pub(crate) fn read_inputs(
     alloc: Global,
     level: u8,
     rest: &mut Bytes,
+    max_key: usize,
 ) -> Result<Items<FileMeta>, MsgError>
     requires { level ≤ MAX_JOB_LEVEL }
-    ensures { Gives (λ files. (files, rest.new)) result (inputs_at level rest.old) }
+    ensures { Gives (λ files. (files, rest.new)) result (inputs_at max_key level rest.old) }
 {
     let count = read_count(rest)?;
     let left = InputsLeft {
@@ -80,7 +81,7 @@ pub(crate) fn read_inputs(
         left: count,
         own: false,
     };
-    read_each(alloc, left, rest)
+    read_each(alloc, left, rest, max_key)
 }
 
 fn read_count(rest: &mut Bytes) -> Result<u16, MsgError>
@@ -93,14 +94,19 @@ fn read_count(rest: &mut Bytes) -> Result<u16, MsgError>
     Ok(count)
 }
 
-fn read_each(alloc: Global, left: InputsLeft, rest: &mut Bytes) -> Result<Items<FileMeta>, MsgError>
+fn read_each(
+    alloc: Global,
+    left: InputsLeft,
+    rest: &mut Bytes,
+    max_key: usize,
+) -> Result<Items<FileMeta>, MsgError>
     requires { left.level ≤ MAX_JOB_LEVEL }
-    ensures { Gives (λ files. (files, rest.new)) result (each_input_at left.left left rest.old) }
+    ensures { Gives (λ files. (files, rest.new)) result (each_input_at max_key left.left left rest.old) }
 {
     let mut files = Items::new(alloc);
     let mut left = left;
     while left.left > 0 {
-        let file = read_file(rest, left.bounds(), &[], SHORT, BAD)?;
+        let file = read_file(rest, max_key, left.bounds(), &[], SHORT, BAD)?;
         left = left.after(&file);
         files.push(file)?;
     }
