@@ -13,7 +13,7 @@ pub fn a_block_of_short_keys_is_a_block()
     ensures { (low high : ℕ) (bytes : List ℕ) (es : List Entry) → low ≤ high → read_block low bytes ≡ Ok es → read_block high bytes ≡ Ok es }
 {}
 
-/// A proper beginning of a block is a shorter block if it ends between two entries, and is else told as truncated, as no bytes are.
+/// A proper beginning of a block is a shorter block if it ends between two entries, and is else refused as truncated, as no bytes are.
 pub fn a_beginning_of_a_block_is_shorter_or_truncated()
     ensures shorter { (limit : ℕ) (bytes : List ℕ) (front back : List Entry) → IsBlock limit bytes (front ++ back) → 0 < length front → read_block limit (take (length (entries front)) bytes) ≡ Ok front }
     ensures truncated { (limit : ℕ) (bytes : List ℕ) (es : List Entry) (n : ℕ) → limit ≤ MAX_KEY_BYTES → IsBlock limit bytes es → n < length bytes

@@ -27,24 +27,26 @@ pub fn worked_edits()
     ensures given { AGivenNumberDoesNot }
 {}
 
-/// A proper beginning of an edit is told as truncated.
+/// A proper beginning of an edit is refused as truncated.
 pub fn a_beginning_of_an_edit_is_truncated()
     ensures { (bytes : List ℕ) (e : Edit) (n : ℕ) → IsSpelledEdit bytes e → n < length bytes → read_edit (take n bytes) ≡ Err Truncated }
 {}
 
-/// Bytes other than those of an edit are refused by the named fault, or are those of another edit alone.
-pub fn changed_bytes_of_an_edit_are_told()
+/// Bytes other than those of an edit, such as those with a byte changed, are refused with a named fault, or are the one encoding of another
+/// edit.
+pub fn a_change_is_refused_or_another_edit()
     ensures { (bytes changed : List ℕ) (e : Edit) → IsSpelledEdit bytes e → ((i : ℕ) → slice_index changed i < 256) → changed ≢ bytes
         → IfOk (read_edit changed) (λ other. IsSpelledEdit changed other × (other ≢ e)) }
 {}
 
-/// A proper beginning of a base is told as truncated.
+/// A proper beginning of a base is refused as truncated.
 pub fn a_beginning_of_a_base_is_truncated()
     ensures { (bytes : List ℕ) (v : VersionValue) (n : ℕ) → IsSpelledBase bytes v → n < length bytes → read_base (take n bytes) ≡ Err Truncated }
 {}
 
-/// Bytes other than those of a base are refused by the named fault, or are those of another base alone.
-pub fn changed_bytes_of_a_base_are_told()
+/// Bytes other than those of a base, such as those with a byte changed, are refused with a named fault, or are the one encoding of another
+/// base.
+pub fn a_change_is_refused_or_another_base()
     ensures { (bytes changed : List ℕ) (v : VersionValue) → IsSpelledBase bytes v → ((i : ℕ) → slice_index changed i < 256) → changed ≢ bytes
         → IfOk (read_base changed) (λ other. IsSpelledBase changed other × (other ≢ v)) }
 {}

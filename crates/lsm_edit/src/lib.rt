@@ -24,8 +24,8 @@ pub use file::{FileBounds, FileMeta, files_bytes, read_file, same_files, write_f
 pub use format::{FormatError, FormatFault};
 pub use laws::{
     a_beginning_of_a_base_is_truncated, a_beginning_of_an_edit_is_truncated,
-    a_number_names_one_file, changed_bytes_of_a_base_are_told, changed_bytes_of_an_edit_are_told,
-    no_file_is_removed_twice, worked_edits,
+    a_change_is_refused_or_another_base, a_change_is_refused_or_another_edit,
+    a_number_names_one_file, no_file_is_removed_twice, worked_edits,
 };
 pub use recorded::{is_as_recorded, open_as_recorded};
 pub use served::{LevelCursor, Listing, Placed, Prepared, Room, Served};

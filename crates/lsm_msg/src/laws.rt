@@ -62,13 +62,14 @@ pub fn worked_merges()
     ensures deeper { ADeeperFileKeepsTheDeletion }
 {}
 
-/// A proper beginning of a message is told as truncated.
-pub fn a_beginning_is_truncated()
+/// A proper beginning of a message is refused as truncated.
+pub fn a_beginning_of_a_message_is_truncated()
     ensures { (bytes : List ℕ) (m : Message) (n : ℕ) → IsSpelled bytes m → n < length bytes → read_message (take n bytes) ≡ Err Truncated }
 {}
 
-/// Bytes other than those of a message are refused by the named fault, or are those of another message alone.
-pub fn changed_bytes_are_told()
+/// Bytes other than those of a message, such as those with a byte changed, are refused with a named fault, or are the one encoding of another
+/// message.
+pub fn a_change_is_refused_or_another_message()
     ensures { (bytes changed : List ℕ) (m : Message) → IsSpelled bytes m → ((i : ℕ) → slice_index changed i < 256) → changed ≢ bytes
         → IfOk (read_message changed) (λ other. IsSpelled changed other × (other ≢ m)) }
 {}

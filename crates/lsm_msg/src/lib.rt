@@ -22,9 +22,9 @@ mod writing;
 pub use fault::{MsgError, MsgFault};
 pub use job::{Job, JobParts, JobResult};
 pub use laws::{
-    a_beginning_is_truncated, changed_bytes_are_told, flushes_keep_jobs, flushes_keep_order,
-    hidden_entries_go, installs_keep_jobs, installs_keep_order, installs_keep_reads,
-    kept_are_inputs, reads_stay, worked_merges,
+    a_beginning_of_a_message_is_truncated, a_change_is_refused_or_another_message,
+    flushes_keep_jobs, flushes_keep_order, hidden_entries_go, installs_keep_jobs,
+    installs_keep_order, installs_keep_reads, kept_are_inputs, reads_stay, worked_merges,
 };
 pub use message::{Body, MAX_MESSAGE_BYTES, Message};
 pub use node::{Node, NodeIndex};

@@ -24,8 +24,8 @@ pub use fault::{TableError, TableFault};
 pub use head::Head;
 pub use heads::Heads;
 pub use laws::{
-    a_beginning_is_truncated, a_change_is_refused_or_another_table, a_memtable_fits_into_a_table,
-    a_table_has_one_encoding, a_table_has_one_meaning, a_table_is_little_more_than_its_entries,
-    entries_are_cut_in_one_way,
+    a_beginning_of_a_table_is_truncated, a_change_is_refused_or_another_table,
+    a_memtable_fits_into_a_table, a_table_has_one_encoding, a_table_has_one_meaning,
+    a_table_is_little_more_than_its_entries, entries_are_cut_in_one_way,
 };
 pub use table::Table;

@@ -1,5 +1,5 @@
 use Rattle.lsm_edit.proofs.EditLaws.{other_edit}
-use Rattle.lsm_edit.proofs.laws.changed_bytes_of_an_edit_are_told.Goals as goal
+use Rattle.lsm_edit.proofs.laws.a_change_is_refused_or_another_edit.Goals as goal
 
 pub returns : goal.returns
 returns c = other_edit

@@ -1,5 +1,5 @@
 use Rattle.lsm_msg.proofs.MessageLaws.{message_cut}
-use Rattle.lsm_msg.proofs.laws.a_beginning_is_truncated.Goals as goal
+use Rattle.lsm_msg.proofs.laws.a_beginning_of_a_message_is_truncated.Goals as goal
 
 pub returns : goal.returns
 returns c = message_cut
