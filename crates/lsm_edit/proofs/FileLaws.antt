@@ -1,5 +1,5 @@
 -- A decoded file record encodes to the bytes, and what encodes to the bytes is decoded.
-use Rattle.std.proofs.Common.{◌≡◌, ℕ, ◌^◌, ◌≤◌, ◌||◌, Bool, false, not, List, [], ◌++◌, Ok, refl, ap, subst, append_assoc, arith}
+use Rattle.std.proofs.Common.{◌≡◌, ℕ, ◌^◌, ◌≤◌, ◌||◌, Bool, true, false, not, List, [], ◌++◌, Ok, refl, ap, subst, append_assoc, arith}
 use Rattle.std.specs.Int.{w8, w32, w64, to_be_bytes}
 use Rattle.std.specs.List.{All, list_any}
 use Rattle.std.proofs.lemmas.Bool.{not-false, or_parts, or_from}
@@ -107,3 +107,18 @@ module _ {F : Type 0} (limit : ℕ) (short bad : F) (within : FileBounds) (earli
       let n = bind_ok (ranged_number_at short bad w32 1 4294967295 s.0.1) _ z s.2 in
       let same = ok_is {F = F} _ z n.2 in
       subst (λ (p : FileMeta × List ℕ). p.0.number ≤ within.most) same (within_range short bad w64 within.least within.most bytes a.0 a.1).1
+
+  -- its keys are in order, and it overlaps no earlier file, whatever the bytes
+  pub file_apart : (bytes : List ℕ) (z : FileMeta × List ℕ) → file_at limit short bad within earlier bytes ≡ Ok z → (key_le z.0.smallest z.0.largest ≡ true) × (meets_earlier earlier z.0 ≡ false)
+  unfolding file_at
+  file_apart bytes z e =
+      let a = bind_ok (ranged_number_at short bad w64 within.least within.most bytes) _ z e in
+      let b = bind_ok (ranged_number_at short bad w8 within.lowest within.deepest a.0.1) _ z a.2 in
+      let k = bind_ok (key_at limit short bad b.0.1) _ z b.2 in
+      let l = bind_ok (key_at limit short bad k.0.1) _ z k.2 in
+      let o = guard_ok (not (key_le k.0.0 l.0.0) || list_any (meets_file b.0.0 k.0.0 l.0.0) earlier) bad _ z l.2 in
+      let s = bind_ok (ranged_number_at short bad w32 1 MAX_TABLE_BYTES l.0.1) _ z o.1 in
+      let n = bind_ok (ranged_number_at short bad w32 1 4294967295 s.0.1) _ z s.2 in
+      let same = ok_is {F = F} _ z n.2 in
+      let parts = or_parts (not (key_le k.0.0 l.0.0)) (list_any (meets_file b.0.0 k.0.0 l.0.0) earlier) o.0 in
+      subst (λ (p : FileMeta × List ℕ). (key_le p.0.smallest p.0.largest ≡ true) × (meets_earlier earlier p.0 ≡ false)) same (not-false (key_le k.0.0 l.0.0) parts.0, parts.1)

@@ -1,6 +1,7 @@
 pub mod ItemsInTurn
 pub mod Ascending
 pub mod FileLaws
+pub mod EarlierFiles
 pub mod EditLaws
 pub mod VersionFiles
 pub mod BaseLaws

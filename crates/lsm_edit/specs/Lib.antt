@@ -1,6 +1,7 @@
 pub mod File
 pub mod Edit
 pub mod Version
+pub mod EarlierFiles
 pub mod Base
 pub mod Edits
 pub mod Laws

@@ -10,8 +10,9 @@ ghost use Rattle.lsm_edit.specs.Base.{IsBase, IsSpelledBase, base, base_at, list
 ghost use Rattle.lsm_edit.specs.File.{size};
 ghost use Rattle.lsm_edit.specs.Version.{VersionValue};
 
+use crate::earlier_files::EarlierFiles;
 use crate::edit::write_files;
-use crate::file::{FileBounds, files_bytes, read_file};
+use crate::file::{FileBounds, files_bytes, read_apart};
 use crate::{FileMeta, FormatError, FormatFault, Version};
 use bytes::{BufMut, Bytes, BytesMut};
 use lsm_key::{
@@ -54,8 +55,7 @@ pub fn encode_base(alloc: Global, version: &Version) -> Result<Bytes, AllocError
     Ok(out.freeze()?)
 }
 
-// `count` files of a version, with numbers below `next_file` and keys of at most `max_key` bytes. Each is compared with
-// all before it.
+// `count` files of a version, with numbers below `next_file` and keys of at most `max_key` bytes.
 fn read_version_files<F: Copy>(
     alloc: Global,
     count: u32,
@@ -68,7 +68,7 @@ fn read_version_files<F: Copy>(
     requires { (1 ≤ next_file) × (next_file ≤ MAX_NUMBER) }
     ensures { Gives (λ files. (files.items, rest.new)) result (version_files_at max_key short bad count (record { least = 1; most = next_file - 1; lowest = 0; deepest = MAX_LEVEL }, []) rest.old) }
 {
-    let mut files = Vec::new(alloc);
+    let mut files = EarlierFiles::new(alloc);
     let mut least = 1;
     for _place in 0..count {
         let within = FileBounds {
@@ -77,11 +77,11 @@ fn read_version_files<F: Copy>(
             lowest: 0,
             deepest: MAX_LEVEL,
         };
-        let file = read_file(rest, max_key, within, files.as_slice(), short, bad)?;
+        let file = read_apart(rest, max_key, within, &files, short, bad)?;
         least = file.number + 1;
-        files.push(file)?;
+        files = files.with(file)?;
     }
-    Ok(files)
+    Ok(files.into_vec())
 }
 
 // The files of a version with this next file number, after their count.
@@ -102,7 +102,7 @@ fn read_listed<F: Copy>(
 }
 
 /// A version from the front, with keys of at most `max_key` bytes. The fault is `short` if the bytes end inside a field,
-/// and `bad` if a field breaks its rule. The time is quadratic in the number of files.
+/// and `bad` if a field breaks its rule. The time is O(n log n) in the number of files.
 #[tactic(auto, unfolding(crate::specs::Base::base_at))]
 pub fn read_base<F: Copy>(
     alloc: Global,
@@ -123,8 +123,8 @@ pub fn read_base<F: Copy>(
     Ok(Version::from_parts(alloc, number, Seq::new(flushed), epoch, next_file, files))
 }
 
-/// The version that the bytes encode, all of the bytes, or the first fault. The time is quadratic in the number of
-/// files.
+/// The version that the bytes encode, all of the bytes, or the first fault. The time is O(n log n) in the number
+/// of files.
 pub fn decode_base(alloc: Global, bytes: Bytes) -> Result<Version, FormatError>
     // What is decoded encodes to these bytes.
     ensures found { IfOk result (λ v. IsSpelledBase bytes v) }

@@ -208,7 +208,7 @@ fn read_files<F: Copy>(
     let mut files = Items::new(alloc);
     let mut within = within;
     for _place in 0..count {
-        let file = read_file(rest, max_key, within, &[], short, bad)?;
+        let file = read_file(alloc, rest, max_key, within, short, bad)?;
         within = FileBounds {
             least: file.number + 1,
             most: within.most,

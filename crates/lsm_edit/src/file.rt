@@ -3,17 +3,17 @@
 //! A record is encoded as: u64 number, u8 level, smallest key, largest key, u32 bytes, u32 entries; a key is u16 length
 //! and its bytes, and all numbers are big-endian.
 
-ghost use Rattle.std.specs.Prelude.{◌≡◌, ◌++◌, ◌↔◌, IsTrue, OnOk, length, All};
-ghost use Rattle.std.specs.List.{flat_map, list_any};
+ghost use Rattle.std.specs.Prelude.{◌≡◌, ◌++◌, ◌↔◌, [], IsTrue, OnOk, length, All};
+ghost use Rattle.std.specs.List.{flat_map};
 ghost use Rattle.lsm_key.specs.Reading.{Gives};
-ghost use Rattle.lsm_edit.specs.File.{IsFile, file, file_at, meets_file, size};
+ghost use Rattle.lsm_edit.specs.File.{IsFile, file, file_at, size};
 
+use crate::earlier_files::EarlierFiles;
 use bytes::{BufMut, Bytes, BytesMut};
 use lsm_key::{
-    KeyRangeRef, MAX_TABLE_BYTES, Refused, read_key, read_ranged_u8, read_ranged_u32,
-    read_ranged_u64, write_key,
+    MAX_TABLE_BYTES, Refused, read_key, read_ranged_u8, read_ranged_u32, read_ranged_u64, write_key,
 };
-use std::alloc::AllocError;
+use std::alloc::{AllocError, Global};
 
 /// What a version knows of a table: its level, and what is in it.
 #[derive(Debug, Drop, Clone, PartialEq, Eq)]
@@ -45,15 +45,29 @@ pub struct FileBounds {
     pub deepest: u8,
 }
 
-/// A record within bounds from the front, with keys of at most `max_key` bytes, of a file that overlaps none of the
-/// earlier ones of its level, if it is not level 0. The fault is `short` if the bytes end inside a field, and `bad` if a
-/// field breaks its rule.
-#[tactic(auto, unfolding(crate::specs::File::file_at))]
+/// A record within bounds from the front, with keys of at most `max_key` bytes. The fault is `short` if the bytes end
+/// inside a field, and `bad` if a field breaks its rule. Allocates nothing.
 pub fn read_file<F: Copy>(
+    alloc: Global,
     rest: &mut Bytes,
     max_key: usize,
     within: FileBounds,
-    earlier: &[FileMeta],
+    short: F,
+    bad: F,
+) -> Result<FileMeta, Refused<F>>
+    ensures { Gives (λ f. (f, rest.new)) result (file_at max_key short bad within [] rest.old) }
+{
+    let earlier = EarlierFiles::new(alloc);
+    read_apart(rest, max_key, within, &earlier, short, bad)
+}
+
+/// The same of a file that overlaps none of the earlier ones of its level, if it is not level 0.
+#[tactic(auto, unfolding(crate::specs::File::file_at))]
+pub(crate) fn read_apart<F: Copy>(
+    rest: &mut Bytes,
+    max_key: usize,
+    within: FileBounds,
+    earlier: &EarlierFiles,
     short: F,
     bad: F,
 ) -> Result<FileMeta, Refused<F>>
@@ -63,7 +77,8 @@ pub fn read_file<F: Copy>(
     let level = read_ranged_u8(rest, within.lowest, within.deepest, short, bad)?;
     let smallest = read_key(rest, max_key, short, bad)?;
     let largest = read_key(rest, max_key, short, bad)?;
-    if smallest.cmp(&largest).is_gt() || meets_any(level, &smallest, &largest, earlier) {
+    let meets = earlier.meet(level, &smallest, &largest)?;
+    if smallest.cmp(&largest).is_gt() || meets {
         return Err(Refused::Fault(bad));
     }
     let bytes = read_ranged_u32(rest, 1, MAX_TABLE_BYTES as u32, short, bad)?;
@@ -76,25 +91,6 @@ pub fn read_file<F: Copy>(
         bytes,
         entries,
     })
-}
-
-// Whether a file of the level, if it is not level 0, overlaps the keys from `smallest` to `largest`.
-fn meets_any(level: u8, smallest: &Bytes, largest: &Bytes, files: &[FileMeta]) -> bool
-    ensures { result ≡ list_any (meets_file level smallest.now largest.now) files.now }
-{
-    files
-        .iter()
-        .any(|file| meets(level, smallest, largest, file))
-}
-
-fn meets(level: u8, smallest: &Bytes, largest: &Bytes, file: &FileMeta) -> bool
-    ensures { result ≡ meets_file level smallest.now largest.now file.now }
-{
-    let range = KeyRangeRef {
-        lo: smallest.as_slice(),
-        hi: largest.as_slice(),
-    };
-    file.level == level && file.level > 0 && file.range().overlaps(range)
 }
 
 /// Appends a record.

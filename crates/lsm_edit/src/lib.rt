@@ -6,6 +6,7 @@
 #![tactic(auto)]
 
 mod base;
+mod earlier_files;
 mod edit;
 mod file;
 mod format;

@@ -106,7 +106,7 @@ fn read_each(
     let mut files = Items::new(alloc);
     let mut left = left;
     while left.left > 0 {
-        let file = read_file(rest, max_key, left.bounds(), &[], SHORT, BAD)?;
+        let file = read_file(alloc, rest, max_key, left.bounds(), SHORT, BAD)?;
         left = left.after(&file);
         files.push(file)?;
     }
