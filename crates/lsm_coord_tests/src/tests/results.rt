@@ -3,6 +3,7 @@
 use bytes::Bytes;
 use lsm_claim::{Claim, JobId};
 use lsm_coord::{Coord, CoordError, Desk, Install, InstallError, Seat};
+use lsm_edit::FileMeta;
 use lsm_key::{Batch, DEFAULT_BLOCK, Items, Limits, Op};
 use lsm_msg::{JobResult, NodeIndex};
 use lsm_vault::MemoryVault;
@@ -119,6 +120,21 @@ fn result_of(
     Ok(JobResult { job, tables: list })
 }
 
+/// Whether there is a file of this number at a place of a listing.
+fn is_file(files: &[FileMeta], place: usize, number: u64) -> bool {
+    files.get(place).is_some_and(|file| file.number == number)
+}
+
+/// Whether the current version is that of the two flushes: both files are in it, and no other.
+fn shows_both(coord: &Store) -> bool {
+    let listing = coord.show();
+    let has_both = is_file(listing.files, 0, 1) && is_file(listing.files, 1, 2);
+    listing.number.number() == 3
+        && listing.flushed.number() == 2
+        && listing.files.len() == 2
+        && has_both
+}
+
 fn see(
     rt: &impl Abort,
     alloc: Global,
@@ -136,6 +152,10 @@ fn see(
             return Err(AllocError.into());
         }
         assert!(rt; became == wanted, "{wanted:?}, and not {became:?}");
+        assert!(rt;
+            became == Became::Installed(4) || shows_both(coord),
+            "{became:?} changed the version"
+        );
     }
     Ok(())
 }
