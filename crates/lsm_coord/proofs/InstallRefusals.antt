@@ -10,7 +10,7 @@ use Rattle.lsm_versions.specs.Manifest.{MayHavePut, VersionSetValue}
 use Rattle.lsm_coord.specs.declared.coord.install.InstallError.{InstallError}
 use Rattle.lsm_coord.specs.declared.coord.install.InstallError.TheVariants.{WrongJob, BadResult, NumbersExhausted, OutOfMemory, Device}
 use Rattle.lsm_coord.specs.Model.Event as say
-use Rattle.lsm_coord.specs.Contract.Installing.{AreOutputTables, HasNumbers, LeavesRejected, Rejects, number_fault}
+use Rattle.lsm_coord.specs.Contract.Installing.{AreOutputTables, HasNumbers, IsOutput, LeavesRejected, Rejects, number_fault}
 use Rattle.lsm_coord.specs.Contract.Replies.{error_of, refusal_of}
 use Rattle.lsm_coord.specs.Model.Rules.{CannotNumber, IsAllowed}
 use Rattle.lsm_coord.specs.Contract.Shows.{Follows, Shows}
@@ -22,7 +22,7 @@ use Rattle.lsm_coord.specs.Inner.Putting.{PutLeaves}
 use Rattle.lsm_coord.proofs.ShownVersions.{version_count}
 use Rattle.lsm_coord.specs.Contract.Sound.{KeepsSound}
 use Rattle.lsm_coord.proofs.OpenedOutputs.{tables_length}
-use Rattle.lsm_coord.proofs.VaultRefusals.{nothing_stored, stored_keeps, stored_shows}
+use Rattle.lsm_coord.proofs.VaultRefusals.{same_stored, stored_keeps, stored_shows}
 
 one_is_over : (a b most : ℕ) → ((a ≤ most) × (b ≤ most) → ⊥) → (most < a) ⊎ (most < b)
 one_is_over a b most none = elim (leb_tells a most) [
@@ -80,16 +80,16 @@ pub stale_steps : (old new : CoordValue) → new ≡ old → (message : ℕ) →
 stale_steps old new same message s h = (s, (inr (refl, h.up), refl), subst (λ (c : CoordValue). Shows c s) (sym same) h)
 
 -- what a rejected result leaves is what a refusal of the vault may leave
-pub rejected_stored : (why : InstallError) (old new : CoordValue) → LeavesRejected why old new → MayHaveStored old new
-rejected_stored WrongJob old new left = subst (MayHaveStored old) (sym left) (nothing_stored old)
-rejected_stored BadResult old new left = subst (MayHaveStored old) (sym left) (nothing_stored old)
-rejected_stored NumbersExhausted old new left = subst (MayHaveStored old) (sym left) (nothing_stored old)
-rejected_stored OutOfMemory old new left = left
-rejected_stored Device old new left = left.0
+pub rejected_stored : (made : JobResult) (why : InstallError) (old new : CoordValue) → LeavesRejected made why old new → MayHaveStored (IsOutput old.served.version made) old new
+rejected_stored made WrongJob old new left = same_stored old new left
+rejected_stored made BadResult old new left = same_stored old new left
+rejected_stored made NumbersExhausted old new left = same_stored old new left
+rejected_stored made OutOfMemory old new left = left
+rejected_stored made Device old new left = left.0
 
 -- the jobs that are sound stay so
-pub rejected_keeps : (why : InstallError) (old new : CoordValue) → LeavesRejected why old new → KeepsSound old new
-rejected_keeps why old new left = stored_keeps old new (rejected_stored why old new left)
+pub rejected_keeps : (made : JobResult) (why : InstallError) (old new : CoordValue) → LeavesRejected made why old new → KeepsSound old new
+rejected_keeps made why old new left = stored_keeps old new (rejected_stored made why old new left)
 
 -- ---- what the version set leaves
 
@@ -97,16 +97,16 @@ rejected_keeps why old new left = stored_keeps old new (rejected_stored why old 
 abbrev pub with_versions : CoordValue → VersionSetValue → CoordValue
 with_versions c v = record c { served = v.served; edits = v.edits; floor = v.floor; retired = v.retired; kept = v.kept; failures = v.failures }
 
-stored_left : (c : CoordValue) (v : VersionSetValue) → MayHavePut (version_set c) v → c.failures ≤ v.failures → MayHaveStored c (with_versions c v)
-stored_left c v put counted = record { rest = ap (with_versions c) put.rest; below = put.below; counted = counted }
+pub stored_left : {MayPut : ℕ → List ℕ → Type 0} (c : CoordValue) (v : VersionSetValue) → MayHavePut MayPut (version_set c) v → c.failures ≤ v.failures → MayHaveStored MayPut c (with_versions c v)
+stored_left c v put counted = record { rest = ap (with_versions c) put.rest; below = put.below; put = put.put; counted = counted }
 
-pub put_left : (why : InstallError) (c : CoordValue) (v : VersionSetValue) → PutLeaves why (version_set c) v → LeavesRejected why c (with_versions c v)
-put_left WrongJob c v left = ap (with_versions c) left
-put_left BadResult c v left = ap (with_versions c) left
-put_left NumbersExhausted c v left = ap (with_versions c) left
-put_left OutOfMemory c v left = stored_left c v left.0 left.1
-put_left Device c v left = let more = left.1 in (stored_left c v left.0 (omega (arith, more)), left.1)
+pub put_left : (made : JobResult) (why : InstallError) (c : CoordValue) (v : VersionSetValue) → PutLeaves made why (version_set c) v → LeavesRejected made why c (with_versions c v)
+put_left made WrongJob c v left = ap (with_versions c) left
+put_left made BadResult c v left = ap (with_versions c) left
+put_left made NumbersExhausted c v left = ap (with_versions c) left
+put_left made OutOfMemory c v left = stored_left c v left.0 left.1
+put_left made Device c v left = let more = left.1 in (stored_left c v left.0 (omega (arith, more)), left.1)
 
-pub kept_steps : (old new : CoordValue) (live : LiveJob) (made : JobResult) (why : InstallError) → Rejects old.limits.block old.served.version live made why → LeavesRejected why old new
+pub kept_steps : (old new : CoordValue) (live : LiveJob) (made : JobResult) (why : InstallError) → Rejects old.limits.block old.served.version live made why → LeavesRejected made why old new
     → (message : ℕ) → Follows old (say.Deliver message) (say.Refused (refusal_of (error_of why))) new
-kept_steps old new live made why x left message s h = (s, (is_allowed old s h live made message why x, leaves why s message), stored_shows old new (rejected_stored why old new left) s h)
+kept_steps old new live made why x left message s h = (s, (is_allowed old s h live made message why x, leaves why s message), stored_shows old new (rejected_stored made why old new left) s h)

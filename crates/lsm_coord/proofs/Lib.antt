@@ -36,6 +36,7 @@ pub mod InstallRefusals
 pub mod GiveBackSteps
 pub mod ReturnedClaims
 pub mod VaultRefusals
+pub mod PutOutputs
 pub mod GatheredParts
 pub mod PickedJobs
 pub mod ServedOneWay

@@ -18,17 +18,20 @@ use Rattle.lsm_coord.specs.Contract.Value.{CoordValue}
 use Rattle.lsm_coord.proofs.GiveBackSteps.{Shows-beside}
 use Rattle.lsm_coord.proofs.JobsStaySound.{same_keeps}
 
-pub stored_shows : (old new : CoordValue) → MayHaveStored old new → (s : State) → Shows old s → Shows new s
+pub stored_shows : {MayPut : ℕ → List ℕ → Type 0} (old new : CoordValue) → MayHaveStored MayPut old new → (s : State) → Shows old s → Shows new s
 stored_shows old new may s h = subst (λ (c : CoordValue). Shows c s) (sym may.rest) (Shows-beside old old.book new.kept new.failures s h)
 
-pub stored_keeps : (old new : CoordValue) → MayHaveStored old new → KeepsSound old new
+pub stored_keeps : {MayPut : ℕ → List ℕ → Type 0} (old new : CoordValue) → MayHaveStored MayPut old new → KeepsSound old new
 stored_keeps old new may =
     let is = may.rest in
     same_keeps old new (ap (λ (c : CoordValue). c.limits) is) (ap (λ (c : CoordValue). c.served) is) (ap (λ (c : CoordValue). c.book) is) (ap (λ (c : CoordValue). c.snapshots) is)
 
 -- nothing was stored
-pub nothing_stored : (c : CoordValue) → MayHaveStored c c
-nothing_stored c = record { rest = refl; below = λ n lt. refl; counted = omega arith }
+pub nothing_stored : {MayPut : ℕ → List ℕ → Type 0} (c : CoordValue) → MayHaveStored MayPut c c
+nothing_stored c = record { rest = refl; below = λ n lt. refl; put = λ n. inl refl; counted = omega arith }
+
+pub same_stored : {MayPut : ℕ → List ℕ → Type 0} (old new : CoordValue) → new ≡ old → MayHaveStored MayPut old new
+same_stored {MayPut} old new same = subst (MayHaveStored MayPut old) (sym same) (nothing_stored old)
 
 -- ---- the refusals
 

@@ -1,6 +1,7 @@
 //! What neither a clause nor a script says: the texts of refusals.
 
 mod copies;
+mod devices;
 mod results;
 
 use lsm_coord::{CoordError, InstallError};

@@ -62,7 +62,7 @@ ends_stale old new id none same j m =
     let n = subst (λ (c : CoordValue). IsIn j c.book.live) same m in
     (n, λ i. elim i [ inl e ↦ not_held old.book id j e none n | inr never ↦ absurd never ])
 
-pub ends_kept : (old mid new : CoordValue) (id : JobId) → MayHaveStored old mid → new ≡ after_give_back mid id → Ends old.book (id ∷ []) new.book
+pub ends_kept : {MayPut : ℕ → List ℕ → Type 0} (old mid new : CoordValue) (id : JobId) → MayHaveStored MayPut old mid → new ≡ after_give_back mid id → Ends old.book (id ∷ []) new.book
 ends_kept old mid new id stored back =
     let same : mid.book ≡ old.book = ap (λ (c : CoordValue). c.book) stored.rest in
     subst (λ (b : BookValue). Ends b (id ∷ []) new.book) same (subst (λ (c : CoordValue). Ends mid.book (id ∷ []) c.book) (sym back) (ends_returned mid id))

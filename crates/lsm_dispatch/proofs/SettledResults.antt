@@ -29,7 +29,7 @@ module _ (old mid new : CoordValue) (claim back : LiveJob) (made : JobResult) (w
   kept_settles = (mid, subst (λ (l : LiveJob). Became old claim made (became.Kept l why) mid) b.2 b, returned)
 
   pub kept_ended : Ends old.book (claim.id ∷ []) new.book
-  kept_ended = ends_kept old mid new claim.id (rejected_stored why old mid b.4) returned
+  kept_ended = ends_kept old mid new claim.id (rejected_stored made why old mid b.4) returned
 
 -- ---- a result that is installed, and its trim
 

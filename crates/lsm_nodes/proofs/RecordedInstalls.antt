@@ -88,6 +88,6 @@ extends_install past a w b claim made (became.Done number files) asked told befo
 extends_install past a w b claim made (became.Stale id epoch) asked told before h =
     plainly past a w b (call.Install claim.id made) (answer.Stale id epoch) asked told tt (ap (λ (c : CoordValue). installs_in c.edits) h.became.3) (ap (λ (c : CoordValue). c.book) h.became.3) (h.step 1 (λ is. absurd is)) (λ s shown. nothing_keeps a b h.became.3)
 extends_install past a w b claim made (became.Kept back why) asked told before h =
-    let stored = rejected_stored why a b h.became.4 in
+    let stored = rejected_stored made why a b h.became.4 in
     plainly past a w b (call.Install claim.id made) (answer.Refused (error_of why)) asked told tt (ap (λ (c : CoordValue). installs_in c.edits) stored.rest) (ap (λ (c : CoordValue). c.book) stored.rest) (h.step 1 (λ is. absurd is))
-    (λ s shown. rejected_keeps why a b h.became.4)
+    (λ s shown. rejected_keeps made why a b h.became.4)

@@ -42,9 +42,9 @@ module _ (old mid new : CoordValue) (claim : LiveJob) (job : JobParts) (ver : Is
   never_stale : holds mid.book claim.id ≡ false → ⊥
   never_stale h = true≢false (sym (is_held old mid claim job ver is book picked) ∙ h)
 
-  pub answers_left : {Z : Type 0} (r : Answer Z) → OnErr r (GivesBack mid claim.id new) → OnErr r (IsLeft old new)
-  answers_left (Ok a) e = tt
-  answers_left (Err x) e = left_stored old mid claim job ver is book picked e.0 e.1 new e.2
+  pub answers_left : {Z : Type 0} (made : JobResult) (r : Answer Z) → OnErr r (GivesBack mid claim.id made new) → OnErr r (IsLeft old new)
+  answers_left made (Ok a) e = tt
+  answers_left made (Err x) e = left_stored old mid claim job ver is book picked e.0 e.1 new e.2
 
   module _ (made : JobResult) (same_job : made.job ≡ job.id) (m : merge.IsMerge (tables_at mid.served.places job.inputs) job made.tables) where
     pub answers_made : {Z : Type 0} (r : Answer Z) → IfOk r (λ a. IfSome a (λ v. Became mid claim made (became.Done v.0 v.1.items) new)) → IfOk r (λ a. a ≡ None → holds mid.book claim.id ≡ false) → IfOk r (Compacts old new)
@@ -89,7 +89,7 @@ module _ (old mid new : CoordValue) (claim : LiveJob) (job : JobParts) (ver : Is
     -- ---- jobs that stay sound
 
     pub answers_sound : {Z : Type 0} (r : Answer Z) → KeepsSound old mid → KeepsSound mid new → IfOk r (λ a. IfSome a (λ v. Became mid claim made (became.Done v.0 v.1.items) new)) → IfOk r (λ a. a ≡ None → holds mid.book claim.id ≡ false)
-        → OnErr r (GivesBack mid claim.id new) → KeepsSound old new
+        → OnErr r (GivesBack mid claim.id made new) → KeepsSound old new
     answers_sound (Ok None) first second done stale back = absurd (never_stale (stale refl))
     answers_sound (Ok (Some v)) first second done stale back =
         keeps_then old mid new first second (λ j n. live_before mid.book (done.0).id ending.Installed j (subst (λ (c : CoordValue). IsIn j c.book.live) (done.4).new_is n))
@@ -98,7 +98,7 @@ module _ (old mid new : CoordValue) (claim : LiveJob) (job : JobParts) (ver : Is
     -- ---- the steps
 
     pub answers_reached : {Z : Type 0} (r : Answer Z) (dispatcher message : ℕ) → IsIndex dispatcher → (s : State) → (t : State) × Step s (say.Pick dispatcher) say.Other t × Shows mid t → IfOk r (λ a. IfSome a (λ v. Follows mid (say.Deliver message) (say.Installed v.0 v.1.items) new))
-        → IfOk r (λ a. a ≡ None → holds mid.book claim.id ≡ false) → OnErr r (GivesBack mid claim.id new) → IsCompacted dispatcher message s r new
+        → IfOk r (λ a. a ≡ None → holds mid.book claim.id ≡ false) → OnErr r (GivesBack mid claim.id made new) → IsCompacted dispatcher message s r new
     answers_reached (Ok None) dispatcher message index s pick steps stale back = absurd (never_stale (stale refl))
     answers_reached (Ok (Some v)) dispatcher message index s pick steps stale back =
         let u = steps pick.0 pick.2 in

@@ -1,5 +1,5 @@
 -- A compaction from its pick on: what it installs, what it gives back, and what it leaves as it was.
-use Rattle.std.proofs.Common.{◌≡◌, ◌+◌, ◌≤◌, Bool, true, false, not, cond, List, [], ◌∷◌, ◌++◌, Option, None, Some, refl, sym, ap, subst, ◌∙◌, arith, inl, inr}
+use Rattle.std.proofs.Common.{◌≡◌, ℕ, ◌+◌, ◌≤◌, Bool, true, false, not, cond, List, [], ◌∷◌, ◌++◌, Option, None, Some, refl, sym, ap, subst, ◌∙◌, arith, inl, inr}
 use Rattle.std.specs.Prelude.{◌↔◌, IfSome, find, sum_by}
 use Rattle.std.proofs.lemmas.Bool.{and_parts, eq-eqb, false_from_ne_true, leb-true}
 use Rattle.lsm_key.specs.Places.{AreOrdered}
@@ -162,7 +162,7 @@ module _ (old mid : CoordValue) (claim : LiveJob) (job : JobParts) (ver : IsVers
 
   -- ---- what is given back, after the vault may have got outputs
 
-  pub left_stored : (put : CoordValue) → MayHaveStored mid put → (new : CoordValue) → new ≡ after_give_back put claim.id → IsLeft old new
+  pub left_stored : {MayPut : ℕ → List ℕ → Type 0} (put : CoordValue) → MayHaveStored MayPut mid put → (new : CoordValue) → new ≡ after_give_back put claim.id → IsLeft old new
   left_stored put may new e =
       let counted = given_back old.book book picked.want in
       let rest : put ≡ record old { book = after_claim old.book picked.want; kept = put.kept; failures = put.failures } = may.rest ∙ (λ i. record (picked.new_is i) { kept = put.kept; failures = put.failures }) in
@@ -178,13 +178,13 @@ module _ (old mid : CoordValue) (claim : LiveJob) (job : JobParts) (ver : IsVers
       })
 
   pub left_again : (new : CoordValue) → new ≡ after_give_back mid claim.id → IsLeft old new
-  left_again = left_stored mid (nothing_stored mid)
+  left_again = left_stored {MayPut = λ n bytes. ⊥} mid (nothing_stored mid)
 
-  pub stored_keep : (put : CoordValue) → MayHaveStored mid put → (new : CoordValue) → KeepsSound old mid → KeepsSound mid new → new ≡ after_give_back put claim.id → KeepsSound old new
+  pub stored_keep : {MayPut : ℕ → List ℕ → Type 0} (put : CoordValue) → MayHaveStored MayPut mid put → (new : CoordValue) → KeepsSound old mid → KeepsSound mid new → new ≡ after_give_back put claim.id → KeepsSound old new
   stored_keep put may new first second e =
       keeps_then old mid new first second (λ j n.
       let there : IsIn j put.book.live = live_before put.book claim.id Returned j (subst (λ (c : CoordValue). IsIn j c.book.live) e n) in
       subst (λ (c : CoordValue). IsIn j c.book.live) may.rest there)
 
   pub back_keeps : (new : CoordValue) → KeepsSound old mid → KeepsSound mid new → new ≡ after_give_back mid claim.id → KeepsSound old new
-  back_keeps = stored_keep mid (nothing_stored mid)
+  back_keeps = stored_keep {MayPut = λ n bytes. ⊥} mid (nothing_stored mid)

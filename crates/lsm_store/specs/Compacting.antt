@@ -18,7 +18,7 @@ use Rattle.lsm_coord.specs.Model.Event as say
 use Rattle.lsm_claim.specs.declared.job.JobId.{JobId}
 use Rattle.lsm_versions.specs.Kept.{StaysBelow}
 use Rattle.lsm_coord.specs.Contract.Calls.{MayHaveStored, after_give_back}
-use Rattle.lsm_coord.specs.Contract.Installing.{AreOutputTables, Became, HasNumbers, HoldsMergeOf, IsLive, Rejects}
+use Rattle.lsm_coord.specs.Contract.Installing.{AreOutputTables, Became, HasNumbers, HoldsMergeOf, IsLive, IsOutput, Rejects}
 use Rattle.lsm_coord.specs.Contract.Picking.{HasFreeClaim, IsPicked, NothingToCompact, PickRefuses}
 use Rattle.lsm_coord.specs.Contract.Replies.{error_of, refusal_of}
 use Rattle.lsm_coord.specs.Model.Run.{Run}
@@ -58,9 +58,9 @@ pub record KeptBack (c : CoordValue) (claim : LiveJob) (made : JobResult) (e : C
   pub told : e ≡ error_of why
   pub rejects : Rejects c.limits.block c.served.version live made why
 
--- the claim is given back; the vault may have outputs, and its device may have failed
-abbrev pub GivesBack : CoordValue → JobId → CoordValue → Type 0
-GivesBack old id new = (mid : CoordValue) × MayHaveStored old mid × (new ≡ after_give_back mid id)
+-- the claim is given back; the vault may have outputs of the result, and its device may have failed
+abbrev pub GivesBack : CoordValue → JobId → JobResult → CoordValue → Type 0
+GivesBack old id made new = (mid : CoordValue) × MayHaveStored (IsOutput old.served.version made) old mid × (new ≡ after_give_back mid id)
 
 -- ---- a compaction
 

@@ -65,7 +65,7 @@ fn install<V: Vault>(
     ensures done { IfOk result (λ answer. IfSome answer (λ r. Became coord.old claim made.now (became.Done r.0 r.1.items) coord.new)) }
     ensures step { (message : ℕ) → HoldsSoundMerge coord.old claim.id made.now → IfOk result (λ answer. IfSome answer (λ r. Follows coord.old (Deliver message) (Installed r.0 r.1.items) coord.new)) }
     ensures stale { IfOk result (λ answer. answer ≡ None → holds coord.old.book claim.id ≡ false) }
-    ensures err { OnErr result (GivesBack coord.old claim.id coord.new) }
+    ensures err { OnErr result (GivesBack coord.old claim.id made.now coord.new) }
     ensures refused { IfErr result (KeptBack coord.old claim made.now) }
     ensures device { IfErr result (λ e. e ≡ CoordError.Device → coord.old.failures < coord.new.failures) }
     ensures sound { HoldsSoundMerge coord.old claim.id made.now → KeepsSound coord.old coord.new }

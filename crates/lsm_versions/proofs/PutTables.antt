@@ -15,7 +15,9 @@ use Rattle.lsm_edit.proofs.PlacesInOrder.{placed_meta}
 use Rattle.lsm_vault.specs.Failures.{CountsFailures}
 use Rattle.lsm_vault.specs.declared.error.VaultError.{VaultError}
 use Rattle.lsm_vault.specs.declared.error.VaultError.TheVariants.{Device, OutOfMemory}
-use Rattle.lsm_versions.specs.Kept.{Kept, MayHaveRemoved, StaysApart, put_tables}
+use Rattle.lsm_versions.specs.declared.putting.NumberedTable.{NumberedTable}
+use Rattle.lsm_versions.specs.Kept.{IsTableOf, Kept, MayHavePutSome, MayHaveRemoved, StaysApart, put_tables}
+use Rattle.lsm_versions.specs.Putting.{IsTableToPut, numbered_tables, put_numbered}
 
 tied-not : (q k : ℕ) → (q ≡ k → ⊥) → eq_by_cmp nat_cmp q k ≡ false
 tied-not q k ne = grind (arith, nat_tests)
@@ -34,8 +36,40 @@ pub placed_none : (fs : List FileMeta) → placed_of fs [] ≡ []
 placed_none [] = refl
 placed_none (f ∷ fs) = refl
 
-pub stays-put : (files : List FileMeta) (old before : Kept) (f : FileMeta) (bytes : List ℕ) → IsIn f files → StaysApart files old before → StaysApart files old (insert before f.number bytes)
-stays-put files old before f bytes m stays n apart = put_other before f.number bytes n (λ (same : n ≡ f.number). apart f m (sym same)) ∙ stays n apart
+-- one that may be put
+pub one_put : (MayPut : ℕ → List ℕ → Type 0) (old before : Kept) (k : ℕ) (bytes : List ℕ) → MayPut k bytes → MayHavePutSome MayPut old before → MayHavePutSome MayPut old (insert before k bytes)
+one_put MayPut old before k bytes may some = λ q. elim (cases_eq q k) [
+  | inl same ↦ inr (bytes, subst (λ (i : ℕ). MayPut i bytes) (sym same) may, subst (λ (i : ℕ). get (insert before k bytes) i ≡ Some bytes) (sym same) (put_same before k bytes))
+  | inr other ↦ elim (some q) [
+    | inl stays ↦ inl (put_other before k bytes q other ∙ stays)
+    | inr put ↦ inr (put.0, put.1, put_other before k bytes q other ∙ put.2)
+  ]
+]
+
+-- those that are put are the files' tables
+pub numbered_of : (ps : List Placed) (n : ℕ) (bytes : List ℕ) → IsTableToPut (numbered_tables ps) n bytes → IsTableOf ps n bytes
+numbered_of [] n bytes m = absurd m
+numbered_of (p ∷ ps) n bytes m = elim m [
+  | inl same ↦ (p, inl refl, ap (λ (t : NumberedTable). t.number) (sym same), ap (λ (t : NumberedTable). t.bytes) (sym same))
+  | inr later ↦ let at = numbered_of ps n bytes later in (at.0, inr at.1, at.2, at.3)
+]
+
+pub files_put : (fs : List FileMeta) (ts : List Opened) (numbered : List NumberedTable) (old new : Kept) → numbered ≡ numbered_tables (placed_of fs ts) → MayHavePutSome (IsTableToPut numbered) old new → MayHavePutSome (IsTableOf (placed_of fs ts)) old new
+files_put fs ts numbered old new is some n = elim (some n) [
+  | inl stays ↦ inl stays
+  | inr put ↦ inr (put.0, numbered_of (placed_of fs ts) n put.0 (subst (λ (all : List NumberedTable). IsTableToPut all n put.0) is put.1), put.2)
+]
+
+-- and a number of no file keeps its table
+pub put_apart : (fs : List FileMeta) (ts : List Opened) (old new : Kept) → MayHavePutSome (IsTableOf (placed_of fs ts)) old new → StaysApart fs old new
+put_apart fs ts old new some n apart = elim (some n) [
+  | inl stays ↦ stays
+  | inr put ↦ absurd (apart put.1.0.meta (placed_meta fs ts put.1.0 put.1.1) put.1.2)
+]
+
+pub put_numbered_is : (ps : List Placed) (kept : Kept) → put_numbered kept (numbered_tables ps) ≡ put_tables kept ps
+put_numbered_is [] kept = refl
+put_numbered_is (p ∷ ps) kept = put_numbered_is ps (insert kept p.meta.number p.table.bytes)
 
 -- ---- all tables of some files
 

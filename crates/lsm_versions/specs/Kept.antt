@@ -29,6 +29,14 @@ StaysBelow next old new = (n : ℕ) → n < next → map.get new n ≡ map.get o
 abbrev pub StaysApart : List FileMeta → Kept → Kept → Type 0
 StaysApart files old new = (n : ℕ) → ((f : FileMeta) → IsIn f files → f.number ≡ n → ⊥) → map.get new n ≡ map.get old n
 
+-- each number has the table that it had, or one that may be put under it
+abbrev pub MayHavePutSome : (ℕ → List ℕ → Type 0) → Kept → Kept → Type 0
+MayHavePutSome MayPut old new = (n : ℕ) → (map.get new n ≡ map.get old n) ⊎ ((bytes : List ℕ) × MayPut n bytes × (map.get new n ≡ Some bytes))
+
+-- one of these files has the number, and its table the bytes
+abbrev pub IsTableOf : List Placed → ℕ → List ℕ → Type 0
+IsTableOf placed n bytes = (p : Placed) × IsIn p placed × (p.meta.number ≡ n) × (p.table.bytes ≡ bytes)
+
 -- the same tables, but that some of these numbers may have none
 abbrev pub MayHaveRemoved : List ℕ → Kept → Kept → Type 0
 MayHaveRemoved numbers old new = (n : ℕ) → (map.get new n ≡ map.get old n) ⊎ (IsIn n numbers × (map.get new n ≡ None))

@@ -10,7 +10,7 @@ use Rattle.lsm_edit.specs.Version.{VersionValue, first_version}
 use Rattle.lsm_edit.specs.Served.{ServedValue, after_advance, placed_of}
 use Rattle.lsm_versions.specs.declared.retired.Retired.{Retired}
 use Rattle.lsm_versions.specs.Retention.{AreRetired, kept_from, retired_after}
-use Rattle.lsm_versions.specs.Kept.{AreKept, Kept, StaysBelow, put_tables}
+use Rattle.lsm_versions.specs.Kept.{AreKept, Kept, MayHavePutSome, StaysBelow, put_tables}
 
 -- the edit that bytes spell, or none
 abbrev pub ok_items : {X F : Type 0} → Result X F → List X
@@ -60,10 +60,11 @@ after_logging v e tables = record v {
   kept = put_tables v.kept (placed_of e.added tables);
 }
 
--- the same, but that the vault may have a table under a number that no file has been given yet, and may have failed
-pub record MayHavePut (old new : VersionSetValue) : Type 0 where
+-- the same, but that the vault may have some of the tables that may be put, under numbers that no file has been given yet, and may have failed
+pub record MayHavePut (MayPut : ℕ → List ℕ → Type 0) (old new : VersionSetValue) : Type 0 where
   pub rest : new ≡ record old { kept = new.kept; failures = new.failures }
   pub below : StaysBelow old.served.version.next_file old.kept new.kept
+  pub put : MayHavePutSome MayPut old.kept new.kept
 
 -- the floor is this number, unless it is higher, and the retired files below it are let go
 abbrev pub after_trimming : VersionSetValue → ℕ → VersionSetValue

@@ -5,8 +5,9 @@ ghost use Rattle.std.specs.FinMap as map;
 ghost use Rattle.std.specs.List.{list_any};
 ghost use Rattle.lsm_vault.specs.Failures.{CountsFailures};
 ghost use Rattle.lsm_edit.specs.Served.{AreAsRecorded, placed_of};
-ghost use Rattle.lsm_versions.specs.Kept.{MayHaveRemoved, StaysApart, put_tables};
+ghost use Rattle.lsm_versions.specs.Kept.{MayHavePutSome, MayHaveRemoved};
 ghost use Rattle.lsm_versions.specs.Opening.{MayHaveLost, is_live_file};
+ghost use Rattle.lsm_versions.specs.Putting.{IsTableToPut, numbered_tables, put_numbered};
 ghost use Rattle.lsm_versions.specs.Retention.{NumbersRise};
 
 use crate::retired::{Retired, retired_bytes};
@@ -15,46 +16,64 @@ use lsm_edit::{FileMeta, Version};
 use lsm_key::FileNumber;
 use lsm_table::Table;
 use lsm_vault::{Vault, VaultError};
+use std::alloc::{AllocError, Global};
 
-/// Puts the tables of files under their numbers, and then an edit after the others. A refusal puts no edit.
-pub(crate) fn store<V: Vault>(
-    vault: &mut V,
-    files: &[FileMeta],
-    tables: &[Table],
-    edit: Bytes,
-) -> Result<(), VaultError>
-    requires { AreAsRecorded files.now tables.now }
-    ensures tables { OnOk result (V.tables vault.new ≡ put_tables (V.tables vault.old) (placed_of files.now tables.now)) }
-    ensures edits { OnOk result (V.edits vault.new ≡ V.edits vault.old ++ edit ∷ []) }
-    ensures err { OnErr result (V.edits vault.new ≡ V.edits vault.old) }
-    ensures others { StaysApart files.now (V.tables vault.old) (V.tables vault.new) }
-    ensures counted { CountsFailures result (V.failures vault.old) (V.failures vault.new) }
-{
-    put_tables(vault, files, tables)?;
-    vault.append_edit(edit)
+/// The bytes of a table, and the number that they are put under.
+#[derive(Drop)]
+pub(crate) struct NumberedTable {
+    number: FileNumber,
+    bytes: Bytes,
 }
 
-// Puts the tables of files under their numbers.
-fn put_tables<V: Vault>(
-    vault: &mut V,
+/// The tables of files, with the numbers of these.
+pub(crate) fn number_tables(
+    alloc: Global,
     files: &[FileMeta],
     tables: &[Table],
-) -> Result<(), VaultError>
+) -> Result<Vec<NumberedTable>, AllocError>
     requires { AreAsRecorded files.now tables.now }
-    ensures ok { OnOk result (V.tables vault.new ≡ put_tables (V.tables vault.old) (placed_of files.now tables.now)) }
-    ensures edits { V.edits vault.new ≡ V.edits vault.old }
-    ensures others { StaysApart files.now (V.tables vault.old) (V.tables vault.new) }
-    ensures counted { CountsFailures result (V.failures vault.old) (V.failures vault.new) }
+    ensures { IfOk result (λ numbered. numbered.items ≡ numbered_tables (placed_of files.now tables.now)) }
 {
+    let mut numbered = Vec::with_capacity(alloc, tables.len())?;
     let (mut next_files, mut next_tables) = (files, tables);
     while let Some((table, later_tables)) = next_tables.split_first() {
         let Some((file, later_files)) = next_files.split_first() else {
             unreachable!()
         };
         let bytes = table.bytes().clone()?;
-        vault.put_table(FileNumber::new(file.number), bytes)?;
+        let number = FileNumber::new(file.number);
+        numbered.push(NumberedTable { number, bytes })?;
         next_files = later_files;
         next_tables = later_tables;
+    }
+    Ok(numbered)
+}
+
+/// Puts tables under their numbers, and then an edit after the others. A refusal puts no edit, and may have put some of the tables.
+pub(crate) fn store<V: Vault>(
+    vault: &mut V,
+    tables: Vec<NumberedTable>,
+    edit: Bytes,
+) -> Result<(), VaultError>
+    ensures tables { OnOk result (V.tables vault.new ≡ put_numbered (V.tables vault.old) tables.items) }
+    ensures edits { OnOk result (V.edits vault.new ≡ V.edits vault.old ++ edit ∷ []) }
+    ensures err { OnErr result (V.edits vault.new ≡ V.edits vault.old) }
+    ensures put { MayHavePutSome (IsTableToPut tables.items) (V.tables vault.old) (V.tables vault.new) }
+    ensures counted { CountsFailures result (V.failures vault.old) (V.failures vault.new) }
+{
+    put_tables(vault, tables)?;
+    vault.append_edit(edit)
+}
+
+// Puts tables under their numbers, in turn. A refusal ends it early.
+fn put_tables<V: Vault>(vault: &mut V, tables: Vec<NumberedTable>) -> Result<(), VaultError>
+    ensures ok { OnOk result (V.tables vault.new ≡ put_numbered (V.tables vault.old) tables.items) }
+    ensures put { MayHavePutSome (IsTableToPut tables.items) (V.tables vault.old) (V.tables vault.new) }
+    ensures edits { V.edits vault.new ≡ V.edits vault.old }
+    ensures counted { CountsFailures result (V.failures vault.old) (V.failures vault.new) }
+{
+    for table in tables {
+        vault.put_table(table.number, table.bytes)?;
     }
     Ok(())
 }

@@ -7,12 +7,12 @@ ghost use Rattle.lsm_key.specs.declared.entry.Entry.{Entry};
 ghost use Rattle.lsm_key.specs.Places.{first_visible};
 ghost use Rattle.lsm_table.specs.Tables.{IsTable};
 ghost use Rattle.lsm_edit.specs.Edit.{IsEdit};
-ghost use Rattle.lsm_edit.specs.Served.{AreAsRecorded, IsServed, tables_of};
+ghost use Rattle.lsm_edit.specs.Served.{AreAsRecorded, IsServed, placed_of, tables_of};
 ghost use Rattle.lsm_edit.specs.Version.{IsVersion, apply_fault};
 ghost use Rattle.lsm_vault.specs.Failures.{CountsFailures};
 ghost use Rattle.lsm_versions.specs.Cached.{CopiesValue};
 ghost use Rattle.lsm_versions.specs.Manifest.{IsVersionSet, MayHavePut, after_logging, after_trimming, read_edits};
-ghost use Rattle.lsm_versions.specs.Kept.{StaysApart};
+ghost use Rattle.lsm_versions.specs.Kept.{IsTableOf, StaysApart};
 ghost use Rattle.lsm_versions.specs.Opening.{CountsRefusal, EpochRefused, IsNextEpoch, MayHaveDropped, MayHaveLost, OpenRefuses, Opens, is_live, is_live_file, obsolete_tables, without_obsolete};
 ghost use Rattle.lsm_versions.specs.declared.error.OpenError.TheVariants.{NumbersExhausted};
 ghost use Rattle.lsm_versions.specs.Retention.{bytes_at};
@@ -20,7 +20,7 @@ ghost use Rattle.lsm_versions.specs.Retention.{bytes_at};
 use crate::OpenError;
 use crate::cached::{new_cache, value_through};
 use crate::opening::{edit_of, recover};
-use crate::putting::{remove_obsolete, store};
+use crate::putting::{number_tables, remove_obsolete, store};
 use crate::recent::{edits_below, let_go, push_recent};
 use crate::retired::{Retired, put_retired, retired_by, retired_bytes};
 use bytes::Bytes;
@@ -226,13 +226,13 @@ impl<V: Vault> VersionSet<V> {
     }
 
     /// Stores the tables of the files that an edit adds, by number, then logs the edit, which is known to apply, and becomes the
-    /// version after it. The files that it removes retire. A refusal changes nothing but that such a table may be stored.
+    /// version after it. The files that it removes retire. A refusal changes nothing but that some of these tables may be stored.
     pub fn log_and_apply(&mut self, edit: &Edit, tables: Vec<Table>) -> Result<(), VaultError>
         requires sound { IsEdit edit.now }
         requires recorded { AreAsRecorded edit.now.added tables.items }
         requires applies { apply_fault self.old.served.version edit.now ≡ None }
         ensures ok { OnOk result (self.new ≡ record (after_logging self.old edit.now tables.items) { failures = self.new.failures }) }
-        ensures err { OnErr result (MayHavePut self.old self.new) }
+        ensures err { OnErr result (MayHavePut (IsTableOf (placed_of edit.now.added tables.items)) self.old self.new) }
         ensures apart { OnErr result (StaysApart edit.now.added self.old.kept self.new.kept) }
         ensures counted { CountsFailures result self.old.failures self.new.failures }
     {
@@ -244,12 +244,8 @@ impl<V: Vault> VersionSet<V> {
         let Ok(prepared) = self.current.prepare(edit, tables) else {
             return Err(VaultError::OutOfMemory);
         };
-        store(
-            &mut self.vault,
-            edit.added.as_slice(),
-            prepared.tables(),
-            bytes,
-        )?;
+        let numbered = number_tables(self.alloc, edit.added.as_slice(), prepared.tables())?;
+        store(&mut self.vault, numbered, bytes)?;
         self.current.take_up(prepared);
         // Its blocks were those of the version before.
         self.cache.clear();

@@ -130,17 +130,17 @@ module _ (old new : CoordValue) where
 
 -- ---- results
 
-rejected_counted : (old new : CoordValue) (e : InstallError) → LeavesRejected e old new → Counts old.failures (reply.Refused (why.Coord (error_of e))) new.failures
-rejected_counted old new kept.WrongJob is = still old.failures new.failures (ap (λ (c : CoordValue). c.failures) is)
-rejected_counted old new kept.BadResult is = still old.failures new.failures (ap (λ (c : CoordValue). c.failures) is)
-rejected_counted old new kept.NumbersExhausted is = still old.failures new.failures (ap (λ (c : CoordValue). c.failures) is)
-rejected_counted old new kept.OutOfMemory is = let counted = is.counted in omega (arith, counted)
-rejected_counted old new kept.Device is = let failed = is.1 in omega (arith, failed)
+rejected_counted : (made : JobResult) (old new : CoordValue) (e : InstallError) → LeavesRejected made e old new → Counts old.failures (reply.Refused (why.Coord (error_of e))) new.failures
+rejected_counted made old new kept.WrongJob is = still old.failures new.failures (ap (λ (c : CoordValue). c.failures) is)
+rejected_counted made old new kept.BadResult is = still old.failures new.failures (ap (λ (c : CoordValue). c.failures) is)
+rejected_counted made old new kept.NumbersExhausted is = still old.failures new.failures (ap (λ (c : CoordValue). c.failures) is)
+rejected_counted made old new kept.OutOfMemory is = let counted = is.counted in omega (arith, counted)
+rejected_counted made old new kept.Device is = let failed = is.1 in omega (arith, failed)
 
 installed_counted : (old new : CoordValue) (claim : LiveJob) (made : JobResult) (what : Install) → Became old claim made what new → Counts old.failures (install_answer what) new.failures
 installed_counted old new claim made (became.Done number files) is = let counted = is.4.counted in omega (arith, counted)
 installed_counted old new claim made (became.Stale job epoch) is = still old.failures new.failures (ap (λ (c : CoordValue). c.failures) is.3)
-installed_counted old new claim made (became.Kept back e) is = rejected_counted old new e is.4
+installed_counted old new claim made (became.Kept back e) is = rejected_counted made old new e is.4
 
 -- ---- the nodes
 

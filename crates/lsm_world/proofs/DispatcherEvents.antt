@@ -171,7 +171,7 @@ module _ (old : NodesValue) (new : CoordValue) (claim : LiveJob) (made : JobResu
           by (became.Stale job epoch) o sound =
               keeps_same h (nodes_of new taken old.network) (subst (λ (c : CoordValue). IsHistory h (record old { core = c; desk = taken })) (sym o.3) (put_down h old (d - 1) claim at o.0 is))
           by (became.Kept back e) o sound =
-              let may = rejected_stored old.core new e o.4 in
+              let may = rejected_stored made old.core new e o.4 in
               let files = stored_files old.core new may in
               let kept = upkeep h old new files.served files.edits files.retired files.book (stored_keeps old.core new may) is in
               keeps_same h (nodes_of new (desk_settled taken d (became.Kept back e)) old.network) (subst (λ (desk : List Dispatcher). IsHistory h (record old { core = new; desk = desk })) (sym (held_again back o.2)) kept)

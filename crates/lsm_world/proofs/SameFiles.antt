@@ -1,21 +1,22 @@
 -- What leaves the files as they were.
-use Rattle.std.proofs.Common.{◌≡◌, ◌⊎◌, ℕ, List, inl, inr, ap, max, subst, sym}
+use Rattle.std.proofs.Common.{◌≡◌, ◌⊎◌, ℕ, List, inl, inr, ap, max, subst}
 use Rattle.std.specs.Prelude.{nat_le}
 use Rattle.lsm_key.specs.Sets.{IsIn}
 use Rattle.lsm_key.proofs.AscendingEntries.{IsIn-filter}
 use Rattle.lsm_versions.specs.declared.retired.Retired.{Retired}
 use Rattle.lsm_versions.specs.Retention.{kept_from}
+use Rattle.lsm_msg.specs.declared.job.JobResult.{JobResult}
 use Rattle.lsm_coord.specs.Model.State.{State}
 use Rattle.lsm_coord.specs.declared.coord.install.InstallError.{InstallError}
 use Rattle.lsm_coord.specs.declared.coord.install.InstallError.TheVariants as rejected
 use Rattle.lsm_coord.specs.declared.error.CoordError.{CoordError}
 use Rattle.lsm_coord.specs.declared.error.CoordError.TheVariants as error
-use Rattle.lsm_coord.specs.Contract.Calls.{FlushRefuses, MayHaveStored, MayHaveTrimmed, TrimRefuses, after_snapshot, with_live_tables}
-use Rattle.lsm_coord.specs.Contract.Installing.{LeavesRejected}
+use Rattle.lsm_coord.specs.Contract.Calls.{FlushRefuses, IsFlushTable, MayHaveStored, MayHaveTrimmed, TrimRefuses, after_snapshot, with_live_tables}
+use Rattle.lsm_coord.specs.Contract.Installing.{IsOutput, LeavesRejected}
 use Rattle.lsm_coord.specs.Contract.Shows.{Shows}
 use Rattle.lsm_coord.specs.Contract.Sound.{KeepsSound}
 use Rattle.lsm_coord.specs.Contract.Value.{CoordValue}
-use Rattle.lsm_coord.proofs.VaultRefusals.{nothing_stored}
+use Rattle.lsm_coord.proofs.VaultRefusals.{same_stored}
 use Rattle.lsm_world.specs.History.{History, IsHistory}
 use Rattle.lsm_world.specs.Inner.Upkeep.{HasFewer, HasOneMore, HasSameFiles, KeepsFiles}
 use Rattle.lsm_world.specs.Nodes.{NodesValue}
@@ -32,25 +33,22 @@ snapshot_keeps old new shown sound is = record {
 -- ---- what the vault may have refused
 
 -- only the vault's tables and failures may differ
-pub stored_files : (old new : CoordValue) → MayHaveStored old new → HasSameFiles old new
+pub stored_files : {MayPut : ℕ → List ℕ → Type 0} (old new : CoordValue) → MayHaveStored MayPut old new → HasSameFiles old new
 stored_files old new may =
     let is = may.rest in
     record { served = ap (λ (c : CoordValue). c.served) is; edits = ap (λ (c : CoordValue). c.edits) is; retired = ap (λ (c : CoordValue). c.retired) is; book = ap (λ (c : CoordValue). c.book) is }
 
-nothing_changed : (old new : CoordValue) → new ≡ old → MayHaveStored old new
-nothing_changed old new same = subst (λ (c : CoordValue). MayHaveStored old c) (sym same) (nothing_stored old)
-
-pub flush_stored : (old new : CoordValue) (e : CoordError) → FlushRefuses old e new → MayHaveStored old new
+pub flush_stored : (old new : CoordValue) (e : CoordError) → FlushRefuses old e new → MayHaveStored (IsFlushTable old) old new
 flush_stored old new error.OutOfMemory is = is.1
 flush_stored old new error.Device is = is.1.0
-flush_stored old new e is = nothing_changed old new is.1
+flush_stored old new e is = same_stored old new is.1
 
-pub rejected_stored : (old new : CoordValue) (e : InstallError) → LeavesRejected e old new → MayHaveStored old new
-rejected_stored old new rejected.WrongJob is = nothing_changed old new is
-rejected_stored old new rejected.BadResult is = nothing_changed old new is
-rejected_stored old new rejected.NumbersExhausted is = nothing_changed old new is
-rejected_stored old new rejected.OutOfMemory is = is
-rejected_stored old new rejected.Device is = is.0
+pub rejected_stored : (made : JobResult) (old new : CoordValue) (e : InstallError) → LeavesRejected made e old new → MayHaveStored (IsOutput old.served.version made) old new
+rejected_stored made old new rejected.WrongJob is = same_stored old new is
+rejected_stored made old new rejected.BadResult is = same_stored old new is
+rejected_stored made old new rejected.NumbersExhausted is = same_stored old new is
+rejected_stored made old new rejected.OutOfMemory is = is
+rejected_stored made old new rejected.Device is = is.0
 
 -- a flush that is refused
 pub flush_keeps : (old new : CoordValue) (e : CoordError) → FlushRefuses old e new → KeepsSound old new → KeepsFiles old new

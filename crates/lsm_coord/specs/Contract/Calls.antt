@@ -13,14 +13,14 @@ use Rattle.lsm_key.specs.Writes.{answer}
 use Rattle.lsm_claim.specs.declared.ending.Ending.TheVariants.{Returned}
 use Rattle.lsm_claim.specs.declared.job.JobId.{JobId}
 use Rattle.lsm_claim.specs.Book.{after_settling}
-use Rattle.lsm_table.specs.Tables.{Opened, target_of}
+use Rattle.lsm_table.specs.Tables.{IsTable, Opened, target_of}
 use Rattle.lsm_edit.specs.declared.file.FileMeta.{FileMeta}
 use Rattle.lsm_edit.specs.declared.edit.Edit.{Edit}
 use Rattle.lsm_edit.specs.Edit.{IsSpelledEdit}
 use Rattle.lsm_edit.specs.Next.{flush_edit}
 use Rattle.lsm_edit.specs.Version.{apply_fault}
 use Rattle.lsm_msg.specs.Installs.{with_flushed}
-use Rattle.lsm_versions.specs.Kept.{StaysBelow}
+use Rattle.lsm_versions.specs.Kept.{MayHavePutSome, StaysBelow}
 use Rattle.lsm_versions.specs.Opening.{MayHaveLost, is_live}
 use Rattle.lsm_versions.specs.Retention.{kept_from}
 use Rattle.lsm_coord.specs.declared.error.CoordError.{CoordError}
@@ -61,15 +61,16 @@ after_freezing c = record c { active = []; frozen = Some (record { memtable = c.
 
 -- ---- the vault
 
--- the same, but that the vault may have a table under a number that no file has been given yet, and its device may have failed
-pub record MayHaveStored (old new : CoordValue) : Type 0 where
+-- the same, but that the vault may have some of the tables that may be put, under numbers that no file has been given yet, and its device may have failed
+pub record MayHaveStored (MayPut : ℕ → List ℕ → Type 0) (old new : CoordValue) : Type 0 where
   pub rest : new ≡ record old { kept = new.kept; failures = new.failures }
   pub below : StaysBelow old.served.version.next_file old.kept new.kept
+  pub put : MayHavePutSome MayPut old.kept new.kept
   pub counted : old.failures ≤ new.failures
 
 -- the same, and its device has failed
-abbrev pub HasFailed : CoordValue → CoordValue → Type 0
-HasFailed old new = MayHaveStored old new × (old.failures < new.failures)
+abbrev pub HasFailed : (ℕ → List ℕ → Type 0) → CoordValue → CoordValue → Type 0
+HasFailed MayPut old new = MayHaveStored MayPut old new × (old.failures < new.failures)
 
 -- ---- flushes
 
@@ -117,10 +118,16 @@ pub record AddsTable (old : CoordValue) (file : FileMeta) (table : Opened) (new 
 abbrev pub Adds : CoordValue → CoordValue → Type 0
 Adds old new = (file : FileMeta) × (table : Opened) × (table.entries ≡ (flush_source old).memtable) × AddsTable old file table new × (target_of table.bytes ≡ old.limits.block)
 
+-- the table of the memtable that a flush takes, its blocks cut at the store's target, and the number that a flush gives it: the next file number
+pub record IsFlushTable (c : CoordValue) (n : ℕ) (bytes : List ℕ) : Type 0 where
+  pub number : n ≡ c.served.version.next_file
+  pub table : IsTable bytes (flush_source c).memtable
+  pub cut : target_of bytes ≡ c.limits.block
+
 -- why nothing is flushed, and what is left: nothing has changed, unless memory ran out or the device failed after the table was put
 abbrev pub FlushRefuses : CoordValue → CoordError → CoordValue → Type 0
-FlushRefuses old OutOfMemory new = (flush_fault old ≡ None) × MayHaveStored old new
-FlushRefuses old Device new = (flush_fault old ≡ None) × HasFailed old new
+FlushRefuses old OutOfMemory new = (flush_fault old ≡ None) × MayHaveStored (IsFlushTable old) old new
+FlushRefuses old Device new = (flush_fault old ≡ None) × HasFailed (IsFlushTable old) old new
 FlushRefuses old e new = (flush_fault old ≡ Some e) × (new ≡ old)
 
 -- ---- snapshots

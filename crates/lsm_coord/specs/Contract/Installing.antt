@@ -1,5 +1,5 @@
 -- What an install accepts, and what it does (RocksDB wiki, Remote Compaction: the primary verifies and installs the result of a job; LevelDB, db_impl.cc: InstallCompactionResults).
-use Rattle.std.specs.Prelude.{◌≡◌, ◌↔◌, ℕ, ◌+◌, ◌<◌, ◌≤◌, ◌^◌, Bool, true, false, ◌&&◌, List, [], ◌∷◌, ◌++◌, Option, None, Some, find, length, map, nat_le, if◌then◌else◌}
+use Rattle.std.specs.Prelude.{◌≡◌, ◌↔◌, ℕ, ◌+◌, ◌<◌, ◌≤◌, ◌^◌, Bool, true, false, ◌&&◌, List, [], ◌∷◌, ◌++◌, Option, None, Some, find, length, map, nat_le, slice_get, if◌then◌else◌}
 use Rattle.lsm_key.specs.declared.entry.Entry.{Entry}
 use Rattle.lsm_key.specs.declared.limits.TheConstants.{MAX_NUMBER}
 use Rattle.lsm_key.specs.Sets.{IsIn}
@@ -136,13 +136,17 @@ Rejects block v live made NumbersExhausted =
 Rejects block v live made OutOfMemory = made.job ≡ live.id
 Rejects block v live made Device = (ts : List Opened) × IsAcceptable block v live made ts
 
+-- a table of the result, and the number that an install gives it: the next file numbers, in the tables' order
+abbrev pub IsOutput : VersionValue → JobResult → ℕ → List ℕ → Type 0
+IsOutput v made n bytes = (place : ℕ) × (n ≡ v.next_file + place) × (slice_get made.tables place ≡ Some bytes)
+
 -- what a rejected result leaves: nothing has changed, unless memory ran out or the device failed after an output was put
-abbrev pub LeavesRejected : InstallError → CoordValue → CoordValue → Type 0
-LeavesRejected WrongJob old new = new ≡ old
-LeavesRejected BadResult old new = new ≡ old
-LeavesRejected NumbersExhausted old new = new ≡ old
-LeavesRejected OutOfMemory old new = MayHaveStored old new
-LeavesRejected Device old new = HasFailed old new
+abbrev pub LeavesRejected : JobResult → InstallError → CoordValue → CoordValue → Type 0
+LeavesRejected made WrongJob old new = new ≡ old
+LeavesRejected made BadResult old new = new ≡ old
+LeavesRejected made NumbersExhausted old new = new ≡ old
+LeavesRejected made OutOfMemory old new = MayHaveStored (IsOutput old.served.version made) old new
+LeavesRejected made Device old new = HasFailed (IsOutput old.served.version made) old new
 
 -- ---- what becomes of a claim
 
@@ -160,7 +164,7 @@ Became old claim made (became.Done number files) new =
 Became old claim made (became.Stale job epoch) new =
     (holds old.book claim.id ≡ false) × (job ≡ claim.id) × (epoch ≡ old.book.epoch) × (new ≡ old)
 Became old claim made (became.Kept back why) new =
-    (live : LiveJob) × IsLive old claim.id live × (back ≡ claim) × Rejects old.limits.block old.served.version live made why × LeavesRejected why old new
+    (live : LiveJob) × IsLive old claim.id live × (back ≡ claim) × Rejects old.limits.block old.served.version live made why × LeavesRejected made why old new
 
 -- the result was installed
 abbrev pub IsDone : Install → Type 0

@@ -15,7 +15,7 @@ use Rattle.lsm_versions.specs.Manifest.{MayHavePut, VersionSetValue, after_loggi
 use Rattle.lsm_coord.specs.declared.coord.install.InstallError.{InstallError}
 use Rattle.lsm_coord.specs.declared.coord.install.InstallError.TheVariants.{WrongJob, BadResult, NumbersExhausted, OutOfMemory, Device}
 use Rattle.lsm_coord.specs.declared.coord.install.Put.{Put}
-use Rattle.lsm_coord.specs.Contract.Installing.{IsAcceptable, install_edit_of, output_numbers}
+use Rattle.lsm_coord.specs.Contract.Installing.{IsAcceptable, IsOutput, install_edit_of, output_numbers}
 
 -- the result is acceptable, the edit of its install is logged and applied, and the version's number and its new files are reported
 pub record PutsOutputs (block : ℕ) (old : VersionSetValue) (live : LiveJob) (made : JobResult) (put : Put) (new : VersionSetValue) : Type 0 where
@@ -31,12 +31,16 @@ pub record PutsOutputs (block : ℕ) (old : VersionSetValue) (live : LiveJob) (m
   pub files_are : put.files ≡ output_numbers old.served.version live.want tables
 
 -- what a rejected result leaves of the version set
-abbrev pub PutLeaves : InstallError → VersionSetValue → VersionSetValue → Type 0
-PutLeaves WrongJob old new = new ≡ old
-PutLeaves BadResult old new = new ≡ old
-PutLeaves NumbersExhausted old new = new ≡ old
-PutLeaves OutOfMemory old new = MayHavePut old new × (old.failures ≤ new.failures)
-PutLeaves Device old new = MayHavePut old new × (old.failures < new.failures)
+abbrev pub PutLeaves : JobResult → InstallError → VersionSetValue → VersionSetValue → Type 0
+PutLeaves made WrongJob old new = new ≡ old
+PutLeaves made BadResult old new = new ≡ old
+PutLeaves made NumbersExhausted old new = new ≡ old
+PutLeaves made OutOfMemory old new = MayHavePut (IsOutput old.served.version made) old new × (old.failures ≤ new.failures)
+PutLeaves made Device old new = MayHavePut (IsOutput old.served.version made) old new × (old.failures < new.failures)
+
+-- the file's number, and its table's bytes
+abbrev pub IsTableOfFile : FileMeta → Opened → ℕ → List ℕ → Type 0
+IsTableOfFile file table n bytes = (file.number ≡ n) × (table.bytes ≡ bytes)
 
 -- the edit of a flush to a file is logged and applied, and the file is searched first
 pub record AddsFile (old : VersionSetValue) (end : ℕ) (file : FileMeta) (table : Opened) (new : VersionSetValue) : Type 0 where

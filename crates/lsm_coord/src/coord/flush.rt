@@ -1,16 +1,17 @@
 //! Flushes: a memtable becomes a table.
 
 ghost use Rattle.std.specs.Prelude.{◌≡◌, ◌<◌, ◌≤◌, None, IfErr, OnOk, OnErr};
+ghost use Rattle.lsm_table.specs.Tables.{target_of};
 ghost use Rattle.lsm_edit.specs.File.{IsFile};
 ghost use Rattle.lsm_edit.specs.Served.{IsAsRecorded};
 ghost use Rattle.lsm_vault.specs.Failures.{CountsFailures};
 ghost use Rattle.lsm_versions.specs.Manifest.{MayHavePut};
 ghost use Rattle.lsm_coord.specs.Model.Event.{Flush};
 ghost use Rattle.lsm_coord.specs.Contract.Shows.{Follows};
-ghost use Rattle.lsm_coord.specs.Contract.Calls.{Adds, AddsTable, FlushRefuses, MayHaveStored, flush_fault, flush_source};
+ghost use Rattle.lsm_coord.specs.Contract.Calls.{Adds, AddsTable, FlushRefuses, IsFlushTable, MayHaveStored, flush_fault, flush_source};
 ghost use Rattle.lsm_coord.specs.Contract.Sound.{KeepsSound};
 ghost use Rattle.lsm_coord.specs.Contract.Replies.{flush_reply};
-ghost use Rattle.lsm_coord.specs.Inner.Putting.{AddsFile, CanNumber};
+ghost use Rattle.lsm_coord.specs.Inner.Putting.{AddsFile, CanNumber, IsTableOfFile};
 
 use super::Coord;
 use crate::CoordError;
@@ -104,9 +105,11 @@ impl<V: Vault> Coord<V> {
         requires sound { IsFile meta }
         requires place { (meta.number ≡ self.old.served.version.next_file) × (meta.level ≡ 0) }
         requires recorded { IsAsRecorded meta table }
+        requires whole { table.entries ≡ (flush_source self.old).memtable }
+        requires cut { target_of table.bytes ≡ self.old.limits.block }
         ensures ok { OnOk result (AddsTable self.old meta table self.new) }
         ensures sound { OnOk result (KeepsSound self.old self.new) }
-        ensures err { OnErr result (MayHaveStored self.old self.new) }
+        ensures err { OnErr result (MayHaveStored (IsFlushTable self.old) self.old self.new) }
         ensures counted { CountsFailures result self.old.failures self.new.failures }
     {
         // Proof hint: all files of the version have lower numbers.
@@ -136,7 +139,7 @@ fn put_table<V: Vault>(
     requires place { (meta.number ≡ versions.old.served.version.next_file) × (meta.level ≡ 0) }
     requires recorded { IsAsRecorded meta table }
     ensures ok { OnOk result (AddsFile versions.old end meta table versions.new) }
-    ensures err { OnErr result (MayHavePut versions.old versions.new) }
+    ensures err { OnErr result (MayHavePut (IsTableOfFile meta table) versions.old versions.new) }
     ensures counted { CountsFailures result versions.old.failures versions.new.failures }
 {
     let edit = Edit::flush(alloc, versions.served().version(), end, meta)?;

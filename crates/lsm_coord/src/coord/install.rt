@@ -159,7 +159,7 @@ fn put_outputs<V: Vault>(
     requires legal { IsLegal versions.old.served.version.files job.now.want }
     requires orderly { IsJobWant job.now.want }
     ensures ok { IfOk result (λ put. PutsOutputs block versions.old job.now made.now put versions.new) }
-    ensures left { IfErr result (λ e. PutLeaves e versions.old versions.new) }
+    ensures left { IfErr result (λ e. PutLeaves made.now e versions.old versions.new) }
     ensures why { IfErr result (Rejects block versions.old.served.version job.now made.now) }
 {
     let want = &job.want;

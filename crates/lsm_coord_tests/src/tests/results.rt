@@ -23,7 +23,7 @@ enum Became {
 }
 
 /// The deletion of a at sequence 2 and its put at sequence 1.
-const MERGED: &[u8] =
+pub(crate) const MERGED: &[u8] =
     b"LSMT\x01\0\0\x10\0\0\0\0\x02\0\0\0\x01\0\0\0\x1f\0\x01a\0\0\0\0\0\0\x01\x01\0\x01a\0\0\0\0\0\0\x02\0\0\0\0\0\0\x01a\0\0\0\0\0\0\x01\x01\0\0\0\x011";
 
 /// The same without its last byte.
@@ -107,7 +107,7 @@ fn install(coord: &mut Store, desk: &mut Desk, index: NodeIndex, made: &JobResul
 }
 
 /// The result of a job of this number with these tables.
-fn result_of(
+pub(crate) fn result_of(
     alloc: Global,
     number: u64,
     tables: &[&'static [u8]],

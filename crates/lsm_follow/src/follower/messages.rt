@@ -243,18 +243,11 @@ impl Follower {
         ensures err { OnErr result (self.new ≡ self.old) }
         ensures sound { IfOk result (λ r. All IsMessage r.1.items) }
     {
-        let Some(mut pending) = self.pending.take() else {
+        let Some(pending) = &mut self.pending else {
             return Err(AllocError);
         };
-        match pending.receive(at, table) {
-            Ok(()) => {}
-            Err(why) => {
-                self.pending = Some(pending);
-                return Err(why);
-            }
-        }
+        pending.receive(at, table)?;
         let left = count(pending.missing.len());
-        self.pending = Some(pending);
         Ok(self.stay(FollowChange::Waiting(left)))
     }
 
@@ -269,23 +262,14 @@ impl Follower {
         ensures err { OnErr result (self.new ≡ self.old) }
         ensures sound { IfOk result (λ r. All IsMessage r.1.items) }
     {
-        let Some(mut pending) = self.pending.take() else {
+        let Some(pending) = &mut self.pending else {
             return Err(AllocError);
         };
-        let room = match self.served.make_room(pending.received.len() + 1) {
-            Ok(room) => room,
-            Err(why) => {
-                self.pending = Some(pending);
-                return Err(why);
-            }
+        let room = self.served.make_room(pending.received.len() + 1)?;
+        pending.receive(at, table)?;
+        let Some(pending) = self.pending.take() else {
+            unreachable!()
         };
-        match pending.receive(at, table) {
-            Ok(()) => {}
-            Err(why) => {
-                self.pending = Some(pending);
-                return Err(why);
-            }
-        }
         let number = pending.target.number();
         self.served.rebase(pending.target, pending.received, room);
         Ok(self.stay(FollowChange::Version(number)))

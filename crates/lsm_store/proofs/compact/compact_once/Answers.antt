@@ -32,7 +32,7 @@ returns-in-Ok-None-clause-sound g c =
 pub returns-in-Ok-Some-clause-err : goal.returns-in-Ok-Some-clause-err
 returns-in-Ok-Some-clause-err g c =
     let know = c.show-listing.ensures.fit in
-    answers_left _ _ _ c.in-Some.claim c.in-Some.job know.version know.served know.book (picked_by _ _ _ _ _ c.in-Some.is c.in_ok-claim.ensures.ok) c.install.result c.install.ensures.err
+    answers_left _ _ _ c.in-Some.claim c.in-Some.job know.version know.served know.book (picked_by _ _ _ _ _ c.in-Some.is c.in_ok-claim.ensures.ok) c.in-Ok-Some.made c.install.result c.install.ensures.err
 
 pub returns-in-Ok-Some-clause-ok : goal.returns-in-Ok-Some-clause-ok
 returns-in-Ok-Some-clause-ok g c =

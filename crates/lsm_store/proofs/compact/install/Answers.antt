@@ -24,7 +24,7 @@ returns-in-Done-clause-step g c = λ message holds.
 pub returns-in-Kept-clause-err : goal.returns-in-Kept-clause-err
 returns-in-Kept-clause-err g c =
     let b = c.in-Kept.ensures.became in
-    (c.install.new.self, rejected_stored c.in-Kept.why _ _ b.4, c.give_back.ensures.book ∙ ap (λ (l : LiveJob). after_give_back c.install.new.self l.id) b.2)
+    (c.install.new.self, rejected_stored c.args.made.now c.in-Kept.why _ _ b.4, c.give_back.ensures.book ∙ ap (λ (l : LiveJob). after_give_back c.install.new.self l.id) b.2)
 
 pub returns-in-Kept-clause-sound : goal.returns-in-Kept-clause-sound
 returns-in-Kept-clause-sound g c = λ holds.

@@ -1,4 +1,4 @@
-use Rattle.std.proofs.Common.{◌≡◌, ◌∙◌, ◌++◌, ℕ, List, ◌∷◌, [], None, refl, ap, sym, subst, arith}
+use Rattle.std.proofs.Common.{◌≡◌, ◌≤◌, ◌∙◌, ◌++◌, ℕ, List, ◌∷◌, [], None, refl, ap, sym, subst, arith}
 use Rattle.std.specs.FinMap as fin
 use Rattle.lsm_key.specs.declared.entry.Entry.{Entry}
 use Rattle.lsm_edit.specs.Edit.{edit as spelling}
@@ -6,13 +6,16 @@ use Rattle.lsm_edit.specs.Next.{flush_edit}
 use Rattle.lsm_edit.specs.Version.{IsVersion}
 use Rattle.lsm_msg.specs.Installs.{with_flushed}
 use Rattle.lsm_msg.proofs.FlushKeepsJobs.{legal_flushed}
-use Rattle.lsm_versions.specs.Manifest.{VersionSetValue}
-use Rattle.lsm_coord.specs.Contract.Calls.{flush_source, flush_source_of, active_after}
+use Rattle.lsm_versions.specs.Manifest.{MayHavePut, VersionSetValue}
+use Rattle.lsm_versions.proofs.PutTables.{never_falls}
+use Rattle.lsm_coord.specs.Contract.Calls.{IsFlushTable, MayHaveStored, flush_source, flush_source_of, active_after}
 use Rattle.lsm_coord.specs.Contract.Memory.{AreLegal, IsCoord}
-use Rattle.lsm_coord.specs.Contract.Value.{CoordValue}
-use Rattle.lsm_coord.specs.Inner.Putting.{AddsFile}
+use Rattle.lsm_coord.specs.Contract.Value.{CoordValue, version_set}
+use Rattle.lsm_coord.specs.Inner.Putting.{AddsFile, IsTableOfFile}
 use Rattle.lsm_coord.proofs.CoordInvariant.{after_flush, frozen_from, none_from}
+use Rattle.lsm_coord.proofs.InstallRefusals.{stored_left, with_versions}
 use Rattle.lsm_coord.proofs.JobsStaySound.{flush_keeps}
+use Rattle.lsm_coord.proofs.PutOutputs.{flush_put, on_err}
 use Rattle.lsm_coord.proofs.coord.Coord.add_table.Goals as goal
 
 pub invariant_of-self-then-is_some : goal.invariant_of-self-then-is_some
@@ -43,6 +46,18 @@ invariant_of-self-2 g c =
     let legal : AreLegal (with_flushed m.versions.served c.args.end c.args.meta c.args.table).version.files m.book.live = λ j live. legal_flushed m.versions.served c.args.end c.args.meta version c.requires.place.1 (omega (arith, number)) j.want (c.self.invariant.legal j live) in
     rw (adds.new_is, none) (subst (λ (es : List Entry). IsCoord es None m.newest (with_flushed m.versions.served c.args.end c.args.meta c.args.table) m.book m.live.items) active
     (after_flush m.active m.frozen m.newest m.versions.served (with_flushed m.versions.served c.args.end c.args.meta c.args.table) m.book m.live.items c.self.invariant end refl legal))
+
+pub returns-in_err-put_table-clause-err : goal.returns-in_err-put_table-clause-err
+returns-in_err-put_table-clause-err g c =
+    let old = c.args.self.now in
+    let meta = c.args.meta in
+    let table = c.args.table in
+    let new : VersionSetValue = c.put_table.new.versions in
+    let may = subst (λ (x : CoordValue). MayHavePut (IsTableOfFile meta table) (version_set x) new) c.self.view_is c.in_err-put_table.ensures.err in
+    let up = never_falls c.put_table.result _ _ c.put_table.ensures.counted in
+    let counted : old.failures ≤ new.failures = subst (λ (x : CoordValue). x.failures ≤ new.failures) c.self.view_is up in
+    let left = stored_left old new (flush_put old meta table (version_set old) new c.requires.place.0 c.requires.recorded c.requires.whole c.requires.cut may) counted in
+    on_err c.from_residual.result _ (subst (MayHaveStored (IsFlushTable old) old) (λ i. with_versions (sym c.self.view_is i) new) left)
 
 pub returns-then-is_some-clause-ok : goal.returns-then-is_some-clause-ok
 returns-then-is_some-clause-ok g c =

@@ -52,6 +52,12 @@ add_table-requires-clause-newer g c =
     let free = flush_free _ _ (ap flush_fault c.self.view_is ∙ none) in
     rw (c.flush_end-seq.ensures, ← c.self.view_is) (taken_newer c.self.inside.active c.self.inside.frozen c.self.inside.newest c.self.inside.versions.served c.self.inside.book c.self.inside.live.items c.self.invariant free.0).0
 
+pub add_table-requires-clause-whole : goal.add_table-requires-clause-whole
+add_table-requires-clause-whole g c = c.in_ok-table.ensures.0 ∙ c.as_slice.ensures.value ∙ c.in_ok-entries.ensures.all ∙ c.flushable.ensures
+
+pub add_table-requires-clause-cut : goal.add_table-requires-clause-cut
+add_table-requires-clause-cut g c = c.in_ok-table.ensures.1 ∙ ap (λ (x : CoordValue). x.limits.block) c.self.view_is
+
 pub returns-clause-step : goal.returns-clause-step
 returns-clause-step g c = λ s h.
     let v : CoordValue = c.args.self.now in

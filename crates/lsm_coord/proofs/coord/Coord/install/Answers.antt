@@ -86,16 +86,16 @@ returns-in-Err-clause-became g c =
     let m = c.self.inside in
     let found = sym c.job_named.ensures ∙ ap option_copied c.in-Some.is in
     let live = (λ i. find (λ (j : LiveJob). same_job_id j.id (sym c.id-id.ensures i)) (sym c.live.ensures.all i)) ∙ found in
-    rw (← c.self.view_is) (c.in-Some.job.now, live, refl, c.in-Err.ensures.why, put_left c.in-Err.why _ c.put_outputs.new.versions c.in-Err.ensures.left)
+    rw (← c.self.view_is) (c.in-Some.job.now, live, refl, c.in-Err.ensures.why, put_left c.args.made.now c.in-Err.why _ c.put_outputs.new.versions c.in-Err.ensures.left)
 
 pub returns-in-None-clause-sound : goal.returns-in-None-clause-sound
 returns-in-None-clause-sound g c = λ holds. nothing_keeps c.args.self.now _ (returns-in-None-clause-became g c).3
 
 pub returns-in-Err-clause-sound : goal.returns-in-Err-clause-sound
-returns-in-Err-clause-sound g c = λ holds. rejected_keeps c.in-Err.why c.args.self.now _ (returns-in-Err-clause-became g c).4
+returns-in-Err-clause-sound g c = λ holds. rejected_keeps c.args.made.now c.in-Err.why c.args.self.now _ (returns-in-Err-clause-became g c).4
 
 pub returns-in-Err-clause-failures : goal.returns-in-Err-clause-failures
-returns-in-Err-clause-failures g c = (rejected_stored c.in-Err.why c.args.self.now _ (returns-in-Err-clause-became g c).4).counted
+returns-in-Err-clause-failures g c = (rejected_stored c.args.made.now c.in-Err.why c.args.self.now _ (returns-in-Err-clause-became g c).4).counted
 
 pub returns-in-Ok-clause-sound : goal.returns-in-Ok-clause-sound
 returns-in-Ok-clause-sound g c = λ merge.

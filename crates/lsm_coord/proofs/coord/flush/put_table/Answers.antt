@@ -4,8 +4,10 @@ use Rattle.lsm_edit.specs.declared.edit.Edit.{Edit}
 use Rattle.lsm_edit.specs.Next.{flush_edit}
 use Rattle.lsm_edit.specs.Served.{AreAsRecorded, IsServed, ServedValue}
 use Rattle.lsm_edit.specs.Version.{VersionValue, IsVersion, apply_fault}
-use Rattle.lsm_versions.specs.Manifest.{VersionSetValue}
+use Rattle.lsm_versions.specs.Manifest.{MayHavePut, VersionSetValue}
+use Rattle.lsm_coord.specs.Inner.Putting.{IsTableOfFile}
 use Rattle.lsm_coord.proofs.FlushSteps.{logged_is}
+use Rattle.lsm_coord.proofs.PutOutputs.{file_put, on_err}
 use Rattle.lsm_coord.proofs.coord.flush.put_table.Goals as goal
 
 pub log_and_apply-requires-clause-recorded : goal.log_and_apply-requires-clause-recorded
@@ -13,6 +15,13 @@ log_and_apply-requires-clause-recorded g c =
     let files : c.in_ok-edit.edit.added ≡ c.args.meta ∷ [] = ap (λ (e : Edit). e.added) c.in_ok-edit.ensures.edit in
     let tables : c.push.new.self.items ≡ c.args.table ∷ [] = c.in_ok-push.ensures.items ∙ ap (λ (ts : List Opened). ts ++ c.args.table ∷ []) c.in_ok-tables.ensures.items in
     rw (files, tables) (c.requires.recorded, tt)
+
+pub returns-in_err-log_and_apply-clause-err : goal.returns-in_err-log_and_apply-clause-err
+returns-in_err-log_and_apply-clause-err g c =
+    let files : c.in_ok-edit.edit.added ≡ c.args.meta ∷ [] = ap (λ (e : Edit). e.added) c.in_ok-edit.ensures.edit in
+    let tables : c.push.new.self.items ≡ c.args.table ∷ [] = c.in_ok-push.ensures.items ∙ ap (λ (ts : List Opened). ts ++ c.args.table ∷ []) c.in_ok-tables.ensures.items in
+    on_err c.from_residual-in_err-log_and_apply.result (MayHavePut (IsTableOfFile c.args.meta c.args.table) c.args.versions.now c.log_and_apply.new.self)
+    (file_put c.args.meta c.args.table c.in_ok-edit.edit.added c.push.new.self.items c.args.versions.now c.log_and_apply.new.self files tables c.in_err-log_and_apply.ensures.err)
 
 pub returns-clause-ok : goal.returns-clause-ok
 returns-clause-ok g c =

@@ -9,6 +9,7 @@ use Rattle.lsm_coord.specs.Contract.Installing.{AreOutputTables, install_edit_of
 use Rattle.lsm_coord.proofs.InstallEdits.{records_recorded}
 use Rattle.lsm_coord.proofs.InstallRefusals.{has_numbers, lacks_numbers}
 use Rattle.lsm_coord.proofs.OpenedOutputs.{tables_each, tables_length}
+use Rattle.lsm_coord.proofs.PutOutputs.{outputs_left}
 use Rattle.lsm_coord.proofs.coord.install.put_outputs.Goals as goal
 
 pub edit_of-requires-clause-few : goal.edit_of-requires-clause-few
@@ -55,6 +56,16 @@ returns-clause-ok g c =
       number_is = c.new-number.ensures ∙ ap (λ (n : ℕ). n + 1) (c.number.ensures.value ∙ ap (λ (v : VersionValue). v.number) c.version-version.ensures);
       files_are = c.from_vec.ensures ∙ c.in_ok-files.ensures ∙ ap (map (λ (f : FileMeta). f.number)) (c.as_slice-2.ensures ∙ ap (λ (e : Edit). e.added) is);
     }
+
+pub returns-in_err-log_and_apply-clause-left : goal.returns-in_err-log_and_apply-clause-left
+returns-in_err-log_and_apply-clause-left g c =
+    let want = c.args.job.now.want in
+    let ts = c.in_ok-tables.tables.items in
+    let is : c.in_ok-edit.edit ≡ install_edit_of c.args.versions.now.served.version want ts =
+    c.in_ok-edit.ensures.edit ∙ (λ i. install_edit_of (c.version-version.ensures i) want (c.deref.ensures.value i)) in
+    let outputs : AreOutputTables c.args.block want.hull c.args.made.now.tables ts = subst (λ (texts : List (List ℕ)). AreOutputTables c.args.block want.hull texts ts) c.as_slice.ensures c.in_ok-tables.ensures.ok in
+    outputs_left _ c.args.made.now c.from_residual-in_err-log_and_apply.result c.in_err-log_and_apply.field-0.0 c.args.versions.now c.log_and_apply.new.self want ts c.in_ok-edit.edit
+    c.from_residual-in_err-log_and_apply.ensures.1 outputs.tables is c.in_err-log_and_apply.ensures.err c.in_err-log_and_apply.ensures.counted
 
 pub returns-in-Some-clause-why : goal.returns-in-Some-clause-why
 returns-in-Some-clause-why g c =

@@ -1,15 +1,16 @@
 use Rattle.std.proofs.Common.{◌≡◌, ◌∙◌, ℕ, List, Result, Ok, Err, OnErr, ◌∷◌, [], ◌++◌, None, sym, ap, subst, rules}
-use Rattle.lsm_edit.specs.declared.file.FileMeta.{FileMeta}
 use Rattle.lsm_edit.specs.Edit.{edit as spelling}
 use Rattle.lsm_edit.specs.Prepared.{PreparedValue, after_taking_up}
 use Rattle.lsm_edit.specs.Served.{IsServed, ServedValue, after_advance, placed_of}
 use Rattle.lsm_edit.specs.Version.{IsVersion, apply_fault}
-use Rattle.lsm_versions.specs.Kept.{StaysApart, StaysBelow, put_tables}
+use Rattle.lsm_versions.specs.Kept.{IsTableOf, MayHavePutSome, StaysApart, StaysBelow, put_tables}
 use Rattle.lsm_versions.specs.Manifest.{IsVersionSet, MayHavePut, VersionSetValue, after_logging, edits_from}
+use Rattle.lsm_versions.specs.Putting.{numbered_tables, put_numbered}
 use Rattle.lsm_versions.specs.Retention.{put_each, retired_after, retired_by}
 use Rattle.lsm_versions.proofs.CachedReads.{none_held}
 use Rattle.lsm_versions.proofs.KeptTables.{apart_below}
 use Rattle.lsm_versions.proofs.LoggedEdits.{logged_set, rising_set, still_set}
+use Rattle.lsm_versions.proofs.PutTables.{files_put, put_apart, put_numbered_is}
 use Rattle.lsm_versions.proofs.RecentEdits.{pushed}
 use Rattle.lsm_versions.proofs.version_set.VersionSet.log_and_apply.Given.{Over}
 use Rattle.lsm_versions.proofs.version_set.VersionSet.log_and_apply.Goals as goal
@@ -27,7 +28,10 @@ invariant_of-self-in_err-store g c =
     let failures = g.V.Vault.failures c.store.new.vault in
     let applies : apply_fault v.served.version e ≡ None = subst (λ (w : VersionSetValue). apply_fault w.served.version e ≡ None) (sym c.self.view_is) c.requires.applies in
     let sound = subst (λ (w : VersionSetValue). IsServed w.served × IsVersion w.served.version) (sym c.self.view_is) c.served.ensures.sound in
-    let others = subst (λ (fs : List FileMeta). StaysApart fs v.kept kept) c.as_slice.ensures c.in_err-store.ensures.others in
+    let tables = c.tables.ensures ∙ ap (λ (p : PreparedValue). p.tables) c.in-Ok.ensures.ok.made in
+    let numbered = c.in_ok-numbered.ensures ∙ (λ i. numbered_tables (placed_of (c.as_slice.ensures i) (tables i))) in
+    let some = files_put e.added c.args.tables.items c.in_ok-numbered.numbered.items v.kept kept numbered c.in_err-store.ensures.put in
+    let others = put_apart e.added c.args.tables.items v.kept kept some in
     let still = still_set v e c.self.invariant.0 sound c.requires.sound applies kept failures (apart_below v.served.version e v.kept kept applies others) in
     rw (c.in_err-store.ensures.err, c.in_ok-reserve.ensures.items, c.in_ok-reserve-2.ensures.items) (still, c.self.invariant.1, c.self.invariant.2)
 
@@ -38,10 +42,14 @@ returns-in_err-store-clause-err g c =
     let kept = g.V.Vault.tables c.store.new.vault in
     let failures = g.V.Vault.failures c.store.new.vault in
     let applies : apply_fault m.current.version e ≡ None = subst (λ (w : VersionSetValue). apply_fault w.served.version e ≡ None) (sym c.self.view_is) c.requires.applies in
-    let others = subst (λ (fs : List FileMeta). StaysApart fs (g.V.Vault.tables m.vault) kept) c.as_slice.ensures c.in_err-store.ensures.others in
+    let tables = c.tables.ensures ∙ ap (λ (p : PreparedValue). p.tables) c.in-Ok.ensures.ok.made in
+    let numbered = c.in_ok-numbered.ensures ∙ (λ i. numbered_tables (placed_of (c.as_slice.ensures i) (tables i))) in
+    let some = files_put e.added c.args.tables.items c.in_ok-numbered.numbered.items (g.V.Vault.tables m.vault) kept numbered c.in_err-store.ensures.put in
+    let others = put_apart e.added c.args.tables.items (g.V.Vault.tables m.vault) kept some in
+    let MayPut = IsTableOf (placed_of e.added c.args.tables.items) in
     let below = apart_below m.current.version e (g.V.Vault.tables m.vault) kept applies others in
     let new : VersionSetValue = record { served = m.current; edits = g.V.Vault.edits c.store.new.vault; retired = c.reserve.new.self.items; floor = m.floor; kept = kept; failures = failures } in
-    let put : MayHavePut c.args.self.now new = record {
+    let put : MayHavePut MayPut c.args.self.now new = record {
       rest = λ i. record {
         served = (c.self.view_is i).served;
         edits = (c.in_err-store.ensures.err ∙ ap (λ (w : VersionSetValue). w.edits) c.self.view_is) i;
@@ -51,13 +59,18 @@ returns-in_err-store-clause-err g c =
         failures = failures;
       };
       below = subst (λ (w : VersionSetValue). StaysBelow w.served.version.next_file w.kept kept) c.self.view_is below;
+      put = subst (λ (w : VersionSetValue). MayHavePutSome MayPut w.kept kept) c.self.view_is some;
     } in
-    on_err c.from_residual-in_err-store.result (MayHavePut c.args.self.now new) put
+    on_err c.from_residual-in_err-store.result (MayHavePut MayPut c.args.self.now new) put
 
 pub returns-in_err-store-clause-apart : goal.returns-in_err-store-clause-apart
 returns-in_err-store-clause-apart g c =
     let kept = g.V.Vault.tables c.store.new.vault in
-    let others = subst (λ (fs : List FileMeta). StaysApart fs (g.V.Vault.tables c.self.inside.vault) kept) c.as_slice.ensures c.in_err-store.ensures.others in
+    let added = c.args.edit.now.added in
+    let tables = c.tables.ensures ∙ ap (λ (p : PreparedValue). p.tables) c.in-Ok.ensures.ok.made in
+    let numbered = c.in_ok-numbered.ensures ∙ (λ i. numbered_tables (placed_of (c.as_slice.ensures i) (tables i))) in
+    let some = files_put added c.args.tables.items c.in_ok-numbered.numbered.items (g.V.Vault.tables c.self.inside.vault) kept numbered c.in_err-store.ensures.put in
+    let others = put_apart added c.args.tables.items (g.V.Vault.tables c.self.inside.vault) kept some in
     on_err c.from_residual-in_err-store.result (StaysApart c.args.edit.now.added c.args.self.now.kept kept) (subst (λ (w : VersionSetValue). StaysApart c.args.edit.now.added w.kept kept) c.self.view_is others)
 
 -- what the set has then
@@ -79,9 +92,11 @@ logged g c =
     let retired : c.put_retired.new.retired.items ≡ retired_after m.retired.items m.current e.removed =
     c.put_retired.ensures ∙ (λ i. put_each (c.in_ok-retiring.ensures i) (c.in_ok-reserve.ensures.items i))
     ∙ ap (λ (s : ServedValue). put_each (retired_by s e.removed) m.retired.items) (c.served.ensures.served ∙ ap (λ (w : VersionSetValue). w.served) (sym c.self.view_is)) in
-    let tables : c.tables.result.now ≡ c.args.tables.items = c.tables.ensures ∙ ap (λ (p : PreparedValue). p.tables) made in
-    let kept : g.V.Vault.tables c.store.new.vault ≡ put_tables (g.V.Vault.tables m.vault) (placed_of e.added c.args.tables.items) =
-    c.in_ok-store.ensures.tables ∙ (λ i. put_tables (g.V.Vault.tables m.vault) (placed_of (c.as_slice.ensures i) (tables i))) in
+    let placed = placed_of e.added c.args.tables.items in
+    let tables = c.tables.ensures ∙ ap (λ (p : PreparedValue). p.tables) made in
+    let numbered : c.in_ok-numbered.numbered.items ≡ numbered_tables placed = c.in_ok-numbered.ensures ∙ (λ i. numbered_tables (placed_of (c.as_slice.ensures i) (tables i))) in
+    let kept : g.V.Vault.tables c.store.new.vault ≡ put_tables (g.V.Vault.tables m.vault) placed =
+    c.in_ok-store.ensures.tables ∙ ap (put_numbered (g.V.Vault.tables m.vault)) numbered ∙ put_numbered_is placed (g.V.Vault.tables m.vault) in
     λ i. record { served = taken i; edits = texts i; retired = retired i; floor = m.floor; kept = kept i; failures = g.V.Vault.failures c.store.new.vault }
 
 pub invariant_of-self-2 : goal.invariant_of-self-2
