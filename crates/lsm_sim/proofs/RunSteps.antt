@@ -6,7 +6,7 @@ use Rattle.lsm_coord.specs.Model.State.{first_state}
 use Rattle.lsm_key.specs.declared.limits.Limits.{Limits}
 use Rattle.lsm_world.specs.declared.event.Event.{Event}
 use Rattle.lsm_world.specs.declared.reply.Reply.{Reply}
-use Rattle.lsm_world.specs.Asks.{AsksStore}
+use Rattle.lsm_world.specs.Asks.{AsksIfTaken}
 use Rattle.lsm_world.specs.Events.{event_of}
 use Rattle.lsm_world.specs.Nodes.{StoreValue}
 use Rattle.lsm_world.specs.Replies.{reply_of}
@@ -32,7 +32,7 @@ pub record IsSoFar (old now : StoreValue) (events : List Event) (was held : Opti
   pub wrote : Appends was held done
   pub text : lines replies ≡ done ++ out
 
-pub IsSoFar-step : (old mid new : StoreValue) (events : List Event) (e : Event) (r : Reply) (was held : Option (List ℕ)) (out more : List ℕ) → IsSoFar old mid events was held out → AsksStore mid e r new → FollowsStore mid (event_of e) (reply_of r) new → more ≡ out ++ line r → IsSoFar old new (events ++ e ∷ []) was held more
+pub IsSoFar-step : (old mid new : StoreValue) (events : List Event) (e : Event) (r : Reply) (was held : Option (List ℕ)) (out more : List ℕ) → IsSoFar old mid events was held out → AsksIfTaken mid e r new → FollowsStore mid (event_of e) (reply_of r) new → more ≡ out ++ line r → IsSoFar old new (events ++ e ∷ []) was held more
 IsSoFar-step old mid new events e r was held out more so asks step added = record {
   replies = so.replies ++ r ∷ [];
   happens = record { asked = asked_more old mid new events so.replies e r so.happens.asked asks; runs = runs_more old mid new events so.replies e r so.happens.runs step };

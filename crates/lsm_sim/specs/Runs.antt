@@ -37,7 +37,7 @@ exit_status ReadFault = 1
 exit_status WriteFault = 1
 exit_status OutOfMemory = 1
 
--- each event asked its node and got its reply, and the events and the replies are a run of the model
+-- each event that was taken asked its node and got its reply, and the events and the replies are a run of the model
 pub record Happens (old : StoreValue) (events : List Event) (replies : List Reply) (new : StoreValue) : Type 0 where
   pub asked : AskedAll old events replies new
   pub runs : RunsTo old events replies new

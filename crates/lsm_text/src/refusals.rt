@@ -80,6 +80,7 @@ pub fn write_refused(out: &mut Vec<u8>, refusal: Refusal) -> Result<(), AllocErr
         Refusal::NoClaim => write_text(out, "NoClaim"),
         Refusal::OldEpoch => write_text(out, "OldEpoch"),
         Refusal::NoMessage => write_text(out, "NoMessage"),
-        Refusal::OutOfMemory => write_text(out, "OutOfMemory"),
+        // Scripts have no trace, so both are one line.
+        Refusal::NotTaken | Refusal::OutOfMemory => write_text(out, "OutOfMemory"),
     }
 }

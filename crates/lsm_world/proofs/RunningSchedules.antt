@@ -1,5 +1,5 @@
 -- One event more at the end of a schedule.
-use Rattle.std.proofs.Common.{◌≡◌, ◌⊎◌, ℕ, ◌+◌, ◌≤◌, List, [], ◌∷◌, ◌++◌, map, refl, sym, ap, subst, arith, inl, inr}
+use Rattle.std.proofs.Common.{◌≡◌, ℕ, ◌+◌, ◌≤◌, List, [], ◌∷◌, ◌++◌, map, refl, sym, ap, subst, ◌∙◌, append_assoc, append-nil, arith}
 use Rattle.std.specs.Prelude.{sum_by}
 use Rattle.std.proofs.lemmas.List.Sums.{sum_by-append}
 use Rattle.std.proofs.lemmas.List.{map-append}
@@ -14,11 +14,11 @@ use Rattle.lsm_world.specs.declared.event.Event.{Event}
 use Rattle.lsm_world.specs.declared.refusal.Refusal.TheVariants as why
 use Rattle.lsm_world.specs.declared.reply.Reply.{Reply}
 use Rattle.lsm_world.specs.declared.reply.Reply.TheVariants as reply
-use Rattle.lsm_world.specs.Asks.{AsksStore}
+use Rattle.lsm_world.specs.Asks.{AsksIfTaken}
 use Rattle.lsm_world.specs.Events.{event_of}
 use Rattle.lsm_world.specs.Nodes.{NodesValue, StoreValue, up_store}
 use Rattle.lsm_world.specs.Replies.{reply_of}
-use Rattle.lsm_world.specs.Schedules.{AreNew, AskedAll, IsReached, IsTaken, IsTraced, RunsTo, WorldValue, device_failures}
+use Rattle.lsm_world.specs.Schedules.{AreNew, AskedAll, IsReached, IsTraced, RunsTo, device_failures, trace_of}
 use Rattle.lsm_world.specs.Shown.{FollowsStore}
 use Rattle.lsm_world.proofs.FirstHistory.{first_shown}
 
@@ -27,8 +27,8 @@ use Rattle.lsm_world.proofs.FirstHistory.{first_shown}
 pub asked_none : (n : StoreValue) → AskedAll n [] [] n
 asked_none n = refl
 
-pub asked_more : (old mid new : StoreValue) (es : List Event) (rs : List Reply) (e : Event) (r : Reply) → AskedAll old es rs mid → AsksStore mid e r new → AskedAll old (es ++ e ∷ []) (rs ++ r ∷ []) new
-asked_more old mid new [] [] e r asked one = (new, subst (λ (n : StoreValue). AsksStore n e r new) asked one, refl)
+pub asked_more : (old mid new : StoreValue) (es : List Event) (rs : List Reply) (e : Event) (r : Reply) → AskedAll old es rs mid → AsksIfTaken mid e r new → AskedAll old (es ++ e ∷ []) (rs ++ r ∷ []) new
+asked_more old mid new [] [] e r asked one = (new, subst (λ (n : StoreValue). AsksIfTaken n e r new) asked one, refl)
 asked_more old mid new [] (q ∷ rs) e r asked one = absurd asked
 asked_more old mid new (d ∷ es) [] e r asked one = absurd asked
 asked_more old mid new (d ∷ es) (q ∷ rs) e r asked one = (asked.0, asked.1, asked_more asked.0 mid new es rs e r asked.2 one)
@@ -53,23 +53,20 @@ runs_more old mid new es rs e r runs follows s shown =
 -- ---- the trace
 
 pub traced_none : (trace : List Event) → IsTraced trace [] [] trace
-traced_none trace = refl
+traced_none trace = sym (append-nil trace)
 
-pub taken_or_not : (old new : WorldValue) (e : Event) (r : Reply) → IsTaken old e r new → (new.trace ≡ old.trace ++ e ∷ []) ⊎ ((new.trace ≡ old.trace) × (r ≡ reply.Refused why.OutOfMemory))
-taken_or_not old new e r (inl taken) = inl taken
-taken_or_not old new e r (inr lost) = inr (ap (λ (w : WorldValue). w.trace) lost.0, lost.1)
+-- each event has its reply, so the last reply is that of the last event
+trace_more : (old mid : StoreValue) (es : List Event) (rs : List Reply) (e : Event) (r : Reply) → AskedAll old es rs mid → trace_of (es ++ e ∷ []) (rs ++ r ∷ []) ≡ trace_of es rs ++ trace_of (e ∷ []) (r ∷ [])
+trace_more old mid [] [] e r asked = refl
+trace_more old mid [] (q ∷ rs) e r asked = absurd asked
+trace_more old mid (d ∷ es) [] e r asked = absurd asked
+trace_more old mid (d ∷ es) (reply.Refused why.NotTaken ∷ rs) e r asked = trace_more asked.0 mid es rs e r asked.2
+trace_more old mid (d ∷ es) (q ∷ rs) e r asked = ap (λ (ds : List Event). d ∷ ds) (trace_more asked.0 mid es rs e r asked.2)
 
-pub traced_more : (old mid new : List Event) (es : List Event) (rs : List Reply) (e : Event) (r : Reply) → IsTraced old es rs mid → (new ≡ mid ++ e ∷ []) ⊎ ((new ≡ mid) × (r ≡ reply.Refused why.OutOfMemory)) → IsTraced old (es ++ e ∷ []) (rs ++ r ∷ []) new
-traced_more old mid new [] [] e r traced one = elim one [
-  | inl taken ↦ inl (subst (λ (es : List Event). new ≡ es ++ e ∷ []) traced taken)
-  | inr lost ↦ inr (lost.1, subst (λ (es : List Event). new ≡ es) traced lost.0)
-]
-traced_more old mid new [] (q ∷ rs) e r traced one = absurd traced
-traced_more old mid new (d ∷ es) [] e r traced one = absurd traced
-traced_more old mid new (d ∷ es) (q ∷ rs) e r traced one = elim traced [
-  | inl taken ↦ inl (traced_more (old ++ d ∷ []) mid new es rs e r taken one)
-  | inr lost ↦ inr (lost.0, traced_more old mid new es rs e r lost.1 one)
-]
+pub traced_more : (old mid : StoreValue) (first then last : List Event) (es : List Event) (rs : List Reply) (e : Event) (r : Reply) → AskedAll old es rs mid → IsTraced first es rs then → IsTraced then (e ∷ []) (r ∷ []) last → IsTraced first (es ++ e ∷ []) (rs ++ r ∷ []) last
+traced_more old mid first then last es rs e r asked traced one =
+    one ∙ ap (λ (ds : List Event). ds ++ trace_of (e ∷ []) (r ∷ [])) traced ∙ append_assoc first (trace_of es rs) (trace_of (e ∷ []) (r ∷ []))
+    ∙ ap (λ (ds : List Event). first ++ ds) (sym (trace_more old mid es rs e r asked))
 
 -- ---- failures
 

@@ -346,3 +346,8 @@ AsksBy None old e r new = AsksDown old e r new
 -- an event asks its node, unless memory runs out
 abbrev pub AsksStore : StoreValue → Event → Reply → StoreValue → Type 0
 AsksStore old e r new = LacksMemory old r new ⊎ AsksBy old.seat.core old e r new
+
+-- an event that is not taken does nothing, and each other one asks its node
+abbrev pub AsksIfTaken : StoreValue → Event → Reply → StoreValue → Type 0
+AsksIfTaken old e (reply.Refused why.NotTaken) new = new ≡ old
+AsksIfTaken old e r new = AsksStore old e r new

@@ -14,6 +14,6 @@ TakesNoMemory (event.RestartWorker index) = Unit {0}
 TakesNoMemory (event.RestartFollower index) = Unit {0}
 TakesNoMemory e = ⊥
 
--- an event that takes no memory is not refused for want of it
+-- an event that is taken and takes no memory is not refused for want of it
 abbrev pub IsNotShort : Event → Reply → Type 0
 IsNotShort e r = TakesNoMemory e → r ≡ reply.Refused why.OutOfMemory → ⊥

@@ -19,6 +19,7 @@ why_of why.Busy = say.Busy
 why_of why.NoClaim = say.NoClaim
 why_of why.OldEpoch = say.OldEpoch
 why_of why.NoMessage = say.NoMessage
+why_of why.NotTaken = say.OutOfMemory
 why_of why.OutOfMemory = say.OutOfMemory
 
 -- what a dispatcher, a worker or a message changes of no answer is told as nothing

@@ -23,7 +23,7 @@ use Rattle.lsm_world.specs.declared.event.Event.{Event}
 use Rattle.lsm_world.specs.declared.refusal.Refusal.TheVariants as why
 use Rattle.lsm_world.specs.declared.reply.Reply.{Reply}
 use Rattle.lsm_world.specs.declared.reply.Reply.TheVariants as reply
-use Rattle.lsm_world.specs.Asks.{AsksStore}
+use Rattle.lsm_world.specs.Asks.{AsksIfTaken}
 use Rattle.lsm_world.specs.Events.{event_of}
 use Rattle.lsm_world.specs.History.{first_indices}
 use Rattle.lsm_world.specs.Shown.{ShowsStore}
@@ -57,10 +57,10 @@ pub record AreNew (due : Limits) (n : NodesValue) : Type 0 where
 abbrev pub IsNew : Limits → WorldValue → Type 0
 IsNew due w = (n : NodesValue) × AreNew due n × (w.nodes ≡ up_store n) × (w.trace ≡ []) × ShowsStore w.nodes first_state
 
--- each event asked its node, and got the reply
+-- each event that was taken asked its node, and got the reply
 abbrev pub AskedAll : StoreValue → List Event → List Reply → StoreValue → Type 0
 AskedAll old [] [] new = new ≡ old
-AskedAll old (e ∷ es) (r ∷ rs) new = (next : StoreValue) × AsksStore old e r next × AskedAll next es rs new
+AskedAll old (e ∷ es) (r ∷ rs) new = (next : StoreValue) × AsksIfTaken old e r next × AskedAll next es rs new
 AskedAll old [] (r ∷ rs) new = ⊥
 AskedAll old (e ∷ es) [] new = ⊥
 
@@ -68,16 +68,19 @@ AskedAll old (e ∷ es) [] new = ⊥
 abbrev pub RunsTo : StoreValue → List Event → List Reply → StoreValue → Type 0
 RunsTo old es rs new = (s : State) → ShowsStore old s → (t : State) × Run s (map event_of es) (map reply_of rs) t × ShowsStore new t
 
--- the event is taken, or there is no memory for it, and nothing happens
-abbrev pub IsTaken : WorldValue → Event → Reply → WorldValue → Type 0
-IsTaken old e r new = (new.trace ≡ old.trace ++ e ∷ []) ⊎ ((new ≡ old) × (r ≡ reply.Refused why.OutOfMemory))
+-- the events that were taken, in order
+abbrev pub trace_of : List Event → List Reply → List Event
+trace_of (e ∷ es) (reply.Refused why.NotTaken ∷ rs) = trace_of es rs
+trace_of (e ∷ es) (r ∷ rs) = e ∷ trace_of es rs
+trace_of es rs = []
 
--- those that are taken follow on the trace, in order
+-- they follow on the trace
 abbrev pub IsTraced : List Event → List Event → List Reply → List Event → Type 0
-IsTraced old [] [] new = new ≡ old
-IsTraced old (e ∷ es) (r ∷ rs) new = IsTraced (old ++ e ∷ []) es rs new ⊎ ((r ≡ reply.Refused why.OutOfMemory) × IsTraced old es rs new)
-IsTraced old [] (r ∷ rs) new = ⊥
-IsTraced old (e ∷ es) [] new = ⊥
+IsTraced old es rs new = new ≡ old ++ trace_of es rs
+
+-- one event follows on it, if it was taken
+abbrev pub IsTaken : WorldValue → Event → Reply → WorldValue → Type 0
+IsTaken old e r new = IsTraced old.trace (e ∷ []) (r ∷ []) new.trace
 
 -- no manifest is bad, no table is missing, and no result is of another job or not its merge
 abbrev pub IsPlain : Reply → Type 0

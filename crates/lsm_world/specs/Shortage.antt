@@ -10,7 +10,7 @@ use Rattle.lsm_world.specs.declared.reply.Reply.TheVariants as reply
 use Rattle.lsm_world.specs.declared.reply.Sent.TheVariants.{Lost}
 
 abbrev pub IsOutOfMemory : Refusal → Type 0
-IsOutOfMemory w = (w ≡ why.OutOfMemory) ⊎ ((w ≡ why.Coord coord.OutOfMemory) ⊎ ((w ≡ why.Key key.OutOfMemory) ⊎ (w ≡ why.Open opening.OutOfMemory)))
+IsOutOfMemory w = (w ≡ why.NotTaken) ⊎ ((w ≡ why.OutOfMemory) ⊎ ((w ≡ why.Coord coord.OutOfMemory) ⊎ ((w ≡ why.Key key.OutOfMemory) ⊎ (w ≡ why.Open opening.OutOfMemory))))
 
 -- the event was refused for it, or its messages were lost
 abbrev pub SaysOutOfMemory : Reply → Type 0

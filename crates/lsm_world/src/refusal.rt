@@ -32,7 +32,10 @@ pub enum Refusal {
     /// No message has this number.
     #[error("no message has this number")]
     NoMessage,
-    /// Memory ran out outside a call of the coordinator.
+    /// There was no memory for the event's place in the trace, so it was not taken: nothing happened.
+    #[error("out of memory for a place in the trace")]
+    NotTaken,
+    /// The node that was asked found no memory, outside a call of the coordinator.
     #[error("out of memory")]
     OutOfMemory,
 }

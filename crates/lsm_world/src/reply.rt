@@ -93,7 +93,8 @@ impl Reply {
     {
         match self {
             Reply::Refused(why) => {
-                *why == Refusal::OutOfMemory
+                *why == Refusal::NotTaken
+                    || *why == Refusal::OutOfMemory
                     || *why == Refusal::Coord(CoordError::OutOfMemory)
                     || *why == Refusal::Key(KeyError::OutOfMemory)
                     || *why == Refusal::Open(OpenError::OutOfMemory)

@@ -6,12 +6,10 @@ ghost use Rattle.lsm_edit.specs.Edits.{RemovedOnce};
 ghost use Rattle.lsm_versions.specs.declared.error.OpenError.TheVariants.{Device, OutOfMemory};
 ghost use Rattle.lsm_versions.specs.Manifest.{read_edits};
 ghost use Rattle.lsm_versions.specs.Opening.{CountsRefusal};
-ghost use Rattle.lsm_world.specs.declared.refusal.Refusal.TheVariants as why;
-ghost use Rattle.lsm_world.specs.declared.reply.Reply.TheVariants as reply;
-ghost use Rattle.lsm_world.specs.Asks.{AsksStore};
+ghost use Rattle.lsm_world.specs.Asks.{AsksIfTaken};
 ghost use Rattle.lsm_world.specs.Events.{event_of};
 ghost use Rattle.lsm_world.specs.Headline.{FollowerReadsAreNewest, GiveOneAnswer, ReadsAreNewest, ScansAreNewest, ShowOneListing};
-ghost use Rattle.lsm_world.specs.Memory.{TakesNoMemory};
+ghost use Rattle.lsm_world.specs.Memory.{IsNotShort};
 ghost use Rattle.lsm_world.specs.Replies.{reply_of};
 ghost use Rattle.lsm_world.specs.Schedules.{AskedAll, IsNew, IsPlain, IsTaken, IsTraced, IsWorld, RunsTo, device_failures};
 ghost use Rattle.lsm_world.specs.Shown.{FollowsStore};
@@ -78,23 +76,24 @@ impl<V: Vault> World<V> {
         }
     }
 
-    /// Lets one event happen. If there is no memory for it in the trace, it is refused, and nothing happens; otherwise it is
-    /// in the trace, also if it is refused.
+    /// Lets one event happen. If there is no memory for its place in the trace, it is not taken (`Refusal::NotTaken`), and
+    /// nothing happens; otherwise it is in the trace, also if it is refused.
     pub fn step(&mut self, event: Event) -> Reply
-        // One node is asked, and the reply is its answer.
-        ensures asks { AsksStore self.old.nodes event result self.new.nodes }
+        // One node is asked, and the reply is its answer. None is asked if the event is not taken.
+        ensures asks { AsksIfTaken self.old.nodes event result self.new.nodes }
         // From each state that is shown before, the event and its reply are a step to one that is shown after.
         ensures step { FollowsStore self.old.nodes (event_of event) (reply_of result) self.new.nodes }
+        // The event is the last of the trace, unless it is not taken.
         ensures trace { IsTaken self.old event result self.new }
         // Some refusals never come.
         ensures plain { IsPlain result }
         // The vault counts a failure more where its device is said to have failed, and never fewer.
         ensures counted { device_failures result + self.old.nodes.seat.failures ≤ self.new.nodes.seat.failures }
-        // An event that takes no memory but for its place in the trace is refused for want of it only if there is no place.
-        ensures memory { TakesNoMemory event → result ≡ reply.Refused why.OutOfMemory → self.new ≡ self.old }
+        // An event that takes no memory but for its place in the trace is not refused for want of it once it is taken.
+        ensures memory { IsNotShort event result }
     {
         match self.trace.reserve(1) {
-            Err(_) => return Reply::Refused(Refusal::OutOfMemory),
+            Err(_) => return Reply::Refused(Refusal::NotTaken),
             Ok(()) => {}
         }
         let reply = answer(&mut self.store, self.alloc, &event);
@@ -104,14 +103,14 @@ impl<V: Vault> World<V> {
 
     // The same of an event that is lent.
     fn step_of(&mut self, event: &Event) -> Reply
-        ensures asks { AsksStore self.old.nodes event.now result self.new.nodes }
+        ensures asks { AsksIfTaken self.old.nodes event.now result self.new.nodes }
         ensures step { FollowsStore self.old.nodes (event_of event.now) (reply_of result) self.new.nodes }
         ensures trace { IsTaken self.old event.now result self.new }
         ensures plain { IsPlain result }
         ensures counted { device_failures result + self.old.nodes.seat.failures ≤ self.new.nodes.seat.failures }
     {
         match event.copy(self.alloc) {
-            Err(_) => Reply::Refused(Refusal::OutOfMemory),
+            Err(_) => Reply::Refused(Refusal::NotTaken),
             Ok(event) => self.step(event),
         }
     }

@@ -10,7 +10,7 @@ use Rattle.lsm_world.specs.Events.{event_of}
 use Rattle.lsm_world.specs.Replies.{reply_of}
 use Rattle.lsm_world.specs.Schedules.{IsNew, IsPlain, RunsTo}
 use Rattle.lsm_world.proofs.HeadlineClauses.{follower_reads_newest, one_answer, one_listing, reads_newest, scans_newest}
-use Rattle.lsm_world.proofs.RunningSchedules.{asked_more, counted_more, runs_more, taken_or_not, traced_more}
+use Rattle.lsm_world.proofs.RunningSchedules.{asked_more, counted_more, runs_more, traced_more}
 use Rattle.lsm_world.proofs.world.World.run.Given.{Over}
 use Rattle.lsm_world.proofs.world.World.run.Goals as goal
 
@@ -23,7 +23,7 @@ loop-event-preserved g c =
       asks = rw (more, ← c.event-item.is, c.push_reserved.ensures.items) (asked_more _ _ _ _ _ _ _ is.asks one.asks);
       run = rw (more, ← c.event-item.is, c.push_reserved.ensures.items) (runs_more c.args.self.now.nodes c.loop-event.self.nodes c.step_of-reply.new.self.nodes _ _ _ _ is.run one.step);
       counted = rw c.push_reserved.ensures.items (counted_more c.loop-event.replies.items c.step_of-reply.result _ _ _ is.counted one.counted);
-      trace = rw (more, ← c.event-item.is, c.push_reserved.ensures.items) (traced_more _ _ _ _ _ _ _ is.trace (taken_or_not _ _ _ _ one.trace));
+      trace = rw (more, ← c.event-item.is, c.push_reserved.ensures.items) (traced_more _ _ _ _ _ _ _ _ _ is.asks is.trace one.trace);
       plain = rw c.push_reserved.ensures.items (All-append IsPlain c.loop-event.replies.items _ is.plain (All-one IsPlain c.step_of-reply.result one.plain));
       count = search rules;
       room = search rules;
