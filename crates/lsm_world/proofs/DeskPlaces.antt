@@ -4,6 +4,7 @@ use Rattle.std.specs.Prelude.{slice_get, slice_set}
 use Rattle.std.proofs.lemmas.Bool.{cases_eq}
 use Rattle.std.proofs.lemmas.Option.{same_Some}
 use Rattle.lsm_key.specs.Sets.{IsIn}
+use Rattle.lsm_claim.specs.declared.job.JobId.{JobId}
 use Rattle.lsm_claim.specs.declared.job.LiveJob.{LiveJob}
 use Rattle.lsm_claim.specs.Book.{BookValue}
 use Rattle.lsm_coord.specs.declared.dispatcher.Dispatcher.{Dispatcher}
@@ -79,15 +80,24 @@ one_at xs i j x y a b same = same_Some x y (sym a ∙ subst (λ (k : ℕ). slice
 
 -- ---- a claim that a dispatcher lets go
 
--- a book without this claim
-pub claims_let_go : (h : History) (old new : BookValue) (desk : List Dispatcher) (place : ℕ) (claim : LiveJob) → HoldsClaim desk place claim → ((j : LiveJob) → IsIn j new.live → IsIn j old.live) → ((j : LiveJob) → IsIn j new.live → j.id ≡ claim.id → ⊥)
-    → AreClaims h old desk → AreClaims h new (slice_set desk place Idle)
-claims_let_go h old new desk place claim held before gone are = record {
+-- the live claims are those of before, but for the one of this name
+pub record LetsGo (old new : BookValue) (id : JobId) : Type 0 where
+  pub epoch : new.epoch ≡ old.epoch
+  pub before : (j : LiveJob) → IsIn j new.live → IsIn j old.live
+  pub gone : (j : LiveJob) → IsIn j new.live → j.id ≡ id → ⊥
+  pub others : (j : LiveJob) → IsIn j old.live → (j.id ≡ id → ⊥) → IsIn j new.live
+
+pub claims_let_go : (h : History) (old new : BookValue) (desk : List Dispatcher) (place : ℕ) (claim : LiveJob) → HoldsClaim desk place claim → LetsGo old new claim.id → AreClaims h old desk → AreClaims h new (slice_set desk place Idle)
+claims_let_go h old new desk place claim held lets are = record {
   four = as_many_after desk place Idle ∙ are.four;
   live = λ j m.
-      let at = are.live j (before j m) in
-      let other : at.0 ≡ place → ⊥ = λ same. gone j m (ap (λ (x : LiveJob). x.id) (sym (same_claim claim j (one_at desk place at.0 (Busy claim) (Busy j) held at.1 same)))) in
+      let at = are.live j (lets.before j m) in
+      let other : at.0 ≡ place → ⊥ = λ same. lets.gone j m (ap (λ (x : LiveJob). x.id) (sym (same_claim claim j (one_at desk place at.0 (Busy claim) (Busy j) held at.1 same)))) in
       (at.0, get_set_there desk place at.0 Idle other ∙ at.1);
+  current = λ p j now same. elim (get_set_cases desk place p Idle (Busy j) now) [
+    | inl here ↦ absurd (idle_holds_none j here.1)
+    | inr there ↦ lets.others j (are.current p j there.1 (same ∙ lets.epoch)) (λ named. there.0 (are.one p place j claim there.1 held named))
+  ];
   picked = λ p j now. are.picked p j (held_before p j now);
   one = λ a b j k x y. are.one a b j k (held_before a j x) (held_before b k y);
 }

@@ -38,7 +38,7 @@ use Rattle.lsm_world.proofs.NetworkSteps.{network_plain, receiver_plain}
 pub down_keeps : (edits : List (List ℕ)) (kept : Kept) (desk : List Dispatcher) (old new : NetworkValue) → KeepsNetwork old new → (h : History) × IsDownHistory h edits kept desk old → (h : History) × IsDownHistory h edits kept desk new
 down_keeps edits kept desk old new keeps known =
     let is = known.1 in
-    (known.0, record { files = is.files; jobs = is.jobs; given = is.given; claims = is.claims; network = keeps known.0 is.files.all is.jobs is.network })
+    (known.0, record { files = is.files; jobs = is.jobs; begun = is.begun; claims = is.claims; network = keeps known.0 is.files.all is.jobs is.network })
 
 -- ---- messages by number
 

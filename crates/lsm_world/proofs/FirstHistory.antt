@@ -96,13 +96,15 @@ pub first_history : (due : Limits) (n : NodesValue) → AreNew due n → IsFit n
 first_history due n is fit = record {
   files = files_first n.core is.shown fit;
   jobs = record {
-    all = record { job = λ j m. absurd m; one = λ i j m. absurd m; inputs = λ j f m. absurd m };
-    given = λ j m. absurd m;
+    all = record { picked = λ j m. absurd m; numbered = tt; job = λ j m. absurd m; one = λ i j m. absurd m; inputs = λ j f m. absurd m };
+    begun = λ j m. absurd m;
+    made = ap (λ (b : BookValue). b.made) is.book;
     sound = λ j m. absurd m;
   };
   claims = record {
     four = ap length is.desk;
     live = λ j m. absurd (subst (λ (b : BookValue). IsIn j b.live) is.book m);
+    current = λ place claim held same. absurd (none_held place claim (at_first place claim held));
     picked = λ place claim held. absurd (none_held place claim (at_first place claim held));
     one = λ a b claim other x. absurd (none_held a claim (at_first a claim x));
   };

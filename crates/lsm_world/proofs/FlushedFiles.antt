@@ -19,7 +19,7 @@ use Rattle.lsm_coord.specs.Contract.Sound.{KeepsSound}
 use Rattle.lsm_coord.specs.Contract.Value.{CoordValue}
 use Rattle.lsm_world.specs.History.{History, IsHistory, IsFileOf, AreFiles, AreJobs, AreClaims, versions_in}
 use Rattle.lsm_world.specs.Nodes.{NodesValue}
-use Rattle.lsm_world.proofs.GrowingHistory.{Grows, Keeps, file_stays, goes_on, table_stays}
+use Rattle.lsm_world.proofs.GrowingHistory.{Grows, Keeps, goes_on, same_jobs, table_stays}
 use Rattle.lsm_world.proofs.LoggedHistories.{grown_versions, listed_on, logs_one}
 use Rattle.lsm_world.proofs.QuietCalls.{jobs_stay}
 
@@ -108,13 +108,14 @@ module _ (h : History) (old new : CoordValue) (file : FileMeta) (table : Opened)
 -- the jobs are those of the history with one file more
 with_file_jobs : (h : History) (e : Edit) (p : Placed) (c : CoordValue) → Grows h (with_file h e p) → AreJobs h c → AreJobs (with_file h e p) c
 with_file_jobs h e p c grows is = record {
-  all = record { job = is.all.job; one = is.all.one; inputs = λ j f mj mf. file_stays h (with_file h e p) grows f (is.all.inputs j f mj mf) };
-  given = is.given;
+  all = same_jobs h (with_file h e p) grows refl is.all;
+  begun = is.begun;
+  made = is.made;
   sound = is.sound;
 }
 
 with_file_claims : (h : History) (e : Edit) (p : Placed) (book : BookValue) (desk : List Dispatcher) → AreClaims h book desk → AreClaims (with_file h e p) book desk
-with_file_claims h e p book desk is = record { four = is.four; live = is.live; picked = is.picked; one = is.one }
+with_file_claims h e p book desk is = record { four = is.four; live = is.live; current = is.current; picked = is.picked; one = is.one }
 
 -- A FLUSH KEEPS THE HISTORY, WITH ITS FILE.
 pub after_flush : (h : History) (old : NodesValue) (new : CoordValue) → IsFit old.core → IsFit new → Adds old.core new → KeepsSound old.core new → IsHistory h old → Keeps h (record old { core = new })

@@ -21,7 +21,7 @@ use Rattle.lsm_coord.specs.Contract.Value.{CoordValue}
 use Rattle.lsm_store.specs.Compacting.{tables_at}
 use Rattle.lsm_store.proofs.ServedTables.{tables_among}
 use Rattle.lsm_work.specs.Workers.{TaskValue}
-use Rattle.lsm_world.specs.History.{History, IsEditOf, IsFileOf, IsFollowerOf, IsNumbered, IsTableAt, IsTargetOf, IsResultOf, IsKnown, IsSent, IsTaskOf, IsHistory, IsNetwork, IsVersionOf, AreFiles, AreJobs, AreClaims, versions_in}
+use Rattle.lsm_world.specs.History.{History, IsEditOf, IsFileOf, IsFollowerOf, IsNumbered, IsTableAt, IsTargetOf, IsResultOf, IsKnown, IsSent, IsTaskOf, IsHistory, IsNetwork, IsVersionOf, AreFiles, AreJobs, AreJobsOf, AreClaims, AreNumberedInOrder, WasPicked, versions_in}
 use Rattle.lsm_world.specs.Nodes.{NetworkValue, NodesValue}
 
 -- the edits of the one are the first ones of the other, which has at most one version more
@@ -79,6 +79,21 @@ module _ (h more : History) (grows : Grows h more) where
     | inl same ↦ subst (λ (vs : List VersionValue). slice_get vs v.number ≡ Some v) (sym same) at
     | inr one ↦ subst (λ (vs : List VersionValue). slice_get vs v.number ≡ Some v) (sym one.1) (slice_get-front (versions_in h) (one.0 ∷ []) v.number v at)
   ]
+
+  pub pick_stays : (j : JobParts) → WasPicked h j → WasPicked more j
+  pick_stays j was = record { old = was.old; new = was.new; claim = was.claim; fit = was.fit; version = version_stays was.old.served.version was.version; picked = was.picked }
+
+  -- jobs of which none is new
+  pub same_jobs : more.jobs ≡ h.jobs → AreJobsOf h → AreJobsOf more
+  same_jobs same are =
+      let before : (j : JobParts) → IsIn j more.jobs → IsIn j h.jobs = λ j m. subst (λ (js : List JobParts). IsIn j js) same m in
+      record {
+        picked = λ j m. pick_stays j (are.picked j (before j m));
+        numbered = subst AreNumberedInOrder (sym same) are.numbered;
+        job = λ j m. are.job j (before j m);
+        one = λ i j mi mj. are.one i j (before i mi) (before j mj);
+        inputs = λ j f mj mf. file_stays f (are.inputs j f (before j mj) mf);
+      }
 
   edit_stays : (e : Edit) → IsEditOf h e → IsEditOf more e
   edit_stays e k = (k.0, grows.edits.edits k.0 e k.1)

@@ -1,5 +1,5 @@
 -- An install: its outputs are further files of the history, its inputs retire, and the claim's dispatcher is idle.
-use Rattle.std.proofs.Common.{◌≡◌, ℕ, ◌+◌, ◌<◌, ◌≤◌, Bool, not, Some, List, [], ◌∷◌, ◌++◌, sym, ap, subst, ◌∙◌, arith, inl, inr, length}
+use Rattle.std.proofs.Common.{◌≡◌, ℕ, ◌+◌, ◌<◌, ◌≤◌, Bool, not, Some, List, [], ◌∷◌, ◌++◌, refl, sym, ap, subst, ◌∙◌, arith, inl, inr, length}
 use Rattle.std.specs.Prelude.{filter, slice_get, slice_set}
 use Rattle.std.specs.List.{list_any}
 use Rattle.lsm_key.specs.Sets.{IsIn}
@@ -36,11 +36,11 @@ use Rattle.lsm_coord.proofs.InstallEdits.{recorded_of, records_end, records_reco
 use Rattle.lsm_coord.proofs.InstallOutcomes.{done_is, done_spelled, live_is}
 use Rattle.lsm_coord.proofs.OpenedOutputs.{tables_each}
 use Rattle.lsm_store.proofs.Compactions.{fewer_held}
-use Rattle.lsm_world.specs.History.{AreClaims, AreFiles, AreJobs, History, IsFileOf, IsHistory, IsTableAt, WasGiven, versions_in}
+use Rattle.lsm_world.specs.History.{AreClaims, AreFiles, AreJobs, History, IsFileOf, IsHistory, IsTableAt, of_epoch, versions_in}
 use Rattle.lsm_world.specs.Nodes.{NodesValue}
-use Rattle.lsm_world.proofs.DeskPlaces.{claims_let_go}
-use Rattle.lsm_world.proofs.EndedClaims.{ended, given_after}
-use Rattle.lsm_world.proofs.GrowingHistory.{Grows, Keeps, file_stays, goes_on, table_stays}
+use Rattle.lsm_world.proofs.DeskPlaces.{LetsGo, claims_let_go}
+use Rattle.lsm_world.proofs.EndedClaims.{begun_after, counted_after, ends}
+use Rattle.lsm_world.proofs.GrowingHistory.{Grows, Keeps, goes_on, same_jobs, table_stays}
 use Rattle.lsm_world.proofs.LoggedHistories.{grown_versions, listed_on, logs_one}
 
 -- ---- records with their tables
@@ -185,12 +185,13 @@ after_install h old new claim made number files place fit fit_new done keeps at 
     let book : new.book ≡ after_settling c.book claim.id ending.Installed = ap (λ (x : CoordValue). x.book) (done_is c live done.2 new install) ∙ ap (λ (id : JobId). after_settling c.book id ending.Installed) named in
     let before : (j : LiveJob) → IsIn j new.book.live → IsIn j c.book.live = λ j m. live_before c.book claim.id ending.Installed j (subst (λ (b : BookValue). IsIn j b.live) book m) in
     let jobs : AreJobs more new = record {
-      all = record { job = is.jobs.all.job; one = is.jobs.all.one; inputs = λ j f mj mf. file_stays h more larger f (is.jobs.all.inputs j f mj mf) };
-      given = λ j m. subst (λ (b : BookValue). WasGiven b j.id) (sym book) (given_after c.book claim.id ending.Installed j.id (is.jobs.given j m));
+      all = same_jobs h more larger refl is.jobs.all;
+      begun = λ j m. subst (λ (b : BookValue). j.id.epoch ≤ b.epoch) (sym book) (begun_after c.book claim.id ending.Installed j.id.epoch (is.jobs.begun j m));
+      made = subst (λ (b : BookValue). b.made ≡ length (of_epoch b.epoch h.jobs)) (sym book) (counted_after h.jobs c.book claim.id ending.Installed is.jobs.made);
       sound = λ j m held. keeps j (is.jobs.sound j m (fewer_held c.book new.book j.id before held)) held;
     } in
-    let left = claims_let_go h c.book new.book old.desk place claim at before (λ j m. ended c.book claim.id ending.Installed j (subst (λ (b : BookValue). IsIn j b.live) book m)) is.claims in
-    let claims : AreClaims more new.book (slice_set old.desk place Idle) = record { four = left.four; live = left.live; picked = left.picked; one = left.one } in
+    let left = claims_let_go h c.book new.book old.desk place claim at (subst (λ (b : BookValue). LetsGo c.book b claim.id) (sym book) (ends c.book claim.id ending.Installed)) is.claims in
+    let claims : AreClaims more new.book (slice_set old.desk place Idle) = record { four = left.four; live = left.live; current = left.current; picked = left.picked; one = left.one } in
     record {
       more = more;
       grows = larger;

@@ -2,6 +2,7 @@ pub mod FourPlaces
 pub mod DeskPlaces
 pub mod GrowingHistory
 pub mod LoggedHistories
+pub mod NumberedJobs
 pub mod QuietCalls
 pub mod FlushedFiles
 pub mod PickedClaims

@@ -92,7 +92,7 @@ answered_with h s numbers all served is at tables = let one = all served is at t
 -- a history is kept by a store that has another network
 history_with : (h : History) (old : StoreValue) (new : NetworkValue) (core : Option CoordValue) → KeepsNetwork old.network new → IsStoreHistory h old → IsHistoryBy h core old → IsHistoryBy h core (record old { network = new })
 history_with h old new (Some c) keeps all is = record { files = is.files; jobs = is.jobs; claims = is.claims; network = keeps h is.files.all is.jobs.all is.network }
-history_with h old new None keeps all is = record { files = is.files; jobs = is.jobs; given = is.given; claims = is.claims; network = keeps h is.files.all is.jobs is.network }
+history_with h old new None keeps all is = record { files = is.files; jobs = is.jobs; begun = is.begun; claims = is.claims; network = keeps h is.files.all is.jobs is.network }
 
 module _ (old : StoreValue) (new : NetworkValue) (keeps : KeepsNetwork old.network new) where
   abbrev after : StoreValue

@@ -1,5 +1,5 @@
 -- Calls that leave the files and the claims.
-use Rattle.std.proofs.Common.{◌≡◌, ℕ, ◌<◌, List, true, sym, ap, subst, ◌∙◌}
+use Rattle.std.proofs.Common.{◌≡◌, ◌<◌, ◌≤◌, List, length, true, sym, ap, subst, ◌∙◌}
 use Rattle.lsm_key.specs.Sets.{IsIn}
 use Rattle.lsm_claim.specs.Book.{BookValue, holds}
 use Rattle.lsm_edit.specs.Served.{ServedValue}
@@ -7,7 +7,7 @@ use Rattle.lsm_versions.specs.declared.retired.Retired.{Retired}
 use Rattle.lsm_versions.specs.Manifest.{read_edits}
 use Rattle.lsm_coord.specs.Contract.Sound.{KeepsSound}
 use Rattle.lsm_coord.specs.Contract.Value.{CoordValue}
-use Rattle.lsm_world.specs.History.{History, IsHistory, AreFiles, AreJobs, AreClaims, WasGiven}
+use Rattle.lsm_world.specs.History.{History, IsHistory, AreFiles, AreJobs, AreClaims, of_epoch}
 use Rattle.lsm_world.specs.Nodes.{NodesValue}
 
 -- ---- parts
@@ -26,7 +26,8 @@ files_stay h old new served edits retired is = record {
 pub jobs_stay : (h : History) (old new : CoordValue) → new.book ≡ old.book → KeepsSound old new → AreJobs h old → AreJobs h new
 jobs_stay h old new book keeps is = record {
   all = is.all;
-  given = λ j m. subst (λ (b : BookValue). WasGiven b j.id) (sym book) (is.given j m);
+  begun = λ j m. subst (λ (b : BookValue). j.id.epoch ≤ b.epoch) (sym book) (is.begun j m);
+  made = subst (λ (b : BookValue). b.made ≡ length (of_epoch b.epoch h.jobs)) (sym book) is.made;
   sound = λ j m held. keeps j (is.sound j m (subst (λ (b : BookValue). holds b j.id ≡ true) book held)) held;
 }
 

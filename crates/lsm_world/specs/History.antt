@@ -1,10 +1,9 @@
 -- What the nodes of a store have made so far, and what each of them, and each message, may have of it (RocksDB wiki, Remote Compaction: a job names its inputs, and its result stands for them; LevelDB, implementation notes: file numbers are not reused).
-use Rattle.std.specs.Prelude.{◌≡◌, ◌⊎◌, ℕ, ◌∷◌, ◌<◌, ◌≤◌, List, [], Option, None, Some, IfSome, length, true, map, slice_get}
+use Rattle.std.specs.Prelude.{◌≡◌, ℕ, ◌+◌, ◌∷◌, ◌<◌, ◌≤◌, List, [], Option, None, Some, IfSome, filter, length, nat_eq, true, map, slice_get}
 use Rattle.std.specs.FinMap.{get}
 use Rattle.lsm_key.specs.Sets.{IsIn}
-use Rattle.lsm_claim.specs.declared.job.JobId.{JobId}
 use Rattle.lsm_claim.specs.declared.job.LiveJob.{LiveJob}
-use Rattle.lsm_claim.specs.Book.{BookValue, IsGiven, holds, new_book}
+use Rattle.lsm_claim.specs.Book.{BookValue, holds, new_book}
 use Rattle.lsm_edit.specs.declared.edit.Edit.{Edit}
 use Rattle.lsm_edit.specs.declared.file.FileMeta.{FileMeta}
 use Rattle.lsm_edit.specs.declared.served.Placed.{Placed}
@@ -26,6 +25,8 @@ use Rattle.lsm_versions.specs.Manifest.{read_edits}
 use Rattle.lsm_versions.specs.Opening.{manifest_version}
 use Rattle.lsm_coord.specs.declared.dispatcher.Dispatcher.{Dispatcher}
 use Rattle.lsm_coord.specs.declared.dispatcher.Dispatcher.TheVariants.{Busy}
+use Rattle.lsm_coord.specs.Contract.Memory.{IsFit}
+use Rattle.lsm_coord.specs.Contract.Picking.{IsPicked}
 use Rattle.lsm_coord.specs.Contract.Sound.{IsSound}
 use Rattle.lsm_coord.specs.Contract.Value.{CoordValue}
 use Rattle.lsm_store.specs.Compacting.{tables_at}
@@ -34,7 +35,7 @@ use Rattle.lsm_world.specs.Nodes.{NetworkValue, NodesValue, StoreValue, nodes_wi
 
 pub record History : Type 0 where
   pub files : List Placed  -- files with their tables, among them each that a version ever listed
-  pub jobs : List JobParts  -- the jobs that claims, messages and workers name
+  pub jobs : List JobParts  -- each job that a pick answered, the last one first
   pub edits : List Edit  -- each edit, from edit 1
 
 -- ---- versions
@@ -88,30 +89,52 @@ pub record AreFiles (h : History) (c : CoordValue) : Type 0 where
 
 -- ---- jobs
 
--- each job is within the rules of its format, has a name of its own, and merges files of the history
+-- those of an epoch
+abbrev pub of_epoch : ℕ → List JobParts → List JobParts
+of_epoch epoch jobs = filter (λ j. nat_eq j.id.epoch epoch) jobs
+
+-- The jobs of each epoch are numbered from 1 in the order given. So no job has a number above the last given in its epoch.
+abbrev pub AreNumberedInOrder : List JobParts → Type 0
+AreNumberedInOrder [] = Unit {0}
+AreNumberedInOrder (job ∷ earlier) = (job.id.number ≡ length (of_epoch job.id.epoch earlier) + 1) × AreNumberedInOrder earlier
+
+-- a pick answered the job, of a coordinator that was at a version of the history
+pub record WasPicked (h : History) (job : JobParts) : Type 0 where
+  pub old : CoordValue
+  pub new : CoordValue
+  pub claim : LiveJob
+  pub fit : IsFit old
+  pub version : IsVersionOf h old.served.version
+  pub picked : IsPicked old claim job new
+
+-- A pick answered each job, and the jobs of an epoch are numbered in order. Each job is within the rules of its format, has a name of
+-- its own, and merges files of the history. Messages, workers and claims name no other jobs: so no message has a job number above the
+-- last given in its epoch, also if that epoch is over.
 pub record AreJobsOf (h : History) : Type 0 where
+  pub picked : (j : JobParts) → IsIn j h.jobs → WasPicked h j
+  pub numbered : AreNumberedInOrder h.jobs
   pub job : (j : JobParts) → IsIn j h.jobs → IsJob j
   pub one : (i j : JobParts) → IsIn i h.jobs → IsIn j h.jobs → i.id ≡ j.id → i ≡ j
   pub inputs : (j : JobParts) (f : FileMeta) → IsIn j h.jobs → IsIn f j.inputs → IsFileOf h f
 
--- the name was given in an earlier epoch, or by this book
-abbrev pub WasGiven : BookValue → JobId → Type 0
-WasGiven book id = (id.epoch < book.epoch) ⊎ IsGiven book id
-
--- each job's name was given, and the job is sound while its claim is live
+-- No job's epoch is to come yet, the last number that the book gave is the count of the jobs of its epoch, and a job is sound while its
+-- claim is live.
 pub record AreJobs (h : History) (c : CoordValue) : Type 0 where
   pub all : AreJobsOf h
-  pub given : (j : JobParts) → IsIn j h.jobs → WasGiven c.book j.id
+  pub begun : (j : JobParts) → IsIn j h.jobs → j.id.epoch ≤ c.book.epoch
+  pub made : c.book.made ≡ length (of_epoch c.book.epoch h.jobs)
   pub sound : (j : JobParts) → IsIn j h.jobs → holds c.book j.id ≡ true → IsSound c j
 
 -- the dispatcher at this place of a desk, from 0, holds this claim
 abbrev pub HoldsClaim : List Dispatcher → ℕ → LiveJob → Type 0
 HoldsClaim desk place claim = slice_get desk place ≡ Some (Busy claim)
 
--- Each live claim is held by one of four dispatchers, each claim that is held is that of a job, and no two dispatchers hold one.
+-- Each live claim is held by one of four dispatchers, and each claim of the book's epoch that is held is live: a dispatcher lets a claim
+-- go when it ends, and only a restart leaves one that is stale. Each claim that is held is that of a job, and no two dispatchers hold one.
 pub record AreClaims (h : History) (book : BookValue) (desk : List Dispatcher) : Type 0 where
   pub four : length desk ≡ 4
   pub live : (claim : LiveJob) → IsIn claim book.live → (place : ℕ) × HoldsClaim desk place claim
+  pub current : (place : ℕ) (claim : LiveJob) → HoldsClaim desk place claim → claim.id.epoch ≡ book.epoch → IsIn claim book.live
   pub picked : (place : ℕ) (claim : LiveJob) → HoldsClaim desk place claim → (j : JobParts) × IsIn j h.jobs × (j.id ≡ claim.id)
   pub one : (a b : ℕ) (claim other : LiveJob) → HoldsClaim desk a claim → HoldsClaim desk b other → claim.id ≡ other.id → a ≡ b
 
@@ -190,12 +213,12 @@ pub record AreFilesKept (h : History) (texts : List (List ℕ)) (kept : Kept) : 
   pub given : (p : Placed) → IsIn p h.files → p.meta.number < (manifest_version texts).next_file
   pub served : (p : Placed) → IsIn p.meta (manifest_version texts).files → IsAsRecorded p.meta p.table → get kept p.meta.number ≡ Some p.table.bytes → IsIn p h.files
 
--- No job's epoch is to come yet, and no claim is live.
+-- No job's epoch is to come yet, and the claims are those of the book with which the next epoch begins: none is live.
 pub record IsDownHistory (h : History) (edits : List (List ℕ)) (kept : Kept) (desk : List Dispatcher) (others : NetworkValue) : Type 0 where
   pub files : AreFilesKept h edits kept
   pub jobs : AreJobsOf h
-  pub given : (j : JobParts) → IsIn j h.jobs → j.id.epoch ≤ (manifest_version edits).epoch
-  pub claims : AreClaims h (new_book (manifest_version edits).epoch) desk
+  pub begun : (j : JobParts) → IsIn j h.jobs → j.id.epoch ≤ (manifest_version edits).epoch
+  pub claims : AreClaims h (new_book ((manifest_version edits).epoch + 1)) desk
   pub network : IsNetwork h others
 
 -- ---- either way
