@@ -1,117 +1,223 @@
 #!/usr/bin/env python3
-"""Runs worked scripts with each allocation of the program failing in turn, beside the model.
+"""Runs scripts with allocations of the program failing, beside the model.
 
-Usage: tests/schedules/memory.py PROGRAM LIBRARY
+Usage: tests/schedules/memory.py PROGRAM LIBRARY [--random N [SEED]] [--stats]
 
-LIBRARY is preloaded and fails the allocation whose number stands in FAIL_AT. An event is as the model has it, or is refused for want of
-memory and does nothing, or loses the messages that it sends; or the program stops with what it printed so far. Each event that was refused is
-then done twice in a run of its own: it is refused as before, and then as the model has it. At the end of each script all claims are given back, each as
-the model has it: so the live ones are those of the dispatchers that hold one of this epoch. Prints what is wrong, if anything is."""
-import copy
+LIBRARY is built of tests/fail.c, and preloaded. An event is as the model has it; or it is refused for want of memory, and leaves what the model has of
+that; or it loses the messages that it sends; or the program stops with what it printed so far. At the end of each script all claims are given back, each
+as the model has it: so the live ones are those of the dispatchers that hold one of this epoch.
+
+Worked scripts are run with each allocation failing in turn, as they are and with a restart of the coordinator in their middle and at their end. Each event
+that was refused is then done twice in a run of its own: it is refused as before, and then as the model has it.
+With --random it is so many random schedules, in each of which an allocation fails in one event, two or three, and in no other one is anything refused for
+it or lost. Half of these events are done twice. Prints what is wrong, if anything is, and with --stats what was seen."""
+import argparse
+import itertools
 import os
+import random
 import subprocess
 import sys
+import tempfile
+from collections import Counter
+from typing import NamedTuple
 
 sys.dont_write_bytecode = True
+import generate
 import rows
 from store import events
 from store.limits import Limits
 from store.lines import line
+from store.refusals import worlds_after
 from store.script import events_of_line
 from store.world import World
 
 SCRIPTS = {"a_snapshot_after_a_pick.lsm", "two_jobs_run_at_once.lsm", "a_follower_takes_a_full_version.lsm", "a_file_is_gone_after_a_trim.lsm"}
+RESTART = b"restart c"
 # All claims are given back, and the store is asked once more.
 END = [*(f"giveup {it}".encode() for it in (1, 2, 3, 4)), b"show c", b"get a"]
-# After so many runs in a row that nothing was refused in, the script has no more allocations.
-SPARED = 8
-# To read a line more takes no more allocations than these.
-FOR_A_LINE = 16
-REFUSED = "refused OutOfMemory"
+REFUSED, DOWN = "refused OutOfMemory", "refused Down"
+# Events of a random schedule, of which some have four times as many.
+LENGTH = 40
 
 
 def events_in(script):
-    """The lines of a script and its end, each of one event."""
-    for text in [*script.split(b"\n"), *END]:
-        first, _, last = text.removeprefix(b"deliver ").partition(b"-")
-        if text.startswith(b"deliver ") and last:
-            yield from (b"deliver %d" % it for it in range(int(first), int(last) + 1))
-        elif events_of_line(text):
-            yield text
+    """The lines of a script, each of one event."""
+    for text in script.split(b"\n"):
+        for event in events_of_line(text):
+            yield b"deliver %d" % event.message if isinstance(event, events.Deliver) else text
 
 
-def run(program, library, row, script, at):
-    environment = {**os.environ, "FAIL_AT": str(at), "LD_PRELOAD": library}
-    ended = subprocess.run([program, "run", *row.options], input=b"\n".join([*script, b""]), capture_output=True, env=environment, timeout=180, check=False)
-    return ended.stdout.decode().splitlines(), ended.stderr.decode(), ended.returncode
+def event_of(text):
+    (event,) = events_of_line(text)
+    return event
 
 
-def limits_of(row):
-    return Limits(**dict(zip((it.lstrip("-") for it in row.options[::2]), map(int, row.options[1::2]))))
+def limits_of(options):
+    return Limits(**dict(zip((it.lstrip("-") for it in options[::2]), map(int, options[1::2]))))
 
 
-def refused(world, event):
-    """The models that may stand behind a refused event: nothing is done, but that a trim may have raised the floor."""
-    yield world
-    if isinstance(event, events.Trim) and event.number <= world.coordinator.version.number:
-        raised = copy.deepcopy(world)
-        raised.coordinator.floor = max(raised.coordinator.floor, event.number)
-        yield raised
+class Found(NamedTuple):
+    """What a run printed, how it ended, and how many allocations it asked for."""
+
+    lines: list
+    error: str
+    status: int
+    asked: int
 
 
-def fault_of(found, row, script):
-    """The first line that the model does not have, or None."""
-    lines, error, status = found
-    worlds = [World(limits_of(row))]
-    for number, (text, told) in enumerate(zip(script, lines), 1):
-        (event,) = events_of_line(text)
+class Program:
+    def __init__(self, path, library, folder):
+        self.path, self.library, self.told = path, library, os.path.join(folder, "allocations")
+
+    def run(self, options, script, fails=(), last=b"#"):
+        """Runs a script with allocations of these numbers failing."""
+        environment = {**os.environ, "FAIL_AT": ",".join(map(str, fails)), "ALLOCATIONS": self.told, "LD_PRELOAD": self.library}
+        text = b"\n".join([*script, last, b""])
+        ended = subprocess.run([self.path, "run", *options], input=text, capture_output=True, env=environment, timeout=180, check=False)
+        with open(self.told, encoding="ascii") as asked:
+            return Found(ended.stdout.decode().splitlines(), ended.stderr.decode(), ended.returncode, int(asked.read()))
+
+    def reading(self, options, script):
+        """How many allocations the program asks for before its first event, and a few that are the same for each script: it asks for no others if the
+        last line is faulty."""
+        return self.run(options, script, last=b"x").asked
+
+    def happen(self, options, script, fails):
+        """Runs a script with allocations of these numbers failing, as counted from its first event on."""
+        reading = self.reading(options, script)
+        found = self.run(options, script, [reading + it for it in fails])
+        return found._replace(asked=found.asked - reading)
+
+
+def fault_of(found, options, script, places=None, seen=None):
+    """The first line that the model does not have, or None. Only the events at these places may lack memory, if they are given."""
+    worlds, seen = [World(limits_of(options))], Counter() if seen is None else seen
+    for place, (text, told) in enumerate(zip(script, found.lines)):
+        event, is_lost = event_of(text), told.endswith(" lost")
+        if (told == REFUSED or is_lost) and places is not None and place not in places:
+            return f"line {place + 1} is {told!r}, and no allocation failed in it"
         if told == REFUSED:
-            worlds = [it for world in worlds for it in refused(world, event)]
-            continue
-        replies = [line(it.step(event, loses=told.endswith(" lost"))) for it in worlds]
-        worlds = [it for it, reply in zip(worlds, replies) if reply == told]
-        if not worlds:
-            return f"line {number} is {told!r}, not {replies[0]!r}"
-    is_whole = status == 0 and len(lines) == len(script) and not error
-    is_stopped = status == 1 and len(lines) <= len(script) and error == "out of memory\n"
-    return None if is_whole or is_stopped else f"status {status} after {len(lines)} lines: {error!r}"
+            worlds = [it for world in worlds for it in worlds_after(world, event)]
+        else:
+            replies = [line(it.step(event, loses=is_lost)) for it in worlds]
+            worlds = [it for it, reply in zip(worlds, replies) if reply == told]
+            if not worlds:
+                return f"line {place + 1} is {told!r}, not {replies[0]!r}"
+        if told in (REFUSED, DOWN) or is_lost:
+            seen[f"{type(event).__name__} {'lost' if is_lost else told}"] += 1
+    is_whole = found.status == 0 and len(found.lines) == len(script) and not found.error
+    is_stopped = found.status == 1 and len(found.lines) <= len(script) and found.error == "out of memory\n"
+    seen["runs that stopped"] += is_stopped
+    return None if is_whole or is_stopped else f"status {found.status} after {len(found.lines)} lines: {found.error!r}"
 
 
-def try_twice(program, library, row, script, at, place):
+# Worked scripts.
+
+
+def try_twice(program, options, script, at, place):
     """What is wrong with a script whose event of this place, which was refused, is done twice, or None."""
     twice = [*script[: place + 1], *script[place:]]
-    for later in range(at, at + FOR_A_LINE):
-        found = run(program, library, row, twice, later)
-        if found[0][place : place + 1] == [REFUSED] and REFUSED not in found[0][:place]:
-            told = fault_of(found, row, twice)
-            again = found[0][place + 1 : place + 2]
-            return told if told is not None else None if again != [REFUSED] else "refused once more"
-    return "not refused if it is done twice"
+    later = at + program.reading(options, twice) - program.reading(options, script)
+    found = program.run(options, twice, [later])
+    if found.lines[place : place + 1] != [REFUSED] or REFUSED in found.lines[:place]:
+        return "not refused if it is done twice"
+    again = found.lines[place + 1 : place + 2]
+    return "refused once more" if again == [REFUSED] else fault_of(found, options, twice)
 
 
-def try_script(program, library, row):
+def try_script(program, options, script, seen):
     """What is wrong with a script, or None."""
-    script = list(events_in(row.script))
-    right = run(program, library, row, script, 0)
-    at = spared = 0
-    while spared < SPARED:
-        at += 1
-        found = run(program, library, row, script, at)
-        spared = spared + 1 if found == right else 0
-        told = fault_of(found, row, script)
-        if told is None and REFUSED in found[0]:
-            told = try_twice(program, library, row, script, at, found[0].index(REFUSED))
+    asked = program.run(options, script).asked
+    for at in range(1, asked + 1):
+        found = program.run(options, script, [at])
+        told = fault_of(found, options, script, seen=seen)
+        if told is None and REFUSED in found.lines:
+            told = try_twice(program, options, script, at, found.lines.index(REFUSED))
         if told is not None:
-            return f"{row.name}, allocation {at}: {told}"
-    return None if at > 100 else f"{row.name}: only {at} allocations"
+            return f"allocation {at}: {told}"
+    return None if asked > 100 else f"only {asked} allocations"
+
+
+def try_rows(program, seen):
+    """What is wrong with the worked scripts, as they are and with restarts."""
+    tried = [it for folder in (rows.FOLDER, rows.FOLLOWERS) for it in rows.stored(folder) if it.name in SCRIPTS]
+    assert len(tried) == len(SCRIPTS)
+    for row in tried:
+        script = list(events_in(row.script))
+        middle = len(script) // 2
+        for where, before, after in ("", script, []), ("in its middle", script[:middle], [RESTART, *script[middle:]]), ("at its end", script, [RESTART]):
+            of_this = Counter()
+            told = try_script(program, row.options, [*before, *after, *END], of_this)
+            if told is None and where and not any(it.endswith(DOWN) for it in of_this):
+                told = "the coordinator is never down"
+            if told is not None:
+                yield f"{row.name}{', a restart ' if where else ''}{where}: {told}"
+            seen += of_this
+
+
+# Random schedules.
+
+
+def chosen_places(choices, script):
+    """The places of one event, two or three: each any one, or any one of some kind."""
+    kinds = {}
+    for place, text in enumerate(script):
+        kinds.setdefault(type(event_of(text)), []).append(place)
+    for _ in range(choices.randint(1, 3)):
+        yield choices.choice(choices.choice([list(range(len(script))), choices.choice(list(kinds.values()))]))
+
+
+def chosen_allocation(program, choices, options, script, place, fails):
+    """The number of an allocation that the event of a place asks for, and whose failure does not end the program; in a list, which may be empty."""
+    before, after = (program.happen(options, script[:it], fails).asked for it in (place, place + 1))
+    numbers = list(range(before + 1, after + 1))
+    choices.shuffle(numbers)
+    lasting = (it for it in numbers if program.happen(options, script[: place + 1], [*fails, it]).status == 0)
+    return list(itertools.islice(lasting, 1))
+
+
+def try_schedule(program, schedule, choices, seen):
+    """What is wrong with a random schedule, or None."""
+    options, script = schedule.options, list(events_in(schedule.text))
+    chosen = set(chosen_places(choices, script))
+    twice = {it for it in chosen if choices.random() < 0.5}
+    script = [text for place, text in enumerate(script) for text in (text, text)[: 1 + (place in twice)]]
+    script += END
+    fails, places = [], []
+    for place in (it + sum(other < it for other in twice) for it in sorted(chosen)):
+        for number in chosen_allocation(program, choices, options, script, place, fails):
+            fails, places = [*fails, number], [*places, place]
+    told = fault_of(program.happen(options, script, fails), options, script, places, seen)
+    seen["failed allocations"] += len(fails)
+    return told and f"failed allocations {fails} from the first event on: {told}"
+
+
+def try_random(program, count, seed, seen):
+    """What is wrong with the first random schedule with which anything is."""
+    for schedule in generate.schedules(seed, count, LENGTH, "all"):
+        seen["schedules"] += 1
+        told = try_schedule(program, schedule, random.Random(f"{schedule.name} memory"), seen)
+        if told is not None:
+            yield f"schedule {schedule.name}, {' '.join(schedule.options)}: {told}\n{schedule.text.decode('latin-1')}"
+            return
 
 
 def main():
-    program, library = map(os.path.abspath, sys.argv[1:])
-    tried = [it for folder in (rows.FOLDER, rows.FOLLOWERS) for it in rows.stored(folder) if it.name in SCRIPTS]
-    wrong = [it for it in (try_script(program, library, row) for row in tried) if it is not None]
+    arguments = argparse.ArgumentParser(description=__doc__.splitlines()[0])
+    arguments.add_argument("program", metavar="PROGRAM")
+    arguments.add_argument("library", metavar="LIBRARY")
+    arguments.add_argument("--random", metavar=("N", "SEED"), nargs="+", type=int)
+    arguments.add_argument("--stats", action="store_true")
+    given = arguments.parse_args()
+    seen = Counter()
+    with tempfile.TemporaryDirectory() as folder:
+        program = Program(os.path.abspath(given.program), os.path.abspath(given.library), folder)
+        count, seed = [*(given.random or [0]), 1][:2]
+        wrong = list(try_random(program, count, seed, seen) if given.random else try_rows(program, seen))
     print(*wrong, sep="\n", end="\n" if wrong else "")
-    return 1 if wrong or len(tried) != len(SCRIPTS) else 0
+    if given.stats:
+        print(*(f"{number:8} {what}" for what, number in sorted(seen.items()) if number), sep="\n")
+    return 1 if wrong else 0
 
 
 if __name__ == "__main__":

@@ -61,6 +61,10 @@ def moved_down(number):
     ]
 
 
+# The job of 1,024 files is taken, and one file is sent.
+FETCHES = [("deliver 1", "collecting 1024 messages 2-1025"), ("deliver 2", "served message 1026")]
+
+
 def over_all(count):
     """So many files of level 1, and a file of level 0 that meets all of them."""
     pairs = [pair for number in range(1, count + 1) for pair in moved_down(number)]
@@ -93,6 +97,21 @@ def of_weight(weight, key="k"):
     lengths = [largest] * (weight // (other + largest))
     lengths.append(weight - len(lengths) * (other + largest) - other)
     return "batch " + " ".join(f"put {key} {'v' * it}" for it in lengths), len(lengths)
+
+
+def full_table():
+    """A merge of the table of a full memtable: a message of 8 MB to the worker, and one from it."""
+    puts = [f"put {at:03d} {'v' * 65_536}" for at in range(122)]
+    return [
+        (f"batch {' '.join(puts[:61])}", "seq 1-61"),
+        (f"batch {' '.join(puts[61:])}", "seq 62-122"),
+        ("flush", "version 2 flushed 122 file 1"),
+        ("pick 1", "job 1.1 level 0 inputs 1 message 1"),
+        ("deliver 1", "collecting 1 message 2"),
+        ("deliver 2", "served message 3"),
+        ("deliver 3", "merged message 4"),
+        ("deliver 4", "installed version 3 files 2,3,4,5"),
+    ]
 
 
 def full_memtables():
@@ -144,7 +163,7 @@ def moved_twice(pick):
 def made():
     backlog = [pair for number in range(1, 1_026) for pair in flushed(number)]
     inputs = ",".join(map(str, range(1, 1_025)))
-    yield row("1,024 files of one key", "--l0 1", backlog[:-2] + [("pick 1", f"job 1.1 level 0 inputs {inputs} message 1")])
+    yield row("1,024 files of one key", "--l0 1", backlog[:-2] + [("pick 1", f"job 1.1 level 0 inputs {inputs} message 1"), *FETCHES])
     yield row("1,025 files of one key", "--l0 1", backlog + [("pick 1", "job 1.1 level 0 inputs 1 message 1")])
     inputs = ",".join(map(str, [*range(2, 2_047, 2), 2_047]))
     yield row("a file over 1,023 deeper ones", "--l0 1", over_all(1_023) + [("pick 1", f"job 1.1024 level 0 inputs {inputs} message 4093")])
@@ -153,6 +172,7 @@ def made():
     yield row("a level of a byte more than its base", "--l0 1 --base 65", moved_twice("job 1.2 level 1 inputs 2 message 5"))
     yield row("full batches and memtables", "", full_memtables())
     yield row("a restart with a full memtable and all snapshots", "", restart(*of_weight(4_000_000)))
+    yield row("the table of a full memtable", "--l0 1", full_table())
     yield row("an output that is closed", "--l0 1", cut_at(2_000_000))
     yield row("an output that is not closed", "--l0 1", cut_at(1_999_999))
 

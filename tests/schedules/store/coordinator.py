@@ -18,10 +18,15 @@ class Coordinator:
         self.writes, self.versions, self.edits, self.tables = [], [Version()], [], {}
         self.open()
 
-    def open(self):
-        """Begins an epoch with what was flushed, and without memtables, snapshots, claims and older versions (LevelDB: recovery)."""
+    def stop(self):
+        """Loses what was not flushed: memtables, snapshots and claims."""
         self.writes, self.frozen = self.writes[: self.version.flushed], None
         self.snapshots, self.snapshots_made = {}, 0
+        self.book = ClaimBook(self.version.epoch)
+
+    def open(self):
+        """Begins an epoch with what was flushed, and without memtables, snapshots, claims and older versions (LevelDB: recovery)."""
+        self.stop()
         self.append(EPOCH, epoch=self.version.epoch + 1)
         self.floor = self.version.number
         self.tables = {it.number: self.tables[it.number] for it in self.version.files}
@@ -66,13 +71,18 @@ class Coordinator:
 
     def flush(self):
         """Writes the frozen memtable, or the active one if none is frozen, as a file of level 0."""
+        flushed, number, table = self.put_flushed()
+        self.append(FLUSH, flushed=flushed, next_file=number + 1, added=(file_meta(number, 0, table),))
+        self.frozen = None
+        return self.version.number, flushed, number
+
+    def put_flushed(self):
+        """Keeps the table of a flush, which is of no version yet."""
         flushed = self.last if self.frozen is None else self.frozen
         refuse_if(flushed == self.version.flushed, "NothingToFlush")
         number, table = self.version.next_file, Table(entries_of(self.writes, self.version.flushed + 1, flushed))
         self.tables[number] = table
-        self.append(FLUSH, flushed=flushed, next_file=number + 1, added=(file_meta(number, 0, table),))
-        self.frozen = None
-        return self.version.number, flushed, number
+        return flushed, number, table
 
     # Reads.
 
@@ -144,25 +154,32 @@ class Coordinator:
     def install(self, job, tables):
         """Puts the tables of a live job's result in the place of its inputs, one level deeper, and answers the new file numbers."""
         want = self.book.live[job]
-        first = self.version.next_file
-        numbers = list(range(first, first + len(tables)))
         assert all(want.hull[0] <= it.smallest and it.largest <= want.hull[1] for it in tables), "BadResult"
-        self.tables.update(zip(numbers, tables))
+        numbers = self.put_outputs(tables)
         added = tuple(file_meta(number, want.level + 1, table) for number, table in zip(numbers, tables))
-        self.append(INSTALL, next_file=first + len(tables), removed=want.files, added=added)
+        self.append(INSTALL, next_file=self.version.next_file + len(tables), removed=want.files, added=added)
         self.book.settle(job)
         return self.version.number, numbers
+
+    def put_outputs(self, tables):
+        """Keeps tables of a result, which are of no version yet, and answers their numbers."""
+        numbers = list(range(self.version.next_file, self.version.next_file + len(tables)))
+        self.tables.update(zip(numbers, tables))
+        return numbers
 
     # What is kept for followers, and what it answers to messages.
 
     def trim(self, number):
         """Lets the tables go that no version from a number on lists, and answers from which one on they are kept, and how many went."""
-        refuse_if(number > self.version.number, "BadFloor")
-        self.floor = max(self.floor, number)
+        self.raise_floor(number)
         obsolete = [it for it in self.tables if not self.is_served(it)]
         for it in obsolete:
             del self.tables[it]
         return self.floor, len(obsolete)
+
+    def raise_floor(self, number):
+        refuse_if(number > self.version.number, "BadFloor")
+        self.floor = max(self.floor, number)
 
     def is_served(self, number):
         """Whether a file is in some version from the floor on."""

@@ -7,7 +7,7 @@ from .follower import Follower
 from .limits import NODES, Refused, refuse_if
 from .messages import COORDINATOR, Ask, Fetch, Message, Node, Result
 from .worker import Worker
-from .writes import answer
+from .writes import answer, batch_of
 
 
 def shown(version):
@@ -22,12 +22,13 @@ class World:
         self.workers = {it: Worker() for it in range(1, NODES + 1)}
         self.followers = {it: Follower() for it in range(1, NODES + 1)}
         self.messages = []
-        self.loses = False
+        self.is_down, self.loses = False, False
 
     def step(self, event, loses=False):
         """One event, and its reply. An event that loses what it sends stores no message."""
         self.loses = loses
         try:
+            refuse_if(self.is_down and isinstance(event, self.OF_COORDINATOR), "Down")
             return self.STEPS[type(event)](self, event)
         except Refused as it:
             return events.Refusal(it.name)
@@ -43,6 +44,9 @@ class World:
     # The coordinator's own events.
 
     def write(self, event):
+        """The fault of a batch is told first, also while the coordinator is down."""
+        batch_of(event.operations)
+        refuse_if(self.is_down, "Down")
         return events.Wrote(*self.coordinator.write(event.operations))
 
     def freeze(self, _):
@@ -83,7 +87,9 @@ class World:
         return events.Picked(job.name, job.level, [it.number for it in job.inputs], sent)
 
     def give_up(self, event):
-        """A dispatcher gives its claim back."""
+        """A dispatcher gives its claim back. The live claims are those of this epoch that a dispatcher holds."""
+        epoch, live = self.coordinator.version.epoch, set(self.coordinator.book.live)
+        assert live == {it for it in self.held.values() if it is not None and it.epoch == epoch}, "other claims are live than are held"
         job = self.held[event.dispatcher]
         refuse_if(job is None, "NoClaim")
         self.held[event.dispatcher] = None
@@ -116,6 +122,7 @@ class World:
         return self.to_worker(message) if message.dst.role == "w" else self.to_follower(message)
 
     def to_coordinator(self, message):
+        refuse_if(self.is_down, "Down")
         if isinstance(message.body, (Fetch, Ask)):
             return events.Served(self.send(COORDINATOR, message.src, [self.coordinator.serve(message.body)]))
         if isinstance(message.body, Result) and message.src.role == "w":
@@ -143,7 +150,13 @@ class World:
 
     def restart_coordinator(self, _):
         """Dispatchers keep their claims, which are stale from now on, and workers their jobs."""
+        self.is_down = False
         return events.Opened(*self.coordinator.open())
+
+    def stop_coordinator(self):
+        """What is left of a restart that is refused: the coordinator is down until the next one."""
+        self.is_down = True
+        self.coordinator.stop()
 
     def restart_worker(self, event):
         self.workers[event.worker] = Worker()
@@ -153,6 +166,19 @@ class World:
         self.followers[event.follower] = Follower()
         return events.Restarted(f"f{event.follower}")
 
+    # What only the coordinator can do. A batch is looked at before, and so is the number of a message.
+    OF_COORDINATOR = (
+        events.Freeze,
+        events.Flush,
+        events.Snap,
+        events.Release,
+        events.Get,
+        events.Scan,
+        events.Show,
+        events.Trim,
+        events.Pick,
+        events.GiveUp,
+    )
     STEPS = {
         events.Write: write,
         events.Freeze: freeze,

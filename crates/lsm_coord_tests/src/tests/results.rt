@@ -16,8 +16,8 @@ type Store = Coord<MemoryVault>;
 /// What became of a result.
 #[derive(Clone, Copy, Debug, PartialEq)]
 enum Became {
-    /// Its tables are in the version of this number.
-    Installed(u64),
+    /// Its tables are in the version of this number, as so many new files.
+    Installed(u64, usize),
     Kept(InstallError),
     Other,
 }
@@ -40,6 +40,9 @@ const OF_B: &[u8] =
 
 const BAD: Became = Became::Kept(InstallError::BadResult);
 
+/// Version 4 has no new file.
+const DONE: Became = Became::Installed(4, 0);
+
 /// Results of the job of both files: the job's number, the tables, and what becomes of them. The right one is that of a merge without
 /// snapshots, which keeps nothing.
 const RESULTS: [(u64, &[&[u8]], Became); 6] = [
@@ -48,7 +51,7 @@ const RESULTS: [(u64, &[&[u8]], Became); 6] = [
     (1, &[MERGED, MERGED], BAD),
     (1, &[OTHER_TARGET], BAD),
     (2, &[], Became::Kept(InstallError::WrongJob)),
-    (1, &[], Became::Installed(4)),
+    (1, &[], DONE),
 ];
 
 /// Writes an operation and flushes it.
@@ -70,6 +73,11 @@ fn store_of_two(alloc: Global) -> Result<Store, Fail> {
     flush(alloc, &mut coord, Op::Put(key, Bytes::from_static(b"1")))?;
     flush(alloc, &mut coord, Op::Delete(Bytes::from_static(b"a")))?;
     Ok(coord)
+}
+
+/// The first dispatcher.
+fn first() -> Result<NodeIndex, Fail> {
+    Ok(NodeIndex::new(1).ok_or("no such node")?)
 }
 
 /// Lets a dispatcher hold a claim. One that it held before is given back.
@@ -97,7 +105,7 @@ fn install(coord: &mut Store, desk: &mut Desk, index: NodeIndex, made: &JobResul
         return Became::Other;
     };
     match coord.install(claim, made) {
-        Install::Done(number, _files) => Became::Installed(number.number()),
+        Install::Done(number, files) => Became::Installed(number.number(), files.len()),
         Install::Kept(claim, why) => {
             hold(coord, desk, index, claim);
             Became::Kept(why)
@@ -120,6 +128,17 @@ pub(crate) fn result_of(
     Ok(JobResult { job, tables: list })
 }
 
+/// A result of the first job that no merge of two files gives: a thousand tables, and one of 4 MB that is none.
+fn large_result(alloc: Global) -> Result<JobResult, Fail> {
+    let mut made = result_of(alloc, 1, &[])?;
+    for _ in 0..1_000 {
+        made.tables.push(Bytes::from_static(MERGED))?;
+    }
+    let zeros = vec![in alloc; 0u8; 4_000_000]?;
+    made.tables.push(Bytes::from_vec(zeros)?)?;
+    Ok(made)
+}
+
 /// Whether there is a file of this number at a place of a listing.
 fn is_file(files: &[FileMeta], place: usize, number: u64) -> bool {
     files.get(place).is_some_and(|file| file.number == number)
@@ -135,27 +154,40 @@ fn shows_both(coord: &Store) -> bool {
         && has_both
 }
 
+/// What becomes of a result of the first dispatcher's job, if memory suffices.
+fn see_result(
+    rt: &impl Abort,
+    coord: &mut Store,
+    desk: &mut Desk,
+    made: &JobResult,
+    wanted: Became,
+) -> Result<(), Fail> {
+    let became = install(coord, desk, first()?, made);
+    if became == Became::Kept(InstallError::OutOfMemory) {
+        return Err(AllocError.into());
+    }
+    assert!(rt; became == wanted, "{wanted:?}, and not {became:?}");
+    assert!(rt;
+        became == DONE || shows_both(coord),
+        "{became:?} changed the version"
+    );
+    Ok(())
+}
+
 fn see(
     rt: &impl Abort,
     alloc: Global,
     seat: &mut Seat<MemoryVault>,
     desk: &mut Desk,
 ) -> Result<(), Fail> {
-    let index = NodeIndex::new(1).ok_or("no such node")?;
     let Seat::Up(coord) = seat else {
         return Err("no coordinator".into());
     };
-    pick(coord, desk, index)?;
+    pick(coord, desk, first()?)?;
+    see_result(rt, coord, desk, &large_result(alloc)?, BAD)?;
     for (number, tables, wanted) in RESULTS {
-        let became = install(coord, desk, index, &result_of(alloc, number, tables)?);
-        if became == Became::Kept(InstallError::OutOfMemory) {
-            return Err(AllocError.into());
-        }
-        assert!(rt; became == wanted, "{wanted:?}, and not {became:?}");
-        assert!(rt;
-            became == Became::Installed(4) || shows_both(coord),
-            "{became:?} changed the version"
-        );
+        let made = result_of(alloc, number, tables)?;
+        see_result(rt, coord, desk, &made, wanted)?;
     }
     Ok(())
 }
