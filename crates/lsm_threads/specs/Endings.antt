@@ -1,5 +1,5 @@
 -- How loops end (the store's own).
-use Rattle.std.specs.Prelude.{ℕ, ◌<◌, ◌≤◌}
+use Rattle.std.specs.Prelude.{◌≡◌, ◌⊎◌, ℕ, ◌<◌, ◌≤◌}
 use Rattle.lsm_threads.specs.declared.ending.Ending.{Ending}
 use Rattle.lsm_threads.specs.declared.ending.Ending.TheVariants.{AtGoal, Current, Dropped, Closed, OutOfMemory}
 
@@ -9,6 +9,10 @@ IsOfMail AtGoal = ⊥
 IsOfMail Current = ⊥
 IsOfMail Dropped = ⊥
 IsOfMail ending = Unit {0}
+
+-- the worker gave its job up, or what came, what was to be sent or want of memory ends it
+abbrev pub IsOfWorker : Ending → Type 0
+IsOfWorker ending = (ending ≡ Dropped) ⊎ IsOfMail ending
 
 -- why two loops ended, of which each closes the other's channels
 abbrev pub cause_of : Ending → Ending → Ending

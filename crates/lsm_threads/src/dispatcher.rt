@@ -2,6 +2,7 @@
 
 ghost use Rattle.std.specs.Prelude.{◌≡◌, ◌+◌, ◌<◌, ◌^◌, IfErr, IfOk};
 ghost use Rattle.lsm_nodes.specs.Tallies.{IsDispatched};
+ghost use Rattle.lsm_threads.specs.Endings.{IsOfWorker};
 
 use crate::ending::Ending;
 use crate::link::ChannelLink;
@@ -75,7 +76,9 @@ fn work<R: Wait>(
     index: NodeIndex,
     from: Receiver<Bytes>,
     to: Sender<Bytes>,
-) -> Ending {
+) -> Ending
+    ensures { IsOfWorker result }
+{
     let (_worker, ending) = worker_loop(rt, alloc, Worker::new(alloc, index), from, to);
     ending
 }

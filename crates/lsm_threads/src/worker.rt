@@ -1,5 +1,8 @@
 //! The loop of a worker.
 
+ghost use Rattle.std.specs.Prelude.{IfErr};
+ghost use Rattle.lsm_threads.specs.Endings.{IsOfWorker};
+
 use crate::ending::Ending;
 use crate::mail::{receive, send_all};
 use bytes::Bytes;
@@ -16,7 +19,9 @@ pub fn worker_loop<R: Wait>(
     mut worker: Worker,
     from: Receiver<Bytes>,
     to: Sender<Bytes>,
-) -> (Worker, Ending) {
+) -> (Worker, Ending)
+    ensures { IsOfWorker result.1 }
+{
     for _ in rt.forever() {
         if let Err(ending) = turn(rt, alloc, &mut worker, &from, &to) {
             return (worker, ending);
@@ -32,7 +37,9 @@ fn turn<R: Wait>(
     worker: &mut Worker,
     from: &Receiver<Bytes>,
     to: &Sender<Bytes>,
-) -> Result<(), Ending> {
+) -> Result<(), Ending>
+    ensures { IfErr result IsOfWorker }
+{
     let message = receive(rt, alloc, from)?;
     let made = worker.on_message(&message);
     drop(message);
