@@ -3,15 +3,16 @@
 
 Usage: tests/schedules/memory.py PROGRAM LIBRARY [--random N [SEED]] [--stats]
 
-LIBRARY is built of tests/fail.c, and preloaded. An event is as the model has it; or it is refused for want of memory, and leaves what the model has of
-that; or it loses the messages that it sends; or the program stops with what it printed so far. At the end of each script all claims are given back, each
-as the model has it: so the live ones are those of the dispatchers that hold one of this epoch.
+LIBRARY is built of tests/fail.c, and preloaded. Each reply is the model's; but an event in which an allocation failed may be refused for want of memory,
+and leaves then what the model says of that, or lose the messages that it sends; or the program stops with what it printed so far. At the end of each
+script all claims are given back, each as the model has it: the live ones are those of this epoch that a dispatcher holds.
 
-Worked scripts are run with each allocation failing in turn, as they are and with a restart of the coordinator in their middle and at their end. Each event
+Worked scripts are run with each allocation failing in turn, as they are and with a restart of the coordinator in their middle and at their end. An event
 that was refused is then done twice in a run of its own: it is refused as before, and then as the model has it.
-With --random it is so many random schedules, in each of which an allocation fails in one event, two or three, and in no other one is anything refused for
-it or lost. Half of these events are done twice. Prints what is wrong, if anything is, and with --stats what was seen."""
+With --random it is so many random schedules, in each of which an allocation fails in one event, two or three. Half of these events are done twice.
+Prints what is wrong, if anything is, and with --stats what was seen."""
 import argparse
+import bisect
 import itertools
 import os
 import random
@@ -82,19 +83,19 @@ class Program:
         last line is faulty."""
         return self.run(options, script, last=b"x").asked
 
-    def happen(self, options, script, fails):
-        """Runs a script with allocations of these numbers failing, as counted from its first event on."""
+    def happen(self, options, script, fails=()):
+        """Runs a script with allocations of these numbers failing, as counted after its reading."""
         reading = self.reading(options, script)
         found = self.run(options, script, [reading + it for it in fails])
         return found._replace(asked=found.asked - reading)
 
 
-def fault_of(found, options, script, places=None, seen=None):
-    """The first line that the model does not have, or None. Only the events at these places may lack memory, if they are given."""
-    worlds, seen = [World(limits_of(options))], Counter() if seen is None else seen
+def fault_of(found, options, script, places, seen):
+    """The first line that the model does not have, or None. Only the events at these places may lack memory."""
+    worlds = [World(limits_of(options))]
     for place, (text, told) in enumerate(zip(script, found.lines)):
         event, is_lost = event_of(text), told.endswith(" lost")
-        if (told == REFUSED or is_lost) and places is not None and place not in places:
+        if (told == REFUSED or is_lost) and place not in places:
             return f"line {place + 1} is {told!r}, and no allocation failed in it"
         if told == REFUSED:
             worlds = [it for world in worlds for it in worlds_after(world, event)]
@@ -114,28 +115,28 @@ def fault_of(found, options, script, places=None, seen=None):
 # Worked scripts.
 
 
-def try_twice(program, options, script, at, place):
+def try_twice(program, options, script, fails, place, seen):
     """What is wrong with a script whose event of this place, which was refused, is done twice, or None."""
     twice = [*script[: place + 1], *script[place:]]
-    later = at + program.reading(options, twice) - program.reading(options, script)
-    found = program.run(options, twice, [later])
-    if found.lines[place : place + 1] != [REFUSED] or REFUSED in found.lines[:place]:
+    found = program.happen(options, twice, fails)
+    if found.lines[place : place + 1] != [REFUSED]:
         return "not refused if it is done twice"
-    again = found.lines[place + 1 : place + 2]
-    return "refused once more" if again == [REFUSED] else fault_of(found, options, twice)
+    return fault_of(found, options, twice, [place], seen)
 
 
 def try_script(program, options, script, seen):
     """What is wrong with a script, or None."""
-    asked = program.run(options, script).asked
-    for at in range(1, asked + 1):
-        found = program.run(options, script, [at])
-        told = fault_of(found, options, script, seen=seen)
+    # After how many allocations the next event begins.
+    ends = [program.happen(options, script[: place + 1]).asked for place in range(len(script))]
+    for at in range(1 - program.reading(options, script), ends[-1] + 1):
+        place = bisect.bisect_left(ends, at)
+        found = program.happen(options, script, [at])
+        told = fault_of(found, options, script, [place], seen)
         if told is None and REFUSED in found.lines:
-            told = try_twice(program, options, script, at, found.lines.index(REFUSED))
+            told = try_twice(program, options, script, [at], place, seen)
         if told is not None:
-            return f"allocation {at}: {told}"
-    return None if asked > 100 else f"only {asked} allocations"
+            return f"allocation {at} after the reading: {told}"
+    return None if ends[-1] > 100 else f"only {ends[-1]} allocations"
 
 
 def try_rows(program, seen):
@@ -181,15 +182,14 @@ def try_schedule(program, schedule, choices, seen):
     options, script = schedule.options, list(events_in(schedule.text))
     chosen = set(chosen_places(choices, script))
     twice = {it for it in chosen if choices.random() < 0.5}
-    script = [text for place, text in enumerate(script) for text in (text, text)[: 1 + (place in twice)]]
-    script += END
+    script = [it for place, text in enumerate(script) for it in ([text] * 2 if place in twice else [text])] + END
     fails, places = [], []
     for place in (it + sum(other < it for other in twice) for it in sorted(chosen)):
         for number in chosen_allocation(program, choices, options, script, place, fails):
             fails, places = [*fails, number], [*places, place]
     told = fault_of(program.happen(options, script, fails), options, script, places, seen)
     seen["failed allocations"] += len(fails)
-    return told and f"failed allocations {fails} from the first event on: {told}"
+    return told and f"allocations {fails} after the reading: {told}"
 
 
 def try_random(program, count, seed, seen):
