@@ -68,13 +68,17 @@ class Found(NamedTuple):
 
 class Program:
     def __init__(self, path, library, folder):
-        self.path, self.library, self.told = path, library, os.path.join(folder, "allocations")
+        self.path, self.library = path, library
+        self.script, self.told = (os.path.join(folder, it) for it in ("script", "allocations"))
 
     def run(self, options, script, fails=(), last=b"#"):
-        """Runs a script with allocations of these numbers failing."""
+        """Runs a script with allocations of these numbers failing. It comes from a file, since the pieces in which a pipe gives a large one, and so the
+        allocations for them, are not the same each time."""
         environment = {**os.environ, "FAIL_AT": ",".join(map(str, fails)), "ALLOCATIONS": self.told, "LD_PRELOAD": self.library}
-        text = b"\n".join([*script, last, b""])
-        ended = subprocess.run([self.path, "run", *options], input=text, capture_output=True, env=environment, timeout=180, check=False)
+        with open(self.script, "wb") as text:
+            text.write(b"\n".join([*script, last, b""]))
+        with open(self.script, "rb") as text:
+            ended = subprocess.run([self.path, "run", *options], stdin=text, capture_output=True, env=environment, timeout=180, check=False)
         with open(self.told, encoding="ascii") as asked:
             return Found(ended.stdout.decode().splitlines(), ended.stderr.decode(), ended.returncode, int(asked.read()))
 
