@@ -28,3 +28,11 @@ pub mod PlaceSpots
 pub mod AdjacentPairs
 pub mod ListedFiles
 pub mod ServedAfterRebase
+pub mod LogRecordLaws
+pub mod LogLaws
+pub mod GrownLogs
+pub mod FlushedLogs
+pub mod EmptiedLogs
+pub mod CutLogs
+pub mod HeldLogs
+pub mod WorkedLogs

@@ -10,3 +10,7 @@ pub mod Search
 pub mod Reading
 pub mod Prepared
 pub mod Next
+pub mod LogRecord
+pub mod Log
+pub mod LogLaws
+pub mod WorkedLogs

@@ -9,6 +9,13 @@ ghost use Rattle.lsm_edit.specs.Base.{IsSpelledBase, read_base};
 ghost use Rattle.lsm_edit.specs.Version.{VersionValue};
 ghost use Rattle.lsm_edit.specs.Laws.{AGivenNumberDoesNot, AMergeApplies, ANumberNamesOneFile, ASecondRemovalDoesNot, NoFileIsRemovedTwice};
 
+mod log;
+
+pub use log::{
+    a_beginning_of_a_log_record_is_truncated, a_change_is_refused_or_another_log_record,
+    a_log_holds_what_a_store_has, a_log_is_good_or_bad, worked_logs,
+};
+
 /// Of edits that apply in turn no two remove one file.
 pub fn no_file_is_removed_twice()
     ensures { NoFileIsRemovedTwice }

@@ -2,6 +2,7 @@
 
 mod bases;
 mod cursors;
+mod log_records;
 mod served;
 mod versions;
 

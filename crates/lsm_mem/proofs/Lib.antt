@@ -10,3 +10,4 @@ pub mod ChainsApart
 pub mod ChainsOfBuckets
 pub mod NumberedPairs
 pub mod OneKey
+pub mod OlderChains

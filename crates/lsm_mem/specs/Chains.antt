@@ -1,5 +1,5 @@
 -- How a memtable holds its entries: key by key (LevelDB, implementation notes: the memtable; the grouping is the store's own).
-use Rattle.std.specs.Prelude.{ℕ, Bool, nat_le, List, ◌≡◌, ◌<◌, ◌≤◌, ◌-◌, [], ◌∷◌, ◌++◌, length, sum_by, map, fold, take, filter, reverse, flat_map, if◌then◌else◌, Option, Some, None}
+use Rattle.std.specs.Prelude.{ℕ, Bool, nat_le, nat_lt, List, ◌≡◌, ◌<◌, ◌≤◌, ◌-◌, [], ◌∷◌, ◌++◌, length, sum_by, map, fold, take, filter, reverse, flat_map, if◌then◌else◌, Option, Some, None}
 use Rattle.std.specs.declared.cmp.Ordering.TheVariants.{Less}
 use Rattle.std.specs.declared.vec.Vec.{Vec}
 use Rattle.std.specs.Ordering.{nat_cmp, is_eq, match_ordering}
@@ -83,6 +83,14 @@ without_newest key [] = []
 without_newest key (c ∷ cs) =
     if is_eq (slice_cmp nat_cmp key c.key) then chain_if c.key (older c.versions) ++ cs
     else c ∷ without_newest key cs
+
+-- the entry was written before a sequence
+abbrev pub is_older : ℕ → Entry → Bool
+is_older first e = nat_lt e.ikey.seq first
+
+-- the chains of what was written before a sequence
+abbrev pub chains_before : ℕ → List Chain → List Chain
+chains_before first chains = flat_map (λ c. chain_if c.key (filter (is_older first) c.versions)) chains
 
 -- the chains whose key is at or after lo
 abbrev pub chains_from : List ℕ → List Chain → List Chain

@@ -1,14 +1,14 @@
 //! The entries whose keys have one prefix.
 
-ghost use Rattle.std.specs.Prelude.{◌≡◌, ◌≢◌, ◌++◌, ◌↔◌, [], IfOk, IfSome, IfNone, IsTrue, OnOk, OnErr};
+ghost use Rattle.std.specs.Prelude.{◌≡◌, ◌≢◌, ◌++◌, ◌↔◌, [], IfOk, IfSome, IfNone, IsTrue, OnOk, OnErr, length, nat_lt};
 ghost use Rattle.lsm_key.specs.Sets.{IsIn};
-ghost use Rattle.lsm_mem.specs.Chains.{Chain, chains_from, entries_in, with_entry, without_newest};
+ghost use Rattle.lsm_mem.specs.Chains.{AreChains, Chain, chains_before, chains_from, entries_in, with_entry, without_newest};
 ghost use Rattle.lsm_mem.specs.Buckets.{chain_of_versions, chains_in, chains_lent};
 
 use crate::bucket_cursor::BucketCursor;
 use crate::chains::Chains;
-use crate::versions::{are_of, push_newest_first, versions_from};
-use lsm_key::Entry;
+use crate::versions::{are_of, keep_older, push_newest_first, versions_from};
+use lsm_key::{Entry, Seq};
 use std::alloc::{AllocError, Global};
 use std::slice;
 
@@ -143,6 +143,24 @@ impl Bucket {
                 }
             }
             Bucket::Many(chains) => chains.take(key),
+        }
+    }
+
+    /// Removes the entries of a sequence from `first` on. Whether any is left.
+    pub(crate) fn undo(&mut self, alloc: Global, first: Seq) -> bool
+        ensures undone { AreChains (chains_in self.old) → chains_in self.new ≡ chains_before first (chains_in self.old) }
+        ensures left { result ≡ nat_lt 0 (length (chains_in self.new)) }
+    {
+        match self {
+            Bucket::One(entry) => {
+                if entry.ikey.seq < first {
+                    return true;
+                }
+                *self = Bucket::Versions(Vec::new(alloc));
+                false
+            }
+            Bucket::Versions(versions) => keep_older(versions, first),
+            Bucket::Many(chains) => chains.undo(first),
         }
     }
 }

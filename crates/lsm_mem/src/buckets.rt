@@ -44,7 +44,7 @@ impl Buckets {
     ghost use Rattle.std.specs.Prelude.{◌≢◌, ◌≤◌, ◌+◌, ◌-◌, ℕ, List, [], IsTrue, ◌↔◌, IfSome, IfNone, OnErr};
     ghost use Rattle.lsm_key.specs.Sets.{IsIn};
     ghost use Rattle.lsm_key.specs.Places.{entries_after};
-    ghost use Rattle.lsm_mem.specs.Chains.{Chain, AreChains, entries_in, with_entry, with_entries, without_newest, chains_from};
+    ghost use Rattle.lsm_mem.specs.Chains.{Chain, AreChains, entries_in, with_entry, with_entries, without_newest, chains_before, chains_from};
 
     /// No keys. Those that begin with the front will be found fastest.
     pub(crate) fn new(alloc: Global, front: Front) -> Buckets
@@ -169,6 +169,15 @@ impl Buckets {
         }
     }
 
+    /// Removes the entries of a sequence from `first` on. Allocates nothing.
+    pub(crate) fn undo(&mut self, first: Seq)
+        requires { AreChains self.old }
+        ensures { self.new ≡ chains_before first self.old }
+    {
+        let alloc = self.alloc;
+        self.by_prefix.retain(|_, bucket| bucket.undo(alloc, first));
+    }
+
     /// Copies of all entries, in order, with room for `count` of them. Shares the bytes.
     pub(crate) fn entries(&self, count: usize) -> Result<Vec<Entry>, AllocError>
         ensures { IfOk result (λ copies. copies.items ≡ entries_in self.now) }
@@ -178,6 +187,13 @@ impl Buckets {
             bucket.push_all(&mut copies)?;
         }
         Ok(copies)
+    }
+
+    /// A cursor over all entries. Allocates nothing.
+    pub(crate) fn cursor(&self) -> MemtableCursor<'_>
+        ensures { result ≡ entries_in self.now }
+    {
+        MemtableCursor::new(BucketCursor::new(&[], None), self.by_prefix.range(..))
     }
 
     /// A cursor over the entries whose key is at or after `lo`.

@@ -3,8 +3,8 @@
 ghost use Rattle.std.specs.Prelude.{◌≡◌, ◌++◌, OnOk};
 
 use crate::bucket_cursor::BucketCursor;
-use crate::versions::push_newest_first;
-use lsm_key::Entry;
+use crate::versions::{keep_older, push_newest_first};
+use lsm_key::{Entry, Seq};
 use std::alloc::{AllocError, Global};
 use std::collections::BTreeMap;
 use std::marker::Model;
@@ -26,9 +26,9 @@ impl Model for Chains {
 }
 
 impl Chains {
-    ghost use Rattle.std.specs.Prelude.{◌≢◌, [], IfOk, IsTrue, ◌↔◌, IfSome, IfNone, OnErr};
+    ghost use Rattle.std.specs.Prelude.{◌≢◌, [], IfOk, IsTrue, ◌↔◌, IfSome, IfNone, OnErr, length, nat_lt};
     ghost use Rattle.lsm_key.specs.Sets.{IsIn};
-    ghost use Rattle.lsm_mem.specs.Chains.{Chain, chains_from, entries_in, with_entry, without_newest};
+    ghost use Rattle.lsm_mem.specs.Chains.{Chain, chains_before, chains_from, entries_in, with_entry, without_newest};
     ghost use Rattle.lsm_mem.specs.Buckets.{chain_of_versions};
 
     /// No keys.
@@ -107,6 +107,16 @@ impl Chains {
         if versions.is_empty() {
             drop(self.by_key.remove(key));
         }
+    }
+
+    /// Removes the entries of a sequence from `first` on. Whether any is left.
+    pub(crate) fn undo(&mut self, first: Seq) -> bool
+        ensures undone { self.new ≡ chains_before first self.old }
+        ensures left { result ≡ nat_lt 0 (length self.new) }
+    {
+        self.by_key
+            .retain(|_, versions| keep_older(versions, first));
+        !self.by_key.is_empty()
     }
 
     /// Appends copies of all entries, in order. Shares the bytes.

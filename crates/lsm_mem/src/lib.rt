@@ -1,8 +1,9 @@
 //! The memtable: the entries that were written last, in memory, in the order of internal keys.
 //!
-//! It promises that a batch is applied as a whole or not at all, look-ups that return what is visible in the set of its entries, and
-//! its entries in order: all, those of a range, or one after the other from a key on. It finds a key by its prefix, a number, and
-//! owns the bytes of its entries in chunks that many of them share. It stands on `lsm_key`.
+//! It promises that a batch is applied as a whole or not at all and can be taken out again, look-ups that return what is
+//! visible in the set of its entries, and its entries in order: all, those of a range, or one after the other from a key on.
+//! It finds a key by its prefix, a number, and owns the bytes of its entries in chunks that many of them share. It stands on
+//! `lsm_key`.
 #![tactic(auto)]
 
 mod bucket;
@@ -13,6 +14,7 @@ mod chunk;
 mod front;
 mod memtable;
 mod memtable_cursor;
+mod totals;
 mod versions;
 
 pub use memtable::Memtable;

@@ -3,6 +3,7 @@
 use crate::buckets::Buckets;
 use crate::front::Front;
 use crate::memtable_cursor::MemtableCursor;
+use crate::totals::totals_of;
 use crate::versions::newest_at;
 use lsm_key::{Batch, Entry, EntryRef, Seq};
 use std::alloc::{AllocError, Global};
@@ -33,7 +34,7 @@ impl Model for Memtable {
 }
 
 impl Memtable {
-    ghost use Rattle.std.specs.Prelude.{◌≡◌, [], ◌++◌, ◌<◌, ◌≤◌, ◌+◌, ◌-◌, ◌↔◌, IfOk, OnOk, OnErr, IsTrue, filter, length, sum_by};
+    ghost use Rattle.std.specs.Prelude.{◌≡◌, [], ◌++◌, ◌<◌, ◌≤◌, ◌+◌, ◌-◌, ◌↔◌, IfOk, OnOk, OnErr, IsTrue, filter, length, nat_lt, sum_by};
     ghost use Rattle.std.specs.Option.{option_map};
     ghost use Rattle.lsm_key.specs.declared.entry.Entry.{Entry};
     ghost use Rattle.lsm_key.specs.declared.limits.TheConstants.{MAX_MEMTABLE_WEIGHT};
@@ -91,6 +92,18 @@ impl Memtable {
             self.last = Seq::new(first_seq.number() + (ops.len() as u64 - 1));
         }
         Ok(())
+    }
+
+    /// Removes the entries of a sequence from `first_seq` on: after an `apply` at that sequence, what it added. O(n) in the
+    /// number of entries. Takes no memory.
+    pub fn undo(&mut self, first_seq: Seq)
+        ensures { self.new ≡ filter (λ e. nat_lt e.ikey.seq first_seq) self.old }
+    {
+        self.buckets.undo(first_seq);
+        let left = totals_of(self.buckets.cursor());
+        self.weight = left.weight;
+        self.count = left.count;
+        self.last = left.last;
     }
 
     /// The entry of the key with the greatest sequence at most `at`. O(log n) comparisons for the key and for its

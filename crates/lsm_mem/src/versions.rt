@@ -1,10 +1,10 @@
 //! The versions of one key, the oldest first.
 
-ghost use Rattle.std.specs.Prelude.{◌≡◌, ◌++◌, OnOk, reverse};
+ghost use Rattle.std.specs.Prelude.{◌≡◌, ◌++◌, OnOk, filter, length, nat_lt, reverse};
 ghost use Rattle.std.specs.Option.{option_copied};
 ghost use Rattle.lsm_key.specs.Visible.{latest};
 ghost use Rattle.lsm_mem.specs.Buckets.{are_of, chain_of_versions};
-ghost use Rattle.lsm_mem.specs.Chains.{SequencesRise, chains_from, entries_in, is_written};
+ghost use Rattle.lsm_mem.specs.Chains.{SequencesRise, chains_from, entries_in, is_older, is_written};
 
 use lsm_key::{Entry, Seq};
 use std::alloc::AllocError;
@@ -19,6 +19,15 @@ pub(crate) fn newest_at(versions: &[Entry], at: Seq) -> Option<&Entry>
         return None;
     }
     Some(&versions[place - 1])
+}
+
+/// Removes those of a sequence from `first` on. Whether any is left.
+pub(crate) fn keep_older(versions: &mut Vec<Entry>, first: Seq) -> bool
+    ensures kept { versions.new.items ≡ filter (is_older first) versions.old.items }
+    ensures left { result ≡ nat_lt 0 (length versions.new.items) }
+{
+    versions.retain(|entry| entry.ikey.seq < first);
+    !versions.is_empty()
 }
 
 /// Whether they are those of this key. No version is of no key.

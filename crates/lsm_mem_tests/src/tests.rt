@@ -1,5 +1,7 @@
 //! What no clause says: that calls succeed, and that the order and the sequences are the ones that are meant.
 
+mod undo;
+
 use bytes::Bytes;
 use lsm_key::{Batch, Entry, Kind, MAX_MEMTABLE_WEIGHT, Op, Seq};
 use lsm_mem::Memtable;
@@ -18,7 +20,7 @@ const FIRST: [Write; 2] = [(b"b", Some(b"1")), (b"a", Some(b"22"))];
 const SECOND: [Write; 3] = [(b"b", Some(b"333")), (b"a", None), (b"c", Some(b""))];
 
 /// Keys that begin alike, one of them twice.
-const ALIKE: [&[u8]; 6] = [
+pub(crate) const ALIKE: [&[u8]; 6] = [
     b"account-2",
     b"account",
     b"account-1",
@@ -65,7 +67,7 @@ fn apply(memtable: &mut Memtable, first: u64, batch: Batch) -> Result<(), Fail> 
 }
 
 /// A memtable of both batches, with sequences 11 to 15.
-fn example(alloc: Global) -> Result<Memtable, Fail> {
+pub(crate) fn example(alloc: Global) -> Result<Memtable, Fail> {
     let mut memtable = Memtable::new(alloc);
     apply(&mut memtable, 11, batch_of(alloc, &FIRST)?)?;
     apply(&mut memtable, 13, batch_of(alloc, &SECOND)?)?;
@@ -73,14 +75,14 @@ fn example(alloc: Global) -> Result<Memtable, Fail> {
 }
 
 /// A memtable of puts to these keys in turn, from sequence 1.
-fn memtable_of(alloc: Global, keys: &[&'static [u8]]) -> Result<Memtable, Fail> {
+pub(crate) fn memtable_of(alloc: Global, keys: &[&'static [u8]]) -> Result<Memtable, Fail> {
     let mut memtable = Memtable::new(alloc);
     apply(&mut memtable, 1, puts_to(alloc, keys)?)?;
     Ok(memtable)
 }
 
 /// How many entries there are, and whether there is none, what they weigh, and the greatest sequence.
-fn counts(memtable: &Memtable) -> (usize, bool, usize, u64) {
+pub(crate) fn counts(memtable: &Memtable) -> (usize, bool, usize, u64) {
     let last = memtable.last_seq().number();
     (memtable.len(), memtable.is_empty(), memtable.weight(), last)
 }
@@ -104,7 +106,7 @@ fn are_at(entries: &[Entry], places: &[Place]) -> bool {
 }
 
 /// Whether a memtable has entries at these places alone.
-fn has(memtable: &Memtable, places: &[Place]) -> Result<bool, AllocError> {
+pub(crate) fn has(memtable: &Memtable, places: &[Place]) -> Result<bool, AllocError> {
     let entries = memtable.entries()?;
     Ok(are_at(&entries, places))
 }
