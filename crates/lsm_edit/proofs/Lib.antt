@@ -28,6 +28,7 @@ pub mod PlaceSpots
 pub mod AdjacentPairs
 pub mod ListedFiles
 pub mod ServedAfterRebase
+pub mod LogOperationLaws
 pub mod LogRecordLaws
 pub mod LogLaws
 pub mod GrownLogs

@@ -1,13 +1,13 @@
 -- What a store's calls make of a good log.
-use Rattle.std.specs.Prelude.{◌≡◌, ℕ, ◌+◌, ◌-◌, ◌≤◌, List, [], ◌∷◌, ◌++◌, Option, None, Some, length, drop}
+use Rattle.std.specs.Prelude.{◌≡◌, ℕ, ◌+◌, ◌-◌, ◌≤◌, List, [], ◌∷◌, ◌++◌, Option, None, Some, length, map, drop}
 use Rattle.lsm_key.specs.declared.op.Op.{Op}
 use Rattle.lsm_key.specs.declared.limits.TheConstants.{MAX_MEMTABLE_WEIGHT}
 use Rattle.lsm_key.specs.Limits.{total_weight}
 use Rattle.lsm_key.specs.Sets.{IsIn}
 use Rattle.lsm_edit.specs.declared.log_record.LogRecord.{LogRecord}
 use Rattle.lsm_edit.specs.declared.log_record.LogRecord.TheVariants.{Write, Freeze}
-use Rattle.lsm_edit.specs.LogRecord.{IsRecord}
-use Rattle.lsm_edit.specs.Log.{BadRecords, IsGood, active_ops, end_of, log_freezes, log_frozen, log_ops}
+use Rattle.lsm_edit.specs.LogRecord.{IsRecord, record_bytes}
+use Rattle.lsm_edit.specs.Log.{BadRecords, IsGood, LogHolds, active_ops, end_of, log_freezes, log_frozen, log_ops}
 
 -- a log is bad exactly if it is not good
 abbrev pub BadIsNotGood : Type 0
@@ -21,6 +21,12 @@ pub record RecordsHold (flushed : ℕ) (records : List LogRecord) (ops : List Op
 
 abbrev pub AreRecords : List LogRecord → Type 0
 AreRecords records = (r : LogRecord) → IsIn r records → IsRecord r
+
+-- as bytes, such records are a log that holds the same
+abbrev pub BytesHoldTheSame : Type 0
+BytesHoldTheSame =
+    (flushed : ℕ) (records : List LogRecord) (ops : List Op) (frozen : Option ℕ) → RecordsHold flushed records ops frozen → AreRecords records
+    → LogHolds flushed (map record_bytes records) ops frozen
 
 -- with the next write a log holds its operations too, and the same frozen end
 abbrev pub AWriteIsHeld : Type 0

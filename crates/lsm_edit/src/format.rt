@@ -1,4 +1,4 @@
-//! What can be wrong with the bytes of an edit or a base.
+//! What can be wrong with the bytes of an edit, a base or a log record.
 
 use lsm_key::Refused;
 

@@ -1,7 +1,8 @@
-//! Records of the log: a batch that was accepted, or a freeze.
+//! Records of a log: a batch that was accepted, or a freeze.
 //!
-//! A write is encoded as: u8 1, u64 first sequence, u32 count of operations, and each operation: u8 kind (0 delete, 1 put), key, and for a
-//! put u32 length of the value and the value. A freeze is encoded as: u8 2, u64 sequence. All numbers are big-endian.
+//! A write is encoded as: u8 1, u64 first sequence, u32 count of operations, and each operation: u8 kind (0 deletion, 1 put),
+//! key, and for a put u32 length of the value and the value. A freeze is encoded as: u8 2, u64 sequence. All numbers are
+//! big-endian.
 
 ghost use Rattle.std.specs.Prelude.{◌≡◌, ◌≤◌, ◌++◌, ◌+◌, length, All, IfOk, OnOk, Ok};
 ghost use Rattle.std.specs.List.{flat_map};
@@ -19,10 +20,12 @@ use lsm_key::{
 };
 use std::alloc::{AllocError, Global};
 
-/// What a store accepted: writes from a sequence on, or a freeze of its active memtable at one.
+/// What a store accepted.
 #[derive(Debug, Drop)]
 pub enum LogRecord {
+    /// A batch, with the sequence of its first operation.
     Write(Seq, Batch),
+    /// A freeze of the active memtable, with the sequence of the last write in it.
     Freeze(Seq),
 }
 
@@ -32,17 +35,17 @@ const WRITE: u8 = 1;
 // The code of a freeze.
 const FREEZE: u8 = 2;
 
-/// What is left of a batch that is read.
+/// What a batch may still have while it is read.
 #[derive(Clone, Copy)]
 struct Remaining {
     // How many operations.
     ops: u32,
-    // What they may weigh together, in bytes.
+    // How much they may weigh together, in bytes.
     weight: usize,
 }
 
 impl Remaining {
-    // The most that the next operation may weigh. A batch is weighed at its last operation.
+    // The most that the next operation may weigh. The weight of a batch is tested at its last operation alone.
     fn next_weight(self) -> usize
         ensures { result ≡ next_weight self }
     {
@@ -179,7 +182,7 @@ fn read_record<F: Copy>(
     }
 }
 
-/// The record that the bytes encode, all of the bytes, or the first fault.
+/// The record that the bytes encode, all of the bytes, or the first fault. Its keys and values share the bytes.
 pub fn decode_log(alloc: Global, bytes: Bytes) -> Result<LogRecord, FormatError>
     // What is decoded encodes to these bytes.
     ensures found { IfOk result (λ r. IsSpelledRecord bytes r) }
@@ -243,13 +246,18 @@ fn write_ops(out: &mut BytesMut, ops: &[Op]) -> Result<(), AllocError>
 // The size of a write without its operations: the code, the sequence and the count.
 const HEAD_BYTES: usize = 13;
 
-/// The one encoding of a batch whose first operation has this sequence.
+// The size of a freeze: the code and the sequence.
+const FREEZE_BYTES: usize = 9;
+
+/// The one encoding of a batch whose first operation has the sequence `first`. The batch is not empty, and the sequence
+/// of its last operation is at most `Seq::MAX`.
 pub fn encode_write(alloc: Global, first: Seq, batch: &Batch) -> Result<Bytes, AllocError>
     requires begun { 1 ≤ first }
     requires some { 1 ≤ length batch.now }
     requires fits { first + length batch.now ≤ Seq.MAX + 1 }
     ensures { IfOk result (λ b. b ≡ record_bytes (Write first batch.now)) }
 {
+    // No operation takes more bytes than it weighs.
     let mut out = BytesMut::with_capacity(alloc, HEAD_BYTES + batch.weight())?;
     out.put_u8(WRITE)?;
     out.put_u64(first.number())?;
@@ -258,12 +266,12 @@ pub fn encode_write(alloc: Global, first: Seq, batch: &Batch) -> Result<Bytes, A
     Ok(out.freeze()?)
 }
 
-/// The one encoding of a freeze at this sequence.
+/// The one encoding of a freeze at this sequence, which is at least 1.
 pub fn encode_freeze(alloc: Global, seq: Seq) -> Result<Bytes, AllocError>
     requires { 1 ≤ seq }
     ensures { IfOk result (λ b. b ≡ record_bytes (Freeze seq)) }
 {
-    let mut out = BytesMut::with_capacity(alloc, 9)?;
+    let mut out = BytesMut::with_capacity(alloc, FREEZE_BYTES)?;
     out.put_u8(FREEZE)?;
     out.put_u64(seq.number())?;
     Ok(out.freeze()?)

@@ -146,7 +146,7 @@ impl Bucket {
         }
     }
 
-    /// Removes the entries of a sequence from `first` on. Whether any is left.
+    /// Removes the entries whose sequence is at least `first`. Returns whether any is left. Allocates nothing.
     pub(crate) fn undo(&mut self, alloc: Global, first: Seq) -> bool
         ensures undone { AreChains (chains_in self.old) → chains_in self.new ≡ chains_before first (chains_in self.old) }
         ensures left { result ≡ nat_lt 0 (length (chains_in self.new)) }

@@ -169,7 +169,7 @@ impl Buckets {
         }
     }
 
-    /// Removes the entries of a sequence from `first` on. Allocates nothing.
+    /// Removes the entries whose sequence is at least `first`. Allocates nothing.
     pub(crate) fn undo(&mut self, first: Seq)
         requires { AreChains self.old }
         ensures { self.new ≡ chains_before first self.old }

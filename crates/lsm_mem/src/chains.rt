@@ -109,7 +109,7 @@ impl Chains {
         }
     }
 
-    /// Removes the entries of a sequence from `first` on. Whether any is left.
+    /// Removes the entries whose sequence is at least `first`. Returns whether any is left. Allocates nothing.
     pub(crate) fn undo(&mut self, first: Seq) -> bool
         ensures undone { self.new ≡ chains_before first self.old }
         ensures left { result ≡ nat_lt 0 (length self.new) }

@@ -94,8 +94,8 @@ impl Memtable {
         Ok(())
     }
 
-    /// Removes the entries of a sequence from `first_seq` on: after an `apply` at that sequence, what it added. O(n) in the
-    /// number of entries. Takes no memory.
+    /// Removes the entries whose sequence is at least `first_seq`: after an `apply` with that first sequence, what it
+    /// added. Allocates nothing. O(n) in the number of entries.
     pub fn undo(&mut self, first_seq: Seq)
         ensures { self.new ≡ filter (λ e. nat_lt e.ikey.seq first_seq) self.old }
     {

@@ -21,7 +21,7 @@ pub(crate) fn newest_at(versions: &[Entry], at: Seq) -> Option<&Entry>
     Some(&versions[place - 1])
 }
 
-/// Removes those of a sequence from `first` on. Whether any is left.
+/// Removes those whose sequence is at least `first`. Returns whether any is left. Allocates nothing.
 pub(crate) fn keep_older(versions: &mut Vec<Entry>, first: Seq) -> bool
     ensures kept { versions.new.items ≡ filter (is_older first) versions.old.items }
     ensures left { result ≡ nat_lt 0 (length versions.new.items) }

@@ -20,7 +20,7 @@ const FIRST: [Write; 2] = [(b"b", Some(b"1")), (b"a", Some(b"22"))];
 const SECOND: [Write; 3] = [(b"b", Some(b"333")), (b"a", None), (b"c", Some(b""))];
 
 /// Keys that begin alike, one of them twice.
-pub(crate) const ALIKE: [&[u8]; 6] = [
+const ALIKE: [&[u8]; 6] = [
     b"account-2",
     b"account",
     b"account-1",
@@ -67,7 +67,7 @@ fn apply(memtable: &mut Memtable, first: u64, batch: Batch) -> Result<(), Fail> 
 }
 
 /// A memtable of both batches, with sequences 11 to 15.
-pub(crate) fn example(alloc: Global) -> Result<Memtable, Fail> {
+fn example(alloc: Global) -> Result<Memtable, Fail> {
     let mut memtable = Memtable::new(alloc);
     apply(&mut memtable, 11, batch_of(alloc, &FIRST)?)?;
     apply(&mut memtable, 13, batch_of(alloc, &SECOND)?)?;
@@ -75,14 +75,14 @@ pub(crate) fn example(alloc: Global) -> Result<Memtable, Fail> {
 }
 
 /// A memtable of puts to these keys in turn, from sequence 1.
-pub(crate) fn memtable_of(alloc: Global, keys: &[&'static [u8]]) -> Result<Memtable, Fail> {
+fn memtable_of(alloc: Global, keys: &[&'static [u8]]) -> Result<Memtable, Fail> {
     let mut memtable = Memtable::new(alloc);
     apply(&mut memtable, 1, puts_to(alloc, keys)?)?;
     Ok(memtable)
 }
 
 /// How many entries there are, and whether there is none, what they weigh, and the greatest sequence.
-pub(crate) fn counts(memtable: &Memtable) -> (usize, bool, usize, u64) {
+fn counts(memtable: &Memtable) -> (usize, bool, usize, u64) {
     let last = memtable.last_seq().number();
     (memtable.len(), memtable.is_empty(), memtable.weight(), last)
 }
@@ -106,7 +106,7 @@ fn are_at(entries: &[Entry], places: &[Place]) -> bool {
 }
 
 /// Whether a memtable has entries at these places alone.
-pub(crate) fn has(memtable: &Memtable, places: &[Place]) -> Result<bool, AllocError> {
+fn has(memtable: &Memtable, places: &[Place]) -> Result<bool, AllocError> {
     let entries = memtable.entries()?;
     Ok(are_at(&entries, places))
 }

@@ -4,7 +4,7 @@ ghost use Rattle.std.specs.Prelude.{◌≡◌, ◌≢◌, ℕ, ◌<◌, List, le
 ghost use Rattle.lsm_edit.specs.declared.log_record.LogRecord.{LogRecord};
 ghost use Rattle.lsm_edit.specs.declared.format.FormatFault.TheVariants.{Truncated};
 ghost use Rattle.lsm_edit.specs.LogRecord.{IsSpelledRecord, read_record};
-ghost use Rattle.lsm_edit.specs.LogLaws.{ACutHoldsTheSame, AFreezeIsHeld, AFrozenEndIsFlushed, ALogIsFlushed, AWriteIsHeld, BadIsNotGood};
+ghost use Rattle.lsm_edit.specs.LogLaws.{ACutHoldsTheSame, AFreezeIsHeld, AFrozenEndIsFlushed, ALogIsFlushed, AWriteIsHeld, BadIsNotGood, BytesHoldTheSame};
 ghost use Rattle.lsm_edit.specs.WorkedLogs.{EmptyHoldsNothing, GapIsBad, OthersAreBad, HoldsTheWritesAbove, TwoMemtablesAreGood, WriteHasTheseBytes};
 
 /// A proper beginning of a log record is refused as truncated.
@@ -26,8 +26,9 @@ pub fn a_log_is_good_or_bad()
 {}
 
 /// A good log stays good and holds what a store then has: with one more write, with a freeze, over the end of what was frozen, over its last
-/// sequence, and without first records that hold nothing.
+/// sequence, and without first records that hold nothing. The bytes of its records hold the same.
 pub fn a_log_holds_what_a_store_has()
+    ensures bytes { BytesHoldTheSame }
     ensures write { AWriteIsHeld }
     ensures freeze { AFreezeIsHeld }
     ensures frozen { AFrozenEndIsFlushed }

@@ -1,8 +1,6 @@
-//! Log records field by field, each refusal, and which of two comes first.
+//! Log records as the format's worked examples have them, each refusal, and which of two comes first.
 
-ghost use Rattle.std.specs.Prelude.{IfOk};
-ghost use Rattle.lsm_edit.specs.LogRecord.{IsRecord};
-
+use super::changed;
 use bytes::{BufMut, Bytes, BytesMut};
 use lsm_edit::{FormatFault, LogRecord, decode_log, encode_freeze, encode_log, encode_write};
 use lsm_key::{Batch, Op, Refused, Seq};
@@ -22,55 +20,63 @@ const LAST: [u8; 25] = [
     1, 0, 1, 0x61, 0, 0, 0, 0,
 ];
 
-// A freeze at the last sequence.
-const FREEZE: [u8; 9] = [2, 0, 0xff, 0xff, 0xff, 0xff, 0xff, 0xff, 0xff];
+// Freezes at the first sequence and at the last one.
+const FIRST_FREEZE: [u8; 9] = [2, 0, 0, 0, 0, 0, 0, 0, 1];
 
-// Changes of the first of these records that break a rule, the place and the byte of each.
-const BROKEN: [&[(usize, u8)]; 9] = [
+const LAST_FREEZE: [u8; 9] = [2, 0, 0xff, 0xff, 0xff, 0xff, 0xff, 0xff, 0xff];
+
+const RECORDS: [&[u8]; 4] = [&PUT, &LAST, &FIRST_FREEZE, &LAST_FREEZE];
+
+// Each broken rule: a record, and the place and the new value of each byte that changes.
+const BROKEN: [(&[u8], &[(usize, u8)]); 13] = [
     // The code.
-    &[(0, 0)],
-    &[(0, 3)],
-    // The first sequence, and the last one.
-    &[(8, 0)],
-    &[(1, 1)],
-    // The count.
-    &[(12, 0)],
-    &[(11, 3), (12, 0xe9)],
+    (&PUT, &[(0, 0)]),
+    (&PUT, &[(0, 3)]),
+    // A first sequence of 0, and last ones of 2^56.
+    (&PUT, &[(8, 0)]),
+    (&PUT, &[(1, 1), (8, 0)]),
+    (&LAST, &[(8, 0xff)]),
+    // 0 operations, and 1,001.
+    (&PUT, &[(12, 0)]),
+    (&PUT, &[(11, 3), (12, 0xe9)]),
     // The kind.
-    &[(13, 2)],
-    // The lengths of the key and of the value.
-    &[(15, 0)],
-    &[(18, 1), (20, 1)],
+    (&PUT, &[(13, 2)]),
+    // A key of 0 bytes and of 1,025, and a value of 65,537.
+    (&PUT, &[(15, 0)]),
+    (&PUT, &[(14, 4)]),
+    (&PUT, &[(18, 1)]),
+    // Freezes at 0 and at 2^56.
+    (&FIRST_FREEZE, &[(8, 0)]),
+    (&FIRST_FREEZE, &[(1, 1), (8, 0)]),
 ];
 
-// The record that the bytes encode, or their fault.
-fn read(alloc: Global, bytes: &[u8]) -> Result<Result<LogRecord, FormatFault>, Fail> {
+// For each byte of `put a 1`, with how many of its 256 values the bytes are a record: with all in the key, in the value and in the
+// low bytes of the sequence, which is not 0; with its own value alone elsewhere.
+const VALUES: [usize; 22] = [
+    1, 1, 256, 256, 256, 256, 256, 256, 255, 1, 1, 1, 1, //
+    1, 1, 1, 256, 1, 1, 1, 1, 256,
+];
+
+// The first fault of the bytes, or none if they are what the record that they encode is written as.
+fn fault_of(alloc: Global, bytes: &[u8]) -> Result<Option<FormatFault>, Fail> {
     match decode_log(alloc, Bytes::copy_from_slice(alloc, bytes)?) {
-        Ok(logged) => Ok(Ok(logged)),
-        Err(Refused::Fault(fault)) => Ok(Err(fault)),
+        Ok(logged) => {
+            if encode_log(alloc, &logged)?.as_slice() == bytes {
+                return Ok(None);
+            }
+            Err("a record with two encodings")?
+        }
+        Err(Refused::Fault(fault)) => Ok(Some(fault)),
         Err(Refused::OutOfMemory) => Err("out of memory")?,
     }
 }
 
-// Whether this is the fault of the bytes.
-fn is_fault(alloc: Global, bytes: &[u8], fault: FormatFault) -> Result<bool, Fail> {
-    Ok(read(alloc, bytes)?.err() == Some(fault))
-}
-
 // The record that the bytes encode.
-fn record_of(alloc: Global, bytes: &[u8]) -> Result<LogRecord, Fail>
-    ensures { IfOk result IsRecord }
-{
+fn record_of(alloc: Global, bytes: &[u8]) -> Result<LogRecord, Fail> {
     match decode_log(alloc, Bytes::copy_from_slice(alloc, bytes)?) {
         Ok(logged) => Ok(logged),
         Err(_) => Err("no record")?,
     }
-}
-
-// Whether the record that the bytes encode is written as these bytes again.
-fn is_spelled(alloc: Global, bytes: &[u8]) -> Result<bool, Fail> {
-    let logged = record_of(alloc, bytes)?;
-    Ok(encode_log(alloc, &logged)?.as_slice() == bytes)
 }
 
 #[test]
@@ -81,10 +87,10 @@ fn records_are_their_bytes(rt: HostRuntime) -> Result<(), Fail> {
         return Err(Fail::from("no batch of one operation"));
     }
     assert!(rt; encode_write(rt.alloc(), Seq::new(1), &batch)?.as_slice() == PUT);
-    assert!(rt; encode_freeze(rt.alloc(), Seq::new(Seq::MAX))?.as_slice() == FREEZE);
-    assert!(rt; is_spelled(rt.alloc(), &PUT)?);
-    assert!(rt; is_spelled(rt.alloc(), &LAST)?);
-    assert!(rt; is_spelled(rt.alloc(), &FREEZE)?);
+    assert!(rt; encode_freeze(rt.alloc(), Seq::new(Seq::MAX))?.as_slice() == LAST_FREEZE);
+    for bytes in RECORDS {
+        assert!(rt; fault_of(rt.alloc(), bytes)?.is_none(), "{bytes:?}");
+    }
     Ok(())
 }
 
@@ -98,9 +104,8 @@ fn a_record_says_what_was_accepted(rt: HostRuntime) -> Result<(), Fail> {
         return Err(Fail::from("no deletion and put"));
     };
     assert!(rt; gone.as_slice() == b"b");
-    assert!(rt; key.as_slice() == b"a");
-    assert!(rt; value.is_empty());
-    let LogRecord::Freeze(at) = record_of(rt.alloc(), &FREEZE)? else {
+    assert!(rt; key.as_slice() == b"a" && value.is_empty());
+    let LogRecord::Freeze(at) = record_of(rt.alloc(), &LAST_FREEZE)? else {
         return Err(Fail::from("no freeze"));
     };
     assert!(rt; at.number() == Seq::MAX);
@@ -109,58 +114,90 @@ fn a_record_says_what_was_accepted(rt: HostRuntime) -> Result<(), Fail> {
 
 #[test]
 fn each_broken_rule_is_named(rt: HostRuntime) -> Result<(), Fail> {
-    for changes in BROKEN {
-        let bytes = super::changed(rt.alloc(), &PUT, changes)?;
-        assert!(rt;
-            is_fault(rt.alloc(), bytes.as_slice(), FormatFault::BadField)?,
-            "{bytes:?}"
-        );
+    for (record, changes) in BROKEN {
+        let bytes = changed(rt.alloc(), record, changes)?;
+        let fault = fault_of(rt.alloc(), bytes.as_slice())?;
+        assert!(rt; fault == Some(FormatFault::BadField), "{bytes:?}");
     }
-    // A last sequence of 2^56, and freezes at 0 and at 2^56.
-    let late = super::changed(rt.alloc(), &LAST, &[(8, 0xff)])?;
-    assert!(rt; is_fault(rt.alloc(), late.as_slice(), FormatFault::BadField)?);
-    let none = [2, 0, 0, 0, 0, 0, 0, 0, 0];
-    assert!(rt; is_fault(rt.alloc(), &none, FormatFault::BadField)?);
-    let past = [2, 1, 0, 0, 0, 0, 0, 0, 0];
-    assert!(rt; is_fault(rt.alloc(), &past, FormatFault::BadField)?);
     Ok(())
+}
+
+// Whether each proper beginning of a record is too short.
+fn are_truncated(alloc: Global, record: &[u8]) -> Result<bool, Fail> {
+    for len in 0..record.len() {
+        if fault_of(alloc, &record[..len])? != Some(FormatFault::Truncated) {
+            return Ok(false);
+        }
+    }
+    Ok(true)
 }
 
 #[test]
 fn each_beginning_is_truncated(rt: HostRuntime) -> Result<(), Fail> {
-    for len in 0..LAST.len() {
-        assert!(rt;
-            is_fault(rt.alloc(), &LAST[..len], FormatFault::Truncated)?,
-            "{len}"
-        );
+    for record in RECORDS {
+        assert!(rt; are_truncated(rt.alloc(), record)?, "{record:?}");
     }
     let more = [2, 0, 0, 0, 0, 0, 0, 0, 1, 0];
-    assert!(rt; is_fault(rt.alloc(), &more, FormatFault::TrailingBytes)?);
+    assert!(rt; fault_of(rt.alloc(), &more)? == Some(FormatFault::TrailingBytes));
     Ok(())
 }
 
-// 61 puts of the longest value, and the beginning of one whose value has this length.
-fn heavy(alloc: Global, len: u32) -> Result<Bytes, Fail> {
+// With how many values of the byte at this place `put a 1` is a record. With the others it has a fault.
+fn values_at(alloc: Global, at: usize) -> Result<usize, Fail> {
+    let mut count = 0usize;
+    for value in 0..=u8::MAX {
+        let bytes = changed(alloc, &PUT, &[(at, value)])?;
+        if fault_of(alloc, bytes.as_slice())?.is_none() {
+            count = count.saturating_add(1);
+        }
+    }
+    Ok(count)
+}
+
+#[test]
+fn a_change_is_refused_or_another_record(rt: HostRuntime) -> Result<(), Fail> {
+    for (at, values) in VALUES.iter().enumerate() {
+        assert!(rt; values_at(rt.alloc(), at)? == *values, "{at}");
+    }
+    Ok(())
+}
+
+// Batches of 62 puts, of which the last one's value is cut: how many operations they are to have, how long that value is to be, how
+// many bytes of it are there, and the fault. The other 61 have values of 65,536 bytes.
+const HEAVY: [(u32, u32, usize, Option<FormatFault>); 5] = [
+    // 4,000,000 bytes.
+    (62, 1_374, 1_374, None),
+    (62, 1_374, 0, Some(FormatFault::Truncated)),
+    // A byte more.
+    (62, 1_375, 1_375, Some(FormatFault::BadField)),
+    (62, 1_375, 0, Some(FormatFault::BadField)),
+    // Too heavy before the last operation, of which nothing is there.
+    (63, 65_536, 65_536, Some(FormatFault::Truncated)),
+];
+
+// The bytes of such a batch.
+fn heavy(alloc: Global, count: u32, len: u32, given: usize) -> Result<Bytes, Fail> {
     let value = vec![in alloc; 0u8; 65_536]?;
     let mut out = BytesMut::new(alloc);
     out.put_u8(1)?;
     out.put_u64(1)?;
-    out.put_u32(62)?;
+    out.put_u32(count)?;
     for _op in 0..61 {
         out.put_slice(&[1, 0, 1, 0x61, 0, 1, 0, 0])?;
         out.put_slice(value.as_slice())?;
     }
     out.put_slice(&[1, 0, 1, 0x61])?;
     out.put_u32(len)?;
+    out.put_slice(vec![in alloc; 0u8; given]?.as_slice())?;
     Ok(out.freeze()?)
 }
 
 #[test]
 fn a_batch_is_weighed_at_its_last_length(rt: HostRuntime) -> Result<(), Fail> {
-    // 4,000,000 bytes with a value of 1,374.
-    let most = heavy(rt.alloc(), 1_374)?;
-    assert!(rt; is_fault(rt.alloc(), most.as_slice(), FormatFault::Truncated)?);
-    let heavier = heavy(rt.alloc(), 1_375)?;
-    assert!(rt; is_fault(rt.alloc(), heavier.as_slice(), FormatFault::BadField)?);
+    for (count, len, given, wanted) in HEAVY {
+        let bytes = heavy(rt.alloc(), count, len, given)?;
+        let fault = fault_of(rt.alloc(), bytes.as_slice())?;
+        assert!(rt; fault == wanted, "{count} {len} {given}");
+    }
     Ok(())
 }
