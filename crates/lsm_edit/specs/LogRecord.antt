@@ -44,7 +44,7 @@ pub record IsSpelledRecord (bytes : List ℕ) (r : LogRecord) : Type 0 where
 abbrev pub next_weight : Remaining → ℕ
 next_weight left = if left.ops == 1 then left.weight else MAX_BATCH_WEIGHT
 
--- what is left of a batch after an operation
+-- what is left for the operations after one
 abbrev pub after_op : Remaining → Op → Remaining
 after_op left op = record { ops = left.ops - 1; weight = left.weight - weight_of op }
 
@@ -70,7 +70,7 @@ op_at short bad most bytes = do
   code ← ranged_number_at short bad w8 0 1 bytes
   if code.0 == 0 then delete_at short bad most code.1 else put_at short bad most code.1
 
--- count operations, of which this is left
+-- count operations, with this left for them
 abbrev pub ops_at : {F : Type 0} → F → F → ℕ → Remaining → List ℕ → Result (List Op × List ℕ) F
 ops_at short bad count left bytes = items_at (λ left. op_at short bad (next_weight left)) after_op count left bytes
 

@@ -1,6 +1,6 @@
 //! Batches that are taken out again.
 
-use super::{ALIKE, PLACES, SECOND, apply, batch_of, counts, example, has, memtable_of};
+use super::{ALIKE, PLACES, Place, SECOND, apply, batch_of, counts, example, has, memtable_of};
 use lsm_key::Seq;
 use std::test::Fail;
 
@@ -30,7 +30,7 @@ fn a_batch_that_was_taken_out_is_applied_again(rt: HostRuntime) -> Result<(), Fa
 fn keys_that_begin_alike_are_taken_out_one_by_one(rt: HostRuntime) -> Result<(), Fail> {
     let mut memtable = memtable_of(rt.alloc(), &ALIKE)?;
     memtable.undo(Seq::new(4));
-    let left = [(b"account".as_slice(), 2), (b"account-1", 3), (b"account-2", 1)];
+    let left: [Place; 3] = [(b"account", 2), (b"account-1", 3), (b"account-2", 1)];
     assert!(rt; has(&memtable, &left)?);
     Ok(())
 }
