@@ -11,3 +11,4 @@ pub mod ChainsOfBuckets
 pub mod NumberedPairs
 pub mod OneKey
 pub mod OlderChains
+pub mod UndoneBatches

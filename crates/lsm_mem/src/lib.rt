@@ -12,10 +12,12 @@ mod buckets;
 mod chains;
 mod chunk;
 mod front;
+mod laws;
 mod memtable;
 mod memtable_cursor;
 mod totals;
 mod versions;
 
+pub use laws::an_undo_takes_back_a_batch;
 pub use memtable::Memtable;
 pub use memtable_cursor::MemtableCursor;

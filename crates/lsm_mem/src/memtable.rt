@@ -97,7 +97,8 @@ impl Memtable {
     /// Removes the entries whose sequence is at least `first_seq`: after an `apply` with that first sequence, what it
     /// added. Allocates nothing. O(n) in the number of entries.
     pub fn undo(&mut self, first_seq: Seq)
-        ensures { self.new ≡ filter (λ e. nat_lt e.ikey.seq first_seq) self.old }
+        ensures older { self.new ≡ filter (λ e. nat_lt e.ikey.seq first_seq) self.old }
+        ensures sound { IsMemtable self.old }
     {
         self.buckets.undo(first_seq);
         let left = totals_of(self.buckets.cursor());

@@ -4,6 +4,7 @@ use Rattle.lsm_key.specs.declared.entry.Entry.{Entry}
 use Rattle.lsm_key.specs.Limits.{entry_weight}
 use Rattle.lsm_mem.specs.Chains.{entries_in, is_older}
 use Rattle.lsm_mem.specs.Memtable.{last_sequence}
+use Rattle.lsm_mem.proofs.MemtableTotals.{noted_sound}
 use Rattle.lsm_mem.proofs.OlderChains.{before_light, before_noted, entries_before}
 use Rattle.lsm_mem.proofs.memtable.Memtable.undo.Goals as goal
 
@@ -23,5 +24,8 @@ invariant_of-self c =
     (before_noted c.args.first_seq c.self.inside.buckets c.self.inside.weight c.self.inside.count c.self.inside.last c.totals_of-left.result.weight c.totals_of-left.result.count c.totals_of-left.result.last c.self.invariant
     (c.totals_of-left.ensures.weight ∙ ap (λ (es : List Entry). sum_by entry_weight es) made) (c.totals_of-left.ensures.count ∙ ap (λ (es : List Entry). length es) made) (c.totals_of-left.ensures.last ∙ ap last_sequence made))
 
-pub returns : goal.returns
-returns c = ap entries_in c.undo.ensures ∙ entries_before c.args.first_seq c.self.inside.buckets ∙ ap (filter (is_older c.args.first_seq)) c.self.view_is
+pub returns-clause-older : goal.returns-clause-older
+returns-clause-older c = ap entries_in c.undo.ensures ∙ entries_before c.args.first_seq c.self.inside.buckets ∙ ap (filter (is_older c.args.first_seq)) c.self.view_is
+
+pub returns-clause-sound : goal.returns-clause-sound
+returns-clause-sound c = rw (← c.self.view_is) (noted_sound c.self.inside.buckets c.self.inside.weight c.self.inside.count c.self.inside.last c.self.invariant)
