@@ -1,5 +1,5 @@
 -- Of files that do not overlap, the last one that begins by the end of a range tells whether any overlaps it.
-use Rattle.std.proofs.Common.{◌≡◌, ℕ, ◌<◌, ◌&&◌, Bool, true, false, not, cond, ltb, eqb, List, [], ◌∷◌, ◌++◌, Option, Some, None, refl, sym, ap, subst, ◌∙◌, inl, inr, arith}
+use Rattle.std.proofs.Common.{◌≡◌, ℕ, ◌<◌, ◌&&◌, true, false, not, ltb, eqb, List, [], ◌∷◌, ◌++◌, Option, Some, None, refl, sym, ap, subst, ◌∙◌, inl, inr, arith}
 use Rattle.std.specs.declared.cmp.Ordering.{Ordering}
 use Rattle.std.specs.declared.cmp.Ordering.TheVariants.{Less, Equal, Greater}
 use Rattle.std.specs.declared.ops.Bound.TheVariants.{Included, Unbounded}
@@ -23,7 +23,7 @@ use Rattle.lsm_key.proofs.RangeSlices.{not_before}
 use Rattle.lsm_edit.specs.declared.file.FileMeta.{FileMeta}
 use Rattle.lsm_edit.specs.EarlierFiles.{AreIndexedFiles, begin_cmp}
 use Rattle.lsm_edit.specs.File.{meets_file}
-use Rattle.lsm_edit.specs.Version.{clashes, files_meet}
+use Rattle.lsm_edit.specs.Version.{clashes}
 
 no_value : (end : List ℕ) → None ≡ Some end → ⊥
 no_value end e = cc

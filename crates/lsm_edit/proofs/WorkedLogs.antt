@@ -1,5 +1,5 @@
 -- The worked logs.
-use Rattle.std.proofs.Common.{◌≡◌, ℕ, ◌+◌, ◌-◌, ◌≤◌, List, [], ◌∷◌, ◌++◌, Option, Some, length, refl, ap, ◌∙◌, arith, inl, inr}
+use Rattle.std.proofs.Common.{◌≡◌, ℕ, ◌-◌, ◌≤◌, List, [], ◌∷◌, ◌++◌, Option, length, refl, ap, arith, inl, inr}
 use Rattle.lsm_edit.specs.declared.log_record.LogRecord.{LogRecord}
 use Rattle.lsm_edit.specs.declared.log_record.LogRecord.TheVariants.{Write, Freeze}
 use Rattle.lsm_edit.specs.LogRecord.{read_record, log_record_at, write_at, op_at, put_at}
@@ -8,7 +8,7 @@ use Rattle.std.specs.Option.{unwrap_or}
 use Rattle.lsm_key.specs.declared.op.Op.{Op}
 use Rattle.lsm_key.specs.Limits.{total_weight}
 use Rattle.lsm_key.specs.Sets.{IsIn}
-use Rattle.lsm_edit.specs.Log.{active_ops, end_of, frozen_ops, log_freezes, log_frozen, BadLog, IsGood, begins_late, leaves_gap, straddles, freezes_elsewhere, freezes_twice, ends_early, is_heavy}
+use Rattle.lsm_edit.specs.Log.{active_ops, frozen_ops, log_freezes, log_frozen, BadLog, IsGood, begins_late, leaves_gap, straddles, freezes_elsewhere, freezes_twice, ends_early, is_heavy}
 use Rattle.lsm_edit.proofs.LogLaws.{drop_none, good_not_bad, take_none}
 use Rattle.lsm_edit.specs.WorkedLogs.{put_a, put_b, two_memtables, TwoMemtablesAreGood, WriteHasTheseBytes, HoldsTheWritesAbove, EmptyHoldsNothing, GapIsBad, OthersAreBad}
 

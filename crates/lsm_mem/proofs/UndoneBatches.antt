@@ -5,7 +5,7 @@ use Rattle.std.specs.List.Sorted.{IsPermutation}
 use Rattle.std.proofs.lemmas.Bool.{lt-ltb, ltb-true}
 use Rattle.lsm_key.specs.declared.entry.Entry.{Entry}
 use Rattle.lsm_key.specs.declared.op.Op.{Op}
-use Rattle.lsm_key.specs.Order.{IsAscending, Precedes}
+use Rattle.lsm_key.specs.Order.{Precedes}
 use Rattle.lsm_key.specs.Places.{entries_after}
 use Rattle.lsm_key.specs.Sets.{IsIn, SameMembers}
 use Rattle.lsm_key.proofs.AscendingEntries.{Falls, IsIn-filter, ascending_falls, falls-filter}

@@ -1,4 +1,4 @@
--- What calls of a memtable do one after another (LevelDB, db_impl.cc: DBImpl::Write applies a batch to the memtable and logs it; to take it out again is the store's own).
+-- What calls of a memtable do one after another (LevelDB, db_impl.cc: DBImpl::Write logs a batch and then applies it; to apply it first and take it out again is the store's own).
 use Rattle.std.specs.Prelude.{◌≡◌, ℕ, ◌-◌, ◌<◌, List, ◌++◌, filter, nat_lt}
 use Rattle.std.specs.List.Sorted.{IsPermutation}
 use Rattle.lsm_key.specs.declared.entry.Entry.{Entry}

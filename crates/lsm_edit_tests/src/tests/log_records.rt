@@ -86,8 +86,10 @@ fn records_are_their_bytes(rt: HostRuntime) -> Result<(), Fail> {
     if batch.ops().len() != 1 {
         return Err(Fail::from("no batch of one operation"));
     }
-    assert!(rt; encode_write(rt.alloc(), Seq::new(1), &batch)?.as_slice() == PUT);
-    assert!(rt; encode_freeze(rt.alloc(), Seq::new(Seq::MAX))?.as_slice() == LAST_FREEZE);
+    assert!(rt; encode_write(rt.alloc(), Seq::new(1), &batch)?.as_slice() == PUT.as_slice());
+    assert!(rt;
+        encode_freeze(rt.alloc(), Seq::new(Seq::MAX))?.as_slice() == LAST_FREEZE.as_slice()
+    );
     for bytes in RECORDS {
         assert!(rt; fault_of(rt.alloc(), bytes)?.is_none(), "{bytes:?}");
     }
@@ -103,8 +105,8 @@ fn a_record_says_what_was_accepted(rt: HostRuntime) -> Result<(), Fail> {
     let [Op::Delete(gone), Op::Put(key, value)] = batch.ops() else {
         return Err(Fail::from("no deletion and put"));
     };
-    assert!(rt; gone.as_slice() == b"b");
-    assert!(rt; key.as_slice() == b"a" && value.is_empty());
+    assert!(rt; gone.as_slice() == b"b".as_slice());
+    assert!(rt; key.as_slice() == b"a".as_slice() && value.is_empty());
     let LogRecord::Freeze(at) = record_of(rt.alloc(), &LAST_FREEZE)? else {
         return Err(Fail::from("no freeze"));
     };
@@ -188,7 +190,8 @@ fn heavy(alloc: Global, count: u32, len: u32, given: usize) -> Result<Bytes, Fai
     }
     out.put_slice(&[1, 0, 1, 0x61])?;
     out.put_u32(len)?;
-    out.put_slice(vec![in alloc; 0u8; given]?.as_slice())?;
+    let last = vec![in alloc; 0u8; given]?;
+    out.put_slice(last.as_slice())?;
     Ok(out.freeze()?)
 }
 

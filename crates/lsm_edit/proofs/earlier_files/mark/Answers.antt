@@ -1,6 +1,5 @@
-use Rattle.std.proofs.Common.{◌≡◌, ◌<◌, List, ℕ, Some, ap, subst, ◌∙◌, arith}
+use Rattle.std.proofs.Common.{◌≡◌, ◌<◌, List, ℕ, Some, ap, subst, arith}
 use Rattle.std.specs.BTreeMap.{Updates}
-use Rattle.lsm_edit.specs.declared.file.FileMeta.{FileMeta}
 use Rattle.lsm_edit.specs.EarlierFiles.{begin_cmp}
 use Rattle.lsm_edit.proofs.EarlierFiles.{indexed_zero, indexed_with}
 use Rattle.lsm_edit.proofs.earlier_files.mark.Goals as goal
