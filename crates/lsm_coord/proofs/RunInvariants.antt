@@ -1,5 +1,5 @@
 -- What stays along a run.
-use Rattle.std.proofs.Common.{◌≡◌, ℕ, ◌-◌, ◌≤◌, zero, suc, List, [], ◌∷◌, ◌++◌, Option, None, Some, refl, sym, ap, subst, ◌∙◌, inl, inr, arith, length}
+use Rattle.std.proofs.Common.{◌≡◌, ℕ, ◌-◌, ◌≤◌, List, [], ◌∷◌, ◌++◌, Option, None, Some, refl, sym, ap, subst, ◌∙◌, inl, inr, arith, length}
 use Rattle.std.specs.List.{slice_get}
 use Rattle.std.specs.Option.{option_and_then}
 use Rattle.std.proofs.Math.Seq.{take-length}
@@ -18,23 +18,22 @@ use Rattle.lsm_coord.proofs.StepEffects.{Effect, stays, wrote, froze, flushed, i
 use Rattle.lsm_coord.proofs.VersionsStay.{IsSound, step_sound, step_versions, step_writes, run_versions, first_sound, below_tip, tip}
 
 pub versions_stay : VersionsStay
-versions_stay s t events replies h = run_versions s events replies t h
+versions_stay s t steps h = run_versions s steps t h
 
 -- ---- one run after another
 
-pub run_then : (s : State) (es fs : List Event) (rs qs : List Reply) (m t : State) → Run s es rs m → Run m fs qs t → Run s (es ++ fs) (rs ++ qs) t
-run_then s [] fs [] qs m t h k = rw (← h) k
-run_then s [] fs (r ∷ rs) qs m t h k = absurd h
-run_then s (e ∷ es) fs [] qs m t h k = absurd h
-run_then s (e ∷ es) fs (r ∷ rs) qs m t h k = (h.0, h.1, run_then h.0 es fs rs qs m t h.2 k)
+pub run_then : (s : State) (steps more : List (Event × Reply)) (m t : State) → Run s steps m → Run m more t → Run s (steps ++ more) t
+run_then s [] more m t h k = rw (← h) k
+run_then s ((e, r) ∷ steps) more m t h k = (h.0, h.1, run_then h.0 steps more m t h.2 k)
 
-pub run_parts : (s : State) (es fs : List Event) (rs qs : List Reply) (t : State) → length rs ≡ length es → Run s (es ++ fs) (rs ++ qs) t → (m : State) × Run s es rs m × Run m fs qs t
-run_parts s [] fs [] qs t e h = (s, refl, h)
-run_parts s [] fs (r ∷ rs) qs t e h = absurd (omega (arith, e))
-run_parts s (x ∷ es) fs [] qs t e h = absurd (omega (arith, e))
-run_parts s (x ∷ es) fs (r ∷ rs) qs t e h =
-    let p = run_parts h.0 es fs rs qs t (omega (arith, e)) h.2 in
+pub run_parts : (s : State) (steps more : List (Event × Reply)) (t : State) → Run s (steps ++ more) t → (m : State) × Run s steps m × Run m more t
+run_parts s [] more t h = (s, refl, h)
+run_parts s ((e, r) ∷ steps) more t h =
+    let p = run_parts h.0 steps more t h.2 in
     (p.0, (h.0, h.1, p.1), p.2)
+
+pub same_step : (s t : State) (one other : Event × Reply) → one ≡ other → Step s other.0 other.1 t → Step s one.0 one.1 t
+same_step s t one other is h = subst (λ (x : Event × Reply). Step s x.0 x.1 t) (sym is) h
 
 -- ---- listings
 
@@ -47,18 +46,16 @@ shown_now s (say.Restart (say.Worker i)) n seq files t h = absurd h.1
 shown_now s (say.Restart (say.Follower i)) n seq files t h = absurd h.1
 shown_now s e n seq files t h = absurd h.1
 
-shown : (s : State) (es : List Event) (rs : List Reply) (t : State) (n seq : ℕ) (files : List Place) → Run s es rs t → IsIn (say.Shown n seq files) rs → Lists t n seq files
-shown s [] [] t n seq files h i = absurd i
-shown s [] (r ∷ rs) t n seq files h i = absurd h
-shown s (e ∷ es) [] t n seq files h i = absurd h
-shown s (e ∷ es) (r ∷ rs) t n seq files h (inl i) =
-    let here : Step s e (say.Shown n seq files) h.0 = subst (λ (x : Reply). Step s e x h.0) (sym i) h.1 in
-    run_versions h.0 es rs t h.2 n _ (step_versions s e h.0 (effect s e r h.0 h.1) n _ (shown_now s e n seq files h.0 here))
-shown s (e ∷ es) (r ∷ rs) t n seq files h (inr i) = shown h.0 es rs t n seq files h.2 i
+shown : (s : State) (steps : List (Event × Reply)) (t : State) (f : Event) (n seq : ℕ) (files : List Place) → Run s steps t → IsIn (f, say.Shown n seq files) steps → Lists t n seq files
+shown s [] t f n seq files h i = absurd i
+shown s ((e, r) ∷ steps) t f n seq files h (inl i) =
+    let lists = shown_now s f n seq files h.0 (same_step s h.0 (f, say.Shown n seq files) (e, r) i h.1) in
+    run_versions h.0 steps t h.2 n _ (step_versions s e h.0 (effect s e r h.0 h.1) n _ lists)
+shown s ((e, r) ∷ steps) t f n seq files h (inr i) = shown h.0 steps t f n seq files h.2 i
 
 pub listings_agree : ListingsAgree
-listings_agree s t events replies h n a b files others x y =
-    let v = same_Some _ _ (sym (shown s events replies t n a files h x) ∙ shown s events replies t n b others h y) in
+listings_agree s t steps h e f n a b files others x y =
+    let v = same_Some _ _ (sym (shown s steps t e n a files h x) ∙ shown s steps t f n b others h y) in
     (ap (λ (w : Version). w.flushed) v, ap (λ (w : Version). w.files) v)
 
 -- ---- reads at followers
@@ -67,29 +64,19 @@ step_gives : (s : State) (e : Event) (t : State) → Effect s e t → IsSound s 
 step_gives s e t x sound n key value g =
     (g.0, step_versions s e t x n g.0 g.1, g.2 ∙ sym (ap (λ (ws : List Op). option_and_then value_of (last_write ws key)) (step_writes s e t x sound n g.0 g.1)))
 
-run_gives : (s : State) (es : List Event) (rs : List Reply) (t : State) → Run s es rs t → IsSound s → (n : ℕ) (key : List ℕ) (value : Option (List ℕ)) → FollowerReads s n key value → FollowerReads t n key value
-run_gives s [] [] t h sound n key value g = rw h g
-run_gives s [] (r ∷ rs) t h sound n key value g = absurd h
-run_gives s (e ∷ es) [] t h sound n key value g = absurd h
-run_gives s (e ∷ es) (r ∷ rs) t h sound n key value g =
+run_gives : (s : State) (steps : List (Event × Reply)) (t : State) → Run s steps t → IsSound s → (n : ℕ) (key : List ℕ) (value : Option (List ℕ)) → FollowerReads s n key value → FollowerReads t n key value
+run_gives s [] t h sound n key value g = rw h g
+run_gives s ((e, r) ∷ steps) t h sound n key value g =
     let x = effect s e r h.0 h.1 in
-    run_gives h.0 es rs t h.2 (step_sound s e h.0 x sound) n key value (step_gives s e h.0 x sound n key value g)
+    run_gives h.0 steps t h.2 (step_sound s e h.0 x sound) n key value (step_gives s e h.0 x sound n key value g)
 
-read_here : (s : State) (e : Event) (r : Reply) (t : State) (follower n : ℕ) (key : List ℕ) (value : Option (List ℕ)) → Step s e r t → e ≡ say.Read follower key → r ≡ say.ReadAt n value → FollowerReads s n key value
-read_here s e r t follower n key value h a b =
-    let one : Step s (say.Read follower key) r t = subst (λ (x : Event). Step s x r t) a h in
-    let both : Step s (say.Read follower key) (say.ReadAt n value) t = subst (λ (x : Reply). Step s (say.Read follower key) x t) b one in
-    both.1.1
-
-read_at_end : (s : State) (es : List Event) (rs : List Reply) (t : State) (i follower n : ℕ) (key : List ℕ) (value : Option (List ℕ)) → Run s es rs t → IsSound s → slice_get es i ≡ Some (say.Read follower key) → slice_get rs i ≡ Some (say.ReadAt n value) → FollowerReads t n key value
-read_at_end s [] rs t i follower n key value h sound a b = absurd cc
-read_at_end s (e ∷ es) [] t i follower n key value h sound a b = absurd h
-read_at_end s (e ∷ es) (r ∷ rs) t zero follower n key value h sound a b =
+read_at_end : (s : State) (steps : List (Event × Reply)) (t : State) (follower n : ℕ) (key : List ℕ) (value : Option (List ℕ)) → Run s steps t → IsSound s → IsIn (say.Read follower key, say.ReadAt n value) steps → FollowerReads t n key value
+read_at_end s [] t follower n key value h sound i = absurd i
+read_at_end s ((e, r) ∷ steps) t follower n key value h sound (inl i) =
     let x = effect s e r h.0 h.1 in
-    let g = read_here s e r h.0 follower n key value h.1 (same_Some _ _ a) (same_Some _ _ b) in
-    run_gives h.0 es rs t h.2 (step_sound s e h.0 x sound) n key value (step_gives s e h.0 x sound n key value g)
-read_at_end s (e ∷ es) (r ∷ rs) t (suc i) follower n key value h sound a b =
-    read_at_end h.0 es rs t i follower n key value h.2 (step_sound s e h.0 (effect s e r h.0 h.1) sound) a b
+    let here = same_step s h.0 (say.Read follower key, say.ReadAt n value) (e, r) i h.1 in
+    run_gives h.0 steps t h.2 (step_sound s e h.0 x sound) n key value (step_gives s e h.0 x sound n key value here.1.1)
+read_at_end s ((e, r) ∷ steps) t follower n key value h sound (inr i) = read_at_end h.0 steps t follower n key value h.2 (step_sound s e h.0 (effect s e r h.0 h.1) sound) i
 
 gives_one : (s : State) (n : ℕ) (key : List ℕ) (x y : Option (List ℕ)) → FollowerReads s n key x → FollowerReads s n key y → x ≡ y
 gives_one s n key x y g h =
@@ -97,10 +84,8 @@ gives_one s n key x y g h =
     g.2 ∙ ap (λ (w : Version). answer s.writes w.flushed key) v ∙ sym h.2
 
 pub followers_agree : FollowersAgree
-followers_agree events replies run follower other n key x y a b =
-    gives_one run.0 n key x y
-    (read_at_end first_state events replies run.0 a.0 follower n key x run.1 first_sound a.1 a.2)
-    (read_at_end first_state events replies run.0 b.0 other n key y run.1 first_sound b.1 b.2)
+followers_agree steps run follower other n key x y a b =
+    gives_one run.0 n key x y (read_at_end first_state steps run.0 follower n key x run.1 first_sound a) (read_at_end first_state steps run.0 other n key y run.1 first_sound b)
 
 -- ---- a get after a put
 
@@ -119,30 +104,26 @@ step_last s e t key w (installed v f a b c) k h = rw a h
 step_last s e t key w (fell f a b c) k h = absurd (not_restarted key e f k)
 step_last s e t key w (rose v f g a b c) k h = absurd (not_restarted key e f k)
 
-run_last : (s : State) (es : List Event) (rs : List Reply) (t : State) (key : List ℕ) (w : Op) → Run s es rs t → ((e : Event) → IsIn e es → SparesKey key e) → last_write s.writes key ≡ Some w → last_write t.writes key ≡ Some w
-run_last s [] [] t key w h k q = rw h q
-run_last s [] (r ∷ rs) t key w h k q = absurd h
-run_last s (e ∷ es) [] t key w h k q = absurd h
-run_last s (e ∷ es) (r ∷ rs) t key w h k q =
-    run_last h.0 es rs t key w h.2 (λ x i. k x (inr i)) (step_last s e h.0 key w (effect s e r h.0 h.1) (k e (inl refl)) q)
+run_last : (s : State) (steps : List (Event × Reply)) (t : State) (key : List ℕ) (w : Op) → Run s steps t → ((e : Event) (r : Reply) → IsIn (e, r) steps → SparesKey key e) → last_write s.writes key ≡ Some w → last_write t.writes key ≡ Some w
+run_last s [] t key w h k q = rw h q
+run_last s ((e, r) ∷ steps) t key w h k q =
+    run_last h.0 steps t key w h.2 (λ f x i. k f x (inr i)) (step_last s e h.0 key w (effect s e r h.0 h.1) (k e r (inl refl)) q)
 
 pub get_gives_the_write : GetGivesTheWrite
-get_gives_the_write s t before between after ops key write rs qs us first last found lr lq h is spares =
-    let p = run_parts s before (say.Write ops ∷ (between ++ say.Get key None ∷ after)) rs (say.Wrote first last ∷ (qs ++ say.Got found ∷ us)) t lr h in
-    let q = run_parts p.2.0 between (say.Get key None ∷ after) qs (say.Got found ∷ us) t lq p.2.2 in
+get_gives_the_write s t before between after ops key write first last found h is spares =
+    let p = run_parts s before ((say.Write ops, say.Wrote first last) ∷ (between ++ (say.Get key None, say.Got found) ∷ after)) t h in
+    let q = run_parts p.2.0 between ((say.Get key None, say.Got found) ∷ after) t p.2.2 in
     let written : p.2.0.writes ≡ p.0.writes ++ ops = ap (λ (x : State). x.writes) p.2.1.1.2 in
     let here : last_write p.2.0.writes key ≡ Some write = rw (written, last_write-append p.0.writes ops key, is) refl in
-    let there : last_write q.0.writes key ≡ Some write = run_last p.2.0 between qs q.0 key write q.1 spares here in
+    let there : last_write q.0.writes key ≡ Some write = run_last p.2.0 between q.0 key write q.1 spares here in
     let answered : found ≡ answer q.0.writes (length q.0.writes) key = q.2.1.1.0 in
     answered ∙ rw (take-length q.0.writes, there) refl
 
 -- ---- flushed sequences
 
-run_sound : (s : State) (es : List Event) (rs : List Reply) (t : State) → Run s es rs t → IsSound s → IsSound t
-run_sound s [] [] t h x = rw h x
-run_sound s [] (r ∷ rs) t h x = absurd h
-run_sound s (e ∷ es) [] t h x = absurd h
-run_sound s (e ∷ es) (r ∷ rs) t h x = run_sound h.0 es rs t h.2 (step_sound s e h.0 (effect s e r h.0 h.1) x)
+run_sound : (s : State) (steps : List (Event × Reply)) (t : State) → Run s steps t → IsSound s → IsSound t
+run_sound s [] t h x = rw h x
+run_sound s ((e, r) ∷ steps) t h x = run_sound h.0 steps t h.2 (step_sound s e h.0 (effect s e r h.0 h.1) x)
 
 pub ascends_of : (s : State) → IsSound s → FlushedAscends s
 ascends_of s x = record { ascending = x.rising; written = λ n v q. let i = below_tip s.versions n v x.rising q in let w = x.within in omega arith; frozen = x.between }
@@ -155,4 +136,4 @@ pub sound_of : (s : State) → FlushedAscends s → IsSound s
 sound_of s x = record { rising = x.ascending; within = tip_written s.versions (length s.writes) x.written; between = x.frozen }
 
 pub flushed_rises : FlushedRises
-flushed_rises events replies s h = ascends_of s (run_sound first_state events replies s h first_sound)
+flushed_rises steps s h = ascends_of s (run_sound first_state steps s h first_sound)

@@ -1,12 +1,12 @@
 -- A snapshot reads what it read before, for as long as it lives.
-use Rattle.std.proofs.Common.{◌≡◌, ℕ, zero, suc, ◌+◌, ◌≤◌, ◌<◌, List, [], ◌∷◌, ◌++◌, Option, None, Some, refl, sym, ap, subst, ◌∙◌, inl, inr, ◌⊎◌, arith, Bool, true, false, not, length, take, filter, is_none, nat_eq, ◌&&◌, length-append}
+use Rattle.std.proofs.Common.{◌≡◌, ℕ, ◌+◌, ◌≤◌, ◌<◌, List, [], ◌∷◌, ◌++◌, Option, None, Some, refl, sym, ap, subst, ◌∙◌, inl, inr, ◌⊎◌, arith, Bool, true, false, not, length, take, filter, is_none, nat_eq, ◌&&◌, length-append}
 use Rattle.std.specs.Bool.{if◌then◌else◌}
-use Rattle.std.specs.List.{slice_get}
 use Rattle.std.specs.Option.{unwrap_or, option_and_then}
 use Rattle.std.proofs.lemmas.Bool.{eqb-true}
 use Rattle.std.proofs.lemmas.List.{take-append-le}
 use Rattle.std.proofs.lemmas.Option.{same_Some}
 use Rattle.lsm_key.specs.declared.op.Op.{Op}
+use Rattle.lsm_key.specs.Sets.{IsIn}
 use Rattle.lsm_key.specs.Writes.{answer, last_write, value_of}
 use Rattle.lsm_coord.specs.Model.State.{State, last_seq, same_snapshot_id, snapshot_at, first_state}
 use Rattle.lsm_coord.specs.declared.snapshot.SnapId.{SnapId}
@@ -17,6 +17,7 @@ use Rattle.lsm_coord.specs.Model.Changes.{next_snapshot}
 use Rattle.lsm_coord.specs.Model.Step.{Step}
 use Rattle.lsm_coord.specs.Model.Run.{Run}
 use Rattle.lsm_coord.specs.Model.Laws.{SnapshotsAgree}
+use Rattle.lsm_coord.proofs.RunInvariants.{same_step}
 use Rattle.lsm_coord.proofs.SnapshotEffects.{Effect, Goes, stays, snapped, released, fell, rose, effect}
 
 -- ---- lists of snapshots
@@ -172,13 +173,12 @@ live_where true None h = absurd cc
 live_where false o h = absurd cc
 
 -- a get that was answered: its snapshot was live, and this is what it read
-get_now : (s : State) (e : Event) (r : Reply) (t : State) (id : SnapId) (key : List ℕ) (value : Option (List ℕ)) → Step s e r t → e ≡ say.Get key (Some id) → r ≡ say.Got value
+get_now : (s : State) (step : Event × Reply) (t : State) (id : SnapId) (key : List ℕ) (value : Option (List ℕ)) → Step s step.0 step.1 t → (say.Get key (Some id), say.Got value) ≡ step
     → (p : ℕ) × (snapshot_at s.snapshots id ≡ Some p) × (value ≡ answer s.writes p key)
-get_now s e r t id key value h a b =
-    let one : Step s (say.Get key (Some id)) r t = subst (λ (x : Event). Step s x r t) a h in
-    let both : Step s (say.Get key (Some id)) (say.Got value) t = subst (λ (x : Reply). Step s (say.Get key (Some id)) x t) b one in
-    let live = live_where s.up (snapshot_at s.snapshots id) both.0 in
-    (live.0, live.1, both.1.0 ∙ ap (λ (o : Option ℕ). answer s.writes (unwrap_or o 0) key) live.1)
+get_now s step t id key value h is =
+    let here = same_step s t (say.Get key (Some id), say.Got value) step is h in
+    let live = live_where s.up (snapshot_at s.snapshots id) here.0 in
+    (live.0, live.1, here.1.0 ∙ ap (λ (o : Option ℕ). answer s.writes (unwrap_or o 0) key) live.1)
 
 holds_now : (s : State) (id : SnapId) (key : List ℕ) (value : Option (List ℕ)) → Known s → (p : ℕ) × (snapshot_at s.snapshots id ≡ Some p) × (value ≡ answer s.writes p key) → Holds s id key value
 holds_now s id key value known (p, live, is) = record {
@@ -186,31 +186,28 @@ holds_now s id key value known (p, live, is) = record {
   gives = λ q also. ap (λ n. answer s.writes n key) (sym (same_Some p q (sym live ∙ also))) ∙ sym is;
 }
 
-run_holds : (s : State) (es : List Event) (rs : List Reply) (t : State) (id : SnapId) (key : List ℕ) (value : Option (List ℕ)) → Run s es rs t → Known s → Holds s id key value
-    → (i : ℕ) (other : Option (List ℕ)) → slice_get es i ≡ Some (say.Get key (Some id)) → slice_get rs i ≡ Some (say.Got other) → other ≡ value
-run_holds s [] rs t id key value run known h i other a b = absurd cc
-run_holds s (e ∷ es) [] t id key value run known h i other a b = absurd run
-run_holds s (e ∷ es) (r ∷ rs) t id key value run known h zero other a b =
-    let g = get_now s e r run.0 id key other run.1 (same_Some _ _ a) (same_Some _ _ b) in
+run_holds : (s : State) (steps : List (Event × Reply)) (t : State) (id : SnapId) (key : List ℕ) (value other : Option (List ℕ)) → Run s steps t → Known s → Holds s id key value
+    → IsIn (say.Get key (Some id), say.Got other) steps → other ≡ value
+run_holds s [] t id key value other run known h i = absurd i
+run_holds s ((e, r) ∷ steps) t id key value other run known h (inl i) =
+    let g = get_now s (e, r) run.0 id key other run.1 i in
     g.2 ∙ h.gives g.0 g.1
-run_holds s (e ∷ es) (r ∷ rs) t id key value run known h (suc i) other a b =
+run_holds s ((e, r) ∷ steps) t id key value other run known h (inr i) =
     let x = effect s e r run.0 run.1 in
-    run_holds run.0 es rs t id key value run.2 (step_known s run.0 x known) (step_holds s run.0 id key value x known h) i other a b
+    run_holds run.0 steps t id key value other run.2 (step_known s run.0 x known) (step_holds s run.0 id key value x known h) i
 
-run_agrees : (s : State) (es : List Event) (rs : List Reply) (t : State) (id : SnapId) (key : List ℕ) (x y : Option (List ℕ)) (i j : ℕ) → Run s es rs t → Known s
-    → slice_get es i ≡ Some (say.Get key (Some id)) → slice_get rs i ≡ Some (say.Got x)
-    → slice_get es j ≡ Some (say.Get key (Some id)) → slice_get rs j ≡ Some (say.Got y) → x ≡ y
-run_agrees s [] rs t id key x y i j run known a b c d = absurd cc
-run_agrees s (e ∷ es) [] t id key x y i j run known a b c d = absurd run
-run_agrees s (e ∷ es) (r ∷ rs) t id key x y zero j run known a b c d =
-    sym (run_holds s (e ∷ es) (r ∷ rs) t id key x run known (holds_now s id key x known (get_now s e r run.0 id key x run.1 (same_Some _ _ a) (same_Some _ _ b))) j y c d)
-run_agrees s (e ∷ es) (r ∷ rs) t id key x y (suc i) zero run known a b c d =
-    run_holds s (e ∷ es) (r ∷ rs) t id key y run known (holds_now s id key y known (get_now s e r run.0 id key y run.1 (same_Some _ _ c) (same_Some _ _ d))) (suc i) x a b
-run_agrees s (e ∷ es) (r ∷ rs) t id key x y (suc i) (suc j) run known a b c d =
-    run_agrees run.0 es rs t id key x y i j run.2 (step_known s run.0 (effect s e r run.0 run.1) known) a b c d
+run_agrees : (s : State) (steps : List (Event × Reply)) (t : State) (id : SnapId) (key : List ℕ) (x y : Option (List ℕ)) → Run s steps t → Known s
+    → IsIn (say.Get key (Some id), say.Got x) steps → IsIn (say.Get key (Some id), say.Got y) steps → x ≡ y
+run_agrees s [] t id key x y run known a b = absurd a
+run_agrees s ((e, r) ∷ steps) t id key x y run known (inl a) b =
+    sym (run_holds s ((e, r) ∷ steps) t id key x y run known (holds_now s id key x known (get_now s (e, r) run.0 id key x run.1 a)) b)
+run_agrees s ((e, r) ∷ steps) t id key x y run known (inr a) (inl b) =
+    run_holds s ((e, r) ∷ steps) t id key y x run known (holds_now s id key y known (get_now s (e, r) run.0 id key y run.1 b)) (inr a)
+run_agrees s ((e, r) ∷ steps) t id key x y run known (inr a) (inr b) =
+    run_agrees run.0 steps t id key x y run.2 (step_known s run.0 (effect s e r run.0 run.1) known) a b
 
 first_known : Known first_state
 first_known id p h = absurd (none_is_some p h)
 
 pub snapshots_agree : SnapshotsAgree
-snapshots_agree events replies run id key x y a b = run_agrees first_state events replies run.0 id key x y a.0 b.0 run.1 first_known a.1 a.2 b.1 b.2
+snapshots_agree steps run id key x y a b = run_agrees first_state steps run.0 id key x y run.1 first_known a b

@@ -101,11 +101,9 @@ step_versions s e t (installed x k a b c) n v h = rw b (slice_get-front s.versio
 step_versions s e t (fell k a b c) n v h = rw b h
 step_versions s e t (rose x k f a b c) n v h = rw b (slice_get-front s.versions (x ∷ []) n v h)
 
-pub run_versions : (s : State) (es : List Event) (rs : List Reply) (t : State) → Run s es rs t → (n : ℕ) (v : Version) → slice_get s.versions n ≡ Some v → slice_get t.versions n ≡ Some v
-run_versions s [] [] t h n v q = rw h q
-run_versions s [] (r ∷ rs) t h n v q = absurd h
-run_versions s (e ∷ es) [] t h n v q = absurd h
-run_versions s (e ∷ es) (r ∷ rs) t h n v q = run_versions h.0 es rs t h.2 n v (step_versions s e h.0 (effect s e r h.0 h.1) n v q)
+pub run_versions : (s : State) (steps : List (Event × Reply)) (t : State) → Run s steps t → (n : ℕ) (v : Version) → slice_get s.versions n ≡ Some v → slice_get t.versions n ≡ Some v
+run_versions s [] t h n v q = rw h q
+run_versions s ((e, r) ∷ steps) t h n v q = run_versions h.0 steps t h.2 n v (step_versions s e h.0 (effect s e r h.0 h.1) n v q)
 
 -- the writes up to a flushed sequence stay
 pub step_writes : (s : State) (e : Event) (t : State) → Effect s e t → IsSound s → (n : ℕ) (v : Version) → slice_get s.versions n ≡ Some v → take v.flushed t.writes ≡ take v.flushed s.writes

@@ -16,7 +16,7 @@ use Rattle.lsm_coord.specs.Contract.Sound.{IsSound, KeepsSound}
 use Rattle.lsm_coord.specs.Contract.Value.{CoordValue}
 use Rattle.lsm_coord.proofs.RunInvariants.{run_then}
 use Rattle.lsm_nodes.specs.Answers.{answer_of}
-use Rattle.lsm_nodes.specs.Histories.{AreGiven, AreSoundJobs, HoldsMerge, HoldsMerges, IsPickedIn, IsShared, SharedValue, WitnessedValue, event_of, events_of, installed_by, installed_in, installs_in, replies_of, reply_of}
+use Rattle.lsm_nodes.specs.Histories.{AreGiven, AreSoundJobs, HoldsMerge, HoldsMerges, IsPickedIn, IsShared, SharedValue, WitnessedValue, event_of, installed_by, installed_in, installs_in, reply_of, step_of, steps_of}
 
 -- what a call owes to the history that it ends
 pub record Extends (past : List WitnessedValue) (a : CoordValue) (w : WitnessedValue) (b : CoordValue) : Type 0 where
@@ -46,10 +46,7 @@ shared_push start a b total now w k is n e =
     let all : HoldsMerges b.history → HoldsMerges a.history = λ h past x rest q. h past x (rest ++ w ∷ []) (is ∙ ap (λ (l : List WitnessedValue). l ++ w ∷ []) q ∙ append_assoc past (x ∷ rest) (w ∷ [])) in
     let last : HoldsMerges b.history → HoldsMerge a.history w.before w.exchange.call w.exchange.answer = λ h. h a.history w [] is in
     let cases : (job : JobParts) → IsPickedIn b.history job → IsPickedIn a.history job ⊎ (w.exchange.answer ≡ answer.Picked job) = λ job p. picked_push a.history w job (subst (λ (l : List WitnessedValue). IsPickedIn l job) is p) in
-    let event : Event = event_of w.exchange.call in
-    let reply : Reply = reply_of w.exchange.call w.exchange.answer in
-    let events : events_of b.history ≡ events_of a.history ++ event ∷ [] = ap events_of is ∙ map-append (λ (x : WitnessedValue). event_of x.exchange.call) a.history (w ∷ []) in
-    let replies : replies_of b.history ≡ replies_of a.history ++ reply ∷ [] = ap replies_of is ∙ map-append (λ (x : WitnessedValue). reply_of x.exchange.call x.exchange.answer) a.history (w ∷ []) in
+    let steps : steps_of b.history ≡ steps_of a.history ++ step_of w ∷ [] = ap steps_of is ∙ map-append step_of a.history (w ∷ []) in
     record {
       counted = omega (arith, k.counted, n, ap length is, length-append a.history (w ∷ []));
       installed =
@@ -65,11 +62,8 @@ shared_push start a b total now w k is n e =
       run = λ h s shown.
           let c = k.run (all h) s shown in
           let f = e.step (last h) (k.sound (all h) s shown) c.0 c.2 in
-          let run : Run s (events_of a.history ++ event ∷ []) (replies_of a.history ++ reply ∷ []) f.0 = run_then s (events_of a.history) (event ∷ []) (replies_of a.history) (reply ∷ []) c.0 f.0 c.1 (f.0, f.1, refl) in (
-            f.0,
-            subst (λ (es : List Event). Run s es (replies_of b.history) f.0) (sym events) (subst (λ (rs : List Reply). Run s (events_of a.history ++ event ∷ []) rs f.0) (sym replies) run),
-            f.2,
-          );
+          let run : Run s (steps_of a.history ++ step_of w ∷ []) f.0 = run_then s (steps_of a.history) (step_of w ∷ []) c.0 f.0 c.1 (f.0, f.1, refl) in
+          (f.0, subst (λ (told : List (Event × Reply)). Run s told f.0) (sym steps) run, f.2);
       sound = λ h s shown job p live. let c = k.run (all h) s shown in e.sound (last h) k.given (k.sound (all h) s shown) c.0 c.2 job (cases job p) live;
     }
 

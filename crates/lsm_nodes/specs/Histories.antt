@@ -70,11 +70,12 @@ reply_of asked (answer.Installed number files) = say.Installed number files
 reply_of asked (answer.Stale id epoch) = say.Refused say.OldEpoch
 reply_of asked (answer.Trimmed floor files) = say.Trimmed floor
 
-abbrev pub events_of : List WitnessedValue → List Event
-events_of history = map (λ w. event_of w.exchange.call) history
+-- a recorded call with its answer, and those of a history
+abbrev pub step_of : WitnessedValue → Event × Reply
+step_of w = (event_of w.exchange.call, reply_of w.exchange.call w.exchange.answer)
 
-abbrev pub replies_of : List WitnessedValue → List Reply
-replies_of history = map (λ w. reply_of w.exchange.call w.exchange.answer) history
+abbrev pub steps_of : List WitnessedValue → List (Event × Reply)
+steps_of history = map step_of history
 
 -- ---- installs
 
@@ -137,7 +138,7 @@ pub record SharedValue : Type 0 where
 
 -- from each state that the coordinator showed at the start, the history is a run to a state that it shows
 abbrev pub RunsFrom : CoordValue → List WitnessedValue → CoordValue → Type 0
-RunsFrom start history c = (s : State) → Shows start s → (t : State) × Run s (events_of history) (replies_of history) t × Shows c t
+RunsFrom start history c = (s : State) → Shows start s → (t : State) × Run s (steps_of history) t × Shows c t
 
 -- if it showed one, each job that was picked and is live may be installed
 abbrev pub AreSoundFrom : CoordValue → List WitnessedValue → CoordValue → Type 0

@@ -16,8 +16,7 @@ use Rattle.lsm_world.specs.declared.event.Event.{Event}
 use Rattle.lsm_world.specs.declared.reply.Reply.{Reply}
 use Rattle.lsm_world.specs.Events.{event_of}
 use Rattle.lsm_world.specs.Nodes.{StoreValue}
-use Rattle.lsm_world.specs.Replies.{reply_of}
-use Rattle.lsm_world.specs.Schedules.{WorldValue, IsNew, AskedAll, RunsTo}
+use Rattle.lsm_world.specs.Schedules.{WorldValue, IsNew, AskedAll, RunsTo, events_in, model_steps, replies_in}
 
 -- the error of a script that is refused
 abbrev pub run_error_of : Refused Fault → RunError
@@ -37,21 +36,23 @@ exit_status ReadFault = 1
 exit_status WriteFault = 1
 exit_status OutOfMemory = 1
 
--- each event that was taken asked its node and got its reply, and the events and the replies are a run of the model
-pub record Happens (old : StoreValue) (events : List Event) (replies : List Reply) (new : StoreValue) : Type 0 where
-  pub asked : AskedAll old events replies new
-  pub runs : RunsTo old events replies new
+-- these are the events, in order; each that was taken asked its node and got its reply, and with the replies they are a run of the model
+pub record Happens (old : StoreValue) (events : List Event) (steps : List (Event × Reply)) (new : StoreValue) : Type 0 where
+  pub events_are : events_in steps ≡ events
+  pub asked : AskedAll old steps new
+  pub runs : RunsTo old steps new
 
--- The events got some replies of the nodes of a new store of these limits. The events and the replies are a run of a new store, and
--- the text is the replies' lines.
+-- The events got some replies of the nodes of a new store of these limits. With the replies they are a run of a new store, and the
+-- text is the replies' lines.
 pub record Prints (limits : Limits) (events : List Event) (text : List ℕ) : Type 0 where
   pub first : WorldValue
   pub is_new : IsNew limits first
-  pub replies : List Reply
+  pub steps : List (Event × Reply)
+  pub events_are : events_in steps ≡ events
   pub last : StoreValue
-  pub asked : AskedAll first.nodes events replies last
-  pub runs : RunOfNew (map event_of events) (map reply_of replies)
-  pub prints : text ≡ lines replies
+  pub asked : AskedAll first.nodes steps last
+  pub runs : RunOfNew (model_steps steps)
+  pub prints : text ≡ lines (replies_in steps)
 
 -- what was written after what a writer held is what the events of the script print
 abbrev pub PrintsScript : Limits → List ℕ → Option (List ℕ) → Option (List ℕ) → Type 0
@@ -61,7 +62,7 @@ PrintsScript limits script_text old new =
 -- a first part of the events happened, and what was written is a prefix of the lines of its replies
 abbrev pub HappensInPart : StoreValue → List Event → StoreValue → Option (List ℕ) → Option (List ℕ) → Type 0
 HappensInPart old events new was held =
-    (n : ℕ) × (replies : List Reply) × (k : ℕ) × Happens old (take n events) replies new × Appends was held (take k (lines replies))
+    (n : ℕ) × (steps : List (Event × Reply)) × (k : ℕ) × Happens old (take n events) steps new × Appends was held (take k (lines (replies_in steps)))
 
 -- what was written after what a writer held is a prefix of what a first part of the events of the script prints
 abbrev pub PrintsAPart : Limits → List ℕ → Option (List ℕ) → Option (List ℕ) → Type 0

@@ -109,10 +109,10 @@ CompactionRefuses c e = PickRefuses c e
 -- that is given up.
 abbrev pub Leads : {Z : Type 0} → ℕ → ℕ → State → Result (Option (ℕ × Vec ℕ Z)) CoordError → State → Type 0
 Leads dispatcher message s (Ok None) t = Step s (say.Pick dispatcher) say.Other t
-Leads dispatcher message s (Ok (Some made)) t = Run s (say.Pick dispatcher ∷ say.Deliver message ∷ []) (say.Other ∷ say.Installed made.0 made.1.items ∷ []) t
+Leads dispatcher message s (Ok (Some made)) t = Run s ((say.Pick dispatcher, say.Other) ∷ (say.Deliver message, say.Installed made.0 made.1.items) ∷ []) t
 Leads dispatcher message s (Err e) t =
     Step s (say.Pick dispatcher) (say.Refused (refusal_of e)) t
-    ⊎ Run s (say.Pick dispatcher ∷ say.GiveUp dispatcher ∷ []) (say.Other ∷ say.Other ∷ []) t
+    ⊎ Run s ((say.Pick dispatcher, say.Other) ∷ (say.GiveUp dispatcher, say.Other) ∷ []) t
 
 -- a state that shows the same writes and snapshots, so that every read is answered as before
 pub record IsCompacted {Z : Type 0} (dispatcher message : ℕ) (s : State) (result : Result (Option (ℕ × Vec ℕ Z)) CoordError) (new : CoordValue) : Type 0 where

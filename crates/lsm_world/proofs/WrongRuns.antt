@@ -54,7 +54,7 @@ there_when_up s is value = let v = subst (λ (x : State). None ≡ answer x.writ
 -- the state before the get is one of the two that the refused restart may leave
 pub write_lost : WriteLostAtRefusedRestartIsNotNewest
 write_lost newest =
-    let found = newest 2 a None None (refl, refl) in
+    let found = newest 2 a None None refl in
     let run = found.1.0 in
     elim run.2.1.1 [
       | inl stopped ↦ refused_when_down found.0 (run.2.2 ∙ stopped ∙ ap after_stop run.1.1.2) found.1.1.1.0

@@ -57,30 +57,42 @@ pub record AreNew (due : Limits) (n : NodesValue) : Type 0 where
 abbrev pub IsNew : Limits → WorldValue → Type 0
 IsNew due w = (n : NodesValue) × AreNew due n × (w.nodes ≡ up_store n) × (w.trace ≡ []) × ShowsStore w.nodes first_state
 
+-- the events alone, and the replies alone
+abbrev pub events_in : List (Event × Reply) → List Event
+events_in steps = map (λ step. step.0) steps
+
+abbrev pub replies_in : List (Event × Reply) → List Reply
+replies_in steps = map (λ step. step.1) steps
+
+-- a step in the words of the model, and those of a list
+abbrev pub model_step : Event × Reply → say.Event × say.Reply
+model_step step = (event_of step.0, reply_of step.1)
+
+abbrev pub model_steps : List (Event × Reply) → List (say.Event × say.Reply)
+model_steps steps = map model_step steps
+
 -- each event that was taken asked its node, and got the reply
-abbrev pub AskedAll : StoreValue → List Event → List Reply → StoreValue → Type 0
-AskedAll old [] [] new = new ≡ old
-AskedAll old (e ∷ es) (r ∷ rs) new = (next : StoreValue) × AsksIfTaken old e r next × AskedAll next es rs new
-AskedAll old [] (r ∷ rs) new = ⊥
-AskedAll old (e ∷ es) [] new = ⊥
+abbrev pub AskedAll : StoreValue → List (Event × Reply) → StoreValue → Type 0
+AskedAll old [] new = new ≡ old
+AskedAll old ((e, r) ∷ steps) new = (next : StoreValue) × AsksIfTaken old e r next × AskedAll next steps new
 
 -- from each state that is shown before, the events with their replies are a run to one that is shown after
-abbrev pub RunsTo : StoreValue → List Event → List Reply → StoreValue → Type 0
-RunsTo old es rs new = (s : State) → ShowsStore old s → (t : State) × Run s (map event_of es) (map reply_of rs) t × ShowsStore new t
+abbrev pub RunsTo : StoreValue → List (Event × Reply) → StoreValue → Type 0
+RunsTo old steps new = (s : State) → ShowsStore old s → (t : State) × Run s (model_steps steps) t × ShowsStore new t
 
 -- the events that were taken, in order
-abbrev pub trace_of : List Event → List Reply → List Event
-trace_of (e ∷ es) (reply.Refused why.NotTaken ∷ rs) = trace_of es rs
-trace_of (e ∷ es) (r ∷ rs) = e ∷ trace_of es rs
-trace_of es rs = []
+abbrev pub trace_of : List (Event × Reply) → List Event
+trace_of [] = []
+trace_of ((e, reply.Refused why.NotTaken) ∷ steps) = trace_of steps
+trace_of ((e, r) ∷ steps) = e ∷ trace_of steps
 
 -- they follow on the trace
-abbrev pub IsTraced : List Event → List Event → List Reply → List Event → Type 0
-IsTraced old es rs new = new ≡ old ++ trace_of es rs
+abbrev pub IsTraced : List Event → List (Event × Reply) → List Event → Type 0
+IsTraced old steps new = new ≡ old ++ trace_of steps
 
 -- one event follows on it, if it was taken
 abbrev pub IsTaken : WorldValue → Event → Reply → WorldValue → Type 0
-IsTaken old e r new = IsTraced old.trace (e ∷ []) (r ∷ []) new.trace
+IsTaken old e r new = IsTraced old.trace ((e, r) ∷ []) new.trace
 
 -- no manifest is bad, no table is missing, and no result is of another job or not its merge
 abbrev pub IsPlain : Reply → Type 0
@@ -100,9 +112,10 @@ device_failures r = 0
 
 -- the events that were taken, with replies, led from a new store to a state that the store shows
 pub record IsReached (w : WorldValue) : Type 0 where
-  pub replies : List Reply
+  pub steps : List (Event × Reply)
+  pub taken : w.trace ≡ events_in steps
   pub state : State
-  pub run : Run first_state (map event_of w.trace) (map reply_of replies) state
+  pub run : Run first_state (model_steps steps) state
   pub shown : ShowsStore w.nodes state
 
 -- of a coordinator that is up: what every coordinator keeps, and the vault, the book and the limits of the seat are its own

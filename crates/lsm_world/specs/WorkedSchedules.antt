@@ -1,5 +1,5 @@
 -- Schedules of a new store, written out, in which each event comes, with each reply that is no refusal: what a reader can check by hand (RocksDB wiki, Remote Compaction; Read-only and secondary instances).
-use Rattle.std.specs.Prelude.{ℕ, List, [], ◌∷◌, None, Some, map}
+use Rattle.std.specs.Prelude.{ℕ, List, [], ◌∷◌, None, Some}
 use Rattle.lsm_key.specs.declared.op.Op.TheVariants.{Put, Delete}
 use Rattle.lsm_edit.specs.declared.file.FileMeta.{FileMeta}
 use Rattle.lsm_coord.specs.Model.Examples.{a, z, one, two, none, first_snapshot}
@@ -10,12 +10,11 @@ use Rattle.lsm_world.specs.declared.reply.PickedJob.{PickedJob}
 use Rattle.lsm_world.specs.declared.reply.Reply.{Reply}
 use Rattle.lsm_world.specs.declared.reply.Reply.TheVariants as reply
 use Rattle.lsm_world.specs.declared.reply.Sent.TheVariants as sent
-use Rattle.lsm_world.specs.Events.{event_of}
-use Rattle.lsm_world.specs.Replies.{reply_of}
+use Rattle.lsm_world.specs.Schedules.{model_steps}
 
 -- the events, each with its reply, are a run of a new store
 abbrev pub IsWorked : List (Event × Reply) → Type 0
-IsWorked turns = RunOfNew (map (λ t. event_of t.0) turns) (map (λ t. reply_of t.1) turns)
+IsWorked steps = RunOfNew (model_steps steps)
 
 -- a job of level 0
 abbrev pub picked_job : ℕ → ℕ → List ℕ → PickedJob

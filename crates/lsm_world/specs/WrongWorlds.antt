@@ -26,52 +26,76 @@ use Rattle.lsm_world.specs.Nodes.{NodesValue}
 
 -- A follower answers from a version that it has not.
 abbrev pub VersionNotHeldIsNoRun : Type 0
-VersionNotHeldIsNoRun = RunOfNew
-    (say.Write (Put a one ∷ []) ∷ say.Flush ∷ say.Read 1 a ∷ [])
-    (say.Wrote 1 1 ∷ say.Flushed 2 1 1 ∷ say.ReadAt 2 (Some one) ∷ []) → ⊥
+VersionNotHeldIsNoRun = RunOfNew (
+    (say.Write (Put a one ∷ []), say.Wrote 1 1)
+    ∷ (say.Flush, say.Flushed 2 1 1)
+    ∷ (say.Read 1 a, say.ReadAt 2 (Some one))
+    ∷ []) → ⊥
 
 -- A follower takes a whole version, and its answer lacks the version's last write.
 abbrev pub SkippedWriteIsNoRun : Type 0
-SkippedWriteIsNoRun = RunOfNew
-    (say.Write (Put a one ∷ []) ∷ say.Flush ∷ say.Write (Put a two ∷ []) ∷ say.Flush ∷ say.Deliver 2 ∷ say.Read 1 a ∷ [])
-    (say.Wrote 1 1 ∷ say.Flushed 2 1 1 ∷ say.Wrote 2 2 ∷ say.Flushed 3 2 2 ∷ say.Advanced 3 ∷ say.ReadAt 3 (Some one) ∷ []) → ⊥
+SkippedWriteIsNoRun = RunOfNew (
+    (say.Write (Put a one ∷ []), say.Wrote 1 1)
+    ∷ (say.Flush, say.Flushed 2 1 1)
+    ∷ (say.Write (Put a two ∷ []), say.Wrote 2 2)
+    ∷ (say.Flush, say.Flushed 3 2 2)
+    ∷ (say.Deliver 2, say.Advanced 3)
+    ∷ (say.Read 1 a, say.ReadAt 3 (Some one))
+    ∷ []) → ⊥
 
 -- After a restart a sequence is given once more, while the write that had it is there.
 abbrev pub SequenceGivenTwiceIsNoRun : Type 0
-SequenceGivenTwiceIsNoRun = RunOfNew
-    (say.Write (Put a one ∷ []) ∷ say.Flush ∷ say.Restart say.Coordinator ∷ say.Write (Put b two ∷ []) ∷ [])
-    (say.Wrote 1 1 ∷ say.Flushed 2 1 1 ∷ say.Restarted 2 3 1 ∷ say.Wrote 1 1 ∷ []) → ⊥
+SequenceGivenTwiceIsNoRun = RunOfNew (
+    (say.Write (Put a one ∷ []), say.Wrote 1 1)
+    ∷ (say.Flush, say.Flushed 2 1 1)
+    ∷ (say.Restart say.Coordinator, say.Restarted 2 3 1)
+    ∷ (say.Write (Put b two ∷ []), say.Wrote 1 1)
+    ∷ []) → ⊥
 
 -- An epoch comes back.
 abbrev pub EpochAgainIsNoRun : Type 0
-EpochAgainIsNoRun = RunOfNew
-    (say.Restart say.Coordinator ∷ say.Restart say.Coordinator ∷ [])
-    (say.Restarted 2 2 0 ∷ say.Restarted 2 3 0 ∷ []) → ⊥
+EpochAgainIsNoRun = RunOfNew (
+    (say.Restart say.Coordinator, say.Restarted 2 2 0)
+    ∷ (say.Restart say.Coordinator, say.Restarted 2 3 0)
+    ∷ []) → ⊥
 
 -- Two nodes show two listings under one number.
 abbrev pub TwoListingsAreNoRun : Type 0
-TwoListingsAreNoRun = RunOfNew
-    (say.Write (Put a one ∷ []) ∷ say.Flush ∷ say.Deliver 2 ∷ say.Show say.Coordinator ∷ say.Show (say.Follower 1) ∷ [])
-    (say.Wrote 1 1 ∷ say.Flushed 2 1 1 ∷ say.Advanced 2 ∷ say.Shown 2 1 (record { level = 0; file = 1 } ∷ []) ∷ say.Shown 2 1 [] ∷ []) → ⊥
+TwoListingsAreNoRun = RunOfNew (
+    (say.Write (Put a one ∷ []), say.Wrote 1 1)
+    ∷ (say.Flush, say.Flushed 2 1 1)
+    ∷ (say.Deliver 2, say.Advanced 2)
+    ∷ (say.Show say.Coordinator, say.Shown 2 1 (record { level = 0; file = 1 } ∷ []))
+    ∷ (say.Show (say.Follower 1), say.Shown 2 1 [])
+    ∷ []) → ⊥
 
 -- The inputs of a job are those of another job that was installed: both outputs are listed.
 abbrev pub MergedAgainIsNoRun : Type 0
-MergedAgainIsNoRun = RunOfNew
-    (say.Write (Put a one ∷ []) ∷ say.Flush ∷ say.Deliver 6 ∷ say.Show say.Coordinator ∷ say.Deliver 12 ∷ say.Show say.Coordinator ∷ [])
-    (say.Wrote 1 1 ∷ say.Flushed 2 1 1 ∷ say.Installed 3 (2 ∷ []) ∷ say.Shown 3 1 (record { level = 1; file = 2 } ∷ []) ∷ say.Installed 4 (3 ∷ []) ∷ say.Shown 4 1 (record { level = 1; file = 2 } ∷ record { level = 1; file = 3 } ∷ []) ∷ []) → ⊥
+MergedAgainIsNoRun = RunOfNew (
+    (say.Write (Put a one ∷ []), say.Wrote 1 1)
+    ∷ (say.Flush, say.Flushed 2 1 1)
+    ∷ (say.Deliver 6, say.Installed 3 (2 ∷ []))
+    ∷ (say.Show say.Coordinator, say.Shown 3 1 (record { level = 1; file = 2 } ∷ []))
+    ∷ (say.Deliver 12, say.Installed 4 (3 ∷ []))
+    ∷ (say.Show say.Coordinator, say.Shown 4 1 (record { level = 1; file = 2 } ∷ record { level = 1; file = 3 } ∷ []))
+    ∷ []) → ⊥
 
 -- A snapshot that was made before a restart still answers.
 abbrev pub DeadSnapshotIsNoRun : Type 0
-DeadSnapshotIsNoRun = RunOfNew
-    (say.Snap ∷ say.Restart say.Coordinator ∷ say.Get a (Some first_snapshot) ∷ [])
-    (say.Snapped first_snapshot 0 ∷ say.Restarted 2 2 0 ∷ say.Got None ∷ []) → ⊥
+DeadSnapshotIsNoRun = RunOfNew (
+    (say.Snap, say.Snapped first_snapshot 0)
+    ∷ (say.Restart say.Coordinator, say.Restarted 2 2 0)
+    ∷ (say.Get a (Some first_snapshot), say.Got None)
+    ∷ []) → ⊥
 
 -- A restart is refused for want of memory, so that the coordinator may be up with all that it had, or down; and then a get finds that the
 -- write is lost: its value is the newest write of no state in which the get is not refused.
 abbrev pub WriteLostAtRefusedRestartIsNotNewest : Type 0
-WriteLostAtRefusedRestartIsNotNewest = ReadsAreNewest
-    (say.Write (Put a one ∷ []) ∷ say.Restart say.Coordinator ∷ say.Get a None ∷ [])
-    (say.Wrote 1 1 ∷ say.Refused say.OutOfMemory ∷ say.Got None ∷ []) → ⊥
+WriteLostAtRefusedRestartIsNotNewest = ReadsAreNewest (
+    (say.Write (Put a one ∷ []), say.Wrote 1 1)
+    ∷ (say.Restart say.Coordinator, say.Refused say.OutOfMemory)
+    ∷ (say.Get a None, say.Got None)
+    ∷ []) → ⊥
 
 -- ---- by claims, messages and tables
 

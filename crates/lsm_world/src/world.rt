@@ -1,7 +1,8 @@
 //! The world: the nodes of a store, under one schedule.
 
-ghost use Rattle.std.specs.Prelude.{◌≡◌, ◌⊎◌, ◌+◌, ◌≤◌, ◌++◌, ◌∷◌, [], All, IfErr, IfOk, OnErr, map, sum_by};
+ghost use Rattle.std.specs.Prelude.{◌≡◌, ◌⊎◌, ◌+◌, ◌≤◌, ◌++◌, ◌∷◌, [], All, IfErr, IfOk, OnErr, length, sum_by};
 ghost use Rattle.std.specs.FinMap.{empty};
+ghost use Rattle.std.specs.List.{zip};
 ghost use Rattle.lsm_edit.specs.Edits.{RemovedOnce};
 ghost use Rattle.lsm_versions.specs.declared.error.OpenError.TheVariants.{Device, OutOfMemory};
 ghost use Rattle.lsm_versions.specs.Manifest.{read_edits};
@@ -11,7 +12,7 @@ ghost use Rattle.lsm_world.specs.Events.{event_of};
 ghost use Rattle.lsm_world.specs.Headline.{FollowerReadsAreNewest, GiveOneAnswer, ReadsAreNewest, ScansAreNewest, ShowOneListing};
 ghost use Rattle.lsm_world.specs.Memory.{IsNotShort};
 ghost use Rattle.lsm_world.specs.Replies.{reply_of};
-ghost use Rattle.lsm_world.specs.Schedules.{AskedAll, IsNew, IsPlain, IsTaken, IsTraced, IsWorld, RunsTo, device_failures};
+ghost use Rattle.lsm_world.specs.Schedules.{AskedAll, IsNew, IsPlain, IsTaken, IsTraced, IsWorld, RunsTo, device_failures, model_steps};
 ghost use Rattle.lsm_world.specs.Shown.{FollowsStore};
 
 use crate::event::Event;
@@ -129,20 +130,22 @@ impl<V: Vault> World<V> {
     /// No manifest is found bad, no table is missing, no result is of another job or not its merge (`plain`), and a device is
     /// said to have failed only where the vault counted a failure (`counted`).
     pub fn run(&mut self, events: &[Event]) -> Result<Vec<Reply>, AllocError>
-        ensures asks { IfOk result (λ replies. AskedAll self.old.nodes events.now replies.items self.new.nodes) }
-        ensures run { IfOk result (λ replies. RunsTo self.old.nodes events.now replies.items self.new.nodes) }
-        ensures trace { IfOk result (λ replies. IsTraced self.old.trace events.now replies.items self.new.trace) }
+        // As many replies as events, so that `zip` puts each event beside its reply.
+        ensures each { IfOk result (λ replies. length replies.items ≡ length events.now) }
+        ensures asks { IfOk result (λ replies. AskedAll self.old.nodes (zip events.now replies.items) self.new.nodes) }
+        ensures run { IfOk result (λ replies. RunsTo self.old.nodes (zip events.now replies.items) self.new.nodes) }
+        ensures trace { IfOk result (λ replies. IsTraced self.old.trace (zip events.now replies.items) self.new.trace) }
         ensures plain { IfOk result (λ replies. All IsPlain replies.items) }
         ensures counted { IfOk result (λ replies. sum_by device_failures replies.items + self.old.nodes.seat.failures ≤ self.new.nodes.seat.failures) }
         ensures err { OnErr result (self.new ≡ self.old) }
         // Whatever happened, what every world is.
         ensures world { IsWorld self.new }
         // The headline, of a new world: what the replies say, whatever the events were.
-        ensures reads { IfOk result (λ replies. (due : Limits) → IsNew due self.old → ReadsAreNewest (map event_of events.now) (map reply_of replies.items)) }
-        ensures scans { IfOk result (λ replies. (due : Limits) → IsNew due self.old → ScansAreNewest (map event_of events.now) (map reply_of replies.items)) }
-        ensures follower_reads { IfOk result (λ replies. (due : Limits) → IsNew due self.old → FollowerReadsAreNewest (map event_of events.now) (map reply_of replies.items)) }
-        ensures one_listing { IfOk result (λ replies. (due : Limits) → IsNew due self.old → ShowOneListing (map reply_of replies.items)) }
-        ensures one_answer { IfOk result (λ replies. (due : Limits) → IsNew due self.old → GiveOneAnswer (map event_of events.now) (map reply_of replies.items)) }
+        ensures reads { IfOk result (λ replies. (due : Limits) → IsNew due self.old → ReadsAreNewest (model_steps (zip events.now replies.items))) }
+        ensures scans { IfOk result (λ replies. (due : Limits) → IsNew due self.old → ScansAreNewest (model_steps (zip events.now replies.items))) }
+        ensures follower_reads { IfOk result (λ replies. (due : Limits) → IsNew due self.old → FollowerReadsAreNewest (model_steps (zip events.now replies.items))) }
+        ensures one_listing { IfOk result (λ replies. (due : Limits) → IsNew due self.old → ShowOneListing (model_steps (zip events.now replies.items))) }
+        ensures one_answer { IfOk result (λ replies. (due : Limits) → IsNew due self.old → GiveOneAnswer (model_steps (zip events.now replies.items))) }
     {
         self.known();
         let mut replies = Vec::with_capacity(self.alloc, events.len())?;

@@ -1,5 +1,5 @@
 -- What holds of every run (LevelDB, implementation notes: a version never changes; RocksDB wiki: secondary instances).
-use Rattle.std.specs.Prelude.{◌≡◌, ℕ, ◌≤◌, List, ◌∷◌, ◌++◌, Option, None, Some, length, slice_get}
+use Rattle.std.specs.Prelude.{◌≡◌, ℕ, ◌≤◌, List, ◌∷◌, ◌++◌, Option, None, Some, slice_get}
 use Rattle.lsm_key.specs.declared.op.Op.{Op}
 use Rattle.lsm_key.specs.Sets.{IsIn}
 use Rattle.lsm_key.specs.Writes.{answer, last_write, value_of}
@@ -12,34 +12,31 @@ use Rattle.lsm_coord.specs.Model.Run.{Run, RunOfNew}
 
 -- A version, once it is there, keeps its flushed sequence and its files.
 abbrev pub VersionsStay : Type 0
-VersionsStay = (s t : State) (events : List Event) (replies : List Reply) → Run s events replies t
+VersionsStay = (s t : State) (steps : List (Event × Reply)) → Run s steps t
     → (number : ℕ) (version : Version) → slice_get s.versions number ≡ Some version → slice_get t.versions number ≡ Some version
 
 -- Two listings at one number are equal, whichever nodes showed them.
 abbrev pub ListingsAgree : Type 0
-ListingsAgree = (s t : State) (events : List Event) (replies : List Reply) → Run s events replies t
-    → (number seq other_seq : ℕ) (files other_files : List Place)
-    → IsIn (say.Shown number seq files) replies → IsIn (say.Shown number other_seq other_files) replies
+ListingsAgree = (s t : State) (steps : List (Event × Reply)) → Run s steps t
+    → (event other_event : Event) (number seq other_seq : ℕ) (files other_files : List Place)
+    → IsIn (event, say.Shown number seq files) steps
+    → IsIn (other_event, say.Shown number other_seq other_files) steps
     → (seq ≡ other_seq) × (files ≡ other_files)
-
--- somewhere in a run the event got the reply
-abbrev pub IsAnswered : List Event → List Reply → Event → Reply → Type 0
-IsAnswered events replies event reply = (i : ℕ) × (slice_get events i ≡ Some event) × (slice_get replies i ≡ Some reply)
 
 -- In a run of a new store, two reads of one key at one number give one value, whichever followers gave it.
 abbrev pub FollowersAgree : Type 0
-FollowersAgree = (events : List Event) (replies : List Reply) → RunOfNew events replies
+FollowersAgree = (steps : List (Event × Reply)) → RunOfNew steps
     → (follower other number : ℕ) (key : List ℕ) (value other_value : Option (List ℕ))
-    → IsAnswered events replies (say.Read follower key) (say.ReadAt number value)
-    → IsAnswered events replies (say.Read other key) (say.ReadAt number other_value)
+    → IsIn (say.Read follower key, say.ReadAt number value) steps
+    → IsIn (say.Read other key, say.ReadAt number other_value) steps
     → value ≡ other_value
 
 -- In a run of a new store, two gets of one key at one snapshot give one value.
 abbrev pub SnapshotsAgree : Type 0
-SnapshotsAgree = (events : List Event) (replies : List Reply) → RunOfNew events replies
+SnapshotsAgree = (steps : List (Event × Reply)) → RunOfNew steps
     → (id : SnapId) (key : List ℕ) (value other_value : Option (List ℕ))
-    → IsAnswered events replies (say.Get key (Some id)) (say.Got value)
-    → IsAnswered events replies (say.Get key (Some id)) (say.Got other_value)
+    → IsIn (say.Get key (Some id), say.Got value) steps
+    → IsIn (say.Get key (Some id), say.Got other_value) steps
     → value ≡ other_value
 
 -- the event asks for no write of this key, refused or not, and for no restart of the coordinator
@@ -51,12 +48,11 @@ SparesKey key event = Unit {0}
 -- In a run, a get returns what the last write of its key leaves: the value of a put, none for a deletion. It is the last of
 -- its key in a batch that was answered, and no event between them writes the key or restarts the coordinator.
 abbrev pub GetGivesTheWrite : Type 0
-GetGivesTheWrite = (s t : State) (before between after : List Event) (ops : List Op) (key : List ℕ) (write : Op)
-    → (replies_before replies_between replies_after : List Reply) (first last : ℕ) (found : Option (List ℕ))
-    → length replies_before ≡ length before → length replies_between ≡ length between
-    → Run s (before ++ say.Write ops ∷ (between ++ say.Get key None ∷ after)) (replies_before ++ say.Wrote first last ∷ (replies_between ++ say.Got found ∷ replies_after)) t
+GetGivesTheWrite = (s t : State) (before between after : List (Event × Reply)) (ops : List Op) (key : List ℕ) (write : Op)
+    → (first last : ℕ) (found : Option (List ℕ))
+    → Run s (before ++ (say.Write ops, say.Wrote first last) ∷ (between ++ (say.Get key None, say.Got found) ∷ after)) t
     → last_write ops key ≡ Some write
-    → ((event : Event) → IsIn event between → SparesKey key event)
+    → ((event : Event) (reply : Reply) → IsIn (event, reply) between → SparesKey key event)
     → found ≡ value_of write
 
 -- A scan can return one list only.
@@ -72,4 +68,4 @@ pub record FlushedAscends (s : State) : Type 0 where
 
 -- In a run of a new store, flushed sequences ascend so.
 abbrev pub FlushedRises : Type 0
-FlushedRises = (events : List Event) (replies : List Reply) (s : State) → Run first_state events replies s → FlushedAscends s
+FlushedRises = (steps : List (Event × Reply)) (s : State) → Run first_state steps s → FlushedAscends s

@@ -10,7 +10,7 @@ pub loop-event-init : goal.loop-event-init
 loop-event-init g c = record {
   all = c.into_iter-event-iterator.ensures.into_iter_gives.0;
   so = record {
-    replies = [];
+    steps = [];
     happens = happens_none c.args.world.now.nodes;
     done = [];
     wrote = Appends-nil (g.W.Write.contents c.args.writer.now);
