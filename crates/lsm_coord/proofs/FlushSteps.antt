@@ -41,16 +41,16 @@ take_drop_end n xs h = let long : length (take n xs) ≡ n = omega (arith, lengt
 
 -- what a coordinator is after a flush to a table
 abbrev pub flushed_to : CoordValue → Option Frozen → FileMeta → Opened → List ℕ → CoordValue
-flushed_to c frozen f t text = record c { active = active_after c.active frozen; frozen = None; served = with_flushed c.served (flush_source_of c.active c.last frozen).end f t; edits = c.edits ++ text ∷ [] }
+flushed_to c frozen f t text = record c { active = active_after c.active frozen; frozen = None; served = with_flushed c.served (flush_source_of c.active c.last frozen).end f t; stored = record c.stored { edits = c.stored.edits ++ text ∷ [] } }
 
 -- what is logged of a flush: the new table is searched first
 pub logged_is : (old : VersionSetValue) (end : ℕ) (f : FileMeta) (t : Opened) (ts : List Opened) (e : Edit) → IsVersion old.served.version → IsServed old.served → IsEdit e → AreAsRecorded e.added ts → apply_fault old.served.version e ≡ None → e ≡ flush_edit old.served.version end f → ts ≡ t ∷ []
-    → after_logging old e ts ≡ record old { served = with_flushed old.served end f t; edits = old.edits ++ spelling e ∷ []; kept = fin.insert old.kept f.number t.bytes }
+    → after_logging old e ts ≡ record old { served = with_flushed old.served end f t; stored = record old.stored { edits = old.stored.edits ++ spelling e ∷ []; tables = fin.insert old.stored.tables f.number t.bytes } }
 logged_is old end f t ts e version served sound recorded applies is one =
     let plain : e.kind ≡ kind.Install → ⊥ = λ h. let no : kind.Flush ≡ kind.Install = sym (ap (λ (x : Edit). x.kind) is) ∙ h in absurd cc in
     let places = places_are old.served e ts version served sound plain recorded applies ∙ (λ i. placed_of (is i).added (one i) ++ old.served.places) in
     let retired = retired-none old.retired old.served e.removed (ap (λ (x : Edit). x.removed) is) in
-    λ i. record { served = record { version = after_apply old.served.version (is i); places = places i }; edits = old.edits ++ spelling e ∷ []; retired = retired i; floor = old.floor; kept = put_tables old.kept (placed_of (is i).added (one i)); failures = old.failures }
+    λ i. record { served = record { version = after_apply old.served.version (is i); places = places i }; stored = record old.stored { edits = old.stored.edits ++ spelling e ∷ []; tables = put_tables old.stored.tables (placed_of (is i).added (one i)) }; retired = retired i; floor = old.floor; failures = old.failures }
 
 -- ---- a flush of the frozen memtable
 
@@ -82,7 +82,7 @@ module _ (c : CoordValue) (z : Frozen) (s : State) (h : Shows c s) (frozen : c.f
     version_is =
         let v : VersionValue = c.served.version in
         let files : current_files s ++ record { level = 0; file = s.next_file } ∷ [] ≡ map place_of (files_after v.files (flush_edit v z.end f)) =
-        ap (λ (ps : List Place). ps ++ record { level = 0; file = s.next_file } ∷ []) (files_are c.edits c.served s h.tables)
+        ap (λ (ps : List Place). ps ++ record { level = 0; file = s.next_file } ∷ []) (files_are c.stored.edits c.served s h.tables)
         ∙ (λ i. map place_of v.files ++ record { level = sym level i; file = (h.tables.next_file ∙ sym number) i } ∷ [])
         ∙ sym (map-append place_of v.files (f ∷ []))
         ∙ ap (map place_of) (sym (files_after-is v.files (flush_edit v z.end f) refl)) in
@@ -98,14 +98,14 @@ module _ (c : CoordValue) (z : Frozen) (s : State) (h : Shows c s) (frozen : c.f
         let low = frozen_entries_old c.active (frozen_entries c.frozen) (stored_entries c.served) s h.memtables are_stored e there in
         omega (arith, after_is, start_is)
 
-    stored_after : ShowsStored (c.edits ++ text ∷ []) (with_flushed c.served z.end f t) (after_flush s)
+    stored_after : ShowsStored (c.stored.edits ++ text ∷ []) (with_flushed c.served z.end f t) (after_flush s)
     stored_after =
         let first = h.memtables.flushed in
         record {
-          manifest = Folds-push c.edits c.served.version text (flush_edit c.served.version z.end f) h.tables.manifest one fits;
+          manifest = Folds-push c.stored.edits c.served.version text (flush_edit c.served.version z.end f) h.tables.manifest one fits;
           versions = ap (λ (vs : List Version). vs ++ flushed_version s ∷ []) h.tables.versions
-              ∙ ap (λ (v : Version). map listing_of (versions_of c.edits) ++ v ∷ []) version_is
-              ∙ sym (listed-push c.edits c.served.version text (flush_edit c.served.version z.end f) h.tables.manifest one);
+              ∙ ap (λ (v : Version). map listing_of (versions_of c.stored.edits) ++ v ∷ []) version_is
+              ∙ sym (listed-push c.stored.edits c.served.version text (flush_edit c.served.version z.end f) h.tables.manifest one);
           next_file = ap (λ (n : ℕ). n + 1) h.tables.next_file;
           epoch = h.tables.epoch;
           ordered = (subst (λ (es : List Entry). IsAbove es (stored_entries c.served)) table_is (frozen_above c.active (frozen_entries c.frozen) (stored_entries c.served) s h.memtables are_stored), h.tables.ordered);

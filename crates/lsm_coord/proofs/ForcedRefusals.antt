@@ -76,7 +76,7 @@ flush_by c None s h e = nothing_new c s h e
 flush_by c (Some f) s h e = refl
 
 pub flush_forced : (c : CoordValue) (s : State) → Shows c s → refusal s say.Flush ≡ option_map refusal_of (flush_fault c)
-flush_forced c s h = rw (h.up, none_is c.frozen s h.frozen, flush_by c c.frozen s h refl, version_count c.edits c.served s h.tables, ltb-above MAX_NUMBER c.served.version.number, ltb-above MAX_NUMBER s.next_file, h.tables.next_file) (two _ _ error.NothingToFlush error.NumbersExhausted)
+flush_forced c s h = rw (h.up, none_is c.frozen s h.frozen, flush_by c c.frozen s h refl, version_count c.stored.edits c.served s h.tables, ltb-above MAX_NUMBER c.served.version.number, ltb-above MAX_NUMBER s.next_file, h.tables.next_file) (two _ _ error.NothingToFlush error.NumbersExhausted)
 
 pub snapshot_forced : (c : CoordValue) (s : State) → Shows c s → refusal s say.Snap ≡ option_map refusal_of (snapshot_fault c)
 snapshot_forced c s h = rw (h.up, h.snapshots, h.made, ltb-above MAX_NUMBER c.made) (two _ _ error.TooManySnapshots error.NumbersExhausted)

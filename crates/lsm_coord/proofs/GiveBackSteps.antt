@@ -13,7 +13,7 @@ use Rattle.lsm_claim.specs.declared.job.LiveJob.{LiveJob}
 use Rattle.lsm_claim.specs.Jobs.{same_job_id, without_job}
 use Rattle.lsm_claim.specs.Book.{BookValue, holds, with_ending, after_settling}
 use Rattle.lsm_edit.specs.declared.file.FileMeta.{FileMeta}
-use Rattle.lsm_versions.specs.Kept.{Kept}
+use Rattle.lsm_vault.specs.Stored.{TableMap}
 use Rattle.lsm_coord.specs.Model.State.{State}
 use Rattle.lsm_coord.specs.Contract.Memory.{AreLegal, IsJobWant}
 use Rattle.lsm_coord.specs.Contract.Value.{CoordValue}
@@ -90,8 +90,8 @@ orderly_after b id ending all j m = all j (live_before b id ending j m)
 -- ---- the coordinator
 
 -- the states that it shows know neither claims nor its vault
-pub Shows-beside : (c : CoordValue) (book : BookValue) (kept : Kept) (failures : ℕ) (s : State) → Shows c s → Shows (record c { book = book; kept = kept; failures = failures }) s
-Shows-beside c book kept failures s h = record {
+pub Shows-beside : (c : CoordValue) (book : BookValue) (tables : TableMap) (failures : ℕ) (s : State) → Shows c s → Shows (record c { book = book; stored = record c.stored { tables = tables }; failures = failures }) s
+Shows-beside c book tables failures s h = record {
   up = h.up;
   last = h.last;
   frozen = h.frozen;

@@ -68,7 +68,7 @@ with_book c b e = ap (λ (x : BookValue). record c { book = x }) e
 
 pub became_done : (old : CoordValue) (claim live : LiveJob) (made : JobResult) (number : ℕ) (files : List ℕ) (new : VersionSetValue) → IsLive old claim.id live → PutsOutputs old.limits.block (version_set old) live made (record { number = number; files = files }) new
     → Became old claim made (became.Done number files)
-    (record old { served = new.served; edits = new.edits; retired = new.retired; floor = new.floor; book = after_settling old.book claim.id ending.Installed; kept = new.kept; failures = new.failures })
+    (record old { served = new.served; stored = new.stored; retired = new.retired; floor = new.floor; book = after_settling old.book claim.id ending.Installed; failures = new.failures })
 became_done old claim live made number files new h p =
     let named = (live_is old claim.id live h).1 in
     let retired = p.new_is ∙ ap (λ (e : Edit). record (after_logging (version_set old) e p.tables) { failures = new.failures }) p.edit_is in (
@@ -84,11 +84,10 @@ became_done old claim live made number files new h p =
         spelled = record { sound = p.valid; spelled = refl };
         new_is = λ i. record old {
           served = (p.new_is i).served;
-          edits = (p.new_is i).edits;
+          stored = (p.new_is i).stored;
           retired = (retired i).retired;
           floor = (p.new_is i).floor;
           book = after_settling old.book (sym named i) ending.Installed;
-          kept = (p.new_is i).kept;
           failures = new.failures;
         };
         counted = p.counted;
@@ -110,15 +109,14 @@ module _ (old : CoordValue) (live : LiveJob) (ts : List Opened) (new : CoordValu
   pub done_applies : apply_fault old.served.version (install_edit_of old.served.version live.want ts) ≡ None
   done_applies = subst (λ (e : Edit). apply_fault old.served.version e ≡ None) done.edit_is done.applies
 
-  pub done_is : new ≡ record old { served = next_served old.served live.want ts; edits = old.edits ++ done.text ∷ []; retired = retired_after old.retired old.served live.want.files; book = after_settling old.book live.id ending.Installed; kept = new.kept; failures = new.failures }
+  pub done_is : new ≡ record old { served = next_served old.served live.want ts; stored = record old.stored { edits = old.stored.edits ++ done.text ∷ []; tables = new.stored.tables }; retired = retired_after old.retired old.served live.want.files; book = after_settling old.book live.id ending.Installed; failures = new.failures }
   done_is =
       done.new_is
       ∙ (λ i. record old {
         served = after_advance old.served (done.edit_is i) ts;
-        edits = old.edits ++ done.text ∷ [];
+        stored = record old.stored { edits = old.stored.edits ++ done.text ∷ []; tables = (sym done.new_is i).stored.tables };
         retired = retired_after old.retired old.served live.want.files;
         book = after_settling old.book live.id ending.Installed;
-        kept = (sym done.new_is i).kept;
         failures = new.failures;
       })
 

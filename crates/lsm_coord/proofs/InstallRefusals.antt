@@ -65,7 +65,7 @@ module _ (old : CoordValue) (s : State) (h : Shows old s) (live : LiveJob) (made
   cannot_number x =
       let few = tables_length made.tables x.1 x.2.tables in
       elim (one_is_over (old.served.version.number + 1) (old.served.version.next_file + length x.1) MAX_NUMBER (λ fits. x.3 (record { number = fits.0; next_file = fits.1 }))) [
-        | inl over ↦ inl (subst (λ (n : ℕ). MAX_NUMBER < n) (sym (version_count old.edits old.served s h.tables)) over)
+        | inl over ↦ inl (subst (λ (n : ℕ). MAX_NUMBER < n) (sym (version_count old.stored.edits old.served s h.tables)) over)
         | inr over ↦ inr (length x.1, rw few x.2.few, subst (λ (n : ℕ). MAX_NUMBER < n + length x.1) (sym h.tables.next_file) over)
       ]
 
@@ -95,7 +95,7 @@ rejected_keeps made why old new left = stored_keeps old new (rejected_stored mad
 
 -- a coordinator with another version set
 abbrev pub with_versions : CoordValue → VersionSetValue → CoordValue
-with_versions c v = record c { served = v.served; edits = v.edits; floor = v.floor; retired = v.retired; kept = v.kept; failures = v.failures }
+with_versions c v = record c { served = v.served; stored = v.stored; floor = v.floor; retired = v.retired; failures = v.failures }
 
 pub stored_left : {MayPut : ℕ → List ℕ → Type 0} (c : CoordValue) (v : VersionSetValue) → MayHavePut MayPut (version_set c) v → c.failures ≤ v.failures → MayHaveStored MayPut c (with_versions c v)
 stored_left c v put counted = record { rest = ap (with_versions c) put.rest; below = put.below; put = put.put; counted = counted }

@@ -127,10 +127,10 @@ module _ (c : CoordValue) (live : LiveJob) (ts : List Opened) (text : List ℕ) 
       let v = c.served.version in
       let added = records (live.want.level + 1) v.next_file ts in
       let files : next_version.files ≡ map place_of (edit.files_without live.want.files v.files ++ added) =
-      ap (λ (ps : List Place). change.without_inputs (input_places v.files live.want.files) ps ++ at_level (live.want.level + 1) numbers) (files_are c.edits c.served s h.tables)
+      ap (λ (ps : List Place). change.without_inputs (input_places v.files live.want.files) ps ++ at_level (live.want.level + 1) numbers) (files_are c.stored.edits c.served s h.tables)
       ∙ (λ i. without_is v.files live.want.files i ++ at_level_is (live.want.level + 1) v.next_file ts i)
       ∙ sym (map-append place_of (edit.files_without live.want.files v.files) added) in
-      λ i. record { flushed = flushed_is c.edits c.served s h.tables i; files = files i }
+      λ i. record { flushed = flushed_is c.stored.edits c.served s h.tables i; files = files i }
 
   tip_is : last_flushed after ≡ last_flushed s
   tip_is = tip-grown s.versions next_version
@@ -153,15 +153,15 @@ module _ (c : CoordValue) (live : LiveJob) (ts : List Opened) (text : List ℕ) 
   written : (at : ℕ) → AreWrittenBy c.served job at → (e : Entry) → IsIn e inputs → e.ikey.seq ≤ at
   written at by e m = let p = (are e).0 m in by p.0 p.1 ((of_want.inputs (p.0).meta).1 (file_of c.served version_is served_is p.0 p.1, p.2)) e p.3
 
-  stored_after : ShowsStored (c.edits ++ text ∷ []) (next_served c.served live.want ts) after
+  stored_after : ShowsStored (c.stored.edits ++ text ∷ []) (next_served c.served live.want ts) after
   stored_after =
       let v = c.served.version in
       let e = install_edit_of v live.want ts in
       record {
-        manifest = Folds-push c.edits v text e h.tables.manifest spelled installs.applies;
+        manifest = Folds-push c.stored.edits v text e h.tables.manifest spelled installs.applies;
         versions = ap (λ (vs : List Version). vs ++ next_version ∷ []) h.tables.versions
-            ∙ ap (λ (x : Version). map listing_of (versions_of c.edits) ++ x ∷ []) listed_next
-            ∙ sym (listed-push c.edits v text e h.tables.manifest spelled);
+            ∙ ap (λ (x : Version). map listing_of (versions_of c.stored.edits) ++ x ∷ []) listed_next
+            ∙ sym (listed-push c.stored.edits v text e h.tables.manifest spelled);
         next_file = next_is;
         epoch = h.tables.epoch;
         ordered = installs_keep_order c.served live.want e ts version_is served_is h.tables.ordered legal installs adds_none;
@@ -169,9 +169,9 @@ module _ (c : CoordValue) (live : LiveJob) (ts : List Opened) (text : List ℕ) 
         answers = λ key. subst (λ (n : ℕ). value_at (stored_entries (next_served c.served live.want ts)) key n ≡ answer s.writes n key) (sym tip_is) ((reads key).2 (last_flushed s) seen ∙ h.tables.answers key);
       }
 
-  pub shows_install : (new : CoordValue) → new.served ≡ next_served c.served live.want ts → new.edits ≡ c.edits ++ text ∷ [] → new.active ≡ c.active → new.frozen ≡ c.frozen → new.last ≡ c.last → new.snapshots ≡ c.snapshots → new.made ≡ c.made → new.floor ≡ c.floor → Shows new after
+  pub shows_install : (new : CoordValue) → new.served ≡ next_served c.served live.want ts → new.stored.edits ≡ c.stored.edits ++ text ∷ [] → new.active ≡ c.active → new.frozen ≡ c.frozen → new.last ≡ c.last → new.snapshots ≡ c.snapshots → new.made ≡ c.made → new.floor ≡ c.floor → Shows new after
   shows_install new served edits active frozen last snapshots made floor =
-      subst (λ (x : CoordValue). Shows x after) (λ i. record new { served = sym served i; edits = sym edits i; active = sym active i; frozen = sym frozen i; last = sym last i; snapshots = sym snapshots i; made = sym made i; floor = sym floor i })
+      subst (λ (x : CoordValue). Shows x after) (λ i. record new { served = sym served i; stored = record new.stored { edits = sym edits i }; active = sym active i; frozen = sym frozen i; last = sym last i; snapshots = sym snapshots i; made = sym made i; floor = sym floor i })
       (record {
         up = h.up;
         last = h.last;
@@ -198,7 +198,7 @@ module _ (c : CoordValue) (live : LiveJob) (ts : List Opened) (text : List ℕ) 
   pub is_installed : IsInstalled s (c.served.version.number + 1) numbers after
   is_installed =
       let v = c.served.version in
-      let count = version_count c.edits c.served s h.tables in
+      let count = version_count c.stored.edits c.served s h.tables in
       let first = h.tables.next_file in
       let own = legal.own in
       let test = λ (f : FileMeta). list_any (λ n. has_number n f) live.want.files in
@@ -213,7 +213,7 @@ module _ (c : CoordValue) (live : LiveJob) (ts : List Opened) (text : List ℕ) 
         some_input = some_in (place_of own.0) (input_places v.files live.want.files) (IsIn-map place_of own.0 (filter test v.files) there);
         of_current = λ p m.
             let f = IsIn-mapped place_of p (filter test v.files) m in
-            subst (IsIn p) (sym (files_are c.edits c.served s h.tables)) (subst (λ (q : Place). IsIn q (map place_of v.files)) (sym f.2) (IsIn-map place_of f.0 v.files (IsIn-filter test f.0 v.files f.1).0));
+            subst (IsIn p) (sym (files_are c.stored.edits c.served s h.tables)) (subst (λ (q : Place). IsIn q (map place_of v.files)) (sym f.2) (IsIn-map place_of f.0 v.files (IsIn-filter test f.0 v.files f.1).0));
         low = omega arith;
         high = omega (arith, level);
         number_is = sym count;
@@ -277,7 +277,7 @@ install_steps old new claim made number files book served version all_legal all_
     let step = is_installed old live ts install.text s h version served legal orderly installs spelled accepted.numbers job of_want sound.snapshots sound.deeper merge.inputs are kept in
     let shown = shows_install old live ts install.text s h version served legal orderly installs spelled accepted.numbers job of_want sound.snapshots sound.deeper merge.inputs are kept in
     let then = after old live ts install.text s h version served legal orderly installs spelled accepted.numbers job of_want sound.snapshots sound.deeper merge.inputs are kept in
-    let made_now : CoordValue = record old { served = next_served old.served live.want ts; edits = old.edits ++ install.text ∷ []; retired = retired_after old.retired old.served live.want.files; book = after_settling old.book live.id ending.Installed; kept = new.kept; failures = new.failures } in (
+    let made_now : CoordValue = record old { served = next_served old.served live.want ts; stored = record old.stored { edits = old.stored.edits ++ install.text ∷ []; tables = new.stored.tables }; retired = retired_after old.retired old.served live.want.files; book = after_settling old.book live.id ending.Installed; failures = new.failures } in (
       then,
       (refl, subst (λ (n : ℕ). IsInstalled s n files then) (sym b.5) (subst (λ (ns : List ℕ). IsInstalled s (old.served.version.number + 1) ns then) (sym b.6) step)),
       subst (λ (x : CoordValue). Shows x then) (sym (done_is old live ts new install)) (shown made_now refl refl refl refl refl refl refl refl),

@@ -1,14 +1,12 @@
 -- An opening over a vault without edits makes a new store.
-use Rattle.std.proofs.Common.{◌≡◌, ℕ, List, [], ◌∷◌, refl, sym, ap, subst, ◌∙◌, false}
+use Rattle.std.proofs.Common.{◌≡◌, ℕ, List, [], ◌∷◌, refl, sym, subst, false}
 use Rattle.lsm_key.specs.declared.limits.Limits.{Limits}
-use Rattle.lsm_claim.specs.Book.{new_book}
 use Rattle.lsm_edit.specs.Served.{IsServed, first_served}
-use Rattle.lsm_edit.specs.Version.{VersionValue}
-use Rattle.lsm_versions.specs.Kept.{Kept}
+use Rattle.lsm_vault.specs.Stored.{VaultValue}
 use Rattle.lsm_versions.proofs.ManifestReplay.{Folds-none}
 use Rattle.lsm_coord.specs.Model.State.{State, empty_version, first_state}
 use Rattle.lsm_coord.specs.Contract.Seats.{OpensCoord, ShowsDown}
-use Rattle.lsm_coord.specs.Contract.Shows.{Shows}
+use Rattle.lsm_coord.specs.Contract.Shows.{Shows, ShowsStored}
 use Rattle.lsm_coord.specs.Contract.Value.{CoordValue}
 use Rattle.lsm_coord.proofs.RestartSteps.{Shows-opened}
 
@@ -21,8 +19,8 @@ first_is_served : IsServed first_served
 first_is_served = record { ordered = tt; listed = λ f. (λ m. absurd m, λ m. absurd m); recorded = λ p m. absurd m }
 
 -- any vault without edits shows it
-shows_unopened : (kept : Kept) → ShowsDown [] kept unopened
-shows_unopened kept = record {
+shows_unopened : (vault : VaultValue) → vault.edits ≡ [] → ShowsDown vault unopened
+shows_unopened vault none = record {
   down = refl;
   frozen = refl;
   snapshots = refl;
@@ -31,7 +29,7 @@ shows_unopened kept = record {
   served = first_served;
   sound = first_is_served;
   tables = λ p m. absurd m;
-  stored = record {
+  stored = subst (λ (texts : List (List ℕ)). ShowsStored texts first_served unopened) (sym none) (record {
     manifest = Folds-none;
     versions = refl;
     next_file = refl;
@@ -39,17 +37,10 @@ shows_unopened kept = record {
     ordered = tt;
     old = λ e m. absurd m;
     answers = λ key. refl;
-  };
+  });
 }
 
--- A NEW STORE shows the first state, and its book is that of the first epoch.
-pub opened_new : (kept : Kept) (limits : Limits) (c : CoordValue) → OpensCoord [] kept limits c → Shows c first_state × (c.book ≡ new_book 1)
-opened_new kept limits c is =
-    let v = is.versions in (
-      subst (λ (x : CoordValue). Shows x first_state) (sym is.is) (Shows-opened [] kept v is.opens is.set is.served is.version unopened (shows_unopened kept) limits),
-      ap (λ (x : CoordValue). x.book) is.is ∙ ap (λ (x : VersionValue). new_book x.epoch) is.opens.version,
-    )
-
--- the same of a vault that is known to have no edit
-pub opened_over_nothing : (edits : List (List ℕ)) (kept : Kept) (limits : Limits) (c : CoordValue) → OpensCoord edits kept limits c → edits ≡ [] → Shows c first_state
-opened_over_nothing edits kept limits c opens none = (opened_new kept limits c (subst (λ (texts : List (List ℕ)). OpensCoord texts kept limits c) none opens)).0
+-- A NEW STORE shows the first state.
+pub opened_over_nothing : (vault : VaultValue) (limits : Limits) (c : CoordValue) → OpensCoord vault limits c → vault.edits ≡ [] → Shows c first_state
+opened_over_nothing vault limits c is none =
+    subst (λ (x : CoordValue). Shows x first_state) (sym is.is) (Shows-opened vault is.versions is.opens is.set is.served is.version unopened (shows_unopened vault none) limits)

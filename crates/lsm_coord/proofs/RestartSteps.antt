@@ -21,7 +21,7 @@ use Rattle.lsm_edit.specs.Served.{IsServed, tables_of}
 use Rattle.lsm_edit.specs.Version.{FileNumbersRise, IsVersion, VersionValue, after_apply, has_overlap}
 use Rattle.lsm_edit.proofs.NextLaws.{epoch_sound}
 use Rattle.lsm_edit.proofs.VersionLaws.{files_after-is}
-use Rattle.lsm_versions.specs.Kept.{Kept}
+use Rattle.lsm_vault.specs.Stored.{TableMap, VaultValue}
 use Rattle.lsm_versions.specs.Manifest.{IsVersionSet, VersionSetValue, versions_of}
 use Rattle.lsm_versions.specs.Opening.{ArePlacesKept, Opens, is_live_file, manifest_version}
 use Rattle.lsm_coord.specs.Model.State.{State, Version, last_flushed, last_seq}
@@ -80,12 +80,12 @@ had true o bytes h = h
 had false o bytes h = absurd cc
 
 -- a table that is left was there before
-was_kept : (kept : Kept) (stays : ℕ → Bool) (n : ℕ) (bytes : List ℕ) → get (retain_keys kept stays) n ≡ Some bytes → get kept n ≡ Some bytes
+was_kept : (kept : TableMap) (stays : ℕ → Bool) (n : ℕ) (bytes : List ℕ) → get (retain_keys kept stays) n ≡ Some bytes → get kept n ≡ Some bytes
 was_kept kept stays n bytes h = had (stays n) (get kept n) bytes (sym (get-retain_keys kept stays n (λ x tied. ap stays (sym (nat_cmp-IsAntisymmetric n x tied)))) ∙ h)
 
 -- ---- what the opened coordinator shows
 
-module _ (edits : List (List ℕ)) (kept : Kept) (v : VersionSetValue) (opens : Opens edits kept v) (set : IsVersionSet v) (is : IsServed v.served) (version_is : IsVersion v.served.version) (s : State) (down : ShowsDown edits kept (after_stop s)) where
+module _ (vault : VaultValue) (v : VersionSetValue) (opens : Opens vault v) (set : IsVersionSet v) (is : IsServed v.served) (version_is : IsVersion v.served.version) (s : State) (down : ShowsDown vault (after_stop s)) where
   -- the version that the vault has
   abbrev old : VersionValue
   old = down.served.version
@@ -99,16 +99,16 @@ module _ (edits : List (List ℕ)) (kept : Kept) (v : VersionSetValue) (opens : 
   next_sound = subst IsVersion next_is version_is
 
   -- one edit is logged
-  edits_are : v.edits ≡ edits ++ spelling (epoch_edit old) ∷ []
-  edits_are = opens.edits ∙ ap (λ (x : VersionValue). edits ++ spelling (epoch_edit x) ∷ []) down.stored.manifest.makes
+  edits_are : v.stored.edits ≡ vault.edits ++ spelling (epoch_edit old) ∷ []
+  edits_are = ap (λ (x : VaultValue). x.edits) opens.stored ∙ ap (λ (x : VersionValue). vault.edits ++ spelling (epoch_edit x) ∷ []) down.stored.manifest.makes
 
   -- the places are those of the vault
-  kept_before : ArePlacesKept kept v.served.places
-  kept_before p m = was_kept kept (is_live_file (manifest_version edits).files []) p.meta.number p.table.bytes (subst (λ (k : Kept). get k p.meta.number ≡ Some p.table.bytes) opens.tables (set.kept.listed p m))
+  kept_before : ArePlacesKept vault.tables v.served.places
+  kept_before p m = was_kept vault.tables (is_live_file (manifest_version vault.edits).files []) p.meta.number p.table.bytes (subst (λ (x : VaultValue). get x.tables p.meta.number ≡ Some p.table.bytes) opens.stored (set.kept.listed p m))
 
   -- so they are the same places
   places_are : v.served.places ≡ down.served.places
-  places_are = same_places kept v.served down.served is down.sound version_is (ap (λ (x : VersionValue). x.files) next_is ∙ same_files old) kept_before down.tables
+  places_are = same_places vault.tables v.served down.served is down.sound version_is (ap (λ (x : VersionValue). x.files) next_is ∙ same_files old) kept_before down.tables
 
   -- with the same entries
   stored_are : stored_entries down.served ≡ stored_entries v.served
@@ -119,14 +119,14 @@ module _ (edits : List (List ℕ)) (kept : Kept) (v : VersionSetValue) (opens : 
   flushed_stays = ap (λ (x : Version). x.flushed) (current_version-risen s)
 
   -- the versions of the state are those of the edits
-  versions_are : (after_restart s).versions ≡ map listing_of (versions_of v.edits)
+  versions_are : (after_restart s).versions ≡ map listing_of (versions_of v.stored.edits)
   versions_are =
-      (λ i. down.stored.versions i ++ (current_is edits down.served (after_stop s) down.stored ∙ sym (same_listing old)) i ∷ [])
-      ∙ sym (listed-push edits old (spelling (epoch_edit old)) (epoch_edit old) down.stored.manifest (spelled_epoch old next_sound))
+      (λ i. down.stored.versions i ++ (current_is vault.edits down.served (after_stop s) down.stored ∙ sym (same_listing old)) i ∷ [])
+      ∙ sym (listed-push vault.edits old (spelling (epoch_edit old)) (epoch_edit old) down.stored.manifest (spelled_epoch old next_sound))
       ∙ ap (λ (texts : List (List ℕ)). map listing_of (versions_of texts)) (sym edits_are)
 
   -- the tables show what was flushed
-  stored_after : ShowsStored v.edits v.served (after_restart s)
+  stored_after : ShowsStored v.stored.edits v.served (after_restart s)
   stored_after = record {
     manifest = set.folds;
     versions = versions_are;
@@ -156,11 +156,11 @@ module _ (edits : List (List ℕ)) (kept : Kept) (v : VersionSetValue) (opens : 
 
   -- the new version has the next number
   number_is : length s.versions ≡ v.served.version.number
-  number_is = version_count edits down.served (after_stop s) down.stored ∙ ap (λ (x : VersionValue). x.number) (sym next_is)
+  number_is = version_count vault.edits down.served (after_stop s) down.stored ∙ ap (λ (x : VersionValue). x.number) (sym next_is)
 
   -- the last sequence is the flushed one
   last_is : last_seq (after_restart s) ≡ v.served.version.flushed
-  last_is = down.flushed ∙ flushed_is edits down.served (after_stop s) down.stored ∙ ap (λ (x : VersionValue). x.flushed) (sym next_is)
+  last_is = down.flushed ∙ flushed_is vault.edits down.served (after_stop s) down.stored ∙ ap (λ (x : VersionValue). x.flushed) (sym next_is)
 
   -- The opened coordinator shows the state after a restart.
   pub Shows-opened : (limits : Limits) → Shows (opened_coord limits v) (after_restart s)
@@ -195,10 +195,10 @@ module _ (edits : List (List ℕ)) (kept : Kept) (v : VersionSetValue) (opens : 
   restarts limits = (restart_allowed, (sym stored_after.epoch, sym number_is, sym last_is, refl))
 
 -- AN OPENING IS A RESTART.
-pub open_follows : (edits : List (List ℕ)) (kept : Kept) (limits : Limits) (c : CoordValue) → OpensCoord edits kept limits c → OpenFollows edits kept c
-open_follows edits kept limits c is s down =
+pub open_follows : (vault : VaultValue) (limits : Limits) (c : CoordValue) → OpensCoord vault limits c → OpenFollows vault c
+open_follows vault limits c is s down =
     let v = is.versions in (
       after_restart s,
-      subst (λ (x : CoordValue). Step s (say.Restart say.Coordinator) (restarted_reply x) (after_restart s)) (sym is.is) (restarts edits kept v is.opens is.set is.served is.version s down limits),
-      subst (λ (x : CoordValue). Shows x (after_restart s)) (sym is.is) (Shows-opened edits kept v is.opens is.set is.served is.version s down limits),
+      subst (λ (x : CoordValue). Step s (say.Restart say.Coordinator) (restarted_reply x) (after_restart s)) (sym is.is) (restarts vault v is.opens is.set is.served is.version s down limits),
+      subst (λ (x : CoordValue). Shows x (after_restart s)) (sym is.is) (Shows-opened vault v is.opens is.set is.served is.version s down limits),
     )

@@ -29,9 +29,9 @@ four_in_turn s s1 s2 s3 s4 one two three four h1 h2 h3 h4 =
 
 -- ---- shown states
 
-shown_return : (core : Option CoordValue) (seat : SeatValue) (id : JobId) (s : State) → seat.core ≡ core → CoreShows core seat.edits seat.kept s → ShowsSeat (after_return seat id) s
+shown_return : (core : Option CoordValue) (seat : SeatValue) (id : JobId) (s : State) → seat.core ≡ core → CoreShows core seat.stored s → ShowsSeat (after_return seat id) s
 shown_return None seat id s e h = subst (λ (o : Option CoordValue). ShowsSeat (returned_to o seat id) s) (sym e) h
-shown_return (Some c) seat id s e h = subst (λ (o : Option CoordValue). ShowsSeat (returned_to o seat id) s) (sym e) (Shows-beside c (after_settling c.book id Returned) c.kept c.failures s h)
+shown_return (Some c) seat id s e h = subst (λ (o : Option CoordValue). ShowsSeat (returned_to o seat id) s) (sym e) (Shows-beside c (after_settling c.book id Returned) c.stored.tables c.failures s h)
 
 pub shown_after_all : (seat : SeatValue) (ids : List JobId) (s : State) → ShowsSeat seat s → ShowsSeat (after_returning_all seat ids) s
 shown_after_all seat [] s h = h

@@ -22,24 +22,24 @@ pub was_mapped : {X Y : Type 0} (f : X → Y) (o : Option X) (y : Y) → option_
 was_mapped f None y h = absurd cc
 was_mapped f (Some x) y h = (x, refl, same_Some (f x) y h)
 
-module _ (c : CoordValue) (s : State) (h : Shows c s) (is : IsServed c.served) (version_is : IsVersion c.served.version) (folds : Folds c.edits c.served.version) (are : AreRetired (versions_of c.edits) c.served.version c.retired c.floor) where
-  shown : (k n : ℕ) → c.floor ≤ k → ListsFile (versions_of c.edits) k n → IsListedSince s n
+module _ (c : CoordValue) (s : State) (h : Shows c s) (is : IsServed c.served) (version_is : IsVersion c.served.version) (folds : Folds c.stored.edits c.served.version) (are : AreRetired (versions_of c.stored.edits) c.served.version c.retired c.floor) where
+  shown : (k n : ℕ) → c.floor ≤ k → ListsFile (versions_of c.stored.edits) k n → IsListedSince s n
   shown k n le l =
-      let at : slice_get s.versions k ≡ Some (listing_of l.0) = ap (λ (vs : List Version). slice_get vs k) h.tables.versions ∙ slice_get-map listing_of (versions_of c.edits) k ∙ ap (option_map listing_of) l.1 in
+      let at : slice_get s.versions k ≡ Some (listing_of l.0) = ap (λ (vs : List Version). slice_get vs k) h.tables.versions ∙ slice_get-map listing_of (versions_of c.stored.edits) k ∙ ap (option_map listing_of) l.1 in
       (k, subst (λ (i : ℕ). i ≤ k) (sym h.floor) le, listing_of l.0, at, place_of l.2.0, IsIn-map place_of l.2.0 l.0.files l.2.1, l.2.2)
 
-  of_shown : (n : ℕ) → IsListedSince s n → (k : ℕ) × (c.floor ≤ k) × ListsFile (versions_of c.edits) k n
+  of_shown : (n : ℕ) → IsListedSince s n → (k : ℕ) × (c.floor ≤ k) × ListsFile (versions_of c.stored.edits) k n
   of_shown n l =
-      let at = sym (slice_get-map listing_of (versions_of c.edits) l.0) ∙ ap (λ (vs : List Version). slice_get vs l.0) (sym h.tables.versions) ∙ l.3 in
-      let v = was_mapped listing_of (slice_get (versions_of c.edits) l.0) l.2 at in
+      let at = sym (slice_get-map listing_of (versions_of c.stored.edits) l.0) ∙ ap (λ (vs : List Version). slice_get vs l.0) (sym h.tables.versions) ∙ l.3 in
+      let v = was_mapped listing_of (slice_get (versions_of c.stored.edits) l.0) l.2 at in
       let f = IsIn-mapped place_of l.4 v.0.files (subst (λ (x : Version). IsIn l.4 x.files) (sym v.2) l.5) in
       (l.0, subst (λ (i : ℕ). i ≤ l.0) h.floor l.1, (v.0, v.1, (f.0, f.1, ap (λ (p : Place). p.file) (sym f.2) ∙ l.6)))
 
   listed : (n : ℕ) (bytes : List ℕ) → bytes_at c.served.places c.retired n ≡ Some bytes → IsListedSince s n
-  listed n bytes found = let l = has_bytes c.edits c.served c.retired c.floor is version_is folds are n bytes found in shown l.0 n l.1 l.2
+  listed n bytes found = let l = has_bytes c.stored.edits c.served c.retired c.floor is version_is folds are n bytes found in shown l.0 n l.1 l.2
 
   unlisted : (n : ℕ) → bytes_at c.served.places c.retired n ≡ None → IsListedSince s n → ⊥
-  unlisted n none l = let at = of_shown n l in has_none c.edits c.served c.retired c.floor is version_is folds are n none at.0 at.1 at.2
+  unlisted n none l = let at = of_shown n l in has_none c.stored.edits c.served c.retired c.floor is version_is folds are n none at.0 at.1 at.2
 
   answers : (n : ℕ) (o : Option (List ℕ)) → bytes_at c.served.places c.retired n ≡ o → (IsListedSince s n × HasTable n (table_body n o)) ⊎ ((IsListedSince s n → ⊥) × (table_body n o ≡ body.Gone n))
   answers n None none = inr (unlisted n none, refl)

@@ -13,7 +13,7 @@ use Rattle.lsm_edit.specs.Served.{AreInSearchOrder, IsAsRecorded, IsServed, Serv
 use Rattle.lsm_edit.specs.Version.{IsVersion}
 use Rattle.lsm_edit.proofs.SearchOrder.{before_of, before_trans}
 use Rattle.lsm_edit.proofs.ServedPlaces.{not_itself}
-use Rattle.lsm_versions.specs.Kept.{Kept}
+use Rattle.lsm_vault.specs.Stored.{TableMap}
 use Rattle.lsm_versions.specs.Opening.{ArePlacesKept}
 
 -- ---- two lists in search order that have the same members are one
@@ -58,14 +58,14 @@ same_list (p ∷ ps) (q ∷ qs) whole up down there back =
 -- ---- the places of one version over the same tables
 
 -- a table's bytes have one list of entries, so two places of one file are one
-same_place : (kept : Kept) (p q : Placed) → p.meta ≡ q.meta → IsAsRecorded p.meta p.table → IsAsRecorded q.meta q.table → get kept p.meta.number ≡ Some p.table.bytes → get kept q.meta.number ≡ Some q.table.bytes → p ≡ q
+same_place : (kept : TableMap) (p q : Placed) → p.meta ≡ q.meta → IsAsRecorded p.meta p.table → IsAsRecorded q.meta q.table → get kept p.meta.number ≡ Some p.table.bytes → get kept q.meta.number ≡ Some q.table.bytes → p ≡ q
 same_place kept p q meta one other first second =
     let bytes : p.table.bytes ≡ q.table.bytes = same_Some _ _ (sym first ∙ ap (λ (f : FileMeta). get kept f.number) meta ∙ second) in
     let entries : p.table.entries ≡ q.table.entries = table_one q.table.bytes p.table.entries q.table.entries (subst (λ (b : List ℕ). IsTable b p.table.entries) bytes one.table) other.table in
     λ i. record { meta = meta i; table = record { bytes = bytes i; entries = entries i } }
 
 -- a place of the one is a place of the other
-placed_too : (kept : Kept) (s t : ServedValue) → IsServed s → IsServed t → s.version.files ≡ t.version.files → ArePlacesKept kept s.places → ArePlacesKept kept t.places → (p : Placed) → IsIn p s.places → IsIn p t.places
+placed_too : (kept : TableMap) (s t : ServedValue) → IsServed s → IsServed t → s.version.files ≡ t.version.files → ArePlacesKept kept s.places → ArePlacesKept kept t.places → (p : Placed) → IsIn p s.places → IsIn p t.places
 placed_too kept s t one other files first second p m =
     let file : IsIn p.meta t.version.files = subst (IsIn p.meta) files ((one.listed p.meta).0 (IsIn-map (λ (q : Placed). q.meta) p s.places m)) in
     let found = IsIn-mapped (λ (q : Placed). q.meta) p.meta t.places ((other.listed p.meta).1 file) in
@@ -73,7 +73,7 @@ placed_too kept s t one other files first second p m =
     subst (λ (q : Placed). IsIn q t.places) (sym same) found.1
 
 -- Two versions of the same files, each with the tables of one vault, have the same places.
-pub same_places : (kept : Kept) (s t : ServedValue) → IsServed s → IsServed t → IsVersion s.version → s.version.files ≡ t.version.files → ArePlacesKept kept s.places → ArePlacesKept kept t.places → s.places ≡ t.places
+pub same_places : (kept : TableMap) (s t : ServedValue) → IsServed s → IsServed t → IsVersion s.version → s.version.files ≡ t.version.files → ArePlacesKept kept s.places → ArePlacesKept kept t.places → s.places ≡ t.places
 same_places kept s t one other version files first second =
     same_list s.places t.places
     (λ p m. (version.files p.meta ((one.listed p.meta).0 (IsIn-map (λ (q : Placed). q.meta) p s.places m))).ordered)

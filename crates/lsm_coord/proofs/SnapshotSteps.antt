@@ -29,7 +29,7 @@ Shows-snapped c s h =
       snapshots = λ i. h.snapshots i ++ record { id = record { epoch = h.tables.epoch i; number = h.made i + 1 }; at = h.last i } ∷ [];
       made = ap (λ (n : ℕ). n + 1) h.made;
       floor = h.floor;
-      tables = stored_same c.edits c.served s _ h.tables refl refl refl refl (λ key. refl);
+      tables = stored_same c.stored.edits c.served s _ h.tables refl refl refl refl (λ key. refl);
       memtables = record {
         flushed = m.flushed;
         within = m.within;
@@ -65,7 +65,7 @@ Shows-released c s id h =
       snapshots = ap (filter others) h.snapshots;
       made = h.made;
       floor = h.floor;
-      tables = stored_same c.edits c.served s _ h.tables refl refl refl refl (λ key. refl);
+      tables = stored_same c.stored.edits c.served s _ h.tables refl refl refl refl (λ key. refl);
       memtables = record {
         flushed = m.flushed;
         within = m.within;

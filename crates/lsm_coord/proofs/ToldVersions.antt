@@ -18,22 +18,22 @@ use Rattle.lsm_coord.proofs.ShownVersions.{current_is, version_count}
 
 module _ (c : CoordValue) (s : State) (h : Shows c s) (n : ℕ) (said : Body) where
   latest : current s ≡ c.served.version.number
-  latest = let count = version_count c.edits c.served s h.tables in omega (arith, count)
+  latest = let count = version_count c.stored.edits c.served s h.tables in omega (arith, count)
 
-  next_edit : option_map body.Edit (slice_get (read_edits c.edits) n) ≡ Some said → HasEdit (n + 1) said
+  next_edit : option_map body.Edit (slice_get (read_edits c.stored.edits) n) ≡ Some said → HasEdit (n + 1) said
   next_edit told =
-      let e = was_mapped body.Edit (slice_get (read_edits c.edits) n) said told in
-      let at = edit_number first_version (read_edits c.edits) n e.0 h.tables.manifest.apply e.1 in
+      let e = was_mapped body.Edit (slice_get (read_edits c.stored.edits) n) said told in
+      let at = edit_number first_version (read_edits c.stored.edits) n e.0 h.tables.manifest.apply e.1 in
       (e.0, omega (arith, at), sym e.2)
 
-  behind : n < c.served.version.number → (b : Bool) → leb c.floor (n + 1) ≡ b → cond b (option_map body.Edit (slice_get (read_edits c.edits) n)) (Some (body.Base c.served.version)) ≡ Some said → Tells s n said
+  behind : n < c.served.version.number → (b : Bool) → leb c.floor (n + 1) ≡ b → cond b (option_map body.Edit (slice_get (read_edits c.stored.edits) n)) (Some (body.Base c.served.version)) ≡ Some said → Tells s n said
   behind lt true is told = let low = leb-true c.floor (n + 1) is in let same = h.floor in inr (inl (omega (arith, latest), omega (arith, low, same), next_edit told))
   behind lt false is told =
       let low = leb-false c.floor (n + 1) is in
       let same = h.floor in
-      inr (inr (omega (arith, latest), omega (arith, low, same), (c.served.version, sym latest, sym (current_is c.edits c.served s h.tables), sym (same_Some _ said told))))
+      inr (inr (omega (arith, latest), omega (arith, low, same), (c.served.version, sym latest, sym (current_is c.stored.edits c.served s h.tables), sym (same_Some _ said told))))
 
-  by_number : (b : Bool) → leb c.served.version.number n ≡ b → cond b (Some (body.Current c.served.version.number)) (cond (leb c.floor (n + 1)) (option_map body.Edit (slice_get (read_edits c.edits) n)) (Some (body.Base c.served.version))) ≡ Some said → Tells s n said
+  by_number : (b : Bool) → leb c.served.version.number n ≡ b → cond b (Some (body.Current c.served.version.number)) (cond (leb c.floor (n + 1)) (option_map body.Edit (slice_get (read_edits c.stored.edits) n)) (Some (body.Base c.served.version))) ≡ Some said → Tells s n said
   by_number true is told = let low = leb-true c.served.version.number n is in inl (omega (arith, latest, low), sym (same_Some _ said told) ∙ ap body.Current (sym latest))
   by_number false is told = behind (leb-false c.served.version.number n is) (leb c.floor (n + 1)) refl told
 

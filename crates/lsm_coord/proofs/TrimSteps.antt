@@ -17,6 +17,6 @@ Shows-trimmed c s n h =
       snapshots = h.snapshots;
       made = h.made;
       floor = ap (λ (floor : ℕ). max floor n) h.floor;
-      tables = stored_same c.edits c.served s _ h.tables refl refl refl refl (λ key. refl);
+      tables = stored_same c.stored.edits c.served s _ h.tables refl refl refl refl (λ key. refl);
       memtables = record { flushed = m.flushed; within = m.within; active_is = m.active_is; frozen_is = m.frozen_is; kept = m.kept; snapped = m.snapped };
     }

@@ -19,7 +19,7 @@ use Rattle.lsm_coord.proofs.GiveBackSteps.{Shows-beside}
 use Rattle.lsm_coord.proofs.JobsStaySound.{same_keeps}
 
 pub stored_shows : {MayPut : ℕ → List ℕ → Type 0} (old new : CoordValue) → MayHaveStored MayPut old new → (s : State) → Shows old s → Shows new s
-stored_shows old new may s h = subst (λ (c : CoordValue). Shows c s) (sym may.rest) (Shows-beside old old.book new.kept new.failures s h)
+stored_shows old new may s h = subst (λ (c : CoordValue). Shows c s) (sym may.rest) (Shows-beside old old.book new.stored.tables new.failures s h)
 
 pub stored_keeps : {MayPut : ℕ → List ℕ → Type 0} (old new : CoordValue) → MayHaveStored MayPut old new → KeepsSound old new
 stored_keeps old new may =

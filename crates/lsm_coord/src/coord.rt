@@ -44,15 +44,15 @@ pub struct Coord<V: Vault> {
 
 impl<V: Vault> Model for Coord<V> {
     ghost use Rattle.std.specs.Coded.{codes};
-    ghost use Rattle.lsm_versions.specs.Kept.{kept_code};
+    ghost use Rattle.lsm_vault.specs.Stored.{vault_code};
     ghost use Rattle.lsm_coord.specs.Contract.Value.{CoordValue};
     ghost use Rattle.lsm_coord.specs.Contract.Memory.{IsCoord};
 
     ghost Value = { CoordValue };
 
-    ghost coded = { Prim.hlevel (codes, kept_code) };
+    ghost coded = { Prim.hlevel (codes, vault_code) };
 
-    ghost view = { λ c. record { limits = c.limits; active = c.active; frozen = c.frozen; served = c.versions.served; edits = c.versions.edits; last = c.newest; snapshots = c.live.items; made = c.made; floor = c.versions.floor; retired = c.versions.retired; book = c.book; kept = c.versions.kept; failures = c.versions.failures } };
+    ghost view = { λ c. record { limits = c.limits; active = c.active; frozen = c.frozen; served = c.versions.served; stored = c.versions.stored; last = c.newest; snapshots = c.live.items; made = c.made; floor = c.versions.floor; retired = c.versions.retired; book = c.book; failures = c.versions.failures } };
 
     ghost invariant = { λ c. IsCoord c.active c.frozen c.newest c.versions.served c.book c.live.items };
 }
@@ -71,15 +71,14 @@ impl<V: Vault> Coord<V> {
     /// Opens what a vault has, in the next epoch: all that was flushed, and nothing else. A vault without edits is a new store. A
     /// refusal hands the vault back with its edits; some tables that no file of the version needs may be gone.
     pub fn open(alloc: Global, vault: V, limits: Limits) -> Result<Coord<V>, (OpenError, V)>
-        ensures ok { IfOk result (OpensCoord (V.edits vault) (V.tables vault) limits) }
+        ensures ok { IfOk result (OpensCoord (V.stored vault) limits) }
         ensures failures { IfOk result (λ c. V.failures vault ≤ c.failures) }
-        ensures step { IfOk result (OpenFollows (V.edits vault) (V.tables vault)) }
-        ensures new { IfOk result (λ c. V.edits vault ≡ [] → Shows c first_state) }
-        ensures refused { IfErr result (λ e. OpenRefuses (V.edits vault) (V.tables vault) e.0) }
-        ensures edits { IfErr result (λ e. V.edits e.1 ≡ V.edits vault) }
-        ensures tables { IfErr result (λ e. MayHaveDropped e.0 (V.edits vault) (V.tables vault) (V.tables e.1)) }
+        ensures step { IfOk result (OpenFollows (V.stored vault)) }
+        ensures new { IfOk result (λ c. (V.stored vault).edits ≡ [] → Shows c first_state) }
+        ensures refused { IfErr result (λ e. OpenRefuses (V.stored vault) e.0) }
+        ensures left { IfErr result (λ e. MayHaveDropped e.0 (V.stored vault) (V.stored e.1)) }
         ensures counted { IfErr result (λ e. CountsRefusal e.0 (V.failures vault) (V.failures e.1)) }
-        ensures stays { IfErr result (λ e. OpenRefusedFollows (V.edits vault) (V.tables vault) e.0 (V.tables e.1)) }
+        ensures stays { IfErr result (λ e. OpenRefusedFollows (V.stored vault) e.0 (V.stored e.1)) }
     {
         let versions = match VersionSet::open(alloc, vault) {
             Ok(versions) => versions,
@@ -132,7 +131,7 @@ impl<V: Vault> Coord<V> {
 
     /// The edits of the manifest, from the first on, as the vault has them. They share the bytes.
     pub fn edits(&mut self) -> Result<Vec<Bytes>, VaultError>
-        ensures ok { IfOk result (λ edits. edits.items ≡ self.old.edits) }
+        ensures ok { IfOk result (λ edits. edits.items ≡ self.old.stored.edits) }
         ensures same { self.new ≡ record self.old { failures = self.new.failures } }
         ensures counted { CountsFailures result self.old.failures self.new.failures }
     {
@@ -141,10 +140,9 @@ impl<V: Vault> Coord<V> {
 
     /// Ends it, and hands the vault back. All that was not flushed is lost, and all claims are stale.
     pub fn close(self) -> V
-        ensures edits { V.edits result ≡ self.edits }
-        ensures tables { V.tables result ≡ self.kept }
+        ensures vault { V.stored result ≡ self.stored }
         ensures failures { V.failures result ≡ self.failures }
-        ensures stops { (s : State) → Shows self s → ShowsDown self.edits self.kept (after_stop s) }
+        ensures stops { (s : State) → Shows self s → ShowsDown self.stored (after_stop s) }
     {
         // Proof hint: the version and its places are sound, and the vault has their tables.
         let _listing = self.versions.served().listing();

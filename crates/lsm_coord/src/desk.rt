@@ -83,9 +83,9 @@ impl Desk {
 
     /// Gives each claim that is held back to the seat, from the first dispatcher on. Allocates nothing.
     pub fn close<V: Vault>(self, seat: &mut Seat<V>)
-        ensures returned { seat_of V.edits V.tables V.failures seat.new ≡ after_returning_all (seat_of V.edits V.tables V.failures seat.old) (claims_of self) }
-        ensures shown { (s : State) → ShowsSeat (seat_of V.edits V.tables V.failures seat.old) s → ShowsSeat (seat_of V.edits V.tables V.failures seat.new) s }
-        ensures sound { CoreKeepsSound (seat_of V.edits V.tables V.failures seat.old).core (seat_of V.edits V.tables V.failures seat.new).core }
+        ensures returned { seat_of V.stored V.failures seat.new ≡ after_returning_all (seat_of V.stored V.failures seat.old) (claims_of self) }
+        ensures shown { (s : State) → ShowsSeat (seat_of V.stored V.failures seat.old) s → ShowsSeat (seat_of V.stored V.failures seat.new) s }
+        ensures sound { CoreKeepsSound (seat_of V.stored V.failures seat.old).core (seat_of V.stored V.failures seat.new).core }
     {
         let Desk {
             first,

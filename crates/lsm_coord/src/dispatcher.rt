@@ -57,7 +57,7 @@ impl Dispatcher {
 
     // Gives back the claim that it holds.
     pub(crate) fn close<V: Vault>(self, seat: &mut Seat<V>)
-        ensures { seat_of V.edits V.tables V.failures seat.new ≡ after_returning_all (seat_of V.edits V.tables V.failures seat.old) (claim_of self) }
+        ensures { seat_of V.stored V.failures seat.new ≡ after_returning_all (seat_of V.stored V.failures seat.old) (claim_of self) }
     {
         match self {
             Dispatcher::Idle => {}

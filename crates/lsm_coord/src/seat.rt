@@ -27,8 +27,8 @@ impl<V: Vault> Seat<V> {
     /// Lets go of all that is not in the vault, and opens the vault again, in the next epoch. What was not flushed is lost, and all
     /// claims are stale. If the opening is refused, the coordinator is down, and a restart may be tried again.
     pub fn restart(self, alloc: Global) -> (Seat<V>, Result<(), OpenError>)
-        ensures restarts { Restarts (seat_of V.edits V.tables V.failures self) result.1 (seat_of V.edits V.tables V.failures result.0) }
-        ensures step { RestartFollows (seat_of V.edits V.tables V.failures self) result.1 (seat_of V.edits V.tables V.failures result.0) }
+        ensures restarts { Restarts (seat_of V.stored V.failures self) result.1 (seat_of V.stored V.failures result.0) }
+        ensures step { RestartFollows (seat_of V.stored V.failures self) result.1 (seat_of V.stored V.failures result.0) }
     {
         let (vault, epoch, limits) = self.stop();
         match Coord::open(alloc, vault, limits) {
@@ -42,12 +42,11 @@ impl<V: Vault> Seat<V> {
 
     // Ends the coordinator, if it is up. What is left are the vault, the epoch and the limits.
     fn stop(self) -> (V, u64, Limits)
-        ensures edits { V.edits result.0 ≡ (seat_of V.edits V.tables V.failures self).edits }
-        ensures tables { V.tables result.0 ≡ (seat_of V.edits V.tables V.failures self).kept }
-        ensures failures { V.failures result.0 ≡ (seat_of V.edits V.tables V.failures self).failures }
-        ensures epoch { result.1 ≡ (seat_of V.edits V.tables V.failures self).book.epoch }
-        ensures limits { result.2 ≡ (seat_of V.edits V.tables V.failures self).limits }
-        ensures shown { (s : State) → ShowsSeat (seat_of V.edits V.tables V.failures self) s → ShowsDown (V.edits result.0) (V.tables result.0) (after_stop s) }
+        ensures vault { V.stored result.0 ≡ (seat_of V.stored V.failures self).stored }
+        ensures failures { V.failures result.0 ≡ (seat_of V.stored V.failures self).failures }
+        ensures epoch { result.1 ≡ (seat_of V.stored V.failures self).book.epoch }
+        ensures limits { result.2 ≡ (seat_of V.stored V.failures self).limits }
+        ensures shown { (s : State) → ShowsSeat (seat_of V.stored V.failures self) s → ShowsDown (V.stored result.0) (after_stop s) }
     {
         match self {
             Seat::Up(coord) => {
@@ -60,8 +59,8 @@ impl<V: Vault> Seat<V> {
 
     /// Ends a claim without a result. It is stale while the coordinator is down. Allocates nothing.
     pub fn give_back(&mut self, claim: Claim) -> Settled
-        ensures answer { result ≡ settle_answer (seat_of V.edits V.tables V.failures self.old).book claim.id }
-        ensures book { seat_of V.edits V.tables V.failures self.new ≡ after_return (seat_of V.edits V.tables V.failures self.old) claim.id }
+        ensures answer { result ≡ settle_answer (seat_of V.stored V.failures self.old).book claim.id }
+        ensures book { seat_of V.stored V.failures self.new ≡ after_return (seat_of V.stored V.failures self.old) claim.id }
     {
         match self {
             Seat::Up(coord) => coord.give_back(claim),
@@ -71,9 +70,8 @@ impl<V: Vault> Seat<V> {
 
     /// Ends it, and hands the vault back.
     pub fn close(self) -> V
-        ensures edits { V.edits result ≡ (seat_of V.edits V.tables V.failures self).edits }
-        ensures tables { V.tables result ≡ (seat_of V.edits V.tables V.failures self).kept }
-        ensures failures { V.failures result ≡ (seat_of V.edits V.tables V.failures self).failures }
+        ensures vault { V.stored result ≡ (seat_of V.stored V.failures self).stored }
+        ensures failures { V.failures result ≡ (seat_of V.stored V.failures self).failures }
     {
         match self {
             Seat::Up(coord) => coord.close(),

@@ -23,7 +23,7 @@ keeps_same c writes snapshots h = h
 pub returned_keeps : (c : CoordValue) (id : JobId) → Keeps c (after_give_back c id)
 returned_keeps c id writes snapshots h = record {
   state = h.state;
-  shown = Shows-beside c (after_settling c.book id Returned) c.kept c.failures h.state h.shown;
+  shown = Shows-beside c (after_settling c.book id Returned) c.stored.tables c.failures h.state h.shown;
   writes_are = h.writes_are;
   snapshots_are = h.snapshots_are;
 }

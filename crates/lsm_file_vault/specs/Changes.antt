@@ -1,12 +1,12 @@
 -- What a change of a folder leaves (a directory's operations: create or replace a file, remove it, append a record).
 use Rattle.std.specs.Prelude.{ℕ, List, [], ◌∷◌, ◌++◌}
-use Rattle.std.specs.Ordering.{nat_cmp}
-use Rattle.std.specs.FinMap.{FinMap, insert, remove}
+use Rattle.std.specs.FinMap.{insert, remove}
+use Rattle.lsm_vault.specs.Stored.{TableMap}
 use Rattle.lsm_file_vault.specs.declared.change.Change.{Change}
 use Rattle.lsm_file_vault.specs.declared.change.Change.TheVariants.{TablePut, TableRemoved, EditAppended}
 
 -- of the tables
-abbrev pub tables_after : Change → FinMap nat_cmp (List ℕ) → FinMap nat_cmp (List ℕ)
+abbrev pub tables_after : Change → TableMap → TableMap
 tables_after (TablePut number table) tables = insert tables number table.value
 tables_after (TableRemoved number) tables = remove tables number
 tables_after (EditAppended edit) tables = tables

@@ -28,8 +28,7 @@ impl<F: Folder> FileVault<F> {
     pub fn new(alloc: Global, folder: F, tables: Tables, edits: Vec<Bytes>) -> FileVault<F>
         requires same_tables { tables ≡ F.tables folder }
         requires same_edits { edits.items ≡ F.edits folder }
-        ensures tables { ⟦<FileVault<F> as Vault>⟧.tables result ≡ F.tables folder }
-        ensures edits { ⟦<FileVault<F> as Vault>⟧.edits result ≡ F.edits folder }
+        ensures stored { ⟦<FileVault<F> as Vault>⟧.stored result ≡ record { edits = F.edits folder; tables = F.tables folder } }
         ensures failures { ⟦<FileVault<F> as Vault>⟧.failures result ≡ 0 }
     {
         FileVault {
@@ -61,9 +60,7 @@ fn refusal<T>(failures: &mut u64, error: io::Error) -> Result<T, VaultError>
 
 #[tactic(auto, using(lsm_vault::proofs::Restoring::put_restored))]
 impl<F: Folder> Vault for FileVault<F> {
-    ghost tables = { λ v. F.tables v.folder };
-
-    ghost edits = { λ v. F.edits v.folder };
+    ghost stored = { λ v. record { edits = F.edits v.folder; tables = F.tables v.folder } };
 
     ghost failures = { λ v. v.failures };
 

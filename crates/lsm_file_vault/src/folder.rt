@@ -1,8 +1,8 @@
 //! What a vault asks of the folder that keeps its data.
 
 ghost use Rattle.std.specs.Prelude.{◌≡◌, ℕ, ◌++◌, ◌∷◌, [], List, is_ok, if◌then◌else◌};
-ghost use Rattle.std.specs.Ordering.{nat_cmp};
 ghost use Rattle.std.specs.FinMap as map;
+ghost use Rattle.lsm_vault.specs.Stored.{TableMap};
 
 use bytes::Bytes;
 use lsm_key::FileNumber;
@@ -11,7 +11,7 @@ use std::io;
 /// A folder of tables by file number, and of edits in the order in which they were appended. `tables` and `edits` are what the calls
 /// leave that returned `Ok`: a call that was refused counts as not made.
 pub trait Folder {
-    ghost tables: { Self → map.FinMap nat_cmp (List ℕ) };
+    ghost tables: { Self → TableMap };
 
     ghost edits: { Self → List (List ℕ) };
 

@@ -1,9 +1,7 @@
 //! What the calls on a folder leave, as only clauses read it.
 
 ghost use Rattle.std.specs.Prelude.{◌≡◌, ℕ, List};
-ghost use Rattle.std.specs.Ordering.{nat_cmp};
-ghost use Rattle.std.specs.FinMap as map;
-ghost use Rattle.std.specs.Coded.{coded_ℕ, coded_list};
+ghost use Rattle.lsm_vault.specs.Stored.{TableMap, table_map_code};
 
 use crate::{Change, Contents};
 use std::marker::{Model, PhantomData};
@@ -12,7 +10,7 @@ use std::marker::{Model, PhantomData};
 #[derive(Drop)]
 pub struct Notes {
     marker: PhantomData<u8>,
-    pub ghost tables: { map.FinMap nat_cmp (List ℕ) } by { map.code coded_ℕ (coded_list coded_ℕ) },
+    pub ghost tables: { TableMap } by { table_map_code },
     pub ghost edits: { List (List ℕ) },
 }
 

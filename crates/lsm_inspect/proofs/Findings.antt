@@ -4,12 +4,12 @@ use Rattle.std.specs.Option.{IfNone, IfSome}
 use Rattle.lsm_key.specs.Sets.{IsIn}
 use Rattle.lsm_key.proofs.Membership.{IsIn-append_left, IsIn-append_right, IsIn-append_cases, IsIn-one}
 use Rattle.lsm_edit.specs.declared.file.FileMeta.{FileMeta}
-use Rattle.lsm_versions.specs.Kept.{Kept}
+use Rattle.lsm_vault.specs.Stored.{TableMap}
 use Rattle.lsm_versions.specs.Opening.{HaveTables}
 use Rattle.lsm_inspect.specs.declared.damage.Finding.{Finding}
 use Rattle.lsm_inspect.specs.Check.{Finds, IsFinding, IsWhole, items_of}
 
-module _ (kept : Kept) (damaged : List ℕ) where
+module _ (kept : TableMap) (damaged : List ℕ) where
   -- no file, no finding
   pub finds_none : Finds kept damaged [] []
   finds_none = record { each = λ x m. absurd m; all = λ f m. absurd m }

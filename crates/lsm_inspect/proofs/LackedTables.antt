@@ -7,7 +7,7 @@ use Rattle.lsm_table.proofs.TableContents.{table_one}
 use Rattle.lsm_table.proofs.TableLaws.{table_again}
 use Rattle.lsm_edit.specs.declared.file.FileMeta.{FileMeta}
 use Rattle.lsm_edit.specs.Served.{IsAsRecorded}
-use Rattle.lsm_versions.specs.Kept.{Kept}
+use Rattle.lsm_vault.specs.Stored.{TableMap}
 use Rattle.lsm_versions.specs.Opening.{LacksTable}
 use Rattle.lsm_inspect.specs.declared.damage.Damage.{Damage}
 use Rattle.lsm_inspect.specs.declared.damage.Damage.TheVariants.{NotWhole, Missing, WrongLength, NotATable, WrongCount, WrongKeys}
@@ -17,7 +17,7 @@ not_both : {A E : Type 0} (x : A) (e : E) → Ok x ≡ Err e → ⊥
 not_both x e h = cc
 
 -- a table that is not as the file's record says is a damage
-pub mismatch_damage : (kept : Kept) (damaged : List ℕ) (f : FileMeta) (d : Damage) → HasMismatch kept f d → IsDamage kept damaged f d
+pub mismatch_damage : (kept : TableMap) (damaged : List ℕ) (f : FileMeta) (d : Damage) → HasMismatch kept f d → IsDamage kept damaged f d
 mismatch_damage kept damaged f NotWhole m = absurd m.mismatch
 mismatch_damage kept damaged f Missing m = absurd m.mismatch
 mismatch_damage kept damaged f (NotATable fault) m = absurd m.mismatch
@@ -34,7 +34,7 @@ module _ (f : FileMeta) where
   not_recorded t Missing is m = m
   not_recorded t (NotATable fault) is m = m
 
-  mismatch_lacks : (kept : Kept) (d : Damage) → HasMismatch kept f d → LacksTable kept f
+  mismatch_lacks : (kept : TableMap) (d : Damage) → HasMismatch kept f d → LacksTable kept f
   mismatch_lacks kept d m t there recorded =
       let bytes : t.bytes ≡ m.opened.bytes = same_Some t.bytes m.opened.bytes (sym there ∙ m.there) in
       let table : IsTable m.opened.bytes t.entries = subst (λ (b : List ℕ). IsTable b t.entries) bytes recorded.table in
@@ -42,7 +42,7 @@ module _ (f : FileMeta) where
       let one : t ≡ m.opened = λ i. record { bytes = bytes i; entries = entries i } in
       not_recorded m.opened d (subst (λ (o : Opened). IsAsRecorded f o) one recorded) m.mismatch
 
-  pub damage_lacks : (kept : Kept) (damaged : List ℕ) (d : Damage) → is_among damaged f.number ≡ false → IsDamage kept damaged f d → LacksTable kept f
+  pub damage_lacks : (kept : TableMap) (damaged : List ℕ) (d : Damage) → is_among damaged f.number ≡ false → IsDamage kept damaged f d → LacksTable kept f
   damage_lacks kept damaged NotWhole not is = absurd (true≢false (sym is ∙ not))
   damage_lacks kept damaged Missing not is = λ t there recorded. none-some t.bytes (sym is ∙ there)
   damage_lacks kept damaged (NotATable fault) not is = λ t there recorded.

@@ -10,7 +10,7 @@ use Rattle.lsm_table.specs.TableReading.{read_table}
 use Rattle.lsm_edit.specs.declared.file.FileMeta.{FileMeta}
 use Rattle.lsm_edit.specs.Served.{IsAsRecorded}
 use Rattle.lsm_edit.specs.Version.{has_number}
-use Rattle.lsm_versions.specs.Kept.{Kept}
+use Rattle.lsm_vault.specs.Stored.{TableMap}
 use Rattle.lsm_versions.specs.Manifest.{Folds}
 use Rattle.lsm_versions.specs.Opening.{manifest_version}
 use Rattle.lsm_inspect.specs.declared.error.InspectError.{InspectError}
@@ -24,11 +24,11 @@ abbrev pub is_among : List ℕ → ℕ → Bool
 is_among numbers n = list_any (λ m. nat_eq m n) numbers
 
 -- the file's table is there, as its record says
-abbrev pub HasRecordedTable : Kept → FileMeta → Type 0
+abbrev pub HasRecordedTable : TableMap → FileMeta → Type 0
 HasRecordedTable kept f = (t : Opened) × (map.get kept f.number ≡ Some t.bytes) × IsAsRecorded f t
 
 -- and no damaged file of the folder has its number
-pub record IsWhole (kept : Kept) (damaged : List ℕ) (f : FileMeta) : Type 0 where
+pub record IsWhole (kept : TableMap) (damaged : List ℕ) (f : FileMeta) : Type 0 where
   pub table : HasRecordedTable kept f
   pub undamaged : is_among damaged f.number ≡ false
 
@@ -42,14 +42,14 @@ IsMismatch f t Missing = ⊥
 IsMismatch f t (NotATable fault) = ⊥
 
 -- the table under the file's number is not as its record says
-pub record HasMismatch (kept : Kept) (f : FileMeta) (d : Damage) : Type 0 where
+pub record HasMismatch (kept : TableMap) (f : FileMeta) (d : Damage) : Type 0 where
   pub opened : Opened
   pub there : map.get kept f.number ≡ Some opened.bytes
   pub table : IsTable opened.bytes opened.entries
   pub mismatch : IsMismatch f opened d
 
 -- this is wrong with the file's table
-abbrev pub IsDamage : Kept → List ℕ → FileMeta → Damage → Type 0
+abbrev pub IsDamage : TableMap → List ℕ → FileMeta → Damage → Type 0
 IsDamage kept damaged f NotWhole = is_among damaged f.number ≡ true
 IsDamage kept damaged f Missing = map.get kept f.number ≡ None
 IsDamage kept damaged f (NotATable fault) = (bytes : List ℕ) × (map.get kept f.number ≡ Some bytes) × (read_table bytes ≡ Err fault)
@@ -58,17 +58,17 @@ IsDamage kept damaged f (WrongCount recorded found) = HasMismatch kept f (WrongC
 IsDamage kept damaged f WrongKeys = HasMismatch kept f WrongKeys
 
 -- a refusal for what is wrong with the file's table, or for want of memory
-abbrev pub RefusesTable : Kept → List ℕ → FileMeta → Refused Damage → Type 0
+abbrev pub RefusesTable : TableMap → List ℕ → FileMeta → Refused Damage → Type 0
 RefusesTable kept damaged f refused.OutOfMemory = Unit {0}
 RefusesTable kept damaged f (refused.Fault d) = IsDamage kept damaged f d
 
 -- the finding names the file, and is true of it
-pub record IsFinding (kept : Kept) (damaged : List ℕ) (f : FileMeta) (x : Finding) : Type 0 where
+pub record IsFinding (kept : TableMap) (damaged : List ℕ) (f : FileMeta) (x : Finding) : Type 0 where
   pub file : x.file ≡ f.number
   pub damage : IsDamage kept damaged f x.damage
 
 -- each finding is true of one of the files, and each of them without a finding is whole
-pub record Finds (kept : Kept) (damaged : List ℕ) (files : List FileMeta) (found : List Finding) : Type 0 where
+pub record Finds (kept : TableMap) (damaged : List ℕ) (files : List FileMeta) (found : List Finding) : Type 0 where
   pub each : (x : Finding) → IsIn x found → (f : FileMeta) × IsIn f files × IsFinding kept damaged f x
   pub all : (f : FileMeta) → IsIn f files → IsWhole kept damaged f ⊎ ((x : Finding) × IsIn x found × IsFinding kept damaged f x)
 

@@ -20,7 +20,7 @@ use Rattle.lsm_nodes.specs.Histories.{AreGiven, AreSoundJobs, HoldsMerge, HoldsM
 
 -- what a call owes to the history that it ends
 pub record Extends (past : List WitnessedValue) (a : CoordValue) (w : WitnessedValue) (b : CoordValue) : Type 0 where
-  pub installs : installs_in b.edits ≡ installs_in a.edits ++ installed_by w.exchange.answer
+  pub installs : installs_in b.stored.edits ≡ installs_in a.stored.edits ++ installed_by w.exchange.answer
   pub made : a.book.made ≤ b.book.made
   pub given : (job : JobParts) → w.exchange.answer ≡ answer.Picked job → job.id.number ≤ b.book.made
   pub step : HoldsMerge past w.before w.exchange.call w.exchange.answer → AreSoundJobs past a → Follows a (event_of w.exchange.call) (reply_of w.exchange.call w.exchange.answer) b
@@ -52,8 +52,8 @@ shared_push start a b total now w k is n e =
       installed =
           e.installs
           ∙ ap (λ (l : List (ℕ × List ℕ)). l ++ installed_by w.exchange.answer) k.installed
-          ∙ append_assoc (installs_in start.edits) (installed_in a.history) (installed_by w.exchange.answer)
-          ∙ ap (λ (l : List (ℕ × List ℕ)). installs_in start.edits ++ l) (sym (ap installed_in is ∙ installed_push a.history w));
+          ∙ append_assoc (installs_in start.stored.edits) (installed_in a.history) (installed_by w.exchange.answer)
+          ∙ ap (λ (l : List (ℕ × List ℕ)). installs_in start.stored.edits ++ l) (sym (ap installed_in is ∙ installed_push a.history w));
       given = λ job p.
           elim (cases job p) [
             | inl q ↦ (let before = k.given job q in let more = e.made in omega (arith, before, more))
@@ -87,10 +87,10 @@ plain_installs a h = refl
 plain_picks : (a : Answer) (job : JobParts) → IsPlain a → a ≡ answer.Picked job → ⊥
 plain_picks a job h e = subst IsPlain e h
 
-pub extends_plain : (past : List WitnessedValue) (a : CoordValue) (w : WitnessedValue) (b : CoordValue) → IsPlain w.exchange.answer → installs_in b.edits ≡ installs_in a.edits → b.book ≡ a.book
+pub extends_plain : (past : List WitnessedValue) (a : CoordValue) (w : WitnessedValue) (b : CoordValue) → IsPlain w.exchange.answer → installs_in b.stored.edits ≡ installs_in a.stored.edits → b.book ≡ a.book
     → Follows a (event_of w.exchange.call) (reply_of w.exchange.call w.exchange.answer) b → ((s : State) → Shows a s → KeepsSound a b) → Extends past a w b
 extends_plain past a w b plain edits book goes keeps = record {
-  installs = edits ∙ sym (ap (λ (l : List (ℕ × List ℕ)). installs_in a.edits ++ l) (plain_installs w.exchange.answer plain) ∙ append-nil (installs_in a.edits));
+  installs = edits ∙ sym (ap (λ (l : List (ℕ × List ℕ)). installs_in a.stored.edits ++ l) (plain_installs w.exchange.answer plain) ∙ append-nil (installs_in a.stored.edits));
   made = omega (arith, ap (λ (k : BookValue). k.made) book);
   given = λ job e. absurd (plain_picks w.exchange.answer job plain e);
   step = λ h sound. goes;

@@ -8,7 +8,7 @@ use Rattle.lsm_key.specs.declared.op.Op.{Op}
 use Rattle.lsm_edit.specs.declared.edit.Edit.{Edit}
 use Rattle.lsm_edit.specs.declared.file.FileMeta.{FileMeta}
 use Rattle.lsm_edit.specs.Edit.{IsSpelledEdit}
-use Rattle.lsm_versions.specs.Kept.{Kept}
+use Rattle.lsm_vault.specs.Stored.{TableMap}
 use Rattle.lsm_versions.specs.Manifest.{read_edits}
 use Rattle.lsm_versions.specs.Opening.{MayHaveLost, is_live}
 use Rattle.lsm_versions.proofs.ManifestReplay.{read_edits-push}
@@ -37,7 +37,7 @@ use Rattle.lsm_nodes.proofs.LongerHistories.{Extends, IsPlain, extends_plain, pl
 
 -- a plain call by its exchange, that leaves the installs and the book
 pub plainly : (past : List WitnessedValue) (a : CoordValue) (w : WitnessedValue) (b : CoordValue) (asked : Call) (answered : Answer) → w.exchange.call ≡ asked → w.exchange.answer ≡ answered → IsPlain answered
-    → installs_in b.edits ≡ installs_in a.edits → b.book ≡ a.book → Follows a (event_of asked) (reply_of asked answered) b → ((s : State) → Shows a s → KeepsSound a b) → Extends past a w b
+    → installs_in b.stored.edits ≡ installs_in a.stored.edits → b.book ≡ a.book → Follows a (event_of asked) (reply_of asked answered) b → ((s : State) → Shows a s → KeepsSound a b) → Extends past a w b
 plainly past a w b asked answered call answer plain edits book goes keeps =
     extends_plain past a w b (subst IsPlain (sym answer) plain) edits book
     (subst (λ (r : Reply). Follows a (event_of w.exchange.call) r b) (λ i. reply_of (sym call i) (sym answer i)) (subst (λ (e : Event). Follows a e (reply_of asked answered) b) (ap event_of (sym call)) goes))
@@ -47,7 +47,7 @@ plainly past a w b asked answered call answer plain edits book goes keeps =
 pub same_after : (past : List WitnessedValue) (a : CoordValue) (w : WitnessedValue) (b : CoordValue) (asked : Call) (answered : Answer) → w.exchange.call ≡ asked → w.exchange.answer ≡ answered → IsPlain answered → b ≡ a
     → Follows a (event_of asked) (reply_of asked answered) b → Extends past a w b
 same_after past a w b asked answered call answer plain same goes =
-    plainly past a w b asked answered call answer plain (ap (λ (c : CoordValue). installs_in c.edits) same) (ap (λ (c : CoordValue). c.book) same) goes (λ s shown. nothing_keeps a b same)
+    plainly past a w b asked answered call answer plain (ap (λ (c : CoordValue). installs_in c.stored.edits) same) (ap (λ (c : CoordValue). c.book) same) goes (λ s shown. nothing_keeps a b same)
 
 -- ---- writes, flushes and snapshots
 
@@ -56,7 +56,7 @@ plain_write r = plain_answer (λ (seqs : ℕ × ℕ). answer.Wrote seqs.0 seqs.1
 
 pub extends_write : (past : List WitnessedValue) (a : CoordValue) (w : WitnessedValue) (b : CoordValue) (ops : List Op) (r : Result (ℕ × ℕ) CoordError) → w.exchange.call ≡ call.Write ops → w.exchange.answer ≡ write_answer r → Writes a ops r b → Extends past a w b
 extends_write past a w b ops (Ok x) asked told h =
-    plainly past a w b (call.Write ops) (write_answer (Ok x)) asked told tt (ap (λ (c : CoordValue). installs_in c.edits) h.ok.1.rest) (ap (λ (c : CoordValue). c.book) h.ok.1.rest) h.step (λ s shown. h.sound)
+    plainly past a w b (call.Write ops) (write_answer (Ok x)) asked told tt (ap (λ (c : CoordValue). installs_in c.stored.edits) h.ok.1.rest) (ap (λ (c : CoordValue). c.book) h.ok.1.rest) h.step (λ s shown. h.sound)
 extends_write past a w b ops (Err e) asked told h = same_after past a w b (call.Write ops) (write_answer (Err e)) asked told tt h.err h.step
 
 pub plain_freeze : (r : Result ℕ CoordError) → IsPlain (freeze_answer r)
@@ -64,7 +64,7 @@ plain_freeze r = plain_answer (λ (seq : ℕ). answer.Froze seq) (λ x. tt) r
 
 pub extends_freeze : (past : List WitnessedValue) (a : CoordValue) (w : WitnessedValue) (b : CoordValue) (r : Result ℕ CoordError) → w.exchange.call ≡ call.Freeze → w.exchange.answer ≡ freeze_answer r → Freezes a r b → Extends past a w b
 extends_freeze past a w b (Ok x) asked told h =
-    plainly past a w b call.Freeze (freeze_answer (Ok x)) asked told tt (ap (λ (c : CoordValue). installs_in c.edits) h.ok.1) (ap (λ (c : CoordValue). c.book) h.ok.1) h.step (λ s shown. h.sound)
+    plainly past a w b call.Freeze (freeze_answer (Ok x)) asked told tt (ap (λ (c : CoordValue). installs_in c.stored.edits) h.ok.1) (ap (λ (c : CoordValue). c.book) h.ok.1) h.step (λ s shown. h.sound)
 extends_freeze past a w b (Err e) asked told h = same_after past a w b call.Freeze (freeze_answer (Err e)) asked told tt h.err h.step
 
 -- an edit more, after those of a manifest
@@ -80,19 +80,19 @@ pub plain_flush : (r : Result Flushed CoordError) → IsPlain (flush_answer r)
 plain_flush r = plain_answer (λ (f : Flushed). answer.Flushed f) (λ x. tt) r
 
 -- a flush that is refused leaves the edits and the book
-flush_leaves : (e : CoordError) (a b : CoordValue) → FlushRefuses a e b → (b.edits ≡ a.edits) × (b.book ≡ a.book)
-flush_leaves OutOfMemory a b h = (ap (λ (c : CoordValue). c.edits) h.1.rest, ap (λ (c : CoordValue). c.book) h.1.rest)
-flush_leaves Device a b h = (ap (λ (c : CoordValue). c.edits) h.1.0.rest, ap (λ (c : CoordValue). c.book) h.1.0.rest)
-flush_leaves e a b h = (ap (λ (c : CoordValue). c.edits) h.1, ap (λ (c : CoordValue). c.book) h.1)
+flush_leaves : (e : CoordError) (a b : CoordValue) → FlushRefuses a e b → (b.stored.edits ≡ a.stored.edits) × (b.book ≡ a.book)
+flush_leaves OutOfMemory a b h = (ap (λ (c : CoordValue). c.stored.edits) h.1.rest, ap (λ (c : CoordValue). c.book) h.1.rest)
+flush_leaves Device a b h = (ap (λ (c : CoordValue). c.stored.edits) h.1.0.rest, ap (λ (c : CoordValue). c.book) h.1.0.rest)
+flush_leaves e a b h = (ap (λ (c : CoordValue). c.stored.edits) h.1, ap (λ (c : CoordValue). c.book) h.1)
 
 pub extends_flush : (past : List WitnessedValue) (a : CoordValue) (w : WitnessedValue) (b : CoordValue) (r : Result Flushed CoordError) → w.exchange.call ≡ call.Flush → w.exchange.answer ≡ flush_answer r → Flushes a r b → Extends past a w b
 extends_flush past a w b (Ok x) asked told h =
     let adds = h.ok.1.3 in
-    let installs : installs_in b.edits ≡ installs_in a.edits =
-    ap (λ (c : CoordValue). installs_in c.edits) adds.new_is
-    ∙ installs_push a.edits adds.text adds.edit adds.spelled
-    ∙ ap (λ (e : Edit). installs_in a.edits ++ installs_of (e ∷ [])) adds.edit_is
-    ∙ append-nil (installs_in a.edits) in
+    let installs : installs_in b.stored.edits ≡ installs_in a.stored.edits =
+    ap (λ (c : CoordValue). installs_in c.stored.edits) adds.new_is
+    ∙ installs_push a.stored.edits adds.text adds.edit adds.spelled
+    ∙ ap (λ (e : Edit). installs_in a.stored.edits ++ installs_of (e ∷ [])) adds.edit_is
+    ∙ append-nil (installs_in a.stored.edits) in
     plainly past a w b call.Flush (flush_answer (Ok x)) asked told tt installs (ap (λ (c : CoordValue). c.book) adds.new_is) h.step (λ s shown. h.sound)
 extends_flush past a w b (Err e) asked told h =
     let left = flush_leaves e a b h.refused in
@@ -103,7 +103,7 @@ plain_snapshot r = plain_answer (λ (s : SnapId × ℕ). answer.Snapped s.0 s.1)
 
 pub extends_snapshot : (past : List WitnessedValue) (a : CoordValue) (w : WitnessedValue) (b : CoordValue) (r : Result (SnapId × ℕ) CoordError) → w.exchange.call ≡ call.Snap → w.exchange.answer ≡ snapshot_answer r → TakesSnapshot a r b → Extends past a w b
 extends_snapshot past a w b (Ok x) asked told h =
-    plainly past a w b call.Snap (snapshot_answer (Ok x)) asked told tt (ap (λ (c : CoordValue). installs_in c.edits) h.ok.1) (ap (λ (c : CoordValue). c.book) h.ok.1) h.step h.sound
+    plainly past a w b call.Snap (snapshot_answer (Ok x)) asked told tt (ap (λ (c : CoordValue). installs_in c.stored.edits) h.ok.1) (ap (λ (c : CoordValue). c.book) h.ok.1) h.step h.sound
 extends_snapshot past a w b (Err e) asked told h = same_after past a w b call.Snap (snapshot_answer (Err e)) asked told tt h.err h.step
 
 pub plain_release : (r : Result (Unit {0}) CoordError) → IsPlain (release_answer r)
@@ -111,7 +111,7 @@ plain_release r = plain_answer (λ (u : Unit {0}). answer.Released) (λ x. tt) r
 
 pub extends_release : (past : List WitnessedValue) (a : CoordValue) (w : WitnessedValue) (b : CoordValue) (id : SnapId) (r : Result (Unit {0}) CoordError) → w.exchange.call ≡ call.Release id → w.exchange.answer ≡ release_answer r → ReleasesSnapshot a id r b → Extends past a w b
 extends_release past a w b id (Ok x) asked told h =
-    plainly past a w b (call.Release id) (release_answer (Ok x)) asked told tt (ap (λ (c : CoordValue). installs_in c.edits) h.ok.1) (ap (λ (c : CoordValue). c.book) h.ok.1) h.step (λ s shown. h.sound)
+    plainly past a w b (call.Release id) (release_answer (Ok x)) asked told tt (ap (λ (c : CoordValue). installs_in c.stored.edits) h.ok.1) (ap (λ (c : CoordValue). c.book) h.ok.1) h.step (λ s shown. h.sound)
 extends_release past a w b id (Err e) asked told h = same_after past a w b (call.Release id) (release_answer (Err e)) asked told tt h.err h.step
 
 -- ---- answers that may not have been copied
@@ -180,13 +180,13 @@ same_or_gone true new old h = inl h
 same_or_gone false new old h = inr (refl, h)
 
 -- the tables that are needed are left
-left_needed : (old new : Kept) (needed : ℕ → Bool) → new ≡ retain_keys old needed → MayHaveLost needed old new
-left_needed old new needed is n = same_or_gone (needed n) (get new n) (get old n) (ap (λ (m : Kept). get m n) is ∙ get-retain_keys old needed n (λ x tied. ap needed (sym (nat_cmp-IsAntisymmetric n x tied))))
+left_needed : (old new : TableMap) (needed : ℕ → Bool) → new ≡ retain_keys old needed → MayHaveLost needed old new
+left_needed old new needed is n = same_or_gone (needed n) (get new n) (get old n) (ap (λ (m : TableMap). get m n) is ∙ get-retain_keys old needed n (λ x tied. ap needed (sym (nat_cmp-IsAntisymmetric n x tied))))
 
 -- what was trimmed stays so if its answer was not copied
 trims_without_answer : (a b : CoordValue) (to : ℕ) (trimmed : ℕ × List ℕ) → Trims a to (Ok trimmed) b → Trims a to (Err OutOfMemory) b
 trims_without_answer a b to trimmed h =
-    let kept = ap (λ (c : CoordValue). c.kept) h.ok.1 in
+    let kept = ap (λ (c : CoordValue). c.stored.tables) h.ok.1 in
     record {
       step = λ s shown. let f = h.step s shown in (f.0, (tt, inl (f.1.0, f.1.1.1)), f.2);
       ok = tt;
@@ -195,8 +195,8 @@ trims_without_answer a b to trimmed h =
       refused = (
         h.ok.0,
         record {
-          rest = h.ok.1 ∙ (λ i. record (with_floor a to) { kept = sym kept i; failures = b.failures });
-          lost = left_needed a.kept b.kept (is_live (version_set (with_floor a to))) kept;
+          rest = h.ok.1 ∙ (λ i. record (with_floor a to) { stored = record a.stored { tables = sym kept i }; failures = b.failures });
+          lost = left_needed a.stored.tables b.stored.tables (is_live (version_set (with_floor a to))) kept;
           counted = h.failures;
         },
       );
@@ -209,14 +209,14 @@ trims_of a b to outcome result h (inl is) = subst (λ (r : Result (ℕ × List �
 trims_of a b to (Ok trimmed) result h (inr is) = subst (λ (r : Result (ℕ × List ℕ) CoordError). Trims a to r b) (sym is.1) (trims_without_answer a b to trimmed h)
 trims_of a b to (Err e) result h (inr is) = absurd (false≢true is.0)
 
-trim_leaves : (e : CoordError) (a b : CoordValue) (to : ℕ) → TrimRefuses a to e b → (b.edits ≡ a.edits) × (b.book ≡ a.book)
-trim_leaves OutOfMemory a b to h = (ap (λ (c : CoordValue). c.edits) h.1.rest, ap (λ (c : CoordValue). c.book) h.1.rest)
-trim_leaves Device a b to h = (ap (λ (c : CoordValue). c.edits) h.1.rest, ap (λ (c : CoordValue). c.book) h.1.rest)
-trim_leaves e a b to h = (ap (λ (c : CoordValue). c.edits) h.1, ap (λ (c : CoordValue). c.book) h.1)
+trim_leaves : (e : CoordError) (a b : CoordValue) (to : ℕ) → TrimRefuses a to e b → (b.stored.edits ≡ a.stored.edits) × (b.book ≡ a.book)
+trim_leaves OutOfMemory a b to h = (ap (λ (c : CoordValue). c.stored.edits) h.1.rest, ap (λ (c : CoordValue). c.book) h.1.rest)
+trim_leaves Device a b to h = (ap (λ (c : CoordValue). c.stored.edits) h.1.rest, ap (λ (c : CoordValue). c.book) h.1.rest)
+trim_leaves e a b to h = (ap (λ (c : CoordValue). c.stored.edits) h.1, ap (λ (c : CoordValue). c.book) h.1)
 
 pub extends_trim : (past : List WitnessedValue) (a : CoordValue) (w : WitnessedValue) (b : CoordValue) (to : ℕ) (r : Result (ℕ × List ℕ) CoordError) → w.exchange.call ≡ call.Trim to → w.exchange.answer ≡ trim_answer r → Trims a to r b → Extends past a w b
 extends_trim past a w b to (Ok x) asked told h =
-    plainly past a w b (call.Trim to) (trim_answer (Ok x)) asked told tt (ap (λ (c : CoordValue). installs_in c.edits) h.ok.1) (ap (λ (c : CoordValue). c.book) h.ok.1) h.step (λ s shown. h.sound)
+    plainly past a w b (call.Trim to) (trim_answer (Ok x)) asked told tt (ap (λ (c : CoordValue). installs_in c.stored.edits) h.ok.1) (ap (λ (c : CoordValue). c.book) h.ok.1) h.step (λ s shown. h.sound)
 extends_trim past a w b to (Err e) asked told h =
     let left = trim_leaves e a b to h.refused in
     plainly past a w b (call.Trim to) (trim_answer (Err e)) asked told tt (ap installs_in left.0) left.1 h.step (λ s shown. h.sound)

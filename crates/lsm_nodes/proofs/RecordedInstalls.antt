@@ -55,14 +55,14 @@ module _ (past : List WitnessedValue) (a : CoordValue) (w : WitnessedValue) (b :
   no : (job : JobParts) → w.exchange.answer ≡ answer.Picked job → ⊥
   no job e = let q : answer.Installed number files ≡ answer.Picked job = sym told ∙ e in cc
 
-  installs : installs_in b.edits ≡ installs_in a.edits ++ installed_by w.exchange.answer
+  installs : installs_in b.stored.edits ≡ installs_in a.stored.edits ++ installed_by w.exchange.answer
   installs =
       let done = h.became.4 in
-      ap (λ (c : CoordValue). installs_in c.edits) done.new_is
-      ∙ installs_push a.edits done.text done.edit done.spelled
-      ∙ ap (λ (e : Edit). installs_in a.edits ++ installs_of (e ∷ [])) done.edit_is
-      ∙ (λ i. installs_in a.edits ++ (sym h.became.5 i, sym h.became.6 i) ∷ [])
-      ∙ ap (λ (y : Answer). installs_in a.edits ++ installed_by y) (sym told)
+      ap (λ (c : CoordValue). installs_in c.stored.edits) done.new_is
+      ∙ installs_push a.stored.edits done.text done.edit done.spelled
+      ∙ ap (λ (e : Edit). installs_in a.stored.edits ++ installs_of (e ∷ [])) done.edit_is
+      ∙ (λ i. installs_in a.stored.edits ++ (sym h.became.5 i, sym h.became.6 i) ∷ [])
+      ∙ ap (λ (y : Answer). installs_in a.stored.edits ++ installed_by y) (sym told)
 
   book : b.book ≡ after_settling a.book h.became.0.id Installed
   book = ap (λ (c : CoordValue). c.book) h.became.4.new_is
@@ -86,8 +86,8 @@ pub extends_install : (past : List WitnessedValue) (a : CoordValue) (w : Witness
     → InstallsResult a claim made r b → Extends past a w b
 extends_install past a w b claim made (became.Done number files) asked told before h = extends_done past a w b claim made number files asked told before h
 extends_install past a w b claim made (became.Stale id epoch) asked told before h =
-    plainly past a w b (call.Install claim.id made) (answer.Stale id epoch) asked told tt (ap (λ (c : CoordValue). installs_in c.edits) h.became.3) (ap (λ (c : CoordValue). c.book) h.became.3) (h.step 1 (λ is. absurd is)) (λ s shown. nothing_keeps a b h.became.3)
+    plainly past a w b (call.Install claim.id made) (answer.Stale id epoch) asked told tt (ap (λ (c : CoordValue). installs_in c.stored.edits) h.became.3) (ap (λ (c : CoordValue). c.book) h.became.3) (h.step 1 (λ is. absurd is)) (λ s shown. nothing_keeps a b h.became.3)
 extends_install past a w b claim made (became.Kept back why) asked told before h =
     let stored = rejected_stored made why a b h.became.4 in
-    plainly past a w b (call.Install claim.id made) (answer.Refused (error_of why)) asked told tt (ap (λ (c : CoordValue). installs_in c.edits) stored.rest) (ap (λ (c : CoordValue). c.book) stored.rest) (h.step 1 (λ is. absurd is))
+    plainly past a w b (call.Install claim.id made) (answer.Refused (error_of why)) asked told tt (ap (λ (c : CoordValue). installs_in c.stored.edits) stored.rest) (ap (λ (c : CoordValue). c.book) stored.rest) (h.step 1 (λ is. absurd is))
     (λ s shown. rejected_keeps made why a b h.became.4)

@@ -81,8 +81,8 @@ held_first b want id given held =
     ]
 
 -- it names no install
-no_installs : (a b : CoordValue) (answered told : Answer) → answered ≡ told → installed_by told ≡ [] → b.edits ≡ a.edits → installs_in b.edits ≡ installs_in a.edits ++ installed_by answered
-no_installs a b answered told is none edits = ap installs_in edits ∙ sym (ap (λ (l : List (ℕ × List ℕ)). installs_in a.edits ++ l) (ap installed_by is ∙ none) ∙ append-nil (installs_in a.edits))
+no_installs : (a b : CoordValue) (answered told : Answer) → answered ≡ told → installed_by told ≡ [] → b.stored.edits ≡ a.stored.edits → installs_in b.stored.edits ≡ installs_in a.stored.edits ++ installed_by answered
+no_installs a b answered told is none edits = ap installs_in edits ∙ sym (ap (λ (l : List (ℕ × List ℕ)). installs_in a.stored.edits ++ l) (ap installed_by is ∙ none) ∙ append-nil (installs_in a.stored.edits))
 
 -- the step, by the exchange
 step_of : (a : CoordValue) (w : WitnessedValue) (b : CoordValue) (answered : Answer) → w.exchange.call ≡ call.Pick → w.exchange.answer ≡ answered → Follows a (say.Pick 1) (reply_of call.Pick answered) b
@@ -96,7 +96,7 @@ extends_picked past a w b picked asked told h =
     let same : (job : JobParts) → w.exchange.answer ≡ answer.Picked job → picked.1 ≡ job = λ job e. (let q : answer.Picked picked.1 ≡ answer.Picked job = sym told ∙ e in cc) in
     let made : b.book.made ≡ a.book.made + 1 = ap (λ (c : CoordValue). c.book.made) is.new_is in
     record {
-      installs = no_installs a b w.exchange.answer (answer.Picked picked.1) told refl (ap (λ (c : CoordValue). c.edits) is.new_is);
+      installs = no_installs a b w.exchange.answer (answer.Picked picked.1) told refl (ap (λ (c : CoordValue). c.stored.edits) is.new_is);
       made = omega (arith, made);
       given = λ job e. (let number : job.id.number ≡ a.book.made + 1 = ap (λ (j : JobParts). j.id.number) (sym (same job e)) ∙ ap (λ (i : JobId). i.number) is.job_is.id in omega (arith, made, number));
       step = λ x sound. step_of a w b (answer.Picked picked.1) asked told (h.step 1 (omega arith, omega arith));
@@ -114,7 +114,7 @@ extends_vain past a w b asked told v h =
     let made : b.book.made ≡ a.book.made + 1 = ap (λ (k : BookValue). k.made) book ∙ made_after v.2.book v.0.id Returned ∙ ap (λ (c : CoordValue). c.book.made) picked.new_is in
     let no : (job : JobParts) → w.exchange.answer ≡ answer.Picked job → ⊥ = λ job e. (let q : answer.Refused OutOfMemory ≡ answer.Picked job = sym told ∙ e in cc) in
     record {
-      installs = no_installs a b w.exchange.answer (answer.Refused OutOfMemory) told refl (ap (λ (c : CoordValue). c.edits) v.4 ∙ ap (λ (c : CoordValue). c.edits) picked.new_is);
+      installs = no_installs a b w.exchange.answer (answer.Refused OutOfMemory) told refl (ap (λ (c : CoordValue). c.stored.edits) v.4 ∙ ap (λ (c : CoordValue). c.stored.edits) picked.new_is);
       made = omega (arith, made);
       given = λ job e. absurd (no job e);
       step = λ x sound. step_of a w b (answer.Refused OutOfMemory) asked told (h.step 1 (omega arith, omega arith));

@@ -17,7 +17,7 @@ pub shared_back : (start : CoordValue) (c d : CoordValue) (id : JobId) (history 
     → ((dispatcher : ℕ) → IsIndex dispatcher → Follows c (say.GiveUp dispatcher) say.Other d) → KeepsSound c d → IsShared start (record { coord = d; history = history }) total
 shared_back start c d id history total k is goes keeps = record {
   counted = k.counted;
-  installed = ap (λ (x : CoordValue). installs_in x.edits) is ∙ k.installed;
+  installed = ap (λ (x : CoordValue). installs_in x.stored.edits) is ∙ k.installed;
   given = λ job p. (let before = k.given job p in let made = ap (λ (x : CoordValue). x.book.made) is ∙ made_after c.book id Returned in omega (arith, before, made));
   run = λ h s shown.
       let r = k.run h s shown in

@@ -1,6 +1,5 @@
 -- Histories of a shared coordinator, and what lies under its lock (Herlihy and Wing 1990: histories of invocations with their responses; Owicki and Gries 1976: auxiliary variables).
 use Rattle.std.specs.Prelude.{◌≡◌, ℕ, ◌≤◌, Bool, true, false, List, [], ◌∷◌, ◌++◌, length, map, filter}
-use Rattle.std.specs.FinMap.{empty}
 use Rattle.std.specs.List.{flat_map}
 use Rattle.std.proofs.Common.{lit≤}
 use Rattle.lsm_key.specs.Sets.{IsIn}
@@ -10,6 +9,7 @@ use Rattle.lsm_edit.specs.declared.edit.EditKind.{EditKind}
 use Rattle.lsm_edit.specs.declared.edit.EditKind.TheVariants as kind
 use Rattle.lsm_edit.specs.Served.{ServedValue, first_served}
 use Rattle.lsm_msg.specs.declared.job.JobParts.{JobParts}
+use Rattle.lsm_vault.specs.Stored.{empty_vault}
 use Rattle.lsm_versions.specs.Manifest.{read_edits}
 use Rattle.lsm_coord.specs.declared.answer.Answer.{Answer}
 use Rattle.lsm_coord.specs.declared.answer.Answer.TheVariants as answer
@@ -130,7 +130,7 @@ AreSoundJobs history c = (job : JobParts) → IsPickedIn history job → holds c
 
 -- a coordinator over nothing: what a ledger names until a program picks its own
 abbrev pub no_coord : CoordValue
-no_coord = opened_coord (record { l0 = 1; base = 1; block = 1; l0_some = lit≤ tt; l0_most = lit≤ tt; base_some = lit≤ tt; base_most = lit≤ tt; block_some = lit≤ tt; block_most = lit≤ tt }) (record { served = first_served; edits = []; retired = []; floor = 0; kept = empty; failures = 0 })
+no_coord = opened_coord (record { l0 = 1; base = 1; block = 1; l0_some = lit≤ tt; l0_most = lit≤ tt; base_some = lit≤ tt; base_most = lit≤ tt; block_some = lit≤ tt; block_most = lit≤ tt }) (record { served = first_served; stored = empty_vault; retired = []; floor = 0; failures = 0 })
 
 pub record SharedValue : Type 0 where
   pub coord : CoordValue
@@ -149,7 +149,7 @@ AreSoundFrom start history c = (s : State) → Shows start s → AreSoundJobs hi
 -- start to one that the coordinator shows, and each of its jobs that is live may be installed.
 pub record IsShared (start : CoordValue) (s : SharedValue) (total : ℕ) : Type 0 where
   pub counted : total ≡ length s.history
-  pub installed : installs_in s.coord.edits ≡ installs_in start.edits ++ installed_in s.history
+  pub installed : installs_in s.coord.stored.edits ≡ installs_in start.stored.edits ++ installed_in s.history
   pub given : AreGiven s.history s.coord
   pub run : HoldsMerges s.history → RunsFrom start s.history s.coord
   pub sound : HoldsMerges s.history → AreSoundFrom start s.history s.coord

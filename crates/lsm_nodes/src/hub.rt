@@ -65,7 +65,7 @@ impl<V: Vault, J: Start, N: Witness + Drop> Hub<V, J, N> {
         ensures back { IfErr result (λ e. e.2 ≡ tally) }
         ensures history { IfOk result (λ s. IsPartedInto s.history (tally.mine ∷ tally.others)) }
         ensures installs { IfOk result (λ s. length (installed_in s.history) ≡ tally.installed) }
-        ensures edits { IfOk result (λ s. length (installs_in s.coord.edits) ≡ length (installs_in J.start.edits) + tally.installed) }
+        ensures edits { IfOk result (λ s. length (installs_in s.coord.stored.edits) ≡ length (installs_in J.start.stored.edits) + tally.installed) }
     {
         let mut tally = tally;
         let Hub { lock } = self;

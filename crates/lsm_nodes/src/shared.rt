@@ -47,12 +47,12 @@ pub struct Shared<V: Vault, J: Start, N: Witness + Drop> {
 
 impl<V: Vault, J: Start, N: Witness + Drop> Model for Shared<V, J, N> {
     ghost use Rattle.std.specs.Coded.{codes};
-    ghost use Rattle.lsm_versions.specs.Kept.{kept_code};
+    ghost use Rattle.lsm_vault.specs.Stored.{vault_code};
     ghost use Rattle.lsm_nodes.specs.Histories.{IsShared, SharedValue};
 
     ghost Value = { SharedValue };
 
-    ghost coded = { Prim.hlevel (codes, kept_code) };
+    ghost coded = { Prim.hlevel (codes, vault_code) };
 
     ghost view = { λ s. record { coord = s.coord; history = s.history.items } };
 
@@ -98,7 +98,7 @@ impl<V: Vault, J: Start, N: Witness + Drop> Shared<V, J, N> {
 
     /// Ends it, and hands the coordinator over in its seat. The history is gone.
     pub fn into_seat(self) -> Seat<V>
-        ensures { seat_of V.edits V.tables V.failures result ≡ up_seat self.coord }
+        ensures { seat_of V.stored V.failures result ≡ up_seat self.coord }
     {
         let Shared {
             coord,
@@ -115,7 +115,7 @@ impl<V: Vault, J: Start, N: Witness + Drop> Shared<V, J, N> {
         ensures all { result.now ≡ self.now.history }
         ensures run { HoldsMerges result.now → RunsFrom J.start result.now self.now.coord }
         ensures sound { HoldsMerges result.now → AreSoundFrom J.start result.now self.now.coord }
-        ensures installs { installs_in self.now.coord.edits ≡ installs_in J.start.edits ++ installed_in result.now }
+        ensures installs { installs_in self.now.coord.stored.edits ≡ installs_in J.start.stored.edits ++ installed_in result.now }
         ensures fit { IsFit self.now.coord }
     {
         // Proof hint: what the coordinator keeps.

@@ -117,7 +117,7 @@ module _ (old mid new : CoordValue) (claim : LiveJob) (job : JobParts) (ver : Is
         record {
           after = t;
           leads = inr (t, pick.1, (t, (give_up_may t dispatcher pick.2.up, (index, refl)), refl));
-          shown = subst (λ (c : CoordValue). Shows c t) (sym back.2) (Shows-beside back.0 (after_settling back.0.book claim.id ending.Returned) back.0.kept back.0.failures t (stored_shows mid back.0 back.1 t pick.2));
+          shown = subst (λ (c : CoordValue). Shows c t) (sym back.2) (Shows-beside back.0 (after_settling back.0.book claim.id ending.Returned) back.0.stored.tables back.0.failures t (stored_shows mid back.0 back.1 t pick.2));
           writes = ap (λ (x : State). x.writes) same;
           snapshots = ap (λ (x : State). x.snapshots) same;
         }

@@ -165,14 +165,15 @@ module _ (old mid : CoordValue) (claim : LiveJob) (job : JobParts) (ver : IsVers
   pub left_stored : {MayPut : ℕ → List ℕ → Type 0} (put : CoordValue) → MayHaveStored MayPut mid put → (new : CoordValue) → new ≡ after_give_back put claim.id → IsLeft old new
   left_stored put may new e =
       let counted = given_back old.book book picked.want in
-      let rest : put ≡ record old { book = after_claim old.book picked.want; kept = put.kept; failures = put.failures } = may.rest ∙ (λ i. record (picked.new_is i) { kept = put.kept; failures = put.failures }) in
-      let back : new ≡ record old { book = record old.book { made = old.book.made + 1; returned = old.book.returned + 1 }; kept = put.kept; failures = put.failures } =
-      e ∙ (λ i. after_give_back (rest i) (picked.claim_is i).id) ∙ ap (λ (b : BookValue). record old { book = b; kept = put.kept; failures = put.failures }) counted in
+      let rest : put ≡ record old { book = after_claim old.book picked.want; stored = record old.stored { tables = put.stored.tables }; failures = put.failures } =
+      may.rest ∙ (λ i. record (picked.new_is i) { stored = record (picked.new_is i).stored { tables = put.stored.tables }; failures = put.failures }) in
+      let back : new ≡ record old { book = record old.book { made = old.book.made + 1; returned = old.book.returned + 1 }; stored = record old.stored { tables = put.stored.tables }; failures = put.failures } =
+      e ∙ (λ i. after_give_back (rest i) (picked.claim_is i).id) ∙ ap (λ (b : BookValue). record old { book = b; stored = record old.stored { tables = put.stored.tables }; failures = put.failures }) counted in
       let same = ap (λ (c : CoordValue). c.failures) picked.new_is in
       let failed = may.counted in
       subst (IsLeft old) (sym back) (record {
         rest = refl;
-        below = subst (λ (c : CoordValue). StaysBelow c.served.version.next_file c.kept put.kept) picked.new_is may.below;
+        below = subst (λ (c : CoordValue). StaysBelow c.served.version.next_file c.stored.tables put.stored.tables) picked.new_is may.below;
         counted = omega (arith, same, failed);
         book = inr refl;
       })

@@ -38,7 +38,7 @@ nothing_retired : (c : CoordValue) → IsFit c → c.served.version.number ≤ c
 nothing_retired c fit high = no_member c.retired (λ r m.
     let past = (fit.retired.each r m).past in
     let from = fit.retired.served r m in
-    let count = length-versions_of c.edits c.served.version fit.manifest in
+    let count = length-versions_of c.stored.edits c.served.version fit.manifest in
     omega (arith, past, from, count, high))
 
 not_listed : (v : VersionValue) (n : ℕ) → (IsListed v n → ⊥) → list_any (has_number n) v.files ≡ false
@@ -60,9 +60,9 @@ alone_after mid new fit is =
       tables = λ n given never.
           let other : list_any (has_number n) mid.served.version.files ≡ false = not_listed mid.served.version n (subst (λ (s : ServedValue). IsListed s.version n → ⊥) (ap (λ (c : CoordValue). c.served) is) never) in
           let dead : stays n ≡ false = (λ i. other i || is_some (retired_at (retired i) n)) in
-          ap (λ (c : CoordValue). get c.kept n) is
-          ∙ get-retain_keys mid.kept stays n (λ x tied. ap stays (sym (nat_cmp-IsAntisymmetric n x tied)))
-          ∙ ap (λ (b : Bool). cond b (get mid.kept n) None) dead;
+          ap (λ (c : CoordValue). get c.stored.tables n) is
+          ∙ get-retain_keys mid.stored.tables stays n (λ x tied. ap stays (sym (nat_cmp-IsAntisymmetric n x tied)))
+          ∙ ap (λ (b : Bool). cond b (get mid.stored.tables n) None) dead;
     }
 
 -- ---- compactions

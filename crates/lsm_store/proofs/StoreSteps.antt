@@ -5,7 +5,7 @@ use Rattle.std.specs.Bool.{if◌then◌else◌}
 use Rattle.std.proofs.lemmas.Bool.{eqb-true}
 use Rattle.lsm_key.specs.declared.op.Op.{Op}
 use Rattle.lsm_key.specs.Writes.{answer}
-use Rattle.lsm_versions.specs.Kept.{Kept}
+use Rattle.lsm_vault.specs.Stored.{VaultValue}
 use Rattle.lsm_coord.specs.declared.error.CoordError.{CoordError}
 use Rattle.lsm_coord.specs.declared.error.CoordError.TheVariants as coord
 use Rattle.lsm_coord.specs.declared.snapshot.SnapId.{SnapId}
@@ -84,7 +84,7 @@ nothing_left_stores old new follows writes snapshots h =
       | inl forced ↦
           let same : last_seq s ≡ last_flushed s = eqb-true (last_seq s) (last_flushed s) (nothing_left s.up (is_none s.frozen) (nat_eq (last_seq s) (last_flushed s)) _ forced) in (
             record { state = r.0; shown = r.2; writes_are = ap (λ (x : State). x.writes) is ∙ h.writes_are; snapshots_are = ap (λ (x : State). x.snapshots) is ∙ h.snapshots_are },
-            sym (flushed_is new.edits new.served r.0 r.2.tables) ∙ ap last_flushed is ∙ sym same ∙ ap length h.writes_are,
+            sym (flushed_is new.stored.edits new.served r.0 r.2.tables) ∙ ap last_flushed is ∙ sym same ∙ ap length h.writes_are,
           )
       | inr other ↦ absurd other.1
     ]
@@ -134,24 +134,24 @@ scan_reads c new lo hi at limit pairs follows writes snapshots h =
 
 -- ---- the vault
 
-pub closed_holds : (c : CoordValue) → ((s : State) → Shows c s → ShowsDown c.edits c.kept (after_stop s)) → (writes : List Op) (snapshots : List Snapshot) → Holds c writes snapshots → HoldsStored c.edits c.kept (take (stored_count c) writes)
+pub closed_holds : (c : CoordValue) → ((s : State) → Shows c s → ShowsDown c.stored (after_stop s)) → (writes : List Op) (snapshots : List Snapshot) → Holds c writes snapshots → HoldsStored c.stored (take (stored_count c) writes)
 closed_holds c stops writes snapshots h = record {
   state = after_stop h.state;
   shown = stops h.state h.shown;
-  writes_are = λ i. take (flushed_is c.edits c.served h.state h.shown.tables i) (h.writes_are i);
+  writes_are = λ i. take (flushed_is c.stored.edits c.served h.state h.shown.tables i) (h.writes_are i);
 }
 
-pub opened_holds : (edits : List (List ℕ)) (kept : Kept) (c : CoordValue) → OpenFollows edits kept c → (writes : List Op) → HoldsStored edits kept writes → Holds c writes [] × (stored_count c ≡ length writes)
-opened_holds edits kept c follows writes h =
+pub opened_holds : (vault : VaultValue) (c : CoordValue) → OpenFollows vault c → (writes : List Op) → HoldsStored vault writes → Holds c writes [] × (stored_count c ≡ length writes)
+opened_holds vault c follows writes h =
     let s = h.state in
-    let r = follows s (down_again edits kept s h.shown) in
+    let r = follows s (down_again vault s h.shown) in
     let is : r.0 ≡ after_restart s = (r.1).1.3 in
-    let stopped : after_stop s ≡ s = stays_down edits kept s h.shown in (
+    let stopped : after_stop s ≡ s = stays_down vault s h.shown in (
       record {
         state = r.0;
         shown = r.2;
         writes_are = ap (λ (x : State). x.writes) is ∙ ap (λ (x : State). x.writes) stopped ∙ h.writes_are;
         snapshots_are = ap (λ (x : State). x.snapshots) is;
       },
-      sym (flushed_is c.edits c.served r.0 r.2.tables) ∙ ap last_flushed is ∙ ap (λ (v : Version). v.flushed) (current_version-risen s) ∙ sym h.shown.flushed ∙ ap length h.writes_are,
+      sym (flushed_is c.stored.edits c.served r.0 r.2.tables) ∙ ap last_flushed is ∙ ap (λ (v : Version). v.flushed) (current_version-risen s) ∙ sym h.shown.flushed ∙ ap length h.writes_are,
     )

@@ -77,8 +77,8 @@ pub record IsCompaction (old : CoordValue) (number : ℕ) (files : List ℕ) (ne
 -- The old value, except that the book may count one more claim as issued and returned: no claim is left behind. The vault may have
 -- tables under numbers that no file has been given yet, and its device may have failed.
 pub record IsLeft (old new : CoordValue) : Type 0 where
-  pub rest : new ≡ record old { book = new.book; kept = new.kept; failures = new.failures }
-  pub below : StaysBelow old.served.version.next_file old.kept new.kept
+  pub rest : new ≡ record old { book = new.book; stored = record old.stored { tables = new.stored.tables }; failures = new.failures }
+  pub below : StaysBelow old.served.version.next_file old.stored.tables new.stored.tables
   pub counted : old.failures ≤ new.failures
   pub book : (new.book ≡ old.book) ⊎ (new.book ≡ record old.book { made = old.book.made + 1; returned = old.book.returned + 1 })
 

@@ -5,7 +5,7 @@ use Rattle.std.specs.FinMap as map
 use Rattle.lsm_key.specs.declared.op.Op.{Op}
 use Rattle.lsm_key.specs.Limits.{push_fault}
 use Rattle.lsm_key.specs.Writes.{answer}
-use Rattle.lsm_versions.specs.Kept.{Kept}
+use Rattle.lsm_vault.specs.Stored.{VaultValue}
 use Rattle.lsm_versions.specs.Retention.{IsListed}
 use Rattle.lsm_coord.specs.declared.error.CoordError.{CoordError}
 use Rattle.lsm_coord.specs.declared.error.CoordError.TheVariants as coord
@@ -34,9 +34,9 @@ pub record Holds (c : CoordValue) (writes : List Op) (snapshots : List Snapshot)
   pub snapshots_are : state.snapshots ≡ snapshots
 
 -- the vault has these operations, in this order
-pub record HoldsStored (edits : List (List ℕ)) (kept : Kept) (writes : List Op) : Type 0 where
+pub record HoldsStored (vault : VaultValue) (writes : List Op) : Type 0 where
   pub state : State
-  pub shown : ShowsDown edits kept state
+  pub shown : ShowsDown vault state
   pub writes_are : state.writes ≡ writes
 
 -- how many operations the vault has
@@ -188,7 +188,7 @@ CompactsNext old new false = (writes : List Op) (snapshots : List Snapshot) → 
 pub record ServesCurrentAlone (c : CoordValue) : Type 0 where
   pub floor : c.floor ≡ c.served.version.number
   pub retired : c.retired ≡ []
-  pub tables : (n : ℕ) → n < c.served.version.next_file → (IsListed c.served.version n → ⊥) → map.get c.kept n ≡ None
+  pub tables : (n : ℕ) → n < c.served.version.next_file → (IsListed c.served.version n → ⊥) → map.get c.stored.tables n ≡ None
 
 -- if a version was made, it is served alone
 abbrev pub LetsOthersGo : CoordValue → CoordValue → Type 0

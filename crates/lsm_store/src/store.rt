@@ -24,13 +24,13 @@ pub struct Store<V: Vault> {
 
 impl<V: Vault> Model for Store<V> {
     ghost use Rattle.std.specs.Coded.{codes};
-    ghost use Rattle.lsm_versions.specs.Kept.{kept_code};
+    ghost use Rattle.lsm_vault.specs.Stored.{vault_code};
     ghost use Rattle.lsm_coord.specs.Contract.Value.{CoordValue};
     ghost use Rattle.lsm_store.specs.Store.{IsIdle};
 
     ghost Value = { CoordValue };
 
-    ghost coded = { Prim.hlevel (codes, kept_code) };
+    ghost coded = { Prim.hlevel (codes, vault_code) };
 
     ghost view = { λ s. s.coord };
 
@@ -48,15 +48,14 @@ impl<V: Vault> Store<V> {
     /// Opens what a vault has: all that was flushed, and nothing else. A vault without edits is a new store. A refusal hands the
     /// vault back with its edits; some tables that no file of the version needs may be gone.
     pub fn open(alloc: Global, vault: V, options: Options) -> Result<Store<V>, (OpenError, V)>
-        ensures ok { IfOk result (OpensCoord (V.edits vault) (V.tables vault) options.limits) }
+        ensures ok { IfOk result (OpensCoord (V.stored vault) options.limits) }
         ensures failures { IfOk result (λ store. V.failures vault ≤ store.failures) }
-        ensures stored { (writes : List Op) → HoldsStored (V.edits vault) (V.tables vault) writes → IfOk result (λ store. Holds store writes [] × (stored_count store ≡ length writes)) }
-        ensures new { IfOk result (λ store. V.edits vault ≡ [] → Holds store [] []) }
-        ensures refused { IfErr result (λ e. OpenRefuses (V.edits vault) (V.tables vault) e.0) }
-        ensures edits { IfErr result (λ e. V.edits e.1 ≡ V.edits vault) }
-        ensures tables { IfErr result (λ e. MayHaveDropped e.0 (V.edits vault) (V.tables vault) (V.tables e.1)) }
+        ensures stored { (writes : List Op) → HoldsStored (V.stored vault) writes → IfOk result (λ store. Holds store writes [] × (stored_count store ≡ length writes)) }
+        ensures new { IfOk result (λ store. (V.stored vault).edits ≡ [] → Holds store [] []) }
+        ensures refused { IfErr result (λ e. OpenRefuses (V.stored vault) e.0) }
+        ensures left { IfErr result (λ e. MayHaveDropped e.0 (V.stored vault) (V.stored e.1)) }
         ensures counted { IfErr result (λ e. CountsRefusal e.0 (V.failures vault) (V.failures e.1)) }
-        ensures stays { (writes : List Op) → HoldsStored (V.edits vault) (V.tables vault) writes → IfErr result (λ e. HoldsStored (V.edits e.1) (V.tables e.1) writes) }
+        ensures stays { (writes : List Op) → HoldsStored (V.stored vault) writes → IfErr result (λ e. HoldsStored (V.stored e.1) writes) }
     {
         match Coord::open(alloc, vault, options.limits) {
             Ok(coord) => Ok(Store { alloc, coord }),
@@ -66,10 +65,9 @@ impl<V: Vault> Store<V> {
 
     /// Ends it, and hands the vault back. All that was not flushed is lost.
     pub fn close(self) -> V
-        ensures edits { V.edits result ≡ self.edits }
-        ensures tables { V.tables result ≡ self.kept }
+        ensures vault { V.stored result ≡ self.stored }
         ensures failures { V.failures result ≡ self.failures }
-        ensures stored { (writes : List Op) (snapshots : List Snapshot) → Holds self writes snapshots → HoldsStored self.edits self.kept (take (stored_count self) writes) }
+        ensures stored { (writes : List Op) (snapshots : List Snapshot) → Holds self writes snapshots → HoldsStored self.stored (take (stored_count self) writes) }
     {
         let Store { alloc: _, coord } = self;
         coord.close()

@@ -21,8 +21,7 @@ pub struct FusedVault<V: Vault> {
 impl<V: Vault> FusedVault<V> {
     /// A vault with what another one has, whose fuse lets this many calls pass.
     pub fn new(inside: V, calls: u64) -> FusedVault<V>
-        ensures edits { ⟦<FusedVault<V> as Vault>⟧.edits result ≡ V.edits inside }
-        ensures tables { ⟦<FusedVault<V> as Vault>⟧.tables result ≡ V.tables inside }
+        ensures stored { ⟦<FusedVault<V> as Vault>⟧.stored result ≡ V.stored inside }
         ensures failures { ⟦<FusedVault<V> as Vault>⟧.failures result ≡ V.failures inside }
         ensures left { result.left ≡ Some calls }
     {
@@ -61,16 +60,13 @@ fn count_call(left: &mut Option<u64>) -> Result<(), VaultError>
 // A method's clauses stand in place of the trait's, so each repeats those and adds what the fuse does.
 #[tactic(auto, using(crate::proofs::FailureCounts::counted_beside))]
 impl<V: Vault> Vault for FusedVault<V> {
-    ghost edits = { λ v. V.edits v.inside };
-
-    ghost tables = { λ v. V.tables v.inside };
+    ghost stored = { λ v. V.stored v.inside };
 
     ghost failures = { λ v. V.failures v.inside + fuse_failures v.left };
 
     fn put_table(&mut self, number: FileNumber, table: Bytes) -> Result<(), VaultError>
-        ensures ok { OnOk result (V.tables self.new.inside ≡ map.insert (V.tables self.old.inside) number table) }
-        ensures err { OnErr result (V.tables self.new.inside ≡ V.tables self.old.inside) }
-        ensures edits_stay { V.edits self.new.inside ≡ V.edits self.old.inside }
+        ensures ok { OnOk result (V.stored self.new.inside ≡ record (V.stored self.old.inside) { tables = map.insert (V.stored self.old.inside).tables number table }) }
+        ensures err { OnErr result (V.stored self.new.inside ≡ V.stored self.old.inside) }
         ensures counted { CountsFailures result (V.failures self.old.inside + fuse_failures self.old.left) (V.failures self.new.inside + fuse_failures self.new.left) }
         ensures fuse { Burns self.old.left result self.new.left }
     {
@@ -79,9 +75,8 @@ impl<V: Vault> Vault for FusedVault<V> {
     }
 
     fn remove_table(&mut self, number: FileNumber) -> Result<(), VaultError>
-        ensures ok { OnOk result (V.tables self.new.inside ≡ map.remove (V.tables self.old.inside) number) }
-        ensures err { OnErr result (V.tables self.new.inside ≡ V.tables self.old.inside) }
-        ensures edits_stay { V.edits self.new.inside ≡ V.edits self.old.inside }
+        ensures ok { OnOk result (V.stored self.new.inside ≡ record (V.stored self.old.inside) { tables = map.remove (V.stored self.old.inside).tables number }) }
+        ensures err { OnErr result (V.stored self.new.inside ≡ V.stored self.old.inside) }
         ensures counted { CountsFailures result (V.failures self.old.inside + fuse_failures self.old.left) (V.failures self.new.inside + fuse_failures self.new.left) }
         ensures fuse { Burns self.old.left result self.new.left }
     {
@@ -90,9 +85,8 @@ impl<V: Vault> Vault for FusedVault<V> {
     }
 
     fn append_edit(&mut self, edit: Bytes) -> Result<(), VaultError>
-        ensures ok { OnOk result (V.edits self.new.inside ≡ V.edits self.old.inside ++ edit ∷ []) }
-        ensures err { OnErr result (V.edits self.new.inside ≡ V.edits self.old.inside) }
-        ensures tables_stay { V.tables self.new.inside ≡ V.tables self.old.inside }
+        ensures ok { OnOk result (V.stored self.new.inside ≡ record (V.stored self.old.inside) { edits = (V.stored self.old.inside).edits ++ edit ∷ [] }) }
+        ensures err { OnErr result (V.stored self.new.inside ≡ V.stored self.old.inside) }
         ensures counted { CountsFailures result (V.failures self.old.inside + fuse_failures self.old.left) (V.failures self.new.inside + fuse_failures self.new.left) }
         ensures fuse { Burns self.old.left result self.new.left }
     {
@@ -101,9 +95,8 @@ impl<V: Vault> Vault for FusedVault<V> {
     }
 
     fn edits(&mut self) -> Result<Vec<Bytes>, VaultError>
-        ensures ok { IfOk result (λ all. all.items ≡ V.edits self.old.inside) }
-        ensures edits_stay { V.edits self.new.inside ≡ V.edits self.old.inside }
-        ensures tables_stay { V.tables self.new.inside ≡ V.tables self.old.inside }
+        ensures ok { IfOk result (λ all. all.items ≡ (V.stored self.old.inside).edits) }
+        ensures stays { V.stored self.new.inside ≡ V.stored self.old.inside }
         ensures counted { CountsFailures result (V.failures self.old.inside + fuse_failures self.old.left) (V.failures self.new.inside + fuse_failures self.new.left) }
         ensures fuse { Burns self.old.left result self.new.left }
     {
@@ -112,9 +105,8 @@ impl<V: Vault> Vault for FusedVault<V> {
     }
 
     fn table(&mut self, number: FileNumber) -> Result<Option<Bytes>, VaultError>
-        ensures ok { IfOk result (λ found. found ≡ map.get (V.tables self.old.inside) number) }
-        ensures edits_stay { V.edits self.new.inside ≡ V.edits self.old.inside }
-        ensures tables_stay { V.tables self.new.inside ≡ V.tables self.old.inside }
+        ensures ok { IfOk result (λ found. found ≡ map.get (V.stored self.old.inside).tables number) }
+        ensures stays { V.stored self.new.inside ≡ V.stored self.old.inside }
         ensures counted { CountsFailures result (V.failures self.old.inside + fuse_failures self.old.left) (V.failures self.new.inside + fuse_failures self.new.left) }
         ensures fuse { Burns self.old.left result self.new.left }
     {
@@ -123,9 +115,8 @@ impl<V: Vault> Vault for FusedVault<V> {
     }
 
     fn numbers(&mut self) -> Result<Vec<FileNumber>, VaultError>
-        ensures ok { IfOk result (λ all. all.items ≡ map.keys (V.tables self.old.inside)) }
-        ensures edits_stay { V.edits self.new.inside ≡ V.edits self.old.inside }
-        ensures tables_stay { V.tables self.new.inside ≡ V.tables self.old.inside }
+        ensures ok { IfOk result (λ all. all.items ≡ map.keys (V.stored self.old.inside).tables) }
+        ensures stays { V.stored self.new.inside ≡ V.stored self.old.inside }
         ensures counted { CountsFailures result (V.failures self.old.inside + fuse_failures self.old.left) (V.failures self.new.inside + fuse_failures self.new.left) }
         ensures fuse { Burns self.old.left result self.new.left }
     {

@@ -1,7 +1,7 @@
 //! A vault in memory.
 
-ghost use Rattle.std.specs.Prelude.{◌≡◌, []};
-ghost use Rattle.std.specs.FinMap as map;
+ghost use Rattle.std.specs.Prelude.{◌≡◌};
+ghost use Rattle.lsm_vault.specs.Stored.{empty_vault};
 
 use crate::tables::Tables;
 use crate::{Vault, VaultError};
@@ -20,8 +20,7 @@ pub struct MemoryVault {
 impl MemoryVault {
     /// A vault without edits and tables. Allocates nothing.
     pub fn new(alloc: Global) -> MemoryVault
-        ensures edits { ⟦<MemoryVault as Vault>⟧.edits result ≡ [] }
-        ensures tables { ⟦<MemoryVault as Vault>⟧.tables result ≡ map.empty }
+        ensures { ⟦<MemoryVault as Vault>⟧.stored result ≡ empty_vault }
     {
         MemoryVault {
             alloc,
@@ -32,9 +31,7 @@ impl MemoryVault {
 }
 
 impl Vault for MemoryVault {
-    ghost edits = { λ v. v.edits.items };
-
-    ghost tables = { λ v. v.tables };
+    ghost stored = { λ v. record { edits = v.edits.items; tables = v.tables } };
 
     ghost failures = { λ _. 0 };
 

@@ -19,14 +19,12 @@ pub struct Tables {
 }
 
 impl Model for Tables {
-    ghost use Rattle.std.specs.Prelude.{List, ℕ};
-    ghost use Rattle.std.specs.Ordering.{nat_cmp};
     ghost use Rattle.std.specs.FinMap as map;
-    ghost use Rattle.std.specs.Coded.{coded_ℕ, coded_list};
+    ghost use Rattle.lsm_vault.specs.Stored.{TableMap, table_map_code};
 
-    ghost Value = { map.FinMap nat_cmp (List ℕ) };
+    ghost Value = { TableMap };
 
-    ghost coded = { map.code coded_ℕ (coded_list coded_ℕ) };
+    ghost coded = { table_map_code };
 
     ghost view = { λ t. map.from_entries t.by_number.entries };
 }

@@ -1,9 +1,9 @@
 //! What every vault promises.
 
-ghost use Rattle.std.specs.Prelude.{◌≡◌, ◌++◌, ◌∷◌, [], ◌^◌, ◌-◌, ℕ, List, IfOk, OnOk, OnErr, min};
-ghost use Rattle.std.specs.Ordering.{nat_cmp};
+ghost use Rattle.std.specs.Prelude.{◌≡◌, ◌++◌, ◌∷◌, [], ◌^◌, ◌-◌, ℕ, IfOk, OnOk, OnErr, min};
 ghost use Rattle.std.specs.FinMap as map;
 ghost use Rattle.lsm_vault.specs.Failures.{CountsFailures};
+ghost use Rattle.lsm_vault.specs.Stored.{VaultValue};
 
 use crate::VaultError;
 use bytes::Bytes;
@@ -14,52 +14,44 @@ use lsm_key::FileNumber;
 ///
 /// A call reports `Device` only if the count of failures rose in it. The count never falls.
 pub trait Vault {
-    ghost edits: { Self → List (List ℕ) };
-
-    ghost tables: { Self → map.FinMap nat_cmp (List ℕ) };
+    ghost stored: { Self → VaultValue };
 
     ghost failures: { Self → ℕ };
 
     /// Stores a table under a number. One that the number had is replaced.
     fn put_table(&mut self, number: FileNumber, table: Bytes) -> Result<(), VaultError>
-        ensures ok { OnOk result (tables self.new ≡ map.insert (tables self.old) number table) }
-        ensures err { OnErr result (tables self.new ≡ tables self.old) }
-        ensures edits_stay { edits self.new ≡ edits self.old }
+        ensures ok { OnOk result (stored self.new ≡ record (stored self.old) { tables = map.insert (stored self.old).tables number table }) }
+        ensures err { OnErr result (stored self.new ≡ stored self.old) }
         ensures counted { CountsFailures result (failures self.old) (failures self.new) };
 
     /// Removes the table of a number, if there is one.
     fn remove_table(&mut self, number: FileNumber) -> Result<(), VaultError>
-        ensures ok { OnOk result (tables self.new ≡ map.remove (tables self.old) number) }
-        ensures err { OnErr result (tables self.new ≡ tables self.old) }
-        ensures edits_stay { edits self.new ≡ edits self.old }
+        ensures ok { OnOk result (stored self.new ≡ record (stored self.old) { tables = map.remove (stored self.old).tables number }) }
+        ensures err { OnErr result (stored self.new ≡ stored self.old) }
         ensures counted { CountsFailures result (failures self.old) (failures self.new) };
 
     /// Adds an edit after the others.
     fn append_edit(&mut self, edit: Bytes) -> Result<(), VaultError>
-        ensures ok { OnOk result (edits self.new ≡ edits self.old ++ edit ∷ []) }
-        ensures err { OnErr result (edits self.new ≡ edits self.old) }
-        ensures tables_stay { tables self.new ≡ tables self.old }
+        ensures ok { OnOk result (stored self.new ≡ record (stored self.old) { edits = (stored self.old).edits ++ edit ∷ [] }) }
+        ensures err { OnErr result (stored self.new ≡ stored self.old) }
         ensures counted { CountsFailures result (failures self.old) (failures self.new) };
 
     /// The edits, in the order in which they were appended.
     fn edits(&mut self) -> Result<Vec<Bytes>, VaultError>
-        ensures ok { IfOk result (λ all. all.items ≡ edits self.old) }
-        ensures edits_stay { edits self.new ≡ edits self.old }
-        ensures tables_stay { tables self.new ≡ tables self.old }
+        ensures ok { IfOk result (λ all. all.items ≡ (stored self.old).edits) }
+        ensures stays { stored self.new ≡ stored self.old }
         ensures counted { CountsFailures result (failures self.old) (failures self.new) };
 
     /// The table of a number, if there is one.
     fn table(&mut self, number: FileNumber) -> Result<Option<Bytes>, VaultError>
-        ensures ok { IfOk result (λ found. found ≡ map.get (tables self.old) number) }
-        ensures edits_stay { edits self.new ≡ edits self.old }
-        ensures tables_stay { tables self.new ≡ tables self.old }
+        ensures ok { IfOk result (λ found. found ≡ map.get (stored self.old).tables number) }
+        ensures stays { stored self.new ≡ stored self.old }
         ensures counted { CountsFailures result (failures self.old) (failures self.new) };
 
     /// The numbers of the tables, ascending.
     fn numbers(&mut self) -> Result<Vec<FileNumber>, VaultError>
-        ensures ok { IfOk result (λ all. all.items ≡ map.keys (tables self.old)) }
-        ensures edits_stay { edits self.new ≡ edits self.old }
-        ensures tables_stay { tables self.new ≡ tables self.old }
+        ensures ok { IfOk result (λ all. all.items ≡ map.keys (stored self.old).tables) }
+        ensures stays { stored self.new ≡ stored self.old }
         ensures counted { CountsFailures result (failures self.old) (failures self.new) };
 
     /// How often the device failed. The number saturates: of a count past the greatest `u64` it is that.

@@ -9,12 +9,13 @@ use Rattle.lsm_edit.specs.Edit.{edit as spelling}
 use Rattle.lsm_edit.specs.Next.{epoch_edit}
 use Rattle.lsm_edit.specs.Served.{IsServed, ServedValue, after_advance}
 use Rattle.lsm_edit.specs.Version.{VersionValue, after_apply, has_number}
+use Rattle.lsm_vault.specs.Stored.{TableMap, VaultValue}
 use Rattle.lsm_versions.specs.declared.error.OpenError.{OpenError}
 use Rattle.lsm_versions.specs.declared.error.OpenError.TheVariants.{OutOfMemory, BadManifest, MissingTable, Device, NumbersExhausted}
 use Rattle.lsm_versions.specs.declared.retired.Retired.{Retired}
-use Rattle.lsm_versions.specs.Kept.{Kept, StaysApart, put_tables}
+use Rattle.lsm_versions.specs.Kept.{StaysApart, put_tables}
 use Rattle.lsm_versions.specs.Manifest.{IsVersionSet, VersionSetValue, after_logging}
-use Rattle.lsm_versions.specs.Opening.{AreExhausted, EpochRefused, HaveTables, IsNextEpoch, MayHaveDropped, MayHaveLost, OpenRefuses, Opens, Recovers, is_live_file, manifest_version}
+use Rattle.lsm_versions.specs.Opening.{AreExhausted, EpochRefused, HaveTables, IsNextEpoch, MayHaveDropped, MayHaveLost, MayHaveLostObsolete, OpenRefuses, Opens, Recovers, is_live_file, manifest_version}
 use Rattle.lsm_versions.specs.Retention.{put_each, retire, retired_after}
 use Rattle.lsm_versions.proofs.PutTables.{placed_none}
 use Rattle.lsm_versions.proofs.RecoveredTables.{have_tables}
@@ -22,10 +23,10 @@ use Rattle.lsm_versions.proofs.ReplayedEdits.{folds_once, none_retired}
 
 -- ---- recovered
 
-pub recovered_set : (texts : List (List ℕ)) (kept : Kept) (s : ServedValue) (failures : ℕ) → Recovers texts kept s → IsVersionSet (record { served = s; edits = texts; retired = []; floor = s.version.number; kept = kept; failures = failures })
-recovered_set texts kept s failures is = record {
+pub recovered_set : (vault : VaultValue) (s : ServedValue) (failures : ℕ) → Recovers vault s → IsVersionSet (record { served = s; stored = vault; retired = []; floor = s.version.number; failures = failures })
+recovered_set vault s failures is = record {
   folds = is.folds;
-  retired = none_retired texts s.version is.folds;
+  retired = none_retired vault.edits s.version is.folds;
   kept = record { listed = is.tables; removed = λ r m. absurd m };
 }
 
@@ -38,76 +39,80 @@ none_taken (p ∷ ps) = none_taken ps
 none_retire : (s : ServedValue) → retired_after [] s [] ≡ []
 none_retire s = ap (λ (ps : List Placed). put_each (map (retire s.version.number) ps) []) (none_taken s.places)
 
-module _ (old mid new : VersionSetValue) (e : Edit) (failures : ℕ) (none : old.retired ≡ []) (rest : mid ≡ record old { kept = mid.kept; failures = mid.failures })
-    (needed : mid.kept ≡ retain_keys old.kept (is_live_file old.served.version.files old.retired)) (is : e ≡ epoch_edit old.served.version) (made : new ≡ record (after_logging mid e []) { failures = failures }) where
+module _ (old mid new : VersionSetValue) (e : Edit) (failures : ℕ) (none : old.retired ≡ []) (rest : mid ≡ record old { stored = record old.stored { tables = mid.stored.tables }; failures = mid.failures })
+    (needed : mid.stored.tables ≡ retain_keys old.stored.tables (is_live_file old.served.version.files old.retired)) (is : e ≡ epoch_edit old.served.version) (made : new ≡ record (after_logging mid e []) { failures = failures }) where
   pub next_served : new.served ≡ after_advance old.served (epoch_edit old.served.version) []
   next_served = ap (λ (v : VersionSetValue). v.served) made ∙ (λ i. after_advance (rest i).served (is i) [])
-
-  pub next_edits : new.edits ≡ old.edits ++ spelling (epoch_edit old.served.version) ∷ []
-  next_edits = ap (λ (v : VersionSetValue). v.edits) made ∙ (λ i. (rest i).edits ++ spelling (is i) ∷ [])
 
   pub next_retired : new.retired ≡ []
   next_retired = ap (λ (v : VersionSetValue). v.retired) made ∙ (λ i. retired_after (rest i).retired (rest i).served (is i).removed) ∙ ap (λ (rs : List Retired). retired_after rs old.served []) none ∙ none_retire old.served
 
-  pub next_kept : new.kept ≡ retain_keys old.kept (is_live_file old.served.version.files [])
-  next_kept = ap (λ (v : VersionSetValue). v.kept) made ∙ ap (put_tables mid.kept) (placed_none e.added) ∙ needed ∙ ap (λ (rs : List Retired). retain_keys old.kept (is_live_file old.served.version.files rs)) none
+  pub next_stored : new.stored ≡ record old.stored { edits = old.stored.edits ++ spelling (epoch_edit old.served.version) ∷ []; tables = retain_keys old.stored.tables (is_live_file old.served.version.files []) }
+  next_stored =
+      let tables = ap (put_tables mid.stored.tables) (placed_none e.added) ∙ needed ∙ ap (λ (rs : List Retired). retain_keys old.stored.tables (is_live_file old.served.version.files rs)) none in
+      ap (λ (v : VersionSetValue). v.stored) made ∙ (λ i. record (rest i).stored { edits = (rest i).stored.edits ++ spelling (is i) ∷ []; tables = tables i })
 
   -- with the floor at the version after it
-  pub next_epoch : (v : VersionSetValue) → v.served ≡ new.served → v.edits ≡ new.edits → v.retired ≡ new.retired → v.kept ≡ new.kept → v.floor ≡ v.served.version.number → IsNextEpoch old v
-  next_epoch v served edits retired kept floor = record {
+  pub next_epoch : (v : VersionSetValue) → v.served ≡ new.served → v.stored ≡ new.stored → v.retired ≡ new.retired → v.floor ≡ v.served.version.number → IsNextEpoch old v
+  next_epoch v served stored retired floor = record {
     served = served ∙ next_served;
-    edits = edits ∙ next_edits;
+    stored = stored ∙ next_stored;
     floor = floor;
     retired = retired ∙ next_retired;
-    tables = kept ∙ next_kept;
   }
 
 -- the floor may rise to the current version if no file is retired
 pub raised_set : (v : VersionSetValue) (floor : ℕ) → IsVersionSet v → v.retired ≡ [] → floor ≡ v.served.version.number → IsVersionSet (record v { floor = floor })
 raised_set v floor is none at = record {
   folds = is.folds;
-  retired = rw (none, at) (none_retired v.edits v.served.version is.folds);
+  retired = rw (none, at) (none_retired v.stored.edits v.served.version is.folds);
   kept = is.kept;
 }
 
 -- the edit that is refused puts no table
-pub lost_still : (needed : ℕ → Bool) (old mid new : Kept) (e : Edit) → e.added ≡ [] → MayHaveLost needed old mid → StaysApart e.added mid new → MayHaveLost needed old new
+pub lost_still : (needed : ℕ → Bool) (old mid new : TableMap) (e : Edit) → e.added ≡ [] → MayHaveLost needed old mid → StaysApart e.added mid new → MayHaveLost needed old new
 lost_still needed old mid new e none lost apart n =
     let same = apart n (λ f m named. absurd (subst (IsIn f) none m)) in
     elim (lost n) [ inl stays ↦ inl (same ∙ stays) | inr gone ↦ inr (gone.0, same ∙ gone.1) ]
 
 -- ---- an opening
 
-module _ (texts : List (List ℕ)) (kept : Kept) (s : ServedValue) (is : Recovers texts kept s) (served : IsServed s) where
-  version_is : manifest_version texts ≡ s.version
+module _ (vault : VaultValue) (s : ServedValue) (is : Recovers vault s) (served : IsServed s) where
+  version_is : manifest_version vault.edits ≡ s.version
   version_is = is.folds.makes
 
-  pub epoch_refused : (why : OpenError) → EpochRefused s.version why → OpenRefuses texts kept why
+  pub epoch_refused : (why : OpenError) → EpochRefused s.version why → OpenRefuses vault why
   epoch_refused BadManifest h = absurd h
   epoch_refused MissingTable h = absurd h
   epoch_refused NumbersExhausted h = (
-    folds_once texts s.version is.folds,
-    subst (λ (v : VersionValue). HaveTables kept v.files) (sym version_is) (have_tables kept s served is.tables),
+    folds_once vault.edits s.version is.folds,
+    subst (λ (v : VersionValue). HaveTables vault.tables v.files) (sym version_is) (have_tables vault.tables s served is.tables),
     subst AreExhausted (sym version_is) h,
   )
   epoch_refused OutOfMemory h = tt
   epoch_refused Device h = tt
 
-  pub epoch_dropped : (why : OpenError) (new : Kept) → EpochRefused s.version why → MayHaveLost (is_live_file s.version.files []) kept new → (why ≡ NumbersExhausted → new ≡ kept) → MayHaveDropped why texts kept new
-  epoch_dropped BadManifest new h lost same = absurd h
-  epoch_dropped MissingTable new h lost same = absurd h
-  epoch_dropped NumbersExhausted new h lost same = same refl
-  epoch_dropped OutOfMemory new h lost same = inr (folds_once texts s.version is.folds, subst (λ (v : VersionValue). MayHaveLost (is_live_file v.files []) kept new) (sym version_is) lost)
-  epoch_dropped Device new h lost same = inr (folds_once texts s.version is.folds, subst (λ (v : VersionValue). MayHaveLost (is_live_file v.files []) kept new) (sym version_is) lost)
+  obsolete_lost : (new : VaultValue) → new ≡ record vault { tables = new.tables } → MayHaveLost (is_live_file s.version.files []) vault.tables new.tables → MayHaveLostObsolete vault new
+  obsolete_lost new rest lost = record {
+    folds = folds_once vault.edits s.version is.folds;
+    rest = rest;
+    lost = subst (λ (v : VersionValue). MayHaveLost (is_live_file v.files []) vault.tables new.tables) (sym version_is) lost;
+  }
 
-  pub opened_set : (v : VersionSetValue) (old : VersionSetValue) → old.served ≡ s → old.edits ≡ texts → old.kept ≡ kept → IsNextEpoch old v → Opens texts kept v
-  opened_set v old at edits tables next =
-      let from : old.served.version ≡ manifest_version texts = ap (λ (x : ServedValue). x.version) at ∙ sym version_is in
+  pub epoch_dropped : (why : OpenError) (new : VaultValue) → EpochRefused s.version why → new ≡ record vault { tables = new.tables } → MayHaveLost (is_live_file s.version.files []) vault.tables new.tables → (why ≡ NumbersExhausted → new ≡ vault) → MayHaveDropped why vault new
+  epoch_dropped BadManifest new h rest lost same = absurd h
+  epoch_dropped MissingTable new h rest lost same = absurd h
+  epoch_dropped NumbersExhausted new h rest lost same = same refl
+  epoch_dropped OutOfMemory new h rest lost same = inr (obsolete_lost new rest lost)
+  epoch_dropped Device new h rest lost same = inr (obsolete_lost new rest lost)
+
+  pub opened_set : (v : VersionSetValue) (old : VersionSetValue) → old.served ≡ s → old.stored ≡ vault → IsNextEpoch old v → Opens vault v
+  opened_set v old at stored next =
+      let from : old.served.version ≡ manifest_version vault.edits = ap (λ (x : ServedValue). x.version) at ∙ sym version_is in
       record {
-        folds = folds_once texts s.version is.folds;
+        folds = folds_once vault.edits s.version is.folds;
         version = ap (λ (x : ServedValue). x.version) next.served ∙ ap (λ (x : VersionValue). after_apply x (epoch_edit x)) from;
-        edits = next.edits ∙ (λ i. edits i ++ spelling (epoch_edit (from i)) ∷ []);
+        stored = next.stored ∙ (λ i. record (stored i) { edits = (stored i).edits ++ spelling (epoch_edit (from i)) ∷ []; tables = retain_keys (stored i).tables (is_live_file (from i).files []) });
         floor = next.floor;
         retired = next.retired;
-        tables = next.tables ∙ (λ i. retain_keys (tables i) (is_live_file (from i).files []));
       }

@@ -15,8 +15,9 @@ use Rattle.lsm_edit.proofs.AdvancedPlaces.{listed_below}
 use Rattle.lsm_edit.proofs.PlacesInOrder.{placed_meta}
 use Rattle.lsm_edit.proofs.ServedAfterEdit.{put_all-members}
 use Rattle.lsm_edit.proofs.VersionLaws.{added_rises, fresh_added, stays}
+use Rattle.lsm_vault.specs.Stored.{TableMap}
 use Rattle.lsm_versions.specs.declared.retired.Retired.{Retired}
-use Rattle.lsm_versions.specs.Kept.{AreKept, Kept, StaysApart, StaysBelow, put_tables}
+use Rattle.lsm_versions.specs.Kept.{AreKept, StaysApart, StaysBelow, put_tables}
 use Rattle.lsm_versions.specs.Manifest.{Folds, versions_of}
 use Rattle.lsm_versions.specs.Retention.{AreRetired, kept_from, retire, retired_after, retired_by}
 use Rattle.lsm_versions.proofs.PutTables.{put_each_table, put_none}
@@ -24,7 +25,7 @@ use Rattle.lsm_versions.proofs.RetiredByNumber.{put_cases}
 use Rattle.lsm_versions.proofs.RetiredFiles.{given}
 
 -- the files that an edit adds have new numbers
-pub apart_below : (v : VersionValue) (e : Edit) (old new : Kept) → apply_fault v e ≡ None → StaysApart e.added old new → StaysBelow v.next_file old new
+pub apart_below : (v : VersionValue) (e : Edit) (old new : TableMap) → apply_fault v e ≡ None → StaysApart e.added old new → StaysBelow v.next_file old new
 apart_below v e old new applies stays n lt = stays n (λ f m (same : f.number ≡ n). let fresh = fresh_added v e applies f m in absurd (omega (arith, fresh, same, lt)))
 
 module _ (texts : List (List ℕ)) (s : ServedValue) (retired : List Retired) (floor : ℕ) (text : List ℕ) (e : Edit) (folds : Folds texts s.version) (are : AreRetired (versions_of texts) s.version retired floor)
@@ -37,14 +38,14 @@ module _ (texts : List (List ℕ)) (s : ServedValue) (retired : List Retired) (f
       omega (arith, lt, named)
 
   -- tables under new numbers may be put
-  pub kept_still : (old new : Kept) → AreKept old s.places retired → StaysBelow s.version.next_file old new → AreKept new s.places retired
+  pub kept_still : (old new : TableMap) → AreKept old s.places retired → StaysBelow s.version.next_file old new → AreKept new s.places retired
   kept_still old new kept below = record {
     listed = λ p m. below p.meta.number (listed_below s version_is served_is p m) ∙ kept.listed p m;
     removed = λ r m. below r.number (below_next r m) ∙ kept.removed r m;
   }
 
   -- the tables of the edit's files are put
-  pub kept_after : (old : Kept) (tables : List Opened) → IsEdit e → AreKept old s.places retired → AreKept (put_tables old (placed_of e.added tables)) (after_advance s e tables).places (retired_after retired s e.removed)
+  pub kept_after : (old : TableMap) (tables : List Opened) → IsEdit e → AreKept old s.places retired → AreKept (put_tables old (placed_of e.added tables)) (after_advance s e tables).places (retired_after retired s e.removed)
   kept_after old tables is kept =
       let added = placed_of e.added tables in
       let still : (n : ℕ) → n < s.version.next_file → get (put_tables old added) n ≡ get old n =
@@ -65,7 +66,7 @@ module _ (texts : List (List ℕ)) (s : ServedValue) (retired : List Retired) (f
       }
 
 -- the tables of the retired files that stay are kept
-pub kept_trimmed : (s : ServedValue) (retired : List Retired) (n : ℕ) (kept : Kept) → AreKept kept s.places retired → AreKept kept s.places (kept_from n retired)
+pub kept_trimmed : (s : ServedValue) (retired : List Retired) (n : ℕ) (kept : TableMap) → AreKept kept s.places retired → AreKept kept s.places (kept_from n retired)
 kept_trimmed s retired n kept are = record {
   listed = are.listed;
   removed = λ r m. are.removed r (IsIn-filter (λ (y : Retired). leb n y.until) r retired m).0;

@@ -6,7 +6,7 @@ use Rattle.lsm_table.specs.Tables.{Opened}
 use Rattle.lsm_edit.specs.declared.file.FileMeta.{FileMeta}
 use Rattle.lsm_edit.specs.declared.served.Placed.{Placed}
 use Rattle.lsm_edit.specs.Served.{AreAsRecorded, IsAsRecorded, IsServed, ServedValue, placed_of}
-use Rattle.lsm_versions.specs.Kept.{Kept}
+use Rattle.lsm_vault.specs.Stored.{TableMap}
 use Rattle.lsm_versions.specs.Opening.{ArePlacesKept, HaveTables}
 
 -- one table more
@@ -16,7 +16,7 @@ recorded_push [] (u ∷ ts) f t are one = absurd are
 recorded_push (g ∷ fs) [] f t are one = absurd are
 recorded_push (g ∷ fs) (u ∷ ts) f t are one = (are.0, recorded_push fs ts f t are.1 one)
 
-pub kept_push : (kept : Kept) (fs : List FileMeta) (ts : List Opened) (f : FileMeta) (t : Opened) → AreAsRecorded fs ts → ArePlacesKept kept (placed_of fs ts) → get kept f.number ≡ Some t.bytes → ArePlacesKept kept (placed_of (fs ++ f ∷ []) (ts ++ t ∷ []))
+pub kept_push : (kept : TableMap) (fs : List FileMeta) (ts : List Opened) (f : FileMeta) (t : Opened) → AreAsRecorded fs ts → ArePlacesKept kept (placed_of fs ts) → get kept f.number ≡ Some t.bytes → ArePlacesKept kept (placed_of (fs ++ f ∷ []) (ts ++ t ∷ []))
 kept_push kept [] [] f t are before one p (inl same) = subst (λ (q : Placed). get kept q.meta.number ≡ Some q.table.bytes) (sym same) one
 kept_push kept [] [] f t are before one p (inr none) = absurd none
 kept_push kept [] (u ∷ ts) f t are before one p m = absurd are
@@ -25,7 +25,7 @@ kept_push kept (g ∷ fs) (u ∷ ts) f t are before one p (inl same) = before p 
 kept_push kept (g ∷ fs) (u ∷ ts) f t are before one p (inr later) = kept_push kept fs ts f t are.1 (λ q m. before q (inr m)) one p later
 
 -- a version with its tables has the table of each file
-pub have_tables : (kept : Kept) (s : ServedValue) → IsServed s → ArePlacesKept kept s.places → HaveTables kept s.version.files
+pub have_tables : (kept : TableMap) (s : ServedValue) → IsServed s → ArePlacesKept kept s.places → HaveTables kept s.version.files
 have_tables kept s is are f m =
     let p = IsIn-mapped (λ (q : Placed). q.meta) f s.places ((is.listed f).1 m) in (
       p.0.table,

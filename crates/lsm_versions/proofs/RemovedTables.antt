@@ -13,8 +13,9 @@ use Rattle.lsm_key.proofs.Lists.{any_from}
 use Rattle.lsm_edit.specs.declared.file.FileMeta.{FileMeta}
 use Rattle.lsm_edit.specs.declared.served.Placed.{Placed}
 use Rattle.lsm_edit.specs.Version.{has_number}
+use Rattle.lsm_vault.specs.Stored.{TableMap}
 use Rattle.lsm_versions.specs.declared.retired.Retired.{Retired}
-use Rattle.lsm_versions.specs.Kept.{AreKept, Kept, MayHaveRemoved}
+use Rattle.lsm_versions.specs.Kept.{AreKept, MayHaveRemoved}
 use Rattle.lsm_versions.specs.Opening.{MayHaveLost, is_live_file}
 use Rattle.lsm_versions.specs.Retention.{retired_at}
 
@@ -22,7 +23,7 @@ use Rattle.lsm_versions.specs.Retention.{retired_at}
 abbrev pub all_but : List ℕ → ℕ → Bool
 all_but ns n = not (list_any (eqb n) ns)
 
-get_retained : (kept : Kept) (stays : ℕ → Bool) (q : ℕ) → get (retain_keys kept stays) q ≡ cond (stays q) (get kept q) None
+get_retained : (kept : TableMap) (stays : ℕ → Bool) (q : ℕ) → get (retain_keys kept stays) q ≡ cond (stays q) (get kept q) None
 get_retained kept stays q = get-retain_keys kept stays q (λ x tied. ap stays (sym (nat_cmp-IsAntisymmetric q x tied)))
 
 same_tests : (q k : ℕ) → eq_by_cmp nat_cmp q k ≡ eqb q k
@@ -35,20 +36,20 @@ removed_then false true x = refl
 removed_then false false x = refl
 
 -- one of the numbers more
-pub one_fewer : (old before after : Kept) (ns : List ℕ) (i k : ℕ) → i < length ns → k ≡ get_or ns i k → before ≡ retain_keys old (all_but (take i ns)) → after ≡ remove before k → after ≡ retain_keys old (all_but (take (i + 1) ns))
+pub one_fewer : (old before after : TableMap) (ns : List ℕ) (i k : ℕ) → i < length ns → k ≡ get_or ns i k → before ≡ retain_keys old (all_but (take i ns)) → after ≡ remove before k → after ≡ retain_keys old (all_but (take (i + 1) ns))
 one_fewer old before after ns i k lt at was now = same_map nat_cmp_total nat_cmp-IsAntisymmetric _ _ (λ q.
     let more : list_any (eqb q) (take (i + 1) ns) ≡ (list_any (eqb q) (take i ns) || eq_by_cmp nat_cmp q k) =
     list_any_more (eqb q) ns i k lt ∙ ap (λ (n : ℕ). list_any (eqb q) (take i ns) || eqb q n) (sym at) ∙ ap (λ (b : Bool). list_any (eqb q) (take i ns) || b) (sym (same_tests q k)) in
-    ap (λ (m : Kept). get m q) now
+    ap (λ (m : TableMap). get m q) now
     ∙ get-remove nat_cmp_total before k q
-    ∙ ap (λ (m : Kept). cond (eq_by_cmp nat_cmp q k) None (get m q)) was
+    ∙ ap (λ (m : TableMap). cond (eq_by_cmp nat_cmp q k) None (get m q)) was
     ∙ ap (λ (x : Option (List ℕ)). cond (eq_by_cmp nat_cmp q k) None x) (get_retained old (all_but (take i ns)) q)
     ∙ removed_then (eq_by_cmp nat_cmp q k) (list_any (eqb q) (take i ns)) (get old q)
     ∙ ap (λ (b : Bool). cond (not b) (get old q) None) (sym more)
     ∙ sym (get_retained old (all_but (take (i + 1) ns)) q))
 
 -- none as yet
-pub none_fewer : (old : Kept) → old ≡ retain_keys old (all_but [])
+pub none_fewer : (old : TableMap) → old ≡ retain_keys old (all_but [])
 none_fewer old = same_map nat_cmp_total nat_cmp-IsAntisymmetric _ _ (λ q. sym (get_retained old (all_but []) q))
 
 -- ---- all numbers that are not needed
@@ -82,7 +83,7 @@ others_out false None = refl
 others_out false (Some t) = refl
 
 -- the tables that are left are those that are needed
-pub others_gone : (old : Kept) (needed : ℕ → Bool) → retain_keys old (all_but (filter (λ n. not (needed n)) (keys old))) ≡ retain_keys old needed
+pub others_gone : (old : TableMap) (needed : ℕ → Bool) → retain_keys old (all_but (filter (λ n. not (needed n)) (keys old))) ≡ retain_keys old needed
 others_gone old needed = same_map nat_cmp_total nat_cmp-IsAntisymmetric _ _ (λ q.
     let there : list_any (eqb q) (keys old) ≡ is_some (get old q) = ap (λ (f : ℕ → Bool). list_any f (keys old)) (λ i k. sym (same_tests q k) i) ∙ sym (contains_key-keys old q) in
     get_retained old (all_but (filter (λ n. not (needed n)) (keys old))) q
@@ -91,9 +92,9 @@ others_gone old needed = same_map nat_cmp_total nat_cmp-IsAntisymmetric _ _ (λ 
     ∙ sym (get_retained old needed q))
 
 -- of removals that were begun, only those that are not needed may be gone
-pub others_lost : (old mid new : Kept) (needed : ℕ → Bool) (ns : List ℕ) → ns ≡ filter (λ n. not (needed n)) (keys old) → mid ≡ old → MayHaveRemoved ns mid new → MayHaveLost needed old new
+pub others_lost : (old mid new : TableMap) (needed : ℕ → Bool) (ns : List ℕ) → ns ≡ filter (λ n. not (needed n)) (keys old) → mid ≡ old → MayHaveRemoved ns mid new → MayHaveLost needed old new
 others_lost old mid new needed ns are same may n = elim (may n) [
-  | inl stays ↦ inl (stays ∙ ap (λ (m : Kept). get m n) same)
+  | inl stays ↦ inl (stays ∙ ap (λ (m : TableMap). get m n) same)
   | inr gone ↦ inr (not-true (needed n) (IsIn-filter (λ (k : ℕ). not (needed k)) n (keys old) (subst (IsIn n) are gone.0)).1, gone.1)
 ]
 
@@ -105,7 +106,7 @@ retired_there (x ∷ rs) r (inl same) = ap (λ (b : Bool). is_some (cond b (Some
 retired_there (x ∷ rs) r (inr later) = elim (eqb x.number r.number) as (λ b. is_some (cond b (Some x.bytes) (retired_at rs r.number)) ≡ true) [ true ↦ refl | false ↦ retired_there rs r later ]
 
 -- they are kept if what they need is
-pub kept_needed : (places : List Placed) (files : List FileMeta) (retired : List Retired) (old new : Kept) → ((p : Placed) → IsIn p places → IsIn p.meta files) → MayHaveLost (is_live_file files retired) old new → AreKept old places retired → AreKept new places retired
+pub kept_needed : (places : List Placed) (files : List FileMeta) (retired : List Retired) (old new : TableMap) → ((p : Placed) → IsIn p places → IsIn p.meta files) → MayHaveLost (is_live_file files retired) old new → AreKept old places retired → AreKept new places retired
 kept_needed places files retired old new among lost kept = record {
   listed = λ p m. elim (lost p.meta.number) [
     | inl stays ↦ stays ∙ kept.listed p m

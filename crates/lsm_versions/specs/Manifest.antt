@@ -8,9 +8,10 @@ use Rattle.lsm_edit.specs.Edit.{IsSpelledEdit, edit, read_edit}
 use Rattle.lsm_edit.specs.Edits.{Apply, after_edits, versions_from}
 use Rattle.lsm_edit.specs.Version.{VersionValue, first_version}
 use Rattle.lsm_edit.specs.Served.{ServedValue, after_advance, placed_of}
+use Rattle.lsm_vault.specs.Stored.{VaultValue}
 use Rattle.lsm_versions.specs.declared.retired.Retired.{Retired}
 use Rattle.lsm_versions.specs.Retention.{AreRetired, kept_from, retired_after}
-use Rattle.lsm_versions.specs.Kept.{AreKept, Kept, MayHavePutSome, StaysBelow, put_tables}
+use Rattle.lsm_versions.specs.Kept.{AreKept, MayHavePutSome, StaysBelow, put_tables}
 
 -- the edit that bytes spell, or none
 abbrev pub ok_items : {X F : Type 0} → Result X F → List X
@@ -35,36 +36,34 @@ pub record Folds (texts : List (List ℕ)) (v : VersionValue) : Type 0 where
   pub apply : Apply first_version (read_edits texts)
   pub makes : after_edits first_version (read_edits texts) ≡ v
 
--- a version with its tables, the removed files that are kept from the floor on, and the vault's edits, tables and failures
+-- a version with its tables, the removed files that are kept from the floor on, and what the vault has
 pub record VersionSetValue : Type 0 where
   pub served : ServedValue
-  pub edits : List (List ℕ)
+  pub stored : VaultValue  -- the vault's edits and tables
   pub retired : List Retired
   pub floor : ℕ
-  pub kept : Kept
   pub failures : ℕ  -- how often the vault's device failed
 
 -- the manifest replays to the version, the retired files are those of its versions, and the vault has the tables of both
 pub record IsVersionSet (v : VersionSetValue) : Type 0 where
-  pub folds : Folds v.edits v.served.version
-  pub retired : AreRetired (versions_of v.edits) v.served.version v.retired v.floor
-  pub kept : AreKept v.kept v.served.places v.retired
+  pub folds : Folds v.stored.edits v.served.version
+  pub retired : AreRetired (versions_of v.stored.edits) v.served.version v.retired v.floor
+  pub kept : AreKept v.stored.tables v.served.places v.retired
 
 -- The edit is the last of the manifest, the version after it stands with the tables of the files that it adds, which the vault has
 -- too, and those that it removes are retired.
 abbrev pub after_logging : VersionSetValue → Edit → List Opened → VersionSetValue
 after_logging v e tables = record v {
   served = after_advance v.served e tables;
-  edits = v.edits ++ edit e ∷ [];
+  stored = record v.stored { edits = v.stored.edits ++ edit e ∷ []; tables = put_tables v.stored.tables (placed_of e.added tables) };
   retired = retired_after v.retired v.served e.removed;
-  kept = put_tables v.kept (placed_of e.added tables);
 }
 
 -- the same, but that the vault may have some of the tables that may be put, under numbers that no file has been given yet, and may have failed
 pub record MayHavePut (MayPut : ℕ → List ℕ → Type 0) (old new : VersionSetValue) : Type 0 where
-  pub rest : new ≡ record old { kept = new.kept; failures = new.failures }
-  pub below : StaysBelow old.served.version.next_file old.kept new.kept
-  pub put : MayHavePutSome MayPut old.kept new.kept
+  pub rest : new ≡ record old { stored = record old.stored { tables = new.stored.tables }; failures = new.failures }
+  pub below : StaysBelow old.served.version.next_file old.stored.tables new.stored.tables
+  pub put : MayHavePutSome MayPut old.stored.tables new.stored.tables
 
 -- the floor is this number, unless it is higher, and the retired files below it are let go
 abbrev pub after_trimming : VersionSetValue → ℕ → VersionSetValue

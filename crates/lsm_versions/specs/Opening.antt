@@ -13,11 +13,11 @@ use Rattle.lsm_edit.specs.Next.{epoch_edit}
 use Rattle.lsm_edit.specs.Served.{IsAsRecorded, ServedValue, after_advance}
 use Rattle.lsm_edit.specs.Version.{VersionValue, after_apply, first_version, has_number}
 use Rattle.lsm_vault.specs.declared.error.VaultError.{VaultError}
-use Rattle.lsm_vault.specs.declared.error.VaultError.TheVariants as vault
+use Rattle.lsm_vault.specs.declared.error.VaultError.TheVariants as fault
+use Rattle.lsm_vault.specs.Stored.{TableMap, VaultValue}
 use Rattle.lsm_versions.specs.declared.error.OpenError.{OpenError}
 use Rattle.lsm_versions.specs.declared.error.OpenError.TheVariants.{OutOfMemory, BadManifest, MissingTable, Device, NumbersExhausted}
 use Rattle.lsm_versions.specs.declared.retired.Retired.{Retired}
-use Rattle.lsm_versions.specs.Kept.{Kept}
 use Rattle.lsm_versions.specs.Manifest.{Folds, VersionSetValue, read_edits}
 use Rattle.lsm_versions.specs.Retention.{retired_at}
 
@@ -33,14 +33,14 @@ is_live v n = is_live_file v.served.version.files v.retired n
 
 -- the numbers of all other tables, ascending
 abbrev pub obsolete_tables : VersionSetValue → List ℕ
-obsolete_tables v = filter (λ n. not (is_live v n)) (map.keys v.kept)
+obsolete_tables v = filter (λ n. not (is_live v n)) (map.keys v.stored.tables)
 
 -- the vault has the tables of live files alone
 abbrev pub without_obsolete : VersionSetValue → VersionSetValue
-without_obsolete v = record v { kept = map.retain_keys v.kept (is_live v) }
+without_obsolete v = record v { stored = record v.stored { tables = map.retain_keys v.stored.tables (is_live v) } }
 
 -- the same tables, but that some under other numbers may be gone
-abbrev pub MayHaveLost : (ℕ → Bool) → Kept → Kept → Type 0
+abbrev pub MayHaveLost : (ℕ → Bool) → TableMap → TableMap → Type 0
 MayHaveLost needed old new = (n : ℕ) → (map.get new n ≡ map.get old n) ⊎ ((needed n ≡ false) × (map.get new n ≡ None))
 
 -- ---- an opening
@@ -50,37 +50,37 @@ abbrev pub manifest_version : List (List ℕ) → VersionValue
 manifest_version texts = after_edits first_version (read_edits texts)
 
 -- the table under the file's number is absent or not as its record says
-abbrev pub LacksTable : Kept → FileMeta → Type 0
-LacksTable kept file = (t : Opened) → map.get kept file.number ≡ Some t.bytes → IsAsRecorded file t → ⊥
+abbrev pub LacksTable : TableMap → FileMeta → Type 0
+LacksTable tables file = (t : Opened) → map.get tables file.number ≡ Some t.bytes → IsAsRecorded file t → ⊥
 
 -- one of the files lacks its table
-abbrev pub IsLacking : Kept → List FileMeta → Type 0
-IsLacking kept files = (f : FileMeta) × IsIn f files × LacksTable kept f
+abbrev pub IsLacking : TableMap → List FileMeta → Type 0
+IsLacking tables files = (f : FileMeta) × IsIn f files × LacksTable tables f
 
 -- each file has its table, as its record says
-abbrev pub HaveTables : Kept → List FileMeta → Type 0
-HaveTables kept files = (f : FileMeta) → IsIn f files → (t : Opened) × (map.get kept f.number ≡ Some t.bytes) × IsAsRecorded f t
+abbrev pub HaveTables : TableMap → List FileMeta → Type 0
+HaveTables tables files = (f : FileMeta) → IsIn f files → (t : Opened) × (map.get tables f.number ≡ Some t.bytes) × IsAsRecorded f t
 
 -- each place's table is the vault's
-abbrev pub ArePlacesKept : Kept → List Placed → Type 0
-ArePlacesKept kept places = (p : Placed) → IsIn p places → map.get kept p.meta.number ≡ Some p.table.bytes
+abbrev pub ArePlacesKept : TableMap → List Placed → Type 0
+ArePlacesKept tables places = (p : Placed) → IsIn p places → map.get tables p.meta.number ≡ Some p.table.bytes
 
 -- there is no next version or no next epoch
 abbrev pub AreExhausted : VersionValue → Type 0
 AreExhausted v = (MAX_NUMBER ≤ v.number) ⊎ (MAX_NUMBER ≤ v.epoch)
 
 -- a vault with these edits and tables is not opened, for this reason
-abbrev pub OpenRefuses : List (List ℕ) → Kept → OpenError → Type 0
-OpenRefuses texts kept BadManifest = Folds texts (manifest_version texts) → ⊥
-OpenRefuses texts kept MissingTable = Folds texts (manifest_version texts) × IsLacking kept (manifest_version texts).files
-OpenRefuses texts kept NumbersExhausted = Folds texts (manifest_version texts) × HaveTables kept (manifest_version texts).files × AreExhausted (manifest_version texts)
-OpenRefuses texts kept OutOfMemory = Unit {0}
-OpenRefuses texts kept Device = Unit {0}
+abbrev pub OpenRefuses : VaultValue → OpenError → Type 0
+OpenRefuses vault BadManifest = Folds vault.edits (manifest_version vault.edits) → ⊥
+OpenRefuses vault MissingTable = Folds vault.edits (manifest_version vault.edits) × IsLacking vault.tables (manifest_version vault.edits).files
+OpenRefuses vault NumbersExhausted = Folds vault.edits (manifest_version vault.edits) × HaveTables vault.tables (manifest_version vault.edits).files × AreExhausted (manifest_version vault.edits)
+OpenRefuses vault OutOfMemory = Unit {0}
+OpenRefuses vault Device = Unit {0}
 
 -- the reason of a vault
 abbrev pub open_error : VaultError → OpenError
-open_error vault.OutOfMemory = OutOfMemory
-open_error vault.Device = Device
+open_error fault.OutOfMemory = OutOfMemory
+open_error fault.Device = Device
 
 -- the failures counted before and after an opening that is refused: a device failure was counted, and the count never falls
 abbrev pub CountsRefusal : OpenError → ℕ → ℕ → Type 0
@@ -90,26 +90,31 @@ CountsRefusal BadManifest before after = before ≤ after
 CountsRefusal MissingTable before after = before ≤ after
 CountsRefusal NumbersExhausted before after = before ≤ after
 
--- the tables before and after it: some that no file needs may be gone, if memory ran out or the device failed
-abbrev pub MayHaveDropped : OpenError → List (List ℕ) → Kept → Kept → Type 0
-MayHaveDropped OutOfMemory texts old new = (new ≡ old) ⊎ (Folds texts (manifest_version texts) × MayHaveLost (is_live_file (manifest_version texts).files []) old new)
-MayHaveDropped Device texts old new = (new ≡ old) ⊎ (Folds texts (manifest_version texts) × MayHaveLost (is_live_file (manifest_version texts).files []) old new)
-MayHaveDropped BadManifest texts old new = new ≡ old
-MayHaveDropped MissingTable texts old new = new ≡ old
-MayHaveDropped NumbersExhausted texts old new = new ≡ old
+-- the manifest replays, and nothing changed but that some tables that no file needs may be gone
+pub record MayHaveLostObsolete (old new : VaultValue) : Type 0 where
+  pub folds : Folds old.edits (manifest_version old.edits)
+  pub rest : new ≡ record old { tables = new.tables }
+  pub lost : MayHaveLost (is_live_file (manifest_version old.edits).files []) old.tables new.tables
+
+-- what the vault has before and after it: some tables that no file needs may be gone, if memory ran out or the device failed
+abbrev pub MayHaveDropped : OpenError → VaultValue → VaultValue → Type 0
+MayHaveDropped OutOfMemory old new = (new ≡ old) ⊎ MayHaveLostObsolete old new
+MayHaveDropped Device old new = (new ≡ old) ⊎ MayHaveLostObsolete old new
+MayHaveDropped BadManifest old new = new ≡ old
+MayHaveDropped MissingTable old new = new ≡ old
+MayHaveDropped NumbersExhausted old new = new ≡ old
 
 -- the version that the edits replay to, with the tables of the vault
-pub record Recovers (texts : List (List ℕ)) (kept : Kept) (s : ServedValue) : Type 0 where
-  pub folds : Folds texts s.version
-  pub tables : ArePlacesKept kept s.places
+pub record Recovers (vault : VaultValue) (s : ServedValue) : Type 0 where
+  pub folds : Folds vault.edits s.version
+  pub tables : ArePlacesKept vault.tables s.places
 
 -- the next epoch begins, over the tables that are needed alone
 pub record IsNextEpoch (old new : VersionSetValue) : Type 0 where
   pub served : new.served ≡ after_advance old.served (epoch_edit old.served.version) []
-  pub edits : new.edits ≡ old.edits ++ edit (epoch_edit old.served.version) ∷ []
+  pub stored : new.stored ≡ record old.stored { edits = old.stored.edits ++ edit (epoch_edit old.served.version) ∷ []; tables = map.retain_keys old.stored.tables (is_live_file old.served.version.files []) }
   pub floor : new.floor ≡ new.served.version.number
   pub retired : new.retired ≡ []
-  pub tables : new.kept ≡ map.retain_keys old.kept (is_live_file old.served.version.files [])
 
 -- the next epoch of a version does not begin, for this reason
 abbrev pub EpochRefused : VersionValue → OpenError → Type 0
@@ -121,10 +126,9 @@ EpochRefused v Device = Unit {0}
 
 -- The version set stands at the version after one more edit, of the next epoch, which is the last of the manifest. Its floor is there,
 -- and the vault has the tables of its files alone.
-pub record Opens (texts : List (List ℕ)) (kept : Kept) (v : VersionSetValue) : Type 0 where
-  pub folds : Folds texts (manifest_version texts)
-  pub version : v.served.version ≡ after_apply (manifest_version texts) (epoch_edit (manifest_version texts))
-  pub edits : v.edits ≡ texts ++ edit (epoch_edit (manifest_version texts)) ∷ []
+pub record Opens (vault : VaultValue) (v : VersionSetValue) : Type 0 where
+  pub folds : Folds vault.edits (manifest_version vault.edits)
+  pub version : v.served.version ≡ after_apply (manifest_version vault.edits) (epoch_edit (manifest_version vault.edits))
+  pub stored : v.stored ≡ record vault { edits = vault.edits ++ edit (epoch_edit (manifest_version vault.edits)) ∷ []; tables = map.retain_keys vault.tables (is_live_file (manifest_version vault.edits).files []) }
   pub floor : v.floor ≡ v.served.version.number
   pub retired : v.retired ≡ []
-  pub tables : v.kept ≡ map.retain_keys kept (is_live_file (manifest_version texts).files [])

@@ -3,17 +3,17 @@ use Rattle.std.specs.Prelude.{ℕ, List, [], ◌∷◌, map}
 use Rattle.std.specs.FinMap as fin
 use Rattle.lsm_key.specs.Sets.{IsIn}
 use Rattle.lsm_edit.specs.declared.served.Placed.{Placed}
+use Rattle.lsm_vault.specs.Stored.{TableMap}
 use Rattle.lsm_versions.specs.declared.putting.NumberedTable.{NumberedTable}
-use Rattle.lsm_versions.specs.Kept.{Kept}
 
 -- the bytes of each file's table, with its number
 abbrev pub numbered_tables : List Placed → List NumberedTable
 numbered_tables placed = map (λ p. record { number = p.meta.number; bytes = p.table.bytes }) placed
 
 -- each is put under its number
-abbrev pub put_numbered : Kept → List NumberedTable → Kept
-put_numbered kept [] = kept
-put_numbered kept (t ∷ ts) = put_numbered (fin.insert kept t.number t.bytes) ts
+abbrev pub put_numbered : TableMap → List NumberedTable → TableMap
+put_numbered tables [] = tables
+put_numbered tables (t ∷ ts) = put_numbered (fin.insert tables t.number t.bytes) ts
 
 -- one of them has the number and the bytes
 abbrev pub IsTableToPut : List NumberedTable → ℕ → List ℕ → Type 0

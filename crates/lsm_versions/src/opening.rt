@@ -25,11 +25,10 @@ pub(crate) fn recover<V: Vault>(
     alloc: Global,
     vault: &mut V,
 ) -> Result<(Served, Vec<Bytes>), OpenError>
-    ensures ok { IfOk result (λ r. Recovers (V.edits vault.old) (V.tables vault.old) r.0) }
-    ensures recent { IfOk result (λ r. r.1.items ≡ edits_from r.0.version.number (V.edits vault.old)) }
-    ensures refused { IfErr result (OpenRefuses (V.edits vault.old) (V.tables vault.old)) }
-    ensures edits { V.edits vault.new ≡ V.edits vault.old }
-    ensures tables { V.tables vault.new ≡ V.tables vault.old }
+    ensures ok { IfOk result (λ r. Recovers (V.stored vault.old) r.0) }
+    ensures recent { IfOk result (λ r. r.1.items ≡ edits_from r.0.version.number (V.stored vault.old).edits) }
+    ensures refused { IfErr result (OpenRefuses (V.stored vault.old)) }
+    ensures stays { V.stored vault.new ≡ V.stored vault.old }
     ensures failures { V.failures vault.old ≤ V.failures vault.new }
     ensures counted { IfErr result (λ e. CountsRefusal e (V.failures vault.old) (V.failures vault.new)) }
 {
@@ -84,10 +83,9 @@ fn tables_of<V: Vault>(
     files: &[FileMeta],
 ) -> Result<Option<Vec<Table>>, VaultError>
     ensures recorded { IfOk result (λ o. IfSome o (λ tables. AreAsRecorded files.now tables.items)) }
-    ensures kept { IfOk result (λ o. IfSome o (λ tables. ArePlacesKept (V.tables vault.old) (placed_of files.now tables.items))) }
-    ensures none { IfOk result (λ o. IfNone o (IsLacking (V.tables vault.old) files.now)) }
-    ensures edits { V.edits vault.new ≡ V.edits vault.old }
-    ensures tables { V.tables vault.new ≡ V.tables vault.old }
+    ensures kept { IfOk result (λ o. IfSome o (λ tables. ArePlacesKept (V.stored vault.old).tables (placed_of files.now tables.items))) }
+    ensures none { IfOk result (λ o. IfNone o (IsLacking (V.stored vault.old).tables files.now)) }
+    ensures stays { V.stored vault.new ≡ V.stored vault.old }
     ensures counted { CountsFailures result (V.failures vault.old) (V.failures vault.new) }
 {
     let mut tables = Vec::with_capacity(alloc, files.len())?;
@@ -106,10 +104,9 @@ fn table_of<V: Vault>(
     vault: &mut V,
     file: &FileMeta,
 ) -> Result<Option<Table>, VaultError>
-    ensures some { IfOk result (λ o. IfSome o (λ t. IsAsRecorded file.now t × (map.get (V.tables vault.old) file.now.number ≡ Some t.bytes))) }
-    ensures none { IfOk result (λ o. IfNone o (LacksTable (V.tables vault.old) file.now)) }
-    ensures edits { V.edits vault.new ≡ V.edits vault.old }
-    ensures tables { V.tables vault.new ≡ V.tables vault.old }
+    ensures some { IfOk result (λ o. IfSome o (λ t. IsAsRecorded file.now t × (map.get (V.stored vault.old).tables file.now.number ≡ Some t.bytes))) }
+    ensures none { IfOk result (λ o. IfNone o (LacksTable (V.stored vault.old).tables file.now)) }
+    ensures stays { V.stored vault.new ≡ V.stored vault.old }
     ensures counted { CountsFailures result (V.failures vault.old) (V.failures vault.new) }
 {
     match vault.table(FileNumber::new(file.number))? {

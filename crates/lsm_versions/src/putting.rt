@@ -55,10 +55,9 @@ pub(crate) fn store<V: Vault>(
     tables: Vec<NumberedTable>,
     edit: Bytes,
 ) -> Result<(), VaultError>
-    ensures tables { OnOk result (V.tables vault.new ≡ put_numbered (V.tables vault.old) tables.items) }
-    ensures edits { OnOk result (V.edits vault.new ≡ V.edits vault.old ++ edit ∷ []) }
-    ensures err { OnErr result (V.edits vault.new ≡ V.edits vault.old) }
-    ensures put { MayHavePutSome (IsTableToPut tables.items) (V.tables vault.old) (V.tables vault.new) }
+    ensures ok { OnOk result (V.stored vault.new ≡ record (V.stored vault.old) { edits = (V.stored vault.old).edits ++ edit ∷ []; tables = put_numbered (V.stored vault.old).tables tables.items }) }
+    ensures err { OnErr result (V.stored vault.new ≡ record (V.stored vault.old) { tables = (V.stored vault.new).tables }) }
+    ensures put { MayHavePutSome (IsTableToPut tables.items) (V.stored vault.old).tables (V.stored vault.new).tables }
     ensures counted { CountsFailures result (V.failures vault.old) (V.failures vault.new) }
 {
     put_tables(vault, tables)?;
@@ -67,9 +66,9 @@ pub(crate) fn store<V: Vault>(
 
 // Puts tables under their numbers, in turn. A refusal ends it early.
 fn put_tables<V: Vault>(vault: &mut V, tables: Vec<NumberedTable>) -> Result<(), VaultError>
-    ensures ok { OnOk result (V.tables vault.new ≡ put_numbered (V.tables vault.old) tables.items) }
-    ensures put { MayHavePutSome (IsTableToPut tables.items) (V.tables vault.old) (V.tables vault.new) }
-    ensures edits { V.edits vault.new ≡ V.edits vault.old }
+    ensures ok { OnOk result (V.stored vault.new ≡ record (V.stored vault.old) { tables = put_numbered (V.stored vault.old).tables tables.items }) }
+    ensures rest { V.stored vault.new ≡ record (V.stored vault.old) { tables = (V.stored vault.new).tables } }
+    ensures put { MayHavePutSome (IsTableToPut tables.items) (V.stored vault.old).tables (V.stored vault.new).tables }
     ensures counted { CountsFailures result (V.failures vault.old) (V.failures vault.new) }
 {
     for table in tables {
@@ -86,10 +85,10 @@ pub(crate) fn remove_obsolete<V: Vault>(
     retired: &[Retired],
 ) -> Result<Vec<FileNumber>, VaultError>
     requires { NumbersRise retired.now }
-    ensures removed { IfOk result (λ removed. removed.items ≡ filter (λ n. not (is_live_file version.now.files retired.now n)) (map.keys (V.tables vault.old))) }
-    ensures ok { OnOk result (V.tables vault.new ≡ map.retain_keys (V.tables vault.old) (is_live_file version.now.files retired.now)) }
-    ensures lost { MayHaveLost (is_live_file version.now.files retired.now) (V.tables vault.old) (V.tables vault.new) }
-    ensures edits { V.edits vault.new ≡ V.edits vault.old }
+    ensures removed { IfOk result (λ removed. removed.items ≡ filter (λ n. not (is_live_file version.now.files retired.now n)) (map.keys (V.stored vault.old).tables)) }
+    ensures ok { OnOk result (V.stored vault.new ≡ record (V.stored vault.old) { tables = map.retain_keys (V.stored vault.old).tables (is_live_file version.now.files retired.now) }) }
+    ensures rest { V.stored vault.new ≡ record (V.stored vault.old) { tables = (V.stored vault.new).tables } }
+    ensures lost { MayHaveLost (is_live_file version.now.files retired.now) (V.stored vault.old).tables (V.stored vault.new).tables }
     ensures counted { CountsFailures result (V.failures vault.old) (V.failures vault.new) }
 {
     let obsolete = find_obsolete(vault, version, retired)?;
@@ -104,9 +103,8 @@ fn find_obsolete<V: Vault>(
     retired: &[Retired],
 ) -> Result<Vec<FileNumber>, VaultError>
     requires { NumbersRise retired.now }
-    ensures ok { IfOk result (λ numbers. numbers.items ≡ filter (λ n. not (is_live_file version.now.files retired.now n)) (map.keys (V.tables vault.old))) }
-    ensures edits { V.edits vault.new ≡ V.edits vault.old }
-    ensures tables { V.tables vault.new ≡ V.tables vault.old }
+    ensures ok { IfOk result (λ numbers. numbers.items ≡ filter (λ n. not (is_live_file version.now.files retired.now n)) (map.keys (V.stored vault.old).tables)) }
+    ensures stays { V.stored vault.new ≡ V.stored vault.old }
     ensures counted { CountsFailures result (V.failures vault.old) (V.failures vault.new) }
 {
     let mut numbers = vault.numbers()?;
@@ -124,9 +122,9 @@ fn is_live_file(version: &Version, retired: &[Retired], number: FileNumber) -> b
 
 // Removes the tables of these numbers, in turn. A refusal ends it early.
 fn remove_tables<V: Vault>(vault: &mut V, numbers: &[FileNumber]) -> Result<(), VaultError>
-    ensures ok { OnOk result (V.tables vault.new ≡ map.retain_keys (V.tables vault.old) (λ n. not (list_any (nat_eq n) numbers.now))) }
-    ensures removed { MayHaveRemoved numbers.now (V.tables vault.old) (V.tables vault.new) }
-    ensures edits { V.edits vault.new ≡ V.edits vault.old }
+    ensures ok { OnOk result (V.stored vault.new ≡ record (V.stored vault.old) { tables = map.retain_keys (V.stored vault.old).tables (λ n. not (list_any (nat_eq n) numbers.now)) }) }
+    ensures rest { V.stored vault.new ≡ record (V.stored vault.old) { tables = (V.stored vault.new).tables } }
+    ensures removed { MayHaveRemoved numbers.now (V.stored vault.old).tables (V.stored vault.new).tables }
     ensures counted { CountsFailures result (V.failures vault.old) (V.failures vault.new) }
 {
     for number in numbers {

@@ -51,17 +51,17 @@ pub struct VersionSet<V: Vault> {
 impl<V: Vault> Model for VersionSet<V> {
     ghost use Rattle.std.specs.Coded.{codes};
     ghost use Rattle.std.specs.Prelude.{◌≡◌};
+    ghost use Rattle.lsm_vault.specs.Stored.{vault_code};
     ghost use Rattle.lsm_versions.specs.Cached.{HoldsAll};
-    ghost use Rattle.lsm_versions.specs.Kept.{kept_code};
     ghost use Rattle.lsm_versions.specs.Manifest.{IsVersionSet, VersionSetValue, edits_from};
 
     ghost Value = { VersionSetValue };
 
-    ghost coded = { Prim.hlevel (codes, kept_code) };
+    ghost coded = { Prim.hlevel (codes, vault_code) };
 
-    ghost view = { λ v. record { served = v.current; edits = V.edits v.vault; retired = v.retired.items; floor = v.floor; kept = V.tables v.vault; failures = V.failures v.vault } };
+    ghost view = { λ v. record { served = v.current; stored = V.stored v.vault; retired = v.retired.items; floor = v.floor; failures = V.failures v.vault } };
 
-    ghost invariant = { λ v. IsVersionSet (record { served = v.current; edits = V.edits v.vault; retired = v.retired.items; floor = v.floor; kept = V.tables v.vault; failures = V.failures v.vault }) × (v.recent.items ≡ edits_from v.floor (V.edits v.vault)) × HoldsAll v.current.places v.cache };
+    ghost invariant = { λ v. IsVersionSet (record { served = v.current; stored = V.stored v.vault; retired = v.retired.items; floor = v.floor; failures = V.failures v.vault }) × (v.recent.items ≡ edits_from v.floor (V.stored v.vault).edits) × HoldsAll v.current.places v.cache };
 }
 
 impl<V: Vault> VersionSet<V> {
@@ -69,11 +69,10 @@ impl<V: Vault> VersionSet<V> {
     /// logs the edit of the next epoch. The floor is the version after it. A refusal hands the vault back, whose edits are as
     /// before; some of those other tables may be gone.
     pub fn open(alloc: Global, vault: V) -> Result<VersionSet<V>, (OpenError, V)>
-        ensures ok { IfOk result (Opens (V.edits vault) (V.tables vault)) }
+        ensures ok { IfOk result (Opens (V.stored vault)) }
         ensures failures { IfOk result (λ v. V.failures vault ≤ v.failures) }
-        ensures refused { IfErr result (λ e. OpenRefuses (V.edits vault) (V.tables vault) e.0) }
-        ensures edits { IfErr result (λ e. V.edits e.1 ≡ V.edits vault) }
-        ensures tables { IfErr result (λ e. MayHaveDropped e.0 (V.edits vault) (V.tables vault) (V.tables e.1)) }
+        ensures refused { IfErr result (λ e. OpenRefuses (V.stored vault) e.0) }
+        ensures left { IfErr result (λ e. MayHaveDropped e.0 (V.stored vault) (V.stored e.1)) }
         ensures counted { IfErr result (λ e. CountsRefusal e.0 (V.failures vault) (V.failures e.1)) }
     {
         let mut vault = vault;
@@ -107,8 +106,8 @@ impl<V: Vault> VersionSet<V> {
         requires { self.old.retired ≡ [] }
         ensures ok { OnOk result (IsNextEpoch self.old self.new) }
         ensures refused { IfErr result (EpochRefused self.old.served.version) }
-        ensures err { OnErr result (self.new ≡ record self.old { kept = self.new.kept; failures = self.new.failures }) }
-        ensures lost { OnErr result (MayHaveLost (is_live_file self.old.served.version.files []) self.old.kept self.new.kept) }
+        ensures err { OnErr result (self.new ≡ record self.old { stored = record self.old.stored { tables = self.new.stored.tables }; failures = self.new.failures }) }
+        ensures lost { OnErr result (MayHaveLost (is_live_file self.old.served.version.files []) self.old.stored.tables self.new.stored.tables) }
         ensures exhausted { IfErr result (λ e. e ≡ NumbersExhausted → self.new ≡ self.old) }
         ensures failures { self.old.failures ≤ self.new.failures }
         ensures counted { IfErr result (λ e. CountsRefusal e self.old.failures self.new.failures) }
@@ -130,8 +129,8 @@ impl<V: Vault> VersionSet<V> {
     fn remove_obsolete(&mut self) -> Result<Vec<FileNumber>, VaultError>
         ensures removed { IfOk result (λ removed. removed.items ≡ obsolete_tables self.old) }
         ensures ok { OnOk result (self.new ≡ record (without_obsolete self.old) { failures = self.new.failures }) }
-        ensures rest { self.new ≡ record self.old { kept = self.new.kept; failures = self.new.failures } }
-        ensures lost { MayHaveLost (is_live self.old) self.old.kept self.new.kept }
+        ensures rest { self.new ≡ record self.old { stored = record self.old.stored { tables = self.new.stored.tables }; failures = self.new.failures } }
+        ensures lost { MayHaveLost (is_live self.old) self.old.stored.tables self.new.stored.tables }
         ensures counted { CountsFailures result self.old.failures self.new.failures }
     {
         // Proof hint: the places are the version's files.
@@ -186,7 +185,7 @@ impl<V: Vault> VersionSet<V> {
 
     /// The edits of the manifest, from the first on, as the vault has them. They share the bytes.
     pub fn edits(&mut self) -> Result<Vec<Bytes>, VaultError>
-        ensures ok { IfOk result (λ edits. edits.items ≡ self.old.edits) }
+        ensures ok { IfOk result (λ edits. edits.items ≡ self.old.stored.edits) }
         ensures same { self.new ≡ record self.old { failures = self.new.failures } }
         ensures counted { CountsFailures result self.old.failures self.new.failures }
     {
@@ -197,7 +196,7 @@ impl<V: Vault> VersionSet<V> {
     pub fn edit_after(&self, number: VersionNumber) -> Result<Edit, AllocError>
         requires from { self.now.floor ≤ number + 1 }
         requires below { number < self.now.served.version.number }
-        ensures next { IfOk result (λ e. slice_get (read_edits self.now.edits) number ≡ Some e) }
+        ensures next { IfOk result (λ e. slice_get (read_edits self.now.stored.edits) number ≡ Some e) }
         ensures sound { IfOk result IsEdit }
     {
         let at = number.number() as usize - edits_below(self.floor);
@@ -214,8 +213,8 @@ impl<V: Vault> VersionSet<V> {
         requires { to ≤ self.old.served.version.number }
         ensures removed { IfOk result (λ removed. removed.items ≡ obsolete_tables (after_trimming self.old to)) }
         ensures ok { OnOk result (self.new ≡ record (without_obsolete (after_trimming self.old to)) { failures = self.new.failures }) }
-        ensures rest { self.new ≡ record (after_trimming self.old to) { kept = self.new.kept; failures = self.new.failures } }
-        ensures lost { MayHaveLost (is_live (after_trimming self.old to)) self.old.kept self.new.kept }
+        ensures rest { self.new ≡ record (after_trimming self.old to) { stored = record self.old.stored { tables = self.new.stored.tables }; failures = self.new.failures } }
+        ensures lost { MayHaveLost (is_live (after_trimming self.old to)) self.old.stored.tables self.new.stored.tables }
         ensures counted { CountsFailures result self.old.failures self.new.failures }
     {
         let floor = self.floor.max(to);
@@ -233,7 +232,7 @@ impl<V: Vault> VersionSet<V> {
         requires applies { apply_fault self.old.served.version edit.now ≡ None }
         ensures ok { OnOk result (self.new ≡ record (after_logging self.old edit.now tables.items) { failures = self.new.failures }) }
         ensures err { OnErr result (MayHavePut (IsTableOf (placed_of edit.now.added tables.items)) self.old self.new) }
-        ensures apart { OnErr result (StaysApart edit.now.added self.old.kept self.new.kept) }
+        ensures apart { OnErr result (StaysApart edit.now.added self.old.stored.tables self.new.stored.tables) }
         ensures counted { CountsFailures result self.old.failures self.new.failures }
     {
         let bytes = encode_edit(self.alloc, edit)?;
@@ -256,8 +255,7 @@ impl<V: Vault> VersionSet<V> {
 
     /// Ends it, and hands the vault back.
     pub fn close(self) -> V
-        ensures edits { V.edits result ≡ self.edits }
-        ensures tables { V.tables result ≡ self.kept }
+        ensures vault { V.stored result ≡ self.stored }
         ensures failures { V.failures result ≡ self.failures }
     {
         let VersionSet {

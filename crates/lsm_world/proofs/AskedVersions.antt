@@ -31,13 +31,13 @@ module _ (c : CoordValue) (fit : IsFit c) where
   made_by some =
       let v = c.served.version in
       let k = v.number - 1 in
-      let count = length-read_edits c.edits v fit.manifest in
-      let e = edit_at c.edits v fit.manifest k (omega (arith, some)) in
-      let w = version_there first_version (read_edits c.edits) k (omega (arith, some, count)) in
-      let next = (next_version first_version (read_edits c.edits) k e.0 w.0 fit.manifest.apply e.1 w.1).1 in
+      let count = length-read_edits c.stored.edits v fit.manifest in
+      let e = edit_at c.stored.edits v fit.manifest k (omega (arith, some)) in
+      let w = version_there first_version (read_edits c.stored.edits) k (omega (arith, some, count)) in
+      let next = (next_version first_version (read_edits c.stored.edits) k e.0 w.0 fit.manifest.apply e.1 w.1).1 in
       let place : k + 1 ≡ v.number = omega (arith, some) in
-      let same : after_apply w.0 e.0 ≡ v = same_Some (after_apply w.0 e.0) v (sym next ∙ ap (slice_get (versions_of c.edits)) place ∙ current_at c.edits v fit.manifest) in
-      (e.0, edit_sound c.edits v fit.manifest e.0 (in_place (read_edits c.edits) k e.0 e.1), ap (λ (x : VersionValue). x.epoch) (sym same))
+      let same : after_apply w.0 e.0 ≡ v = same_Some (after_apply w.0 e.0) v (sym next ∙ ap (slice_get (versions_of c.stored.edits)) place ∙ current_at c.stored.edits v fit.manifest) in
+      (e.0, edit_sound c.stored.edits v fit.manifest e.0 (in_place (read_edits c.stored.edits) k e.0 e.1), ap (λ (x : VersionValue). x.epoch) (sym same))
 
   is_base : 1 ≤ c.served.version.number → IsBase c.served.version
   is_base some = let made = made_by some in let low = made.1.some_epoch in let same = made.2 in record { number = some; epoch = omega (arith, low, same); version = fit.version }
@@ -53,27 +53,27 @@ module _ (h : History) (c : CoordValue) (files : AreFiles h c) (fit : IsFit c) (
   current = c.served.version
 
   count : length h.edits ≡ current.number
-  count = ap (λ (es : List Edit). length es) files.edits ∙ length-read_edits c.edits current fit.manifest
+  count = ap (λ (es : List Edit). length es) files.edits ∙ length-read_edits c.stored.edits current fit.manifest
 
   up_to_date : IsSendable h (body.Current current.number)
   up_to_date = let same = count in let most = fit.version.number in (omega (arith, same), omega (arith, most))
 
-  next_edit : option_map body.Edit (slice_get (read_edits c.edits) n) ≡ Some said → IsSendable h said
+  next_edit : option_map body.Edit (slice_get (read_edits c.stored.edits) n) ≡ Some said → IsSendable h said
   next_edit told =
-      let e = was_mapped body.Edit (slice_get (read_edits c.edits) n) said told in
+      let e = was_mapped body.Edit (slice_get (read_edits c.stored.edits) n) said told in
       subst (IsSendable h) e.2 (
         (n, ap (λ (es : List Edit). slice_get es n) files.edits ∙ e.1),
-        edit_sound c.edits current fit.manifest e.0 (in_place (read_edits c.edits) n e.0 e.1),
+        edit_sound c.stored.edits current fit.manifest e.0 (in_place (read_edits c.stored.edits) n e.0 e.1),
       )
 
   whole : 1 ≤ current.number → IsSendable h (body.Base current)
-  whole some = (ap (λ (vs : List VersionValue). slice_get vs current.number) (versions_are h c.edits files.edits) ∙ current_at c.edits current fit.manifest, is_base c fit some)
+  whole some = (ap (λ (vs : List VersionValue). slice_get vs current.number) (versions_are h c.stored.edits files.edits) ∙ current_at c.stored.edits current fit.manifest, is_base c fit some)
 
-  behind : n < current.number → (b : Bool) → cond b (option_map body.Edit (slice_get (read_edits c.edits) n)) (Some (body.Base current)) ≡ Some said → IsSendable h said
+  behind : n < current.number → (b : Bool) → cond b (option_map body.Edit (slice_get (read_edits c.stored.edits) n)) (Some (body.Base current)) ≡ Some said → IsSendable h said
   behind less true told = next_edit told
   behind less false told = subst (IsSendable h) (same_Some (body.Base current) said told) (whole (omega (arith, less)))
 
-  by_number : (b : Bool) → leb current.number n ≡ b → cond b (Some (body.Current current.number)) (cond (leb c.floor (n + 1)) (option_map body.Edit (slice_get (read_edits c.edits) n)) (Some (body.Base current))) ≡ Some said → IsSendable h said
+  by_number : (b : Bool) → leb current.number n ≡ b → cond b (Some (body.Current current.number)) (cond (leb c.floor (n + 1)) (option_map body.Edit (slice_get (read_edits c.stored.edits) n)) (Some (body.Base current))) ≡ Some said → IsSendable h said
   by_number true is told = subst (IsSendable h) (same_Some (body.Current current.number) said told) up_to_date
   by_number false is told = behind (leb-false current.number n is) (leb c.floor (n + 1)) told
 
@@ -85,10 +85,10 @@ module _ (h : History) (c : CoordValue) (files : AreFiles h c) (fit : IsFit c) (
 pub asked_answered : (c : CoordValue) → IsFit c → (n : ℕ) → (after_version c n ≡ None) → ⊥
 asked_answered c fit n none = by (leb c.served.version.number n) refl none
   where
-    behind : n < c.served.version.number → (b : Bool) → cond b (option_map body.Edit (slice_get (read_edits c.edits) n)) (Some (body.Base c.served.version)) ≡ None → ⊥
-    behind less true is = let e = edit_at c.edits c.served.version fit.manifest n less in let told = ap (option_map body.Edit) (sym e.1) ∙ is in cc
+    behind : n < c.served.version.number → (b : Bool) → cond b (option_map body.Edit (slice_get (read_edits c.stored.edits) n)) (Some (body.Base c.served.version)) ≡ None → ⊥
+    behind less true is = let e = edit_at c.stored.edits c.served.version fit.manifest n less in let told = ap (option_map body.Edit) (sym e.1) ∙ is in cc
     behind less false is = cc
 
-    by : (b : Bool) → leb c.served.version.number n ≡ b → cond b (Some (body.Current c.served.version.number)) (cond (leb c.floor (n + 1)) (option_map body.Edit (slice_get (read_edits c.edits) n)) (Some (body.Base c.served.version))) ≡ None → ⊥
+    by : (b : Bool) → leb c.served.version.number n ≡ b → cond b (Some (body.Current c.served.version.number)) (cond (leb c.floor (n + 1)) (option_map body.Edit (slice_get (read_edits c.stored.edits) n)) (Some (body.Base c.served.version))) ≡ None → ⊥
     by true is e = cc
     by false is e = behind (leb-false c.served.version.number n is) (leb c.floor (n + 1)) e

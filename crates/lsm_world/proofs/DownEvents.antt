@@ -8,7 +8,7 @@ use Rattle.lsm_key.specs.Limits.{batch_fault}
 use Rattle.lsm_msg.specs.declared.message.Message.{Message}
 use Rattle.lsm_msg.specs.declared.node.Node.{Node}
 use Rattle.lsm_msg.specs.declared.node.Node.TheVariants.{Coordinator, Worker, Follower}
-use Rattle.lsm_versions.specs.Kept.{Kept}
+use Rattle.lsm_vault.specs.Stored.{VaultValue}
 use Rattle.lsm_coord.specs.declared.dispatcher.Dispatcher.{Dispatcher}
 use Rattle.lsm_coord.specs.Model.Event as say
 use Rattle.lsm_coord.specs.Model.Rules.{key_refusal, refusal, unless_down, write_refusal}
@@ -35,8 +35,8 @@ use Rattle.lsm_world.proofs.NetworkSteps.{network_plain, receiver_plain}
 -- ---- the history
 
 -- WHAT KEEPS THE NETWORK KEEPS THE HISTORY.
-pub down_keeps : (edits : List (List ℕ)) (kept : Kept) (desk : List Dispatcher) (old new : NetworkValue) → KeepsNetwork old new → (h : History) × IsDownHistory h edits kept desk old → (h : History) × IsDownHistory h edits kept desk new
-down_keeps edits kept desk old new keeps known =
+pub down_keeps : (vault : VaultValue) (desk : List Dispatcher) (old new : NetworkValue) → KeepsNetwork old new → (h : History) × IsDownHistory h vault desk old → (h : History) × IsDownHistory h vault desk new
+down_keeps vault desk old new keeps known =
     let is = known.1 in
     (known.0, record { files = is.files; jobs = is.jobs; begun = is.begun; claims = is.claims; network = keeps known.0 is.files.all is.jobs is.network })
 

@@ -81,7 +81,7 @@ module _ (h : History) (old : NodesValue) (place : ℕ) (claim : LiveJob) (at : 
       let book : new.book ≡ after_settling old.core.book claim.id Returned = ap (λ (c : CoordValue). c.book) same in
       let before : (j : LiveJob) → IsIn j new.book.live → IsIn j old.core.book.live = λ j m. live_before old.core.book claim.id Returned j (subst (λ (b : BookValue). IsIn j b.live) book m) in
       record {
-        files = files_stay h old.core new (ap (λ (c : CoordValue). c.served) same) (ap (λ (c : CoordValue). c.edits) same) (λ r m. subst (λ (c : CoordValue). IsIn r c.retired) same m) is.files;
+        files = files_stay h old.core new (ap (λ (c : CoordValue). c.served) same) (ap (λ (c : CoordValue). c.stored.edits) same) (λ r m. subst (λ (c : CoordValue). IsIn r c.retired) same m) is.files;
         jobs = record {
           all = is.jobs.all;
           begun = λ j m. subst (λ (b : BookValue). j.id.epoch ≤ b.epoch) (sym book) (begun_after old.core.book claim.id Returned j.id.epoch (is.jobs.begun j m));

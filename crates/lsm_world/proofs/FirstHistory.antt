@@ -35,24 +35,24 @@ use Rattle.lsm_world.proofs.FourPlaces.{in_place}
 
 -- the edit of the opening alone
 abbrev first_of : CoordValue → History
-first_of c = record { files = []; jobs = []; edits = read_edits c.edits }
+first_of c = record { files = []; jobs = []; edits = read_edits c.stored.edits }
 
 -- ---- files
 
 module _ (c : CoordValue) (shown : Shows c first_state) (fit : IsFit c) where
   -- each version lists what the empty one does
-  lists_none : (v : VersionValue) → IsIn v (versions_of c.edits) → listing_of v ≡ empty_version
+  lists_none : (v : VersionValue) → IsIn v (versions_of c.stored.edits) → listing_of v ≡ empty_version
   lists_none v m =
-      elim (subst (λ (vs : List Version). IsIn (listing_of v) vs) (sym shown.tables.versions) (IsIn-map listing_of v (versions_of c.edits) m)) [
+      elim (subst (λ (vs : List Version). IsIn (listing_of v) vs) (sym shown.tables.versions) (IsIn-map listing_of v (versions_of c.stored.edits) m)) [
         | inl first ↦ first
         | inr rest ↦ elim rest [ inl second ↦ second | inr none ↦ absurd none ]
       ]
 
-  no_file : (v : VersionValue) (f : FileMeta) → IsIn v (versions_of c.edits) → IsIn f v.files → ⊥
+  no_file : (v : VersionValue) (f : FileMeta) → IsIn v (versions_of c.stored.edits) → IsIn f v.files → ⊥
   no_file v f m here = subst (λ (x : Version). IsIn (place_of f) x.files) (lists_none v m) (IsIn-map place_of f v.files here)
 
-  version_in : (k : ℕ) (v : VersionValue) → slice_get (versions_of c.edits) k ≡ Some v → IsIn v (versions_of c.edits)
-  version_in = in_place (versions_of c.edits)
+  version_in : (k : ℕ) (v : VersionValue) → slice_get (versions_of c.stored.edits) k ≡ Some v → IsIn v (versions_of c.stored.edits)
+  version_in = in_place (versions_of c.stored.edits)
 
   files_first : AreFiles (first_of c) c
   files_first = record {
@@ -61,7 +61,7 @@ module _ (c : CoordValue) (shown : Shows c first_state) (fit : IsFit c) where
     given = λ p m. absurd m;
     served = λ p m.
         let version = c.served.version in
-        absurd (no_file version p.meta (version_in version.number version (current_at c.edits version fit.manifest)) (file_of c.served fit.version fit.served p m));
+        absurd (no_file version p.meta (version_in version.number version (current_at c.stored.edits version fit.manifest)) (file_of c.served fit.version fit.served p m));
     retired = λ r m.
         let was = fit.retired.each r m in
         absurd (no_file was.version was.file (version_in r.until was.version was.at) was.listed);
@@ -133,7 +133,7 @@ first_shown due n is fit = record {
   history = first_of n.core;
   known = first_history due n is fit;
   answered = λ x sound at tables.
-      let listed : IsIn x.version (versions_of n.core.edits) = in_place (versions_of n.core.edits) x.version.number x.version at in
+      let listed : IsIn x.version (versions_of n.core.stored.edits) = in_place (versions_of n.core.stored.edits) x.version.number x.version at in
       let none = no_places x sound (λ f m. no_file n.core is.shown fit x.version f listed m) in
       let flushed : x.version.flushed ≡ 0 = ap (λ (v : Version). v.flushed) (lists_none n.core is.shown fit x.version listed) in
       record {

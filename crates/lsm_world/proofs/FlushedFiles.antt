@@ -43,11 +43,11 @@ module _ (h : History) (old new : CoordValue) (file : FileMeta) (table : Opened)
   version_is : new.served.version ≡ after_apply old.served.version adds.edit
   version_is = ap (λ (c : CoordValue). c.served.version) adds.new_is ∙ ap (λ (e : Edit). after_apply old.served.version e) (sym adds.edit_is)
 
-  pushed : new.edits ≡ old.edits ++ adds.text ∷ []
-  pushed = ap (λ (c : CoordValue). c.edits) adds.new_is
+  pushed : new.stored.edits ≡ old.stored.edits ++ adds.text ∷ []
+  pushed = ap (λ (c : CoordValue). c.stored.edits) adds.new_is
 
-  edits_are : more.edits ≡ read_edits new.edits
-  edits_are = ap (λ (es : List Edit). es ++ adds.edit ∷ []) is.edits ∙ sym (read_edits-push old.edits adds.text adds.edit adds.spelled) ∙ ap read_edits (sym pushed)
+  edits_are : more.edits ≡ read_edits new.stored.edits
+  edits_are = ap (λ (es : List Edit). es ++ adds.edit ∷ []) is.edits ∙ sym (read_edits-push old.stored.edits adds.text adds.edit adds.spelled) ∙ ap read_edits (sym pushed)
 
   -- the new file's number was not given before
   fresh : old.served.version.next_file ≤ file.number
@@ -73,11 +73,11 @@ module _ (h : History) (old new : CoordValue) (file : FileMeta) (table : Opened)
     files = λ p m. inr m;
     jobs = λ j m. m;
     one = one_file;
-    edits = logs_one h more old.edits new.edits adds.text adds.edit old.served.version new.served.version fit.manifest adds.spelled pushed version_is is.edits edits_are;
+    edits = logs_one h more old.stored.edits new.stored.edits adds.text adds.edit old.served.version new.served.version fit.manifest adds.spelled pushed version_is is.edits edits_are;
   }
 
   grown : versions_in more ≡ versions_in h ++ new.served.version ∷ []
-  grown = grown_versions h more old.edits new.edits adds.text adds.edit old.served.version new.served.version fit.manifest adds.spelled pushed version_is is.edits edits_are
+  grown = grown_versions h more old.stored.edits new.stored.edits adds.text adds.edit old.served.version new.served.version fit.manifest adds.spelled pushed version_is is.edits edits_are
 
   served_file : (p : Placed) → IsIn p new.served.places → IsIn p more.files
   served_file p m = elim (subst (IsIn p) places_are m) [ inl first ↦ inl first | inr rest ↦ inr (is.served p rest) ]
@@ -92,7 +92,7 @@ module _ (h : History) (old new : CoordValue) (file : FileMeta) (table : Opened)
       one = one_file;
       recorded = λ p m. elim m [ inl first ↦ fit_new.served.recorded p (subst (λ (x : Placed). IsIn x new.served.places) (sym first) here) | inr rest ↦ is.all.recorded p rest ];
       apply = subst (Apply first_version) (sym edits_are) fit_new.manifest.apply;
-      listed = listed_on h more old.edits new.edits adds.text adds.edit old.served.version new.served.version fit.manifest adds.spelled pushed version_is is.edits edits_are grows is.all current_file;
+      listed = listed_on h more old.stored.edits new.stored.edits adds.text adds.edit old.served.version new.served.version fit.manifest adds.spelled pushed version_is is.edits edits_are grows is.all current_file;
     };
     edits = edits_are;
     given = λ p m. elim m [

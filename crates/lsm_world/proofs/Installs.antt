@@ -93,11 +93,11 @@ module _ (h : History) (c new : CoordValue) (live : LiveJob) (made : JobResult) 
   version_is : new.served.version ≡ after_apply c.served.version (install_edit_of c.served.version live.want ts)
   version_is = ap (λ (x : CoordValue). x.served.version) (done_is c live ts new done)
 
-  pushed : new.edits ≡ c.edits ++ done.text ∷ []
-  pushed = ap (λ (x : CoordValue). x.edits) (done_is c live ts new done)
+  pushed : new.stored.edits ≡ c.stored.edits ++ done.text ∷ []
+  pushed = ap (λ (x : CoordValue). x.stored.edits) (done_is c live ts new done)
 
-  edits_are : with_outputs.edits ≡ read_edits new.edits
-  edits_are = ap (λ (es : List Edit). es ++ edit ∷ []) is.edits ∙ sym (read_edits-push c.edits done.text edit (done_spelled c live ts new done)) ∙ ap read_edits (sym pushed)
+  edits_are : with_outputs.edits ≡ read_edits new.stored.edits
+  edits_are = ap (λ (es : List Edit). es ++ edit ∷ []) is.edits ∙ sym (read_edits-push c.stored.edits done.text edit (done_spelled c live ts new done)) ∙ ap read_edits (sym pushed)
 
   -- outputs have numbers that were not given before
   apart : (p q : Placed) → IsIn p outputs → IsIn q h.files → p.meta.number ≡ q.meta.number → ⊥
@@ -120,11 +120,11 @@ module _ (h : History) (c new : CoordValue) (live : LiveJob) (made : JobResult) 
     files = λ p m. IsIn-append_right p outputs h.files m;
     jobs = λ j m. m;
     one = one_file;
-    edits = logs_one h with_outputs c.edits new.edits done.text edit c.served.version new.served.version fit.manifest (done_spelled c live ts new done) pushed version_is is.edits edits_are;
+    edits = logs_one h with_outputs c.stored.edits new.stored.edits done.text edit c.served.version new.served.version fit.manifest (done_spelled c live ts new done) pushed version_is is.edits edits_are;
   }
 
   grown : versions_in with_outputs ≡ versions_in h ++ new.served.version ∷ []
-  grown = grown_versions h with_outputs c.edits new.edits done.text edit c.served.version new.served.version fit.manifest (done_spelled c live ts new done) pushed version_is is.edits edits_are
+  grown = grown_versions h with_outputs c.stored.edits new.stored.edits done.text edit c.served.version new.served.version fit.manifest (done_spelled c live ts new done) pushed version_is is.edits edits_are
 
   served_file : (p : Placed) → IsIn p new.served.places → IsIn p with_outputs.files
   served_file p m = elim ((put_all-members outputs (places_without live.want.files c.served.places) p).0 (subst (λ (x : CoordValue). IsIn p x.served.places) (done_is c live ts new done) m)) [
@@ -158,7 +158,7 @@ module _ (h : History) (c new : CoordValue) (live : LiveJob) (made : JobResult) 
       one = one_file;
       recorded = λ p m. elim (IsIn-append_cases p outputs h.files m) [ inl output ↦ outputs_recorded p output | inr before ↦ is.all.recorded p before ];
       apply = subst (Apply first_version) (sym edits_are) fit_new.manifest.apply;
-      listed = listed_on h with_outputs c.edits new.edits done.text edit c.served.version new.served.version fit.manifest (done_spelled c live ts new done) pushed version_is is.edits edits_are grows is.all current_file;
+      listed = listed_on h with_outputs c.stored.edits new.stored.edits done.text edit c.served.version new.served.version fit.manifest (done_spelled c live ts new done) pushed version_is is.edits edits_are grows is.all current_file;
     };
     edits = edits_are;
     given = λ p m. elim (IsIn-append_cases p outputs h.files m) [

@@ -56,7 +56,7 @@ use Rattle.lsm_world.proofs.StoreSteps.{files_of, network_of, versions_shown}
 abbrev with_followers : State → List ℕ → State
 with_followers s numbers = record s { followers = numbers }
 
-core_shows : (core : Option CoordValue) (seat : SeatValue) (s : State) (numbers : List ℕ) → CoreShows core seat.edits seat.kept s → CoreShows core seat.edits seat.kept (with_followers s numbers)
+core_shows : (core : Option CoordValue) (seat : SeatValue) (s : State) (numbers : List ℕ) → CoreShows core seat.stored s → CoreShows core seat.stored (with_followers s numbers)
 core_shows (Some c) seat s numbers h =
     let m = h.memtables in
     record {
@@ -66,7 +66,7 @@ core_shows (Some c) seat s numbers h =
       snapshots = h.snapshots;
       made = h.made;
       floor = h.floor;
-      tables = stored_same c.edits c.served s (with_followers s numbers) h.tables refl refl refl refl (λ key. refl);
+      tables = stored_same c.stored.edits c.served s (with_followers s numbers) h.tables refl refl refl refl (λ key. refl);
       memtables = record { flushed = m.flushed; within = m.within; active_is = m.active_is; frozen_is = m.frozen_is; kept = m.kept; snapped = m.snapped };
     }
 core_shows None seat s numbers h = record {
@@ -78,7 +78,7 @@ core_shows None seat s numbers h = record {
   served = h.served;
   sound = h.sound;
   tables = h.tables;
-  stored = stored_same seat.edits h.served s (with_followers s numbers) h.stored refl refl refl refl (λ key. refl);
+  stored = stored_same seat.stored.edits h.served s (with_followers s numbers) h.stored refl refl refl refl (λ key. refl);
 }
 
 rising_with : (s : State) (numbers : List ℕ) → FlushedAscends s → FlushedAscends (with_followers s numbers)

@@ -98,7 +98,7 @@ module _ (h : History) (old new : CoordValue) (claim : LiveJob) (job : JobParts)
 
     -- the version is the history's
     version_known : IsVersionOf h old.served.version
-    version_known = ap (λ (vs : List VersionValue). slice_get vs old.served.version.number) (versions_are h old.edits files.edits) ∙ current_at old.edits old.served.version fit.manifest
+    version_known = ap (λ (vs : List VersionValue). slice_get vs old.served.version.number) (versions_are h old.stored.edits files.edits) ∙ current_at old.stored.edits old.served.version fit.manifest
 
     -- the number is the next one of its epoch
     numbered_next : job.id.number ≡ length (of_epoch job.id.epoch h.jobs) + 1
@@ -201,7 +201,7 @@ pub after_pick : (h : History) (old : NodesValue) (new : CoordValue) (claim : Li
 after_pick h old new claim job fit picked sound keeps rules place idle is =
     let same = picked.new_is in
     let files : AreFiles h new =
-    files_stay h old.core new (ap (λ (c : CoordValue). c.served) same) (ap (λ (c : CoordValue). c.edits) same) (λ r m. subst (λ (c : CoordValue). IsIn r c.retired) same m) is.files in
+    files_stay h old.core new (ap (λ (c : CoordValue). c.served) same) (ap (λ (c : CoordValue). c.stored.edits) same) (λ r m. subst (λ (c : CoordValue). IsIn r c.retired) same m) is.files in
     let on = grows_by_job h job is.files.all in (
       record {
         more = with_job h job;

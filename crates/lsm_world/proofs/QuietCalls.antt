@@ -13,7 +13,7 @@ use Rattle.lsm_world.specs.Nodes.{NodesValue}
 -- ---- parts
 
 -- a call that leaves the version and its manifest, and retires nothing
-pub files_stay : (h : History) (old new : CoordValue) → new.served ≡ old.served → new.edits ≡ old.edits → ((r : Retired) → IsIn r new.retired → IsIn r old.retired) → AreFiles h old → AreFiles h new
+pub files_stay : (h : History) (old new : CoordValue) → new.served ≡ old.served → new.stored.edits ≡ old.stored.edits → ((r : Retired) → IsIn r new.retired → IsIn r old.retired) → AreFiles h old → AreFiles h new
 files_stay h old new served edits retired is = record {
   all = is.all;
   edits = is.edits ∙ ap read_edits (sym edits);
@@ -35,7 +35,7 @@ jobs_stay h old new book keeps is = record {
 
 module _ (h : History) (old : NodesValue) (new : CoordValue) where
   -- A CALL THAT LEAVES THE VERSION AND THE BOOK, AND RETIRES NOTHING, KEEPS THE HISTORY.
-  pub upkeep_within : new.served ≡ old.core.served → new.edits ≡ old.core.edits → ((r : Retired) → IsIn r new.retired → IsIn r old.core.retired) → new.book ≡ old.core.book → KeepsSound old.core new → IsHistory h old → IsHistory h (record old { core = new })
+  pub upkeep_within : new.served ≡ old.core.served → new.stored.edits ≡ old.core.stored.edits → ((r : Retired) → IsIn r new.retired → IsIn r old.core.retired) → new.book ≡ old.core.book → KeepsSound old.core new → IsHistory h old → IsHistory h (record old { core = new })
   upkeep_within served edits retired book keeps is = record {
     files = files_stay h old.core new served edits retired is.files;
     jobs = jobs_stay h old.core new book keeps is.jobs;
@@ -43,5 +43,5 @@ module _ (h : History) (old : NodesValue) (new : CoordValue) where
     network = is.network;
   }
 
-  pub upkeep : new.served ≡ old.core.served → new.edits ≡ old.core.edits → new.retired ≡ old.core.retired → new.book ≡ old.core.book → KeepsSound old.core new → IsHistory h old → IsHistory h (record old { core = new })
+  pub upkeep : new.served ≡ old.core.served → new.stored.edits ≡ old.core.stored.edits → new.retired ≡ old.core.retired → new.book ≡ old.core.book → KeepsSound old.core new → IsHistory h old → IsHistory h (record old { core = new })
   upkeep served edits retired book keeps is = upkeep_within served edits (λ r m. subst (λ (rs : List Retired). IsIn r rs) retired m) book keeps is

@@ -19,10 +19,11 @@ use Rattle.lsm_edit.specs.Version.{FileNumbersRise, IsVersion, VersionValue, aft
 use Rattle.lsm_edit.proofs.NextLaws.{epoch_sound}
 use Rattle.lsm_edit.proofs.ServedPlaces.{file_of, place_of}
 use Rattle.lsm_edit.proofs.VersionLaws.{without-none}
+use Rattle.lsm_vault.specs.Stored.{TableMap, VaultValue}
+use Rattle.lsm_vault.proofs.StoredChanges.{tables_alone}
 use Rattle.lsm_versions.specs.declared.error.OpenError.{OpenError}
 use Rattle.lsm_versions.specs.declared.error.OpenError.TheVariants as opening
 use Rattle.lsm_versions.specs.declared.retired.Retired.{Retired}
-use Rattle.lsm_versions.specs.Kept.{Kept}
 use Rattle.lsm_versions.specs.Manifest.{VersionSetValue, read_edits}
 use Rattle.lsm_versions.specs.Opening.{MayHaveDropped, MayHaveLost, is_live_file, manifest_version}
 use Rattle.lsm_versions.proofs.ManifestReplay.{read_edits-push}
@@ -43,19 +44,19 @@ one_table p q meta bytes is also =
 -- ---- a coordinator that stops
 
 module _ (h : History) (c : CoordValue) (fit : IsFit c) (is : AreFiles h c) where
-  current_is : c.served.version ≡ manifest_version c.edits
+  current_is : c.served.version ≡ manifest_version c.stored.edits
   current_is = sym fit.manifest.makes
 
   -- a file of the version with the vault's table has that place
-  served_place : (p : Placed) → IsIn p.meta (manifest_version c.edits).files → IsAsRecorded p.meta p.table → get c.kept p.meta.number ≡ Some p.table.bytes → IsIn p h.files
+  served_place : (p : Placed) → IsIn p.meta (manifest_version c.stored.edits).files → IsAsRecorded p.meta p.table → get c.stored.tables p.meta.number ≡ Some p.table.bytes → IsIn p h.files
   served_place p listed recorded kept =
       let q = place_of c.served fit.version fit.served p.meta (subst (λ (v : VersionValue). IsIn p.meta v.files) (sym current_is) listed) in
       let number : q.0.meta.number ≡ p.meta.number = ap (λ (f : FileMeta). f.number) (sym q.2) in
-      let bytes : q.0.table.bytes ≡ p.table.bytes = same_Some q.0.table.bytes p.table.bytes (sym (fit.kept.listed q.0 q.1) ∙ ap (get c.kept) number ∙ kept) in
+      let bytes : q.0.table.bytes ≡ p.table.bytes = same_Some q.0.table.bytes p.table.bytes (sym (fit.kept.listed q.0 q.1) ∙ ap (get c.stored.tables) number ∙ kept) in
       subst (λ (x : Placed). IsIn x h.files) (one_table q.0 p (sym q.2) bytes (fit.served.recorded q.0 q.1) recorded) (is.served q.0 q.1)
 
   -- WHAT THE COORDINATOR HAS OF A HISTORY, ITS VAULT HAS.
-  pub stopped_files : AreFilesKept h c.edits c.kept
+  pub stopped_files : AreFilesKept h c.stored
   stopped_files = record {
     all = is.all;
     edits = is.edits;
@@ -65,37 +66,47 @@ module _ (h : History) (c : CoordValue) (fit : IsFit c) (is : AreFiles h c) wher
 
 -- ---- an opening that is refused
 
-lost_none : (needed : ℕ → Bool) (old new : Kept) → MayHaveLost needed old new → (n : ℕ) (bytes : List ℕ) → get new n ≡ Some bytes → get old n ≡ Some bytes
+lost_none : (needed : ℕ → Bool) (old new : TableMap) → MayHaveLost needed old new → (n : ℕ) (bytes : List ℕ) → get new n ≡ Some bytes → get old n ≡ Some bytes
 lost_none needed old new lost n bytes found = elim (lost n) [ inl same ↦ sym same ∙ found | inr gone ↦ let none = gone.1 in absurd cc ]
 
-dropped_none : (why : OpenError) (edits : List (List ℕ)) (old new : Kept) → MayHaveDropped why edits old new → (n : ℕ) (bytes : List ℕ) → get new n ≡ Some bytes → get old n ≡ Some bytes
-dropped_none opening.OutOfMemory edits old new (inl same) n bytes found = ap (λ (k : Kept). get k n) (sym same) ∙ found
-dropped_none opening.OutOfMemory edits old new (inr lost) n bytes found = lost_none (is_live_file (manifest_version edits).files []) old new lost.1 n bytes found
-dropped_none opening.Device edits old new (inl same) n bytes found = ap (λ (k : Kept). get k n) (sym same) ∙ found
-dropped_none opening.Device edits old new (inr lost) n bytes found = lost_none (is_live_file (manifest_version edits).files []) old new lost.1 n bytes found
-dropped_none opening.BadManifest edits old new same n bytes found = ap (λ (k : Kept). get k n) (sym same) ∙ found
-dropped_none opening.MissingTable edits old new same n bytes found = ap (λ (k : Kept). get k n) (sym same) ∙ found
-dropped_none opening.NumbersExhausted edits old new same n bytes found = ap (λ (k : Kept). get k n) (sym same) ∙ found
+dropped_none : (why : OpenError) (old new : VaultValue) → MayHaveDropped why old new → (n : ℕ) (bytes : List ℕ) → get new.tables n ≡ Some bytes → get old.tables n ≡ Some bytes
+dropped_none opening.OutOfMemory old new (inl same) n bytes found = ap (λ (v : VaultValue). get v.tables n) (sym same) ∙ found
+dropped_none opening.OutOfMemory old new (inr lost) n bytes found = lost_none (is_live_file (manifest_version old.edits).files []) old.tables new.tables lost.lost n bytes found
+dropped_none opening.Device old new (inl same) n bytes found = ap (λ (v : VaultValue). get v.tables n) (sym same) ∙ found
+dropped_none opening.Device old new (inr lost) n bytes found = lost_none (is_live_file (manifest_version old.edits).files []) old.tables new.tables lost.lost n bytes found
+dropped_none opening.BadManifest old new same n bytes found = ap (λ (v : VaultValue). get v.tables n) (sym same) ∙ found
+dropped_none opening.MissingTable old new same n bytes found = ap (λ (v : VaultValue). get v.tables n) (sym same) ∙ found
+dropped_none opening.NumbersExhausted old new same n bytes found = ap (λ (v : VaultValue). get v.tables n) (sym same) ∙ found
+
+-- all but the tables is as before
+pub dropped_rest : (why : OpenError) (old new : VaultValue) → MayHaveDropped why old new → new ≡ record old { tables = new.tables }
+dropped_rest opening.OutOfMemory old new (inl same) = tables_alone old new old.tables same
+dropped_rest opening.OutOfMemory old new (inr lost) = lost.rest
+dropped_rest opening.Device old new (inl same) = tables_alone old new old.tables same
+dropped_rest opening.Device old new (inr lost) = lost.rest
+dropped_rest opening.BadManifest old new same = tables_alone old new old.tables same
+dropped_rest opening.MissingTable old new same = tables_alone old new old.tables same
+dropped_rest opening.NumbersExhausted old new same = tables_alone old new old.tables same
 
 -- WHAT A VAULT HAS OF A HISTORY, IT STILL HAS AFTER AN OPENING THAT IS REFUSED.
-pub refused_files : (h : History) (why : OpenError) (edits : List (List ℕ)) (old new : Kept) → MayHaveDropped why edits old new → AreFilesKept h edits old → AreFilesKept h edits new
-refused_files h why edits old new dropped is = record {
+pub refused_files : (h : History) (why : OpenError) (old new : VaultValue) → MayHaveDropped why old new → AreFilesKept h old → AreFilesKept h (record old { tables = new.tables })
+refused_files h why old new dropped is = record {
   all = is.all;
   edits = is.edits;
   given = is.given;
-  served = λ p listed recorded kept. is.served p listed recorded (dropped_none why edits old new dropped p.meta.number p.table.bytes kept);
+  served = λ p listed recorded kept. is.served p listed recorded (dropped_none why old new dropped p.meta.number p.table.bytes kept);
 }
 
 -- ---- an opening
 
 -- a table that is still there
-retained_by : (needed : ℕ → Bool) (kept : Kept) (n : ℕ) (bytes : List ℕ) (t : Bool) → needed n ≡ t → cond (needed n) (get kept n) None ≡ Some bytes → get kept n ≡ Some bytes
+retained_by : (needed : ℕ → Bool) (kept : TableMap) (n : ℕ) (bytes : List ℕ) (t : Bool) → needed n ≡ t → cond (needed n) (get kept n) None ≡ Some bytes → get kept n ≡ Some bytes
 retained_by needed kept n bytes true is found = sym (ap (λ (b : Bool). cond b (get kept n) None) is) ∙ found
 retained_by needed kept n bytes false is found = let none = ap (λ (b : Bool). cond b (get kept n) None) is in absurd cc
 
-module _ (h : History) (edits : List (List ℕ)) (kept : Kept) (limits : Limits) (c : CoordValue) (opens : OpensCoord edits kept limits c) (is : AreFilesKept h edits kept) where
+module _ (h : History) (vault : VaultValue) (limits : Limits) (c : CoordValue) (opens : OpensCoord vault limits c) (is : AreFilesKept h vault) where
   abbrev before : VersionValue
-  before = manifest_version edits
+  before = manifest_version vault.edits
 
   abbrev set : VersionSetValue
   set = opens.versions
@@ -139,32 +150,32 @@ module _ (h : History) (edits : List (List ℕ)) (kept : Kept) (limits : Limits)
   abbrev pub with_epoch : History
   with_epoch = record h { edits = h.edits ++ epoch_edit before ∷ [] }
 
-  pushed : c.edits ≡ edits ++ edit (epoch_edit before) ∷ []
-  pushed = ap (λ (x : CoordValue). x.edits) opens.is ∙ opens.opens.edits
+  pushed : c.stored.edits ≡ vault.edits ++ edit (epoch_edit before) ∷ []
+  pushed = ap (λ (x : CoordValue). x.stored.edits) opens.is ∙ ap (λ (v : VaultValue). v.edits) opens.opens.stored
 
   version_is : c.served.version ≡ after_apply before (epoch_edit before)
   version_is = ap (λ (x : CoordValue). x.served.version) opens.is ∙ opens.opens.version
 
-  edits_are : with_epoch.edits ≡ read_edits c.edits
-  edits_are = ap (λ (es : List Edit). es ++ epoch_edit before ∷ []) is.edits ∙ sym (read_edits-push edits (edit (epoch_edit before)) (epoch_edit before) spelled) ∙ ap read_edits (sym pushed)
+  edits_are : with_epoch.edits ≡ read_edits c.stored.edits
+  edits_are = ap (λ (es : List Edit). es ++ epoch_edit before ∷ []) is.edits ∙ sym (read_edits-push vault.edits (edit (epoch_edit before)) (epoch_edit before) spelled) ∙ ap read_edits (sym pushed)
 
   pub opened_grows : Grows h with_epoch
   opened_grows = record {
     files = λ p m. m;
     jobs = λ j m. m;
     one = is.all.one;
-    edits = logs_one h with_epoch edits c.edits (edit (epoch_edit before)) (epoch_edit before) before c.served.version opens.opens.folds spelled pushed version_is is.edits edits_are;
+    edits = logs_one h with_epoch vault.edits c.stored.edits (edit (epoch_edit before)) (epoch_edit before) before c.served.version opens.opens.folds spelled pushed version_is is.edits edits_are;
   }
 
   pub opened_version : versions_in with_epoch ≡ versions_in h ++ c.served.version ∷ []
-  opened_version = grown_versions h with_epoch edits c.edits (edit (epoch_edit before)) (epoch_edit before) before c.served.version opens.opens.folds spelled pushed version_is is.edits edits_are
+  opened_version = grown_versions h with_epoch vault.edits c.stored.edits (edit (epoch_edit before)) (epoch_edit before) before c.served.version opens.opens.folds spelled pushed version_is is.edits edits_are
 
-  kept_before : (p : Placed) → IsIn p set.served.places → get kept p.meta.number ≡ Some p.table.bytes
+  kept_before : (p : Placed) → IsIn p set.served.places → get vault.tables p.meta.number ≡ Some p.table.bytes
   kept_before p m =
       let needed = is_live_file before.files [] in
       let n = p.meta.number in
-      let found : cond (needed n) (get kept n) None ≡ Some p.table.bytes = sym (get-retain_keys kept needed n (λ x tied. ap needed (sym (nat_cmp-IsAntisymmetric n x tied)))) ∙ ap (λ (k : Kept). get k n) (sym opens.opens.tables) ∙ opens.set.kept.listed p m in
-      retained_by needed kept n p.table.bytes (needed n) refl found
+      let found : cond (needed n) (get vault.tables n) None ≡ Some p.table.bytes = sym (get-retain_keys vault.tables needed n (λ x tied. ap needed (sym (nat_cmp-IsAntisymmetric n x tied)))) ∙ ap (λ (v : VaultValue). get v.tables n) (sym opens.opens.stored) ∙ opens.set.kept.listed p m in
+      retained_by needed vault.tables n p.table.bytes (needed n) refl found
 
   opened_place : (p : Placed) → IsIn p set.served.places → IsIn p h.files
   opened_place p m =
@@ -182,8 +193,8 @@ module _ (h : History) (edits : List (List ℕ)) (kept : Kept) (limits : Limits)
     all = record {
       one = is.all.one;
       recorded = is.all.recorded;
-      apply = subst (Apply first_version) (sym (edits_are ∙ ap (λ (x : CoordValue). read_edits x.edits) opens.is)) opens.set.folds.apply;
-      listed = listed_on h with_epoch edits c.edits (edit (epoch_edit before)) (epoch_edit before) before c.served.version opens.opens.folds spelled pushed version_is is.edits edits_are opened_grows is.all current_file;
+      apply = subst (Apply first_version) (sym (edits_are ∙ ap (λ (x : CoordValue). read_edits x.stored.edits) opens.is)) opens.set.folds.apply;
+      listed = listed_on h with_epoch vault.edits c.stored.edits (edit (epoch_edit before)) (epoch_edit before) before c.served.version opens.opens.folds spelled pushed version_is is.edits edits_are opened_grows is.all current_file;
     };
     edits = edits_are;
     given = λ p m. let low = is.given p m in let next = next_is in subst (λ (s : ServedValue). p.meta.number < s.version.next_file) (sym served_is) (omega (arith, low, next));

@@ -10,8 +10,8 @@ use Rattle.lsm_claim.specs.Book.{BookValue, new_book}
 use Rattle.lsm_claim.specs.Jobs.{same_job_id}
 use Rattle.lsm_edit.specs.Version.{VersionValue}
 use Rattle.lsm_msg.specs.declared.job.JobParts.{JobParts}
+use Rattle.lsm_vault.specs.Stored.{VaultValue}
 use Rattle.lsm_versions.specs.declared.error.OpenError.{OpenError}
-use Rattle.lsm_versions.specs.Kept.{Kept}
 use Rattle.lsm_versions.specs.Opening.{MayHaveDropped, manifest_version}
 use Rattle.lsm_coord.specs.declared.dispatcher.Dispatcher.{Dispatcher}
 use Rattle.lsm_coord.specs.Contract.Memory.{IsFit}
@@ -21,7 +21,7 @@ use Rattle.lsm_world.specs.History.{AreClaims, AreJobs, History, IsDownHistory, 
 use Rattle.lsm_world.specs.Nodes.{NetworkValue, NodesValue, nodes_of}
 use Rattle.lsm_world.proofs.GrowingHistory.{Grows, network_stays, same_jobs}
 use Rattle.lsm_world.proofs.NumberedJobs.{none_of}
-use Rattle.lsm_world.proofs.RestartedHistory.{opened_files, opened_grows, refused_files, stopped_files, with_epoch}
+use Rattle.lsm_world.proofs.RestartedHistory.{dropped_rest, opened_files, opened_grows, refused_files, stopped_files, with_epoch}
 
 -- no claim is live in a new book, nor of its epoch, which comes after all jobs
 stale_claims : (h : History) (old : BookValue) (desk : List Dispatcher) (epoch : ℕ) → ((j : JobParts) → IsIn j h.jobs → j.id.epoch < epoch) → AreClaims h old desk → AreClaims h (new_book epoch) desk
@@ -41,9 +41,9 @@ stale_claims h old desk epoch before is = record {
 -- ---- a coordinator that stops
 
 -- NODES WHOSE COORDINATOR STOPS KEEP THE HISTORY.
-pub stops : (h : History) (n : NodesValue) → IsFit n.core → IsHistory h n → IsDownHistory h n.core.edits n.core.kept n.desk n.network
+pub stops : (h : History) (n : NodesValue) → IsFit n.core → IsHistory h n → IsDownHistory h n.core.stored n.desk n.network
 stops h n fit is =
-    let last = (manifest_version n.core.edits).epoch in
+    let last = (manifest_version n.core.stored.edits).epoch in
     let epoch : n.core.book.epoch ≡ last = fit.epoch ∙ ap (λ (v : VersionValue). v.epoch) (sym fit.manifest.makes) in
     let begun : (j : JobParts) → IsIn j h.jobs → j.id.epoch ≤ last = λ j m. subst (λ (e : ℕ). j.id.epoch ≤ e) epoch (is.jobs.begun j m) in
     record {
@@ -57,25 +57,31 @@ stops h n fit is =
 -- ---- an opening
 
 -- THE HISTORY STAYS IF AN OPENING IS REFUSED.
-pub stays_down : (h : History) (why : OpenError) (edits : List (List ℕ)) (old new : Kept) (desk : List Dispatcher) (network : NetworkValue) → MayHaveDropped why edits old new → IsDownHistory h edits old desk network → IsDownHistory h edits new desk network
-stays_down h why edits old new desk network dropped is = record { files = refused_files h why edits old new dropped is.files; jobs = is.jobs; begun = is.begun; claims = is.claims; network = is.network }
+pub stays_down : (h : History) (why : OpenError) (old new : VaultValue) (desk : List Dispatcher) (network : NetworkValue) → MayHaveDropped why old new → IsDownHistory h old desk network → IsDownHistory h new desk network
+stays_down h why old new desk network dropped is = subst (λ (v : VaultValue). IsDownHistory h v desk network) (sym (dropped_rest why old new dropped)) (record {
+  files = refused_files h why old new dropped is.files;
+  jobs = is.jobs;
+  begun = is.begun;
+  claims = is.claims;
+  network = is.network;
+})
 
-module _ (h : History) (edits : List (List ℕ)) (kept : Kept) (limits : Limits) (c : CoordValue) (opens : OpensCoord edits kept limits c) (desk : List Dispatcher) (network : NetworkValue) (is : IsDownHistory h edits kept desk network) where
+module _ (h : History) (vault : VaultValue) (limits : Limits) (c : CoordValue) (opens : OpensCoord vault limits c) (desk : List Dispatcher) (network : NetworkValue) (is : IsDownHistory h vault desk network) where
   -- its book is that with which the next epoch begins
-  book_is : c.book ≡ new_book ((manifest_version edits).epoch + 1)
+  book_is : c.book ≡ new_book ((manifest_version vault.edits).epoch + 1)
   book_is = ap (λ (x : CoordValue). x.book) opens.is ∙ ap (λ (v : VersionValue). new_book v.epoch) opens.opens.version
 
   begun_before : (j : JobParts) → IsIn j h.jobs → j.id.epoch < c.book.epoch
-  begun_before j m = let low = is.begun j m in let epoch : c.book.epoch ≡ (manifest_version edits).epoch + 1 = ap (λ (b : BookValue). b.epoch) book_is in omega (arith, low, epoch)
+  begun_before j m = let low = is.begun j m in let epoch : c.book.epoch ≡ (manifest_version vault.edits).epoch + 1 = ap (λ (b : BookValue). b.epoch) book_is in omega (arith, low, epoch)
 
   none_live : c.book.live ≡ []
   none_live = ap (λ (b : BookValue). b.live) book_is
 
   abbrev more : History
-  more = with_epoch h edits kept limits c opens is.files
+  more = with_epoch h vault limits c opens is.files
 
   grows : Grows h more
-  grows = opened_grows h edits kept limits c opens is.files
+  grows = opened_grows h vault limits c opens is.files
 
   -- each job is of an earlier epoch, and no claim is live
   opened_jobs : AreJobs more c
@@ -93,4 +99,4 @@ module _ (h : History) (edits : List (List ℕ)) (kept : Kept) (limits : Limits)
 
   -- THE NODES OF A COORDINATOR THAT IS OPENED HAVE THE HISTORY, WITH THE EDIT OF THE OPENING.
   pub goes_up : IsHistory more (nodes_of c desk network)
-  goes_up = record { files = opened_files h edits kept limits c opens is.files; jobs = opened_jobs; claims = opened_claims; network = network_stays h more grows is.jobs.inputs network is.network }
+  goes_up = record { files = opened_files h vault limits c opens is.files; jobs = opened_jobs; claims = opened_claims; network = network_stays h more grows is.jobs.inputs network is.network }

@@ -27,7 +27,7 @@ use Rattle.lsm_world.proofs.QuietCalls.{upkeep, upkeep_within}
 pub snapshot_keeps : (old new : CoordValue) → (s : State) × Shows old s → ((s : State) → Shows old s → KeepsSound old new) → new ≡ after_snapshot old → KeepsFiles old new
 snapshot_keeps old new shown sound is = record {
   sound = sound shown.0 shown.1;
-  files = inl (record { served = ap (λ (c : CoordValue). c.served) is; edits = ap (λ (c : CoordValue). c.edits) is; retired = ap (λ (c : CoordValue). c.retired) is; book = ap (λ (c : CoordValue). c.book) is });
+  files = inl (record { served = ap (λ (c : CoordValue). c.served) is; edits = ap (λ (c : CoordValue). c.stored.edits) is; retired = ap (λ (c : CoordValue). c.retired) is; book = ap (λ (c : CoordValue). c.book) is });
 }
 
 -- ---- what the vault may have refused
@@ -36,7 +36,7 @@ snapshot_keeps old new shown sound is = record {
 pub stored_files : {MayPut : ℕ → List ℕ → Type 0} (old new : CoordValue) → MayHaveStored MayPut old new → HasSameFiles old new
 stored_files old new may =
     let is = may.rest in
-    record { served = ap (λ (c : CoordValue). c.served) is; edits = ap (λ (c : CoordValue). c.edits) is; retired = ap (λ (c : CoordValue). c.retired) is; book = ap (λ (c : CoordValue). c.book) is }
+    record { served = ap (λ (c : CoordValue). c.served) is; edits = ap (λ (c : CoordValue). c.stored.edits) is; retired = ap (λ (c : CoordValue). c.retired) is; book = ap (λ (c : CoordValue). c.book) is }
 
 pub flush_stored : (old new : CoordValue) (e : CoordError) → FlushRefuses old e new → MayHaveStored (IsFlushTable old) old new
 flush_stored old new error.OutOfMemory is = is.1
@@ -57,7 +57,7 @@ flush_keeps old new e is sound = record { sound = sound; files = inl (stored_fil
 -- ---- trims
 
 -- a trim lets retired files go
-fewer_files : (old new : CoordValue) (n : ℕ) → new.served ≡ old.served → new.edits ≡ old.edits → new.retired ≡ kept_from (max old.floor n) old.retired → new.book ≡ old.book → HasFewer old new
+fewer_files : (old new : CoordValue) (n : ℕ) → new.served ≡ old.served → new.stored.edits ≡ old.stored.edits → new.retired ≡ kept_from (max old.floor n) old.retired → new.book ≡ old.book → HasFewer old new
 fewer_files old new n served edits retired book = record {
   served = served;
   edits = edits;
@@ -68,11 +68,11 @@ fewer_files old new n served edits retired book = record {
 pub trimmed_files : (old new : CoordValue) (n failures : ℕ) → new ≡ record (with_live_tables old n) { failures = failures } → KeepsSound old new → KeepsFiles old new
 trimmed_files old new n failures is sound = record {
   sound = sound;
-  files = inr (inr (fewer_files old new n (ap (λ (c : CoordValue). c.served) is) (ap (λ (c : CoordValue). c.edits) is) (ap (λ (c : CoordValue). c.retired) is) (ap (λ (c : CoordValue). c.book) is)));
+  files = inr (inr (fewer_files old new n (ap (λ (c : CoordValue). c.served) is) (ap (λ (c : CoordValue). c.stored.edits) is) (ap (λ (c : CoordValue). c.retired) is) (ap (λ (c : CoordValue). c.book) is)));
 }
 
 unchanged_files : (old new : CoordValue) → new ≡ old → HasSameFiles old new
-unchanged_files old new is = record { served = ap (λ (c : CoordValue). c.served) is; edits = ap (λ (c : CoordValue). c.edits) is; retired = ap (λ (c : CoordValue). c.retired) is; book = ap (λ (c : CoordValue). c.book) is }
+unchanged_files old new is = record { served = ap (λ (c : CoordValue). c.served) is; edits = ap (λ (c : CoordValue). c.stored.edits) is; retired = ap (λ (c : CoordValue). c.retired) is; book = ap (λ (c : CoordValue). c.book) is }
 
 pub trim_keeps : (old new : CoordValue) (n : ℕ) (e : CoordError) → TrimRefuses old n e new → KeepsSound old new → KeepsFiles old new
 trim_keeps old new n e refuses sound = record { sound = sound; files = by e refuses }
@@ -80,7 +80,7 @@ trim_keeps old new n e refuses sound = record { sound = sound; files = by e refu
     part : MayHaveTrimmed old n new → HasSameFiles old new ⊎ (HasOneMore old new ⊎ HasFewer old new)
     part may =
         let is = may.rest in
-        inr (inr (fewer_files old new n (ap (λ (c : CoordValue). c.served) is) (ap (λ (c : CoordValue). c.edits) is) (ap (λ (c : CoordValue). c.retired) is) (ap (λ (c : CoordValue). c.book) is)))
+        inr (inr (fewer_files old new n (ap (λ (c : CoordValue). c.served) is) (ap (λ (c : CoordValue). c.stored.edits) is) (ap (λ (c : CoordValue). c.retired) is) (ap (λ (c : CoordValue). c.book) is)))
 
     by : (x : CoordError) → TrimRefuses old n x new → HasSameFiles old new ⊎ (HasOneMore old new ⊎ HasFewer old new)
     by error.OutOfMemory is = part is.1

@@ -4,7 +4,6 @@ use Rattle.lsm_edit.specs.Served.{IsServed, ServedValue}
 use Rattle.lsm_edit.specs.Version.{IsVersion, VersionValue}
 use Rattle.lsm_edit.specs.Edits.{RemovedOnce}
 use Rattle.lsm_versions.specs.declared.error.OpenError.{OpenError}
-use Rattle.lsm_versions.specs.Kept.{Kept}
 use Rattle.lsm_versions.specs.Manifest.{Folds, read_edits}
 use Rattle.lsm_versions.specs.Opening.{HaveTables, manifest_version}
 use Rattle.lsm_versions.proofs.ManifestReplay.{removed_by_one}
@@ -97,21 +96,21 @@ restart_idle old (Ok done) seat is = subst (λ (x : SeatValue). IsIdleWhileDown 
 restart_idle old (Err e) seat is = subst (λ (x : SeatValue). IsIdleWhileDown x.core x.book) (sym is.3) refl
 
 -- A RESTART KEEPS THE HISTORY, WITH THE EDIT OF THE OPENING.
-restarted : (h : History) (old : SeatValue) (opened : Result (Unit {0}) OpenError) (seat : SeatValue) (desk : List Dispatcher) (network : NetworkValue) → Restarts old opened seat → IsDownHistory h old.edits old.kept desk network
+restarted : (h : History) (old : SeatValue) (opened : Result (Unit {0}) OpenError) (seat : SeatValue) (desk : List Dispatcher) (network : NetworkValue) → Restarts old opened seat → IsDownHistory h old.stored desk network
     → (more : History) × Grows h more × IsStoreHistory more (store_with seat desk network)
 restarted h old (Ok done) seat desk network is known = (
-  with_epoch h old.edits old.kept old.limits is.0 is.1 known.files,
-  opened_grows h old.edits old.kept old.limits is.0 is.1 known.files,
-  subst (λ (x : SeatValue). IsStoreHistory (with_epoch h old.edits old.kept old.limits is.0 is.1 known.files) (store_with x desk network)) (sym is.2) (goes_up h old.edits old.kept old.limits is.0 is.1 desk network known),
+  with_epoch h old.stored old.limits is.0 is.1 known.files,
+  opened_grows h old.stored old.limits is.0 is.1 known.files,
+  subst (λ (x : SeatValue). IsStoreHistory (with_epoch h old.stored old.limits is.0 is.1 known.files) (store_with x desk network)) (sym is.2) (goes_up h old.stored old.limits is.0 is.1 desk network known),
 )
 restarted h old (Err e) seat desk network is known = (
   h,
   grows_by_none h known.files.all.one,
-  subst (λ (x : SeatValue). IsStoreHistory h (store_with x desk network)) (sym is.3) (stays_down h e old.edits old.kept seat.kept desk network is.1 known),
+  subst (λ (x : SeatValue). IsStoreHistory h (store_with x desk network)) (sym is.3) (stays_down h e old.stored seat.stored desk network is.1 known),
 )
 
 -- the version of the opening answers as the writes do
-newest : (h : History) (old : SeatValue) (opened : Result (Unit {0}) OpenError) (seat : SeatValue) (desk : List Dispatcher) (network : NetworkValue) (is : Restarts old opened seat) (known : IsDownHistory h old.edits old.kept desk network) (t : State) → ShowsSeat seat t
+newest : (h : History) (old : SeatValue) (opened : Result (Unit {0}) OpenError) (seat : SeatValue) (desk : List Dispatcher) (network : NetworkValue) (is : Restarts old opened seat) (known : IsDownHistory h old.stored desk network) (t : State) → ShowsSeat seat t
     → (versions_in (restarted h old opened seat desk network is known).0 ≡ versions_in h) ⊎ HasNewest h (restarted h old opened seat desk network is known).0 t
 unfolding restarted
 newest h old (Ok done) seat desk network is known t shows =
@@ -123,14 +122,14 @@ newest h old (Ok done) seat desk network is known t shows =
       now = c.served;
       served = subst IsServed (sym same) opens.served;
       version = subst (λ (x : ServedValue). IsVersion x.version) (sym same) opens.version;
-      tables = (opened_files h old.edits old.kept old.limits c opens known.files).served;
-      grown = opened_version h old.edits old.kept old.limits c opens known.files;
-      answers = current_answers c.edits c.served t shown.tables;
+      tables = (opened_files h old.stored old.limits c opens known.files).served;
+      grown = opened_version h old.stored old.limits c opens known.files;
+      answers = current_answers c.stored.edits c.served t shown.tables;
     })
 newest h old (Err e) seat desk network is known t shows = inl refl
 
 -- what a store has of a history, its vault has
-pub known_down : {V : Type 0} (h : History) (store : Store V) → IsFitWhileUp (store_of store).seat.core → IsStoreHistory h (store_of store) → IsDownHistory h (store_of store).seat.edits (store_of store).seat.kept (store_of store).desk (store_of store).network
+pub known_down : {V : Type 0} (h : History) (store : Store V) → IsFitWhileUp (store_of store).seat.core → IsStoreHistory h (store_of store) → IsDownHistory h (store_of store).seat.stored (store_of store).desk (store_of store).network
 known_down h (Up nodes) fit known = stops h nodes fit known
 known_down h (Down stopped) fit known = known
 
@@ -139,10 +138,10 @@ module _ (store : StoreValue) (old : SeatValue) (opened : Result (Unit {0}) Open
   store_is : store_with old desk network ≡ store
   store_is = λ i. store_with (seat_is i) (desk_is i) (network_is i)
 
-  known_before : (h : History) → IsDownHistory h store.seat.edits store.seat.kept store.desk store.network → IsDownHistory h old.edits old.kept desk network
-  known_before h known = subst (λ (x : StoreValue). IsDownHistory h x.seat.edits x.seat.kept x.desk x.network) (sym store_is) known
+  known_before : (h : History) → IsDownHistory h store.seat.stored store.desk store.network → IsDownHistory h old.stored desk network
+  known_before h known = subst (λ (x : StoreValue). IsDownHistory h x.seat.stored x.desk x.network) (sym store_is) known
 
-  pub restart_known : (h : History) × IsDownHistory h store.seat.edits store.seat.kept store.desk store.network → (h : History) × IsStoreHistory h (store_with seat desk network)
+  pub restart_known : (h : History) × IsDownHistory h store.seat.stored store.desk store.network → (h : History) × IsStoreHistory h (store_with seat desk network)
   restart_known known = let then = restarted known.0 old opened seat desk network restarts (known_before known.0 known.1) in (then.0, then.2)
 
   pub restart_asks : (r : Reply) (new : StoreValue) → r ≡ restart_answer opened seat.core → new ≡ store_with seat desk network → RestartsCoordinator store r new
@@ -151,7 +150,7 @@ module _ (store : StoreValue) (old : SeatValue) (opened : Result (Unit {0}) Open
       subst (RestartsCoordinator store r) e (opened, subst (λ (x : SeatValue). Restarts x opened seat) seat_is restarts, told, refl)
 
   -- THE RESTART IS A STEP.
-  pub restart_follows : (r : Reply) (new : StoreValue) → r ≡ restart_answer opened seat.core → new ≡ store_with seat desk network → RestartFollows old opened seat → ((h : History) → IsStoreHistory h store → IsDownHistory h store.seat.edits store.seat.kept store.desk store.network)
+  pub restart_follows : (r : Reply) (new : StoreValue) → r ≡ restart_answer opened seat.core → new ≡ store_with seat desk network → RestartFollows old opened seat → ((h : History) → IsStoreHistory h store → IsDownHistory h store.seat.stored store.desk store.network)
       → FollowsStore store (say.Restart say.Coordinator) (reply_of r) new
   restart_follows r new told made follows down s x =
       let then = follows s (subst (λ (y : SeatValue). ShowsSeat y s) (sym seat_is) x.seat) in
@@ -171,17 +170,17 @@ pub up_fit : (n : NodesValue) → IsFit n.core → IsFitBy (Some n.core) (up_sto
 up_fit n fit = record { coordinator = fit; same = refl }
 
 -- the manifest of a vault that shows a state replays, and the vault has the tables
-pub down_fit : (seat : SeatValue) → seat.book.live ≡ [] → (s : State) × ShowsDown seat.edits seat.kept s → IsFitDown seat
+pub down_fit : (seat : SeatValue) → seat.book.live ≡ [] → (s : State) × ShowsDown seat.stored s → IsFitDown seat
 down_fit seat idle shown =
     let served = shown.1.served in
-    let folds : Folds seat.edits served.version = shown.1.stored.manifest in record {
-      manifest = folds_once seat.edits served.version folds;
-      once = removed_by_one seat.edits served.version folds;
-      tables = subst (λ (v : VersionValue). HaveTables seat.kept v.files) (sym folds.makes) (have_tables seat.kept served shown.1.sound shown.1.tables);
+    let folds : Folds seat.stored.edits served.version = shown.1.stored.manifest in record {
+      manifest = folds_once seat.stored.edits served.version folds;
+      once = removed_by_one seat.stored.edits served.version folds;
+      tables = subst (λ (v : VersionValue). HaveTables seat.stored.tables v.files) (sym folds.makes) (have_tables seat.stored.tables served shown.1.sound shown.1.tables);
       idle = idle;
     }
 
 -- no file is removed by two of the vault's edits
-pub fit_once : (core : Option CoordValue) (seat : SeatValue) → IsFitBy core seat → RemovedOnce (read_edits seat.edits)
-fit_once (Some c) seat fit = subst (λ (x : SeatValue). RemovedOnce (read_edits x.edits)) (sym fit.same) fit.coordinator.once
+pub fit_once : (core : Option CoordValue) (seat : SeatValue) → IsFitBy core seat → RemovedOnce (read_edits seat.stored.edits)
+fit_once (Some c) seat fit = subst (λ (x : SeatValue). RemovedOnce (read_edits x.stored.edits)) (sym fit.same) fit.coordinator.once
 fit_once None seat fit = fit.once

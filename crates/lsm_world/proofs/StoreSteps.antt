@@ -43,9 +43,9 @@ module _ (h : History) (s : StoreValue) where
   network_of is = network_by s.seat.core is
 
   -- the versions of the state are those of the history
-  versions_by : (core : Option CoordValue) (t : State) → CoreShows core s.seat.edits s.seat.kept t → IsHistoryBy h core s → t.versions ≡ map listing_of (versions_in h)
-  versions_by (Some c) t shows is = shows.tables.versions ∙ ap (map listing_of) (sym (versions_are h c.edits is.files.edits))
-  versions_by None t shows is = shows.stored.versions ∙ ap (map listing_of) (sym (versions_are h s.seat.edits is.files.edits))
+  versions_by : (core : Option CoordValue) (t : State) → CoreShows core s.seat.stored t → IsHistoryBy h core s → t.versions ≡ map listing_of (versions_in h)
+  versions_by (Some c) t shows is = shows.tables.versions ∙ ap (map listing_of) (sym (versions_are h c.stored.edits is.files.edits))
+  versions_by None t shows is = shows.stored.versions ∙ ap (map listing_of) (sym (versions_are h s.seat.stored.edits is.files.edits))
 
   pub versions_shown : (t : State) → ShowsSeat s.seat t → IsStoreHistory h s → t.versions ≡ map listing_of (versions_in h)
   versions_shown t shows is = versions_by s.seat.core t shows is
@@ -82,7 +82,7 @@ module _ (old new : NodesValue) (e : say.Event) (r : say.Reply) where
       version = one.fit.version;
       tables = kept.known.files.served;
       grown = one.grown;
-      answers = current_answers new.core.edits new.core.served t shows.tables;
+      answers = current_answers new.core.stored.edits new.core.served t shows.tables;
     })
   ]
 

@@ -165,7 +165,7 @@ pub let_go_not_served : TableLetGoIsNotServed
 let_go_not_served n1 n2 n3 v floor file place answer removed bytes asker m said served (inl lacks) gone at is asked answered table = absurd (let bad = lacks.0 in cc)
 let_go_not_served n1 n2 n3 v floor file place answer removed bytes asker m said served (inr ((allowed, floor_is, removed_is, core_is, counted), rest)) gone at is asked answered table =
     let member = subst (λ (ns : List ℕ). IsIn file ns) removed_is gone in
-    let dead = not-true (is_live (version_set (with_floor n1.core v)) file) (IsIn-filter (λ (n : ℕ). not (is_live (version_set (with_floor n1.core v)) n)) file (finite.keys n1.core.kept) member).1 in
+    let dead = not-true (is_live (version_set (with_floor n1.core v)) file) (IsIn-filter (λ (n : ℕ). not (is_live (version_set (with_floor n1.core v)) n)) file (finite.keys n1.core.stored.tables) member).1 in
     let answer_is = served_answer n2 n3 place answer file asker m said at is asked answered in
     let found = table_bytes file (bytes_at n2.core.served.places n2.core.retired file) bytes (sym answer_is ∙ table) in
     bytes_none (version_set (with_floor n1.core v)) file bytes served.listed dead (rw core_is at found)

@@ -10,6 +10,7 @@ use Rattle.lsm_edit.specs.declared.served.Placed.{Placed}
 use Rattle.lsm_edit.specs.Served.{AllRecorded, IsAsRecorded}
 use Rattle.lsm_edit.specs.Edits.{Apply, versions_from}
 use Rattle.lsm_edit.specs.Version.{VersionValue, first_version}
+use Rattle.lsm_vault.specs.Stored.{VaultValue}
 use Rattle.lsm_follow.specs.Followers.{FollowerValue, PendingValue}
 use Rattle.lsm_msg.specs.declared.job.JobParts.{JobParts}
 use Rattle.lsm_msg.specs.declared.job.JobResult.{JobResult}
@@ -20,7 +21,6 @@ use Rattle.lsm_msg.specs.Jobs.{IsJob}
 use Rattle.lsm_msg.specs.Messages.{IsSpelled}
 use Rattle.lsm_merge.specs.Outputs.{IsMerge}
 use Rattle.lsm_versions.specs.declared.retired.Retired.{Retired}
-use Rattle.lsm_versions.specs.Kept.{Kept}
 use Rattle.lsm_versions.specs.Manifest.{read_edits}
 use Rattle.lsm_versions.specs.Opening.{manifest_version}
 use Rattle.lsm_coord.specs.declared.dispatcher.Dispatcher.{Dispatcher}
@@ -82,7 +82,7 @@ pub record AreFilesOf (h : History) : Type 0 where
 -- one of them.
 pub record AreFiles (h : History) (c : CoordValue) : Type 0 where
   pub all : AreFilesOf h
-  pub edits : h.edits ≡ read_edits c.edits
+  pub edits : h.edits ≡ read_edits c.stored.edits
   pub given : (p : Placed) → IsIn p h.files → p.meta.number < c.served.version.next_file
   pub served : (p : Placed) → IsIn p c.served.places → IsIn p h.files
   pub retired : (r : Retired) → IsIn r c.retired → IsTableAt h r.number r.bytes
@@ -207,25 +207,25 @@ pub record IsHistory (h : History) (n : NodesValue) : Type 0 where
 
 -- The edits are the manifest's, and the numbers of these files were given. Each file of the last version, with the vault's table,
 -- is one of them.
-pub record AreFilesKept (h : History) (texts : List (List ℕ)) (kept : Kept) : Type 0 where
+pub record AreFilesKept (h : History) (vault : VaultValue) : Type 0 where
   pub all : AreFilesOf h
-  pub edits : h.edits ≡ read_edits texts
-  pub given : (p : Placed) → IsIn p h.files → p.meta.number < (manifest_version texts).next_file
-  pub served : (p : Placed) → IsIn p.meta (manifest_version texts).files → IsAsRecorded p.meta p.table → get kept p.meta.number ≡ Some p.table.bytes → IsIn p h.files
+  pub edits : h.edits ≡ read_edits vault.edits
+  pub given : (p : Placed) → IsIn p h.files → p.meta.number < (manifest_version vault.edits).next_file
+  pub served : (p : Placed) → IsIn p.meta (manifest_version vault.edits).files → IsAsRecorded p.meta p.table → get vault.tables p.meta.number ≡ Some p.table.bytes → IsIn p h.files
 
 -- No job's epoch is to come yet, and the claims are those of the book with which the next epoch begins: none is live.
-pub record IsDownHistory (h : History) (edits : List (List ℕ)) (kept : Kept) (desk : List Dispatcher) (others : NetworkValue) : Type 0 where
-  pub files : AreFilesKept h edits kept
+pub record IsDownHistory (h : History) (vault : VaultValue) (desk : List Dispatcher) (others : NetworkValue) : Type 0 where
+  pub files : AreFilesKept h vault
   pub jobs : AreJobsOf h
-  pub begun : (j : JobParts) → IsIn j h.jobs → j.id.epoch ≤ (manifest_version edits).epoch
-  pub claims : AreClaims h (new_book ((manifest_version edits).epoch + 1)) desk
+  pub begun : (j : JobParts) → IsIn j h.jobs → j.id.epoch ≤ (manifest_version vault.edits).epoch
+  pub claims : AreClaims h (new_book ((manifest_version vault.edits).epoch + 1)) desk
   pub network : IsNetwork h others
 
 -- ---- either way
 
 abbrev pub IsHistoryBy : History → Option CoordValue → StoreValue → Type 0
 IsHistoryBy h (Some c) s = IsHistory h (nodes_with c s)
-IsHistoryBy h None s = IsDownHistory h s.seat.edits s.seat.kept s.desk s.network
+IsHistoryBy h None s = IsDownHistory h s.seat.stored s.desk s.network
 
 -- what every schedule keeps of a store
 abbrev pub IsStoreHistory : History → StoreValue → Type 0

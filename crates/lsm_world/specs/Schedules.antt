@@ -46,7 +46,7 @@ idle_worker index = record { index = index; task = None }
 pub record AreNew (due : Limits) (n : NodesValue) : Type 0 where
   pub shown : Shows n.core first_state
   pub limits : n.core.limits ≡ due
-  pub kept : n.core.kept ≡ empty
+  pub kept : n.core.stored.tables ≡ empty
   pub book : n.core.book ≡ new_book 1
   pub desk : n.desk ≡ new_desk
   pub workers : n.network.workers ≡ map idle_worker first_indices
@@ -126,9 +126,9 @@ pub record IsFitUp (c : CoordValue) (seat : SeatValue) : Type 0 where
 -- Of one that is down: the vault's manifest replays to its last version, no file is removed by two of its edits, each file of the
 -- version has its table in the vault, as its record says, and no claim is live.
 pub record IsFitDown (seat : SeatValue) : Type 0 where
-  pub manifest : Folds seat.edits (manifest_version seat.edits)
-  pub once : RemovedOnce (read_edits seat.edits)
-  pub tables : HaveTables seat.kept (manifest_version seat.edits).files
+  pub manifest : Folds seat.stored.edits (manifest_version seat.stored.edits)
+  pub once : RemovedOnce (read_edits seat.stored.edits)
+  pub tables : HaveTables seat.stored.tables (manifest_version seat.stored.edits).files
   pub idle : seat.book.live ≡ []
 
 -- the seat of this coordinator, or of none, is fit

@@ -24,13 +24,13 @@ pub(crate) struct Nodes<V: Vault> {
 
 impl<V: Vault> Model for Nodes<V> {
     ghost use Rattle.std.specs.Coded.{codes};
-    ghost use Rattle.lsm_versions.specs.Kept.{kept_code};
+    ghost use Rattle.lsm_vault.specs.Stored.{vault_code};
     ghost use Rattle.lsm_world.specs.History.{History, IsHistory};
     ghost use Rattle.lsm_world.specs.Nodes.{NodesValue, nodes_of};
 
     ghost Value = { NodesValue };
 
-    ghost coded = { Prim.hlevel (codes, kept_code) };
+    ghost coded = { Prim.hlevel (codes, vault_code) };
 
     ghost view = { λ n. nodes_of n.coord n.desk n.network };
 
@@ -58,7 +58,7 @@ impl<V: Vault> Nodes<V> {
     pub(crate) fn new(alloc: Global, coord: Coord<V>) -> Nodes<V>
         requires shown { Shows coord first_state }
         requires book { coord.book ≡ new_book 1 }
-        requires kept { coord.kept ≡ empty }
+        requires kept { coord.stored.tables ≡ empty }
         ensures new { AreNew coord.limits result }
         ensures core { result.core ≡ coord }
         ensures fit { IsFit result.core }

@@ -34,17 +34,17 @@ pub(crate) struct Stopped<V: Vault> {
 impl<V: Vault> Model for Stopped<V> {
     ghost use Rattle.std.specs.Prelude.{◌≡◌, []};
     ghost use Rattle.std.specs.Coded.{codes};
-    ghost use Rattle.lsm_versions.specs.Kept.{kept_code};
+    ghost use Rattle.lsm_vault.specs.Stored.{vault_code};
     ghost use Rattle.lsm_world.specs.History.{History, IsDownHistory};
     ghost use Rattle.lsm_world.specs.Inner.Stopping.{StoppedValue};
 
     ghost Value = { StoppedValue };
 
-    ghost coded = { Prim.hlevel (codes, kept_code) };
+    ghost coded = { Prim.hlevel (codes, vault_code) };
 
-    ghost view = { λ s. record { edits = V.edits s.vault; kept = V.tables s.vault; failures = V.failures s.vault; book = s.book; limits = s.limits; desk = s.desk; network = s.network } };
+    ghost view = { λ s. record { stored = V.stored s.vault; failures = V.failures s.vault; book = s.book; limits = s.limits; desk = s.desk; network = s.network } };
 
-    ghost invariant = { λ s. (s.book.live ≡ []) × (h : History) × IsDownHistory h (V.edits s.vault) (V.tables s.vault) s.desk s.network };
+    ghost invariant = { λ s. (s.book.live ≡ []) × (h : History) × IsDownHistory h (V.stored s.vault) s.desk s.network };
 }
 
 impl<V: Vault> Stopped<V> {
@@ -131,8 +131,8 @@ impl<V: Vault> Stopped<V> {
         network: Network,
     ) -> Stopped<V>
         requires idle { book.live ≡ [] }
-        requires history { (h : History) × IsDownHistory h (V.edits vault) (V.tables vault) desk network }
-        ensures { result ≡ record { edits = V.edits vault; kept = V.tables vault; failures = V.failures vault; book = book; limits = limits; desk = desk; network = network } }
+        requires history { (h : History) × IsDownHistory h (V.stored vault) desk network }
+        ensures { result ≡ record { stored = V.stored vault; failures = V.failures vault; book = book; limits = limits; desk = desk; network = network } }
     {
         Stopped {
             alloc,
@@ -146,10 +146,10 @@ impl<V: Vault> Stopped<V> {
 
     /// The seat, and what goes on without a coordinator.
     pub(crate) fn parts(self) -> (Seat<V>, Desk, Network)
-        ensures seat { seat_of V.edits V.tables V.failures result.0 ≡ (down_store self).seat }
+        ensures seat { seat_of V.stored V.failures result.0 ≡ (down_store self).seat }
         ensures desk { result.1 ≡ self.desk }
         ensures network { result.2 ≡ self.network }
-        ensures history { (h : History) × IsDownHistory h self.edits self.kept self.desk self.network }
+        ensures history { (h : History) × IsDownHistory h self.stored self.desk self.network }
     {
         self.known();
         let Stopped {
@@ -166,7 +166,7 @@ impl<V: Vault> Stopped<V> {
     /// What is so of all nodes. Does nothing.
     pub(crate) fn known(&self)
         ensures idle { self.now.book.live ≡ [] }
-        ensures history { (h : History) × IsDownHistory h self.now.edits self.now.kept self.now.desk self.now.network }
+        ensures history { (h : History) × IsDownHistory h self.now.stored self.now.desk self.now.network }
     {
         let _vault = &self.vault;
     }

@@ -106,10 +106,10 @@ impl<V: Vault> Store<V> {
 
     // The seat, and what goes on without a coordinator.
     fn parts(self) -> (Seat<V>, Desk, Network)
-        ensures seat { seat_of V.edits V.tables V.failures result.0 ≡ (store_of self).seat }
+        ensures seat { seat_of V.stored V.failures result.0 ≡ (store_of self).seat }
         ensures desk { result.1 ≡ (store_of self).desk }
         ensures network { result.2 ≡ (store_of self).network }
-        ensures history { (h : History) × IsDownHistory h (store_of self).seat.edits (store_of self).seat.kept (store_of self).desk (store_of self).network }
+        ensures history { (h : History) × IsDownHistory h (store_of self).seat.stored (store_of self).desk (store_of self).network }
         ensures fit { IsFitWhileUp (store_of self).seat.core }
     {
         match self {
@@ -134,8 +134,7 @@ impl<V: Vault> Store<V> {
 
     /// Gives back each claim that a dispatcher holds, and hands over the vault.
     pub(crate) fn close(self) -> V
-        ensures edits { V.edits result ≡ (store_of self).seat.edits }
-        ensures tables { V.tables result ≡ (store_of self).seat.kept }
+        ensures vault { V.stored result ≡ (store_of self).seat.stored }
         ensures failures { V.failures result ≡ (store_of self).seat.failures }
     {
         let (seat, desk, network) = self.parts();
@@ -178,9 +177,9 @@ fn put<V: Vault>(place: &mut Option<Store<V>>, store: Store<V>)
 
 // A store with this seat.
 fn seated<V: Vault>(alloc: Global, seat: Seat<V>, desk: Desk, network: Network) -> Store<V>
-    requires idle { IsIdleWhileDown (seat_of V.edits V.tables V.failures seat).core (seat_of V.edits V.tables V.failures seat).book }
-    requires history { (h : History) × IsStoreHistory h (store_with (seat_of V.edits V.tables V.failures seat) desk network) }
-    ensures { store_of result ≡ store_with (seat_of V.edits V.tables V.failures seat) desk network }
+    requires idle { IsIdleWhileDown (seat_of V.stored V.failures seat).core (seat_of V.stored V.failures seat).book }
+    requires history { (h : History) × IsStoreHistory h (store_with (seat_of V.stored V.failures seat) desk network) }
+    ensures { store_of result ≡ store_with (seat_of V.stored V.failures seat) desk network }
 {
     match seat {
         Seat::Up(coord) => Store::Up(Nodes::of(alloc, coord, desk, network)),
@@ -192,8 +191,8 @@ fn seated<V: Vault>(alloc: Global, seat: Seat<V>, desk: Desk, network: Network) 
 
 // What is told of an opening.
 fn restarted<V: Vault>(seat: &Seat<V>, opened: Result<(), OpenError>) -> Reply
-    requires { IsCaughtUp (seat_of V.edits V.tables V.failures seat.now).core }
-    ensures { result ≡ restart_answer opened (seat_of V.edits V.tables V.failures seat.now).core }
+    requires { IsCaughtUp (seat_of V.stored V.failures seat.now).core }
+    ensures { result ≡ restart_answer opened (seat_of V.stored V.failures seat.now).core }
 {
     match opened {
         Err(why) => Reply::Refused(Refusal::Open(why)),
@@ -203,8 +202,8 @@ fn restarted<V: Vault>(seat: &Seat<V>, opened: Result<(), OpenError>) -> Reply
 
 // What is told of an opening that succeeded.
 fn restarted_seat<V: Vault>(seat: &Seat<V>) -> Reply
-    requires { IsCaughtUp (seat_of V.edits V.tables V.failures seat.now).core }
-    ensures { result ≡ restarted_as (seat_of V.edits V.tables V.failures seat.now).core }
+    requires { IsCaughtUp (seat_of V.stored V.failures seat.now).core }
+    ensures { result ≡ restarted_as (seat_of V.stored V.failures seat.now).core }
 {
     match seat {
         Seat::Up(coord) => coordinator::restarted(coord),

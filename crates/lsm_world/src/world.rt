@@ -1,9 +1,9 @@
 //! The world: the nodes of a store, under one schedule.
 
 ghost use Rattle.std.specs.Prelude.{◌≡◌, ◌⊎◌, ◌+◌, ◌≤◌, ◌++◌, ◌∷◌, [], All, IfErr, IfOk, OnErr, length, sum_by};
-ghost use Rattle.std.specs.FinMap.{empty};
 ghost use Rattle.std.specs.List.{zip};
 ghost use Rattle.lsm_edit.specs.Edits.{RemovedOnce};
+ghost use Rattle.lsm_vault.specs.Stored.{empty_vault};
 ghost use Rattle.lsm_versions.specs.declared.error.OpenError.TheVariants.{Device, OutOfMemory};
 ghost use Rattle.lsm_versions.specs.Manifest.{read_edits};
 ghost use Rattle.lsm_versions.specs.Opening.{CountsRefusal};
@@ -41,13 +41,13 @@ pub struct World<V: Vault> {
 impl<V: Vault> Model for World<V> {
     ghost use Rattle.std.specs.Prelude.{IsSome};
     ghost use Rattle.std.specs.Coded.{codes};
-    ghost use Rattle.lsm_versions.specs.Kept.{kept_code};
+    ghost use Rattle.lsm_vault.specs.Stored.{vault_code};
     ghost use Rattle.lsm_world.specs.Inner.Storing.{store_in};
     ghost use Rattle.lsm_world.specs.Schedules.{IsReached, WorldValue};
 
     ghost Value = { WorldValue };
 
-    ghost coded = { Prim.hlevel (codes, kept_code) };
+    ghost coded = { Prim.hlevel (codes, vault_code) };
 
     ghost view = { λ w. record { nodes = store_in w.store; trace = w.trace.items } };
 
@@ -58,13 +58,11 @@ impl<V: Vault> World<V> {
     /// The nodes of a new store, over a vault that has nothing yet. It is refused only if memory runs out or the device fails, and
     /// then the vault, which still has nothing, is handed back.
     pub fn new(alloc: Global, vault: V, limits: Limits) -> Result<World<V>, (OpenError, V)>
-        requires edits { V.edits vault ≡ [] }
-        requires tables { V.tables vault ≡ empty }
+        requires { V.stored vault ≡ empty_vault }
         ensures new { IfOk result (IsNew limits) }
         ensures failures { IfOk result (λ w. V.failures vault ≤ w.nodes.seat.failures) }
         ensures refused { IfErr result (λ e. (e.0 ≡ OutOfMemory) ⊎ (e.0 ≡ Device)) }
-        ensures edits { IfErr result (λ e. V.edits e.1 ≡ []) }
-        ensures tables { IfErr result (λ e. V.tables e.1 ≡ empty) }
+        ensures left { IfErr result (λ e. V.stored e.1 ≡ empty_vault) }
         ensures counted { IfErr result (λ e. CountsRefusal e.0 (V.failures vault) (V.failures e.1)) }
     {
         match Coord::open(alloc, vault, limits) {
@@ -178,11 +176,10 @@ impl<V: Vault> World<V> {
 
     /// Ends it, and hands over the vault. Each claim that a dispatcher holds is given back.
     pub fn close(self) -> V
-        ensures edits { V.edits result ≡ self.nodes.seat.edits }
-        ensures tables { V.tables result ≡ self.nodes.seat.kept }
+        ensures vault { V.stored result ≡ self.nodes.seat.stored }
         ensures failures { V.failures result ≡ self.nodes.seat.failures }
         // No file was merged twice.
-        ensures once { RemovedOnce (read_edits (V.edits result)) }
+        ensures once { RemovedOnce (read_edits (V.stored result).edits) }
     {
         self.known();
         let World {

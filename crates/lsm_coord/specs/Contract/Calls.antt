@@ -63,9 +63,9 @@ after_freezing c = record c { active = []; frozen = Some (record { memtable = c.
 
 -- the same, but that the vault may have some of the tables that may be put, under numbers that no file has been given yet, and its device may have failed
 pub record MayHaveStored (MayPut : ℕ → List ℕ → Type 0) (old new : CoordValue) : Type 0 where
-  pub rest : new ≡ record old { kept = new.kept; failures = new.failures }
-  pub below : StaysBelow old.served.version.next_file old.kept new.kept
-  pub put : MayHavePutSome MayPut old.kept new.kept
+  pub rest : new ≡ record old { stored = record old.stored { tables = new.stored.tables }; failures = new.failures }
+  pub below : StaysBelow old.served.version.next_file old.stored.tables new.stored.tables
+  pub put : MayHavePutSome MayPut old.stored.tables new.stored.tables
   pub counted : old.failures ≤ new.failures
 
 -- the same, and its device has failed
@@ -108,8 +108,7 @@ pub record AddsTable (old : CoordValue) (file : FileMeta) (table : Opened) (new 
   pub spelled : IsSpelledEdit text edit
   pub new_is : new ≡ record (without_flush_source old) {
     served = with_flushed old.served (flush_source old).end file table;
-    edits = old.edits ++ text ∷ [];
-    kept = map.insert old.kept file.number table.bytes;
+    stored = record old.stored { edits = old.stored.edits ++ text ∷ []; tables = map.insert old.stored.tables file.number table.bytes };
     failures = new.failures;
   }
   pub counted : old.failures ≤ new.failures
@@ -166,12 +165,12 @@ with_floor c n = record c { floor = max c.floor n; retired = kept_from (max c.fl
 
 -- and the vault has the tables of live files alone
 abbrev pub with_live_tables : CoordValue → ℕ → CoordValue
-with_live_tables c n = record (with_floor c n) { kept = map.retain_keys c.kept (is_live (version_set (with_floor c n))) }
+with_live_tables c n = record (with_floor c n) { stored = record c.stored { tables = map.retain_keys c.stored.tables (is_live (version_set (with_floor c n))) } }
 
 -- the floor has risen, and some tables of files that are not live may be gone
 pub record MayHaveTrimmed (old : CoordValue) (n : ℕ) (new : CoordValue) : Type 0 where
-  pub rest : new ≡ record (with_floor old n) { kept = new.kept; failures = new.failures }
-  pub lost : MayHaveLost (is_live (version_set (with_floor old n))) old.kept new.kept
+  pub rest : new ≡ record (with_floor old n) { stored = record old.stored { tables = new.stored.tables }; failures = new.failures }
+  pub lost : MayHaveLost (is_live (version_set (with_floor old n))) old.stored.tables new.stored.tables
   pub counted : old.failures ≤ new.failures
 
 -- why tables are left that are not needed, and what has changed

@@ -119,10 +119,9 @@ pub record IsInstallDone (old : CoordValue) (live : LiveJob) (ts : List Opened) 
   pub spelled : IsSpelledEdit text edit
   pub new_is : new ≡ record old {
     served = after_advance old.served edit ts;
-    edits = old.edits ++ text ∷ [];
+    stored = record old.stored { edits = old.stored.edits ++ text ∷ []; tables = put_tables old.stored.tables (placed_of edit.added ts) };
     retired = retired_after old.retired old.served live.want.files;
     book = after_settling old.book live.id ending.Installed;
-    kept = put_tables old.kept (placed_of edit.added ts);
     failures = new.failures;
   }
   pub counted : old.failures ≤ new.failures

@@ -51,12 +51,12 @@ pub record IsCoord (active : List Entry) (frozen : Option Frozen) (last : ℕ) (
 -- that versions from the floor on list and the current one lacks, the vault has the same tables, claims are counted, and each live
 -- one is of a job whose inputs may still be merged.
 pub record IsFit (c : CoordValue) : Type 0 where
-  pub manifest : Folds c.edits c.served.version
-  pub once : RemovedOnce (read_edits c.edits)
+  pub manifest : Folds c.stored.edits c.served.version
+  pub once : RemovedOnce (read_edits c.stored.edits)
   pub version : IsVersion c.served.version
   pub served : IsServed c.served
-  pub retired : AreRetired (versions_of c.edits) c.served.version c.retired c.floor
-  pub kept : AreKept c.kept c.served.places c.retired
+  pub retired : AreRetired (versions_of c.stored.edits) c.served.version c.retired c.floor
+  pub kept : AreKept c.stored.tables c.served.places c.retired
   pub book : IsBook c.book
   pub epoch : c.book.epoch ≡ c.served.version.epoch
   pub legal : AreLegal c.served.version.files c.book.live

@@ -3,8 +3,8 @@ use Rattle.std.specs.Prelude.{◌≡◌, ℕ, ◌≤◌, List, [], ◌∷◌, Op
 use Rattle.lsm_claim.specs.declared.ending.Ending.TheVariants.{Returned}
 use Rattle.lsm_claim.specs.declared.job.JobId.{JobId}
 use Rattle.lsm_claim.specs.Book.{after_settling, new_book}
+use Rattle.lsm_vault.specs.Stored.{VaultValue}
 use Rattle.lsm_versions.specs.declared.error.OpenError.{OpenError}
-use Rattle.lsm_versions.specs.Kept.{Kept}
 use Rattle.lsm_versions.specs.Opening.{CountsRefusal, MayHaveDropped, OpenRefuses}
 use Rattle.lsm_coord.specs.declared.seat.Seat.{Seat}
 use Rattle.lsm_coord.specs.declared.seat.Seat.TheVariants as seat
@@ -19,21 +19,21 @@ use Rattle.lsm_coord.specs.Contract.Value.{CoordValue}
 
 -- a seat whose coordinator is up
 abbrev pub up_seat : CoordValue → SeatValue
-up_seat c = record { core = Some c; edits = c.edits; kept = c.kept; failures = c.failures; book = c.book; limits = c.limits }
+up_seat c = record { core = Some c; stored = c.stored; failures = c.failures; book = c.book; limits = c.limits }
 
 -- what contracts see of a seat, by what they see of its vault
-abbrev pub seat_of : {V : Type 0} → (V → List (List ℕ)) → (V → Kept) → (V → ℕ) → Seat V → SeatValue
-seat_of edits kept failures (seat.Up c) = up_seat c
-seat_of edits kept failures (seat.Down v book limits) = record { core = None; edits = edits v; kept = kept v; failures = failures v; book = book; limits = limits }
+abbrev pub seat_of : {V : Type 0} → (V → VaultValue) → (V → ℕ) → Seat V → SeatValue
+seat_of stored failures (seat.Up c) = up_seat c
+seat_of stored failures (seat.Down v book limits) = record { core = None; stored = stored v; failures = failures v; book = book; limits = limits }
 
 -- ---- a restart
 
 -- The vault is opened in the next epoch; or it is refused for a reason, the coordinator is down, and its book has no claim.
 abbrev pub Restarts : SeatValue → Result (Unit {0}) OpenError → SeatValue → Type 0
-Restarts old (Ok r) new = (c : CoordValue) × OpensCoord old.edits old.kept old.limits c × (new ≡ up_seat c) × (old.failures ≤ new.failures)
+Restarts old (Ok r) new = (c : CoordValue) × OpensCoord old.stored old.limits c × (new ≡ up_seat c) × (old.failures ≤ new.failures)
 Restarts old (Err why) new =
-    OpenRefuses old.edits old.kept why × MayHaveDropped why old.edits old.kept new.kept × CountsRefusal why old.failures new.failures
-    × (new ≡ record old { core = None; kept = new.kept; failures = new.failures; book = new_book old.book.epoch })
+    OpenRefuses old.stored why × MayHaveDropped why old.stored new.stored × CountsRefusal why old.failures new.failures
+    × (new ≡ record old { core = None; stored = new.stored; failures = new.failures; book = new_book old.book.epoch })
 
 -- what a coordinator that is up tells of its restart
 abbrev pub core_reply : Option CoordValue → Reply

@@ -4,9 +4,9 @@ use Rattle.lsm_key.specs.declared.limits.Limits.{Limits}
 use Rattle.lsm_claim.specs.Book.{BookValue, new_book}
 use Rattle.lsm_edit.specs.Served.{IsServed, ServedValue}
 use Rattle.lsm_edit.specs.Version.{IsVersion}
+use Rattle.lsm_vault.specs.Stored.{VaultValue}
 use Rattle.lsm_versions.specs.declared.error.OpenError.{OpenError}
 use Rattle.lsm_versions.specs.declared.error.OpenError.TheVariants as opening
-use Rattle.lsm_versions.specs.Kept.{Kept}
 use Rattle.lsm_versions.specs.Manifest.{IsVersionSet, VersionSetValue}
 use Rattle.lsm_versions.specs.Opening.{ArePlacesKept, Opens}
 use Rattle.lsm_coord.specs.Model.State.{State, last_flushed, last_seq}
@@ -21,12 +21,12 @@ use Rattle.lsm_coord.specs.Contract.Value.{CoordValue}
 
 -- a coordinator right after an opening: the version set, and nothing else
 abbrev pub opened_coord : Limits → VersionSetValue → CoordValue
-opened_coord limits v = record { limits = limits; active = []; frozen = None; served = v.served; edits = v.edits; last = v.served.version.flushed; snapshots = []; made = 0; floor = v.floor; retired = v.retired; book = new_book v.served.version.epoch; kept = v.kept; failures = v.failures }
+opened_coord limits v = record { limits = limits; active = []; frozen = None; served = v.served; stored = v.stored; last = v.served.version.flushed; snapshots = []; made = 0; floor = v.floor; retired = v.retired; book = new_book v.served.version.epoch; failures = v.failures }
 
 -- a coordinator that was opened over a vault with these edits and tables
-pub record OpensCoord (edits : List (List ℕ)) (kept : Kept) (limits : Limits) (c : CoordValue) : Type 0 where
+pub record OpensCoord (vault : VaultValue) (limits : Limits) (c : CoordValue) : Type 0 where
   pub versions : VersionSetValue
-  pub opens : Opens edits kept versions
+  pub opens : Opens vault versions
   pub set : IsVersionSet versions
   pub served : IsServed versions.served
   pub version : IsVersion versions.served.version
@@ -47,7 +47,7 @@ open_refusal opening.NumbersExhausted = say.NumbersExhausted
 -- ---- down
 
 -- A coordinator that is down shows what its vault has: all that was flushed, and no more.
-pub record ShowsDown (edits : List (List ℕ)) (kept : Kept) (s : State) : Type 0 where
+pub record ShowsDown (vault : VaultValue) (s : State) : Type 0 where
   pub down : s.up ≡ false
   pub frozen : s.frozen ≡ None
   pub snapshots : s.snapshots ≡ []
@@ -55,33 +55,32 @@ pub record ShowsDown (edits : List (List ℕ)) (kept : Kept) (s : State) : Type 
   pub flushed : last_seq s ≡ last_flushed s
   pub served : ServedValue
   pub sound : IsServed served
-  pub tables : ArePlacesKept kept served.places
-  pub stored : ShowsStored edits served s
+  pub tables : ArePlacesKept vault.tables served.places
+  pub stored : ShowsStored vault.edits served s
 
 -- For every state that the vault shows once the coordinator has stopped, an opening is a restart to a state that the coordinator
 -- shows.
-abbrev pub OpenFollows : List (List ℕ) → Kept → CoordValue → Type 0
-OpenFollows edits kept c = (s : State) → ShowsDown edits kept (after_stop s) → (t : State) × Step s (say.Restart say.Coordinator) (restarted_reply c) t × Shows c t
+abbrev pub OpenFollows : VaultValue → CoordValue → Type 0
+OpenFollows vault c = (s : State) → ShowsDown vault (after_stop s) → (t : State) × Step s (say.Restart say.Coordinator) (restarted_reply c) t × Shows c t
 
 -- For every such state, an opening that is refused is a refused restart to a state that the vault still shows.
-abbrev pub OpenRefusedFollows : List (List ℕ) → Kept → OpenError → Kept → Type 0
-OpenRefusedFollows edits kept why new = (s : State) → ShowsDown edits kept (after_stop s) → (t : State) × Step s (say.Restart say.Coordinator) (say.Refused (open_refusal why)) t × ShowsDown edits new t
+abbrev pub OpenRefusedFollows : VaultValue → OpenError → VaultValue → Type 0
+OpenRefusedFollows vault why new = (s : State) → ShowsDown vault (after_stop s) → (t : State) × Step s (say.Restart say.Coordinator) (say.Refused (open_refusal why)) t × ShowsDown new t
 
 -- ---- a seat
 
 -- what contracts see of a seat: the coordinator if it is up, and what outlives it
 pub record SeatValue : Type 0 where
   pub core : Option CoordValue
-  pub edits : List (List ℕ)
-  pub kept : Kept  -- the vault's tables
+  pub stored : VaultValue  -- the vault's edits and tables
   pub failures : ℕ  -- how often the vault's device failed
   pub book : BookValue  -- the claims of the epoch
   pub limits : Limits
 
 -- a seat shows what its coordinator does, or what its vault has
-abbrev pub CoreShows : Option CoordValue → List (List ℕ) → Kept → State → Type 0
-CoreShows (Some c) edits kept s = Shows c s
-CoreShows None edits kept s = ShowsDown edits kept s
+abbrev pub CoreShows : Option CoordValue → VaultValue → State → Type 0
+CoreShows (Some c) vault s = Shows c s
+CoreShows None vault s = ShowsDown vault s
 
 abbrev pub ShowsSeat : SeatValue → State → Type 0
-ShowsSeat seat s = CoreShows seat.core seat.edits seat.kept s
+ShowsSeat seat s = CoreShows seat.core seat.stored s

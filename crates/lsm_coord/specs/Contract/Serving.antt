@@ -24,7 +24,7 @@ table_body file (Some bytes) = body.Table file bytes
 abbrev pub after_version : CoordValue → ℕ → Option Body
 after_version c number =
     if nat_le c.served.version.number number then Some (body.Current c.served.version.number)
-    else if nat_le c.floor (number + 1) then option_map body.Edit (slice_get (read_edits c.edits) number)
+    else if nat_le c.floor (number + 1) then option_map body.Edit (slice_get (read_edits c.stored.edits) number)
     else Some (body.Base c.served.version)
 
 -- a fetch is answered with the table if the file is of the current version or retired, otherwise with Gone; an ask with what comes

@@ -52,7 +52,7 @@ pub record Shows (c : CoordValue) (s : State) : Type 0 where
   pub snapshots : s.snapshots ≡ c.snapshots
   pub made : s.made ≡ c.made
   pub floor : s.floor ≡ c.floor
-  pub tables : ShowsStored c.edits c.served s
+  pub tables : ShowsStored c.stored.edits c.served s
   pub memtables : ShowsRecent c.active (frozen_entries c.frozen) (stored_entries c.served) s
 
 -- For every state shown before, the event and its reply are a step to one shown after.

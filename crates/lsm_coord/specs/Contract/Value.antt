@@ -5,8 +5,8 @@ use Rattle.lsm_key.specs.declared.limits.Limits.{Limits}
 use Rattle.lsm_key.specs.Places.{all_entries}
 use Rattle.lsm_claim.specs.Book.{BookValue}
 use Rattle.lsm_edit.specs.Served.{ServedValue, tables_of}
+use Rattle.lsm_vault.specs.Stored.{VaultValue}
 use Rattle.lsm_versions.specs.declared.retired.Retired.{Retired}
-use Rattle.lsm_versions.specs.Kept.{Kept}
 use Rattle.lsm_versions.specs.Manifest.{VersionSetValue}
 use Rattle.lsm_coord.specs.declared.frozen.Frozen.{Frozen}
 use Rattle.lsm_coord.specs.declared.snapshot.Snapshot.{Snapshot}
@@ -16,19 +16,18 @@ pub record CoordValue : Type 0 where
   pub active : List Entry  -- the entries of the active memtable
   pub frozen : Option Frozen
   pub served : ServedValue  -- the current version with its tables
-  pub edits : List (List ℕ)  -- the vault's: the encoding of each edit, from edit 1
+  pub stored : VaultValue  -- the vault's: the encoding of each edit, from edit 1, and the tables
   pub last : ℕ  -- the last sequence
   pub snapshots : List Snapshot  -- the live ones
   pub made : ℕ  -- how many snapshots this epoch has made
   pub floor : ℕ  -- the least version whose files are still served
   pub retired : List Retired  -- the files that a version from the floor on lists and the current one lacks
   pub book : BookValue  -- the claims of this epoch
-  pub kept : Kept  -- the vault's tables
   pub failures : ℕ  -- how often the vault's device failed
 
 -- its version set
 abbrev pub version_set : CoordValue → VersionSetValue
-version_set c = record { served = c.served; edits = c.edits; retired = c.retired; floor = c.floor; kept = c.kept; failures = c.failures }
+version_set c = record { served = c.served; stored = c.stored; retired = c.retired; floor = c.floor; failures = c.failures }
 
 abbrev pub frozen_entries : Option Frozen → List Entry
 frozen_entries None = []

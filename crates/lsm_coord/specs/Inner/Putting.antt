@@ -48,7 +48,7 @@ pub record AddsFile (old : VersionSetValue) (end : ℕ) (file : FileMeta) (table
   pub edit_is : edit ≡ flush_edit old.served.version end file
   pub valid : IsEdit edit
   pub applies : apply_fault old.served.version edit ≡ None
-  pub new_is : new ≡ record old { served = with_flushed old.served end file table; edits = old.edits ++ edit_bytes edit ∷ []; kept = map.insert old.kept file.number table.bytes; failures = new.failures }
+  pub new_is : new ≡ record old { served = with_flushed old.served end file table; stored = record old.stored { edits = old.stored.edits ++ edit_bytes edit ∷ []; tables = map.insert old.stored.tables file.number table.bytes }; failures = new.failures }
   pub counted : old.failures ≤ new.failures
 
 -- the version's number and the next file number fit

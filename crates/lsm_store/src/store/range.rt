@@ -40,12 +40,12 @@ struct Part {
 
 impl<'s, V: Vault> Model for Range<'s, V> {
     ghost use Rattle.std.specs.Coded.{codes};
-    ghost use Rattle.lsm_versions.specs.Kept.{kept_code};
+    ghost use Rattle.lsm_vault.specs.Stored.{vault_code};
     ghost use Rattle.lsm_store.specs.Ranges.{IsPart, RangeValue, part_place};
 
     ghost Value = { RangeValue };
 
-    ghost coded = { Prim.hlevel (codes, kept_code) };
+    ghost coded = { Prim.hlevel (codes, vault_code) };
 
     ghost view = { λ r. record { store = r.store.now; from = part_place r.part; hi = r.hi.items; at = r.at; left = r.left } };
 

@@ -82,7 +82,7 @@ impl<V: Vault> Store<V> {
 
     /// How much was written to tables since the store was new, by what the vault tells of all its edits: O(n) for n edits.
     pub fn written(&mut self) -> Result<Written, StoreError>
-        ensures ok { IfOk result (WroteBytes self.old.edits) }
+        ensures ok { IfOk result (WroteBytes self.old.stored.edits) }
         ensures keeps { Keeps self.old self.new }
         ensures same { self.new ≡ record self.old { failures = self.new.failures } }
         ensures refused { IfErr result (OfCoord (EditsRefuse self.old self.new)) }
@@ -94,7 +94,7 @@ impl<V: Vault> Store<V> {
 
     // The edits of the vault.
     fn edits(&mut self) -> Result<Vec<Bytes>, CoordError>
-        ensures ok { IfOk result (λ edits. edits.items ≡ self.old.edits) }
+        ensures ok { IfOk result (λ edits. edits.items ≡ self.old.stored.edits) }
         ensures same { self.new ≡ record self.old { failures = self.new.failures } }
         ensures refused { IfErr result (EditsRefuse self.old self.new) }
     {

@@ -2,13 +2,12 @@
 use Rattle.std.specs.Prelude.{ℕ, List, None}
 use Rattle.lsm_key.specs.declared.limits.Limits.{Limits}
 use Rattle.lsm_claim.specs.Book.{BookValue}
-use Rattle.lsm_versions.specs.Kept.{Kept}
+use Rattle.lsm_vault.specs.Stored.{VaultValue}
 use Rattle.lsm_coord.specs.declared.dispatcher.Dispatcher.{Dispatcher}
 use Rattle.lsm_world.specs.Nodes.{NetworkValue, StoreValue}
 
 pub record StoppedValue : Type 0 where
-  pub edits : List (List ℕ)
-  pub kept : Kept
+  pub stored : VaultValue
   pub failures : ℕ
   pub book : BookValue
   pub limits : Limits
@@ -17,4 +16,4 @@ pub record StoppedValue : Type 0 where
 
 -- as a store
 abbrev pub down_store : StoppedValue → StoreValue
-down_store s = record { seat = record { core = None; edits = s.edits; kept = s.kept; failures = s.failures; book = s.book; limits = s.limits }; desk = s.desk; network = s.network }
+down_store s = record { seat = record { core = None; stored = s.stored; failures = s.failures; book = s.book; limits = s.limits }; desk = s.desk; network = s.network }

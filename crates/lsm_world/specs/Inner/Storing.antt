@@ -1,8 +1,8 @@
 -- What contracts see of a store's nodes, whether its coordinator is up or down (the store's own).
 use Rattle.std.specs.Prelude.{◌≡◌, [], Option, None, Some}
-use Rattle.std.specs.FinMap.{empty}
 use Rattle.std.proofs.Common.{lit≤}
 use Rattle.lsm_claim.specs.Book.{BookValue, new_book}
+use Rattle.lsm_vault.specs.Stored.{empty_vault}
 use Rattle.lsm_coord.specs.Contract.Memory.{IsFit}
 use Rattle.lsm_coord.specs.Contract.Value.{CoordValue}
 use Rattle.lsm_world.specs.declared.store.Store.{Store}
@@ -16,7 +16,7 @@ store_of (Down stopped) = down_store stopped
 
 -- no store: never between calls
 abbrev pub no_store : StoreValue
-no_store = down_store (record { edits = []; kept = empty; failures = 0; book = new_book 0; limits = record { l0 = 1; base = 1; block = 1; l0_some = lit≤ tt; l0_most = lit≤ tt; base_some = lit≤ tt; base_most = lit≤ tt; block_some = lit≤ tt; block_most = lit≤ tt }; desk = []; network = record { workers = []; followers = []; messages = [] } })
+no_store = down_store (record { stored = empty_vault; failures = 0; book = new_book 0; limits = record { l0 = 1; base = 1; block = 1; l0_some = lit≤ tt; l0_most = lit≤ tt; base_some = lit≤ tt; base_most = lit≤ tt; block_some = lit≤ tt; block_most = lit≤ tt }; desk = []; network = record { workers = []; followers = []; messages = [] } })
 
 abbrev pub store_in : {V : Type 0} → Option (Store V) → StoreValue
 store_in None = no_store

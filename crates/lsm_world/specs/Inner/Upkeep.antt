@@ -10,7 +10,7 @@ use Rattle.lsm_coord.specs.Contract.Value.{CoordValue}
 -- the files, the edits and the claims are as before
 pub record HasSameFiles (old new : CoordValue) : Type 0 where
   pub served : new.served ≡ old.served
-  pub edits : new.edits ≡ old.edits
+  pub edits : new.stored.edits ≡ old.stored.edits
   pub retired : new.retired ≡ old.retired
   pub book : new.book ≡ old.book
 
@@ -23,7 +23,7 @@ pub record HasOneMore (old new : CoordValue) : Type 0 where
 -- some retired files are let go
 pub record HasFewer (old new : CoordValue) : Type 0 where
   pub served : new.served ≡ old.served
-  pub edits : new.edits ≡ old.edits
+  pub edits : new.stored.edits ≡ old.stored.edits
   pub retired : (r : Retired) → IsIn r new.retired → IsIn r old.retired
   pub book : new.book ≡ old.book
 

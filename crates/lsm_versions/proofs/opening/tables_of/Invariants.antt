@@ -6,7 +6,6 @@ use Rattle.lsm_versions.proofs.opening.tables_of.Given as goal
 abbrev pub invariant-loop-file : goal.invariant-loop-file
 invariant-loop-file g l =
     AreAsRecorded (take l.file-index l.files) l.tables.items
-    × ArePlacesKept (g.V.Vault.tables l.fn.vault) (placed_of (take l.file-index l.files) l.tables.items)
-    × (g.V.Vault.edits l.vault ≡ g.V.Vault.edits l.fn.vault)
-    × (g.V.Vault.tables l.vault ≡ g.V.Vault.tables l.fn.vault)
+    × ArePlacesKept (g.V.Vault.stored l.fn.vault).tables (placed_of (take l.file-index l.files) l.tables.items)
+    × (g.V.Vault.stored l.vault ≡ g.V.Vault.stored l.fn.vault)
     × (g.V.Vault.failures l.fn.vault ≤ g.V.Vault.failures l.vault)

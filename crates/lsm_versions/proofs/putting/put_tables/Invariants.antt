@@ -5,9 +5,9 @@ use Rattle.lsm_versions.proofs.putting.put_tables.Given as goal
 
 abbrev pub invariant-loop-table : goal.invariant-loop-table
 invariant-loop-table g l =
-    let tables = g.V.Vault.tables in
+    let stored = g.V.Vault.stored in
     (l.yielded ++ l.table-iterator.rest.items ≡ l.fn.tables.items)
-    × (put_numbered (tables l.vault) l.table-iterator.rest.items ≡ put_numbered (tables l.fn.vault) l.fn.tables.items)
-    × MayHavePutSome (IsTableToPut l.fn.tables.items) (tables l.fn.vault) (tables l.vault)
-    × (g.V.Vault.edits l.vault ≡ g.V.Vault.edits l.fn.vault)
+    × (record (stored l.vault) { tables = put_numbered (stored l.vault).tables l.table-iterator.rest.items } ≡ record (stored l.fn.vault) { tables = put_numbered (stored l.fn.vault).tables l.fn.tables.items })
+    × MayHavePutSome (IsTableToPut l.fn.tables.items) (stored l.fn.vault).tables (stored l.vault).tables
+    × (stored l.vault ≡ record (stored l.fn.vault) { tables = (stored l.vault).tables })
     × (g.V.Vault.failures l.fn.vault ≤ g.V.Vault.failures l.vault)

@@ -6,7 +6,8 @@ use Rattle.lsm_versions.proofs.putting.remove_tables.Given as goal
 
 abbrev pub invariant-loop-number : goal.invariant-loop-number
 invariant-loop-number g l =
-    MayHaveRemoved l.numbers (g.V.Vault.tables l.fn.vault) (g.V.Vault.tables l.vault)
-    × (g.V.Vault.edits l.vault ≡ g.V.Vault.edits l.fn.vault)
+    let stored = g.V.Vault.stored in
+    MayHaveRemoved l.numbers (stored l.fn.vault).tables (stored l.vault).tables
+    × (stored l.vault ≡ record (stored l.fn.vault) { tables = (stored l.vault).tables })
     × (g.V.Vault.failures l.fn.vault ≤ g.V.Vault.failures l.vault)
-    × (g.V.Vault.tables l.vault ≡ map.retain_keys (g.V.Vault.tables l.fn.vault) (all_but (take l.number-index l.numbers)))
+    × ((stored l.vault).tables ≡ map.retain_keys (stored l.fn.vault).tables (all_but (take l.number-index l.numbers)))

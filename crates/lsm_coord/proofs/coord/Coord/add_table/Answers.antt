@@ -74,7 +74,7 @@ returns-then-is_some-clause-ok g c =
       applies = adds.applies;
       text = spelling adds.edit;
       spelled = record { sound = adds.valid; spelled = refl };
-      new_is = λ i. record { limits = m.limits; active = active i; frozen = None; served = with_flushed s (end i) c.args.meta c.args.table; edits = m.versions.edits ++ spelling adds.edit ∷ []; last = m.newest; snapshots = m.live.items; made = m.made; floor = m.versions.floor; retired = m.versions.retired; book = m.book; kept = fin.insert m.versions.kept c.args.meta.number c.args.table.bytes; failures = c.put_table.new.versions.failures };
+      new_is = λ i. record { limits = m.limits; active = active i; frozen = None; served = with_flushed s (end i) c.args.meta c.args.table; stored = record m.versions.stored { edits = m.versions.stored.edits ++ spelling adds.edit ∷ []; tables = fin.insert m.versions.stored.tables c.args.meta.number c.args.table.bytes }; last = m.newest; snapshots = m.live.items; made = m.made; floor = m.versions.floor; retired = m.versions.retired; book = m.book; failures = c.put_table.new.versions.failures };
       counted = adds.counted;
     })
 
@@ -93,7 +93,7 @@ returns-clause-ok g c =
       applies = adds.applies;
       text = spelling adds.edit;
       spelled = record { sound = adds.valid; spelled = refl };
-      new_is = λ i. record { limits = m.limits; active = active i; frozen = none i; served = with_flushed s (end i) c.args.meta c.args.table; edits = m.versions.edits ++ spelling adds.edit ∷ []; last = m.newest; snapshots = m.live.items; made = m.made; floor = m.versions.floor; retired = m.versions.retired; book = m.book; kept = fin.insert m.versions.kept c.args.meta.number c.args.table.bytes; failures = c.put_table.new.versions.failures };
+      new_is = λ i. record { limits = m.limits; active = active i; frozen = none i; served = with_flushed s (end i) c.args.meta c.args.table; stored = record m.versions.stored { edits = m.versions.stored.edits ++ spelling adds.edit ∷ []; tables = fin.insert m.versions.stored.tables c.args.meta.number c.args.table.bytes }; last = m.newest; snapshots = m.live.items; made = m.made; floor = m.versions.floor; retired = m.versions.retired; book = m.book; failures = c.put_table.new.versions.failures };
       counted = adds.counted;
     })
 

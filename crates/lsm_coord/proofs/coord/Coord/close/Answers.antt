@@ -8,5 +8,5 @@ pub returns-clause-stops : goal.returns-clause-stops
 returns-clause-stops g c =
     let m = c.self.inside in
     let served : IsServed m.versions.served = subst IsServed c.served.ensures.served c.listing-listing.ensures.sound.0 in
-    let kept : ArePlacesKept m.versions.kept m.versions.served.places = c.served.ensures.set.kept.listed in
-    rw (← c.self.view_is) (λ s h. stops _ m.versions.kept s h served kept)
+    let kept : ArePlacesKept m.versions.stored.tables m.versions.served.places = c.served.ensures.set.kept.listed in
+    rw (← c.self.view_is) (λ s h. stops _ s h served kept)

@@ -20,7 +20,7 @@ invariant_of-self g c =
     })
 
 pub returns-clause-step : goal.returns-clause-step
-returns-clause-step g c = rw (c.settle.ensures.book, ← c.self.view_is) (λ dispatcher index s h. (s, (give_up_may s dispatcher h.up, (index, refl)), Shows-beside _ _ _ _ s h))
+returns-clause-step g c = rw (c.settle.ensures.book, ← c.self.view_is) (λ dispatcher index s h. (s, (give_up_may s dispatcher h.up, (index, refl)), Shows-beside _ _ c.self.inside.versions.stored.tables c.self.inside.versions.failures s h))
 
 pub returns-clause-sound : goal.returns-clause-sound
 returns-clause-sound g c = rw (c.settle.ensures.book, ← c.self.view_is) (gives_back_keeps _ c.args.claim.id)

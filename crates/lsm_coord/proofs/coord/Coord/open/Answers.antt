@@ -8,7 +8,7 @@ use Rattle.lsm_coord.proofs.RestartSteps.{open_follows}
 use Rattle.lsm_coord.proofs.coord.Coord.open.Goals as goal
 
 pub returns-in-Err-clause-stays : goal.returns-in-Err-clause-stays
-returns-in-Err-clause-stays g c = open_refused_follows _ _ _ _ c.in-Err.ensures.refused c.in-Err.ensures.tables
+returns-in-Err-clause-stays g c = open_refused_follows _ _ _ c.in-Err.ensures.refused c.in-Err.ensures.left
 
 pub returns-clause-ok : goal.returns-clause-ok
 returns-clause-ok g c =
@@ -21,11 +21,11 @@ returns-clause-ok g c =
       set = c.served.ensures.set;
       served = subst IsServed c.served.ensures.served c.listing-listing.ensures.sound.0;
       version = subst (λ (s : ServedValue). IsVersion s.version) c.served.ensures.served c.listing-listing.ensures.sound.1;
-      is = λ i. record { limits = c.args.limits; active = c.new.ensures i; frozen = None; served = v.served; edits = v.edits; last = last i; snapshots = c.new-2.ensures.items i; made = 0; floor = v.floor; retired = v.retired; book = book i; kept = v.kept; failures = v.failures };
+      is = λ i. record { limits = c.args.limits; active = c.new.ensures i; frozen = None; served = v.served; stored = v.stored; last = last i; snapshots = c.new-2.ensures.items i; made = 0; floor = v.floor; retired = v.retired; book = book i; failures = v.failures };
     }
 
 pub returns-clause-step : goal.returns-clause-step
-returns-clause-step g c = open_follows _ _ _ _ (returns-clause-ok g c)
+returns-clause-step g c = open_follows _ _ _ (returns-clause-ok g c)
 
 pub returns-clause-new : goal.returns-clause-new
-returns-clause-new g c = opened_over_nothing _ _ _ _ (returns-clause-ok g c)
+returns-clause-new g c = opened_over_nothing _ _ _ (returns-clause-ok g c)

@@ -16,10 +16,10 @@ pub returns-clause-step : goal.returns-clause-step
 returns-clause-step g c =
     rw (← c.self.view_is) (λ s h.
     let t = h.tables in
-    let count = version_count c.self.inside.versions.edits c.self.inside.versions.served s t in
+    let count = version_count c.self.inside.versions.stored.edits c.self.inside.versions.served s t in
     let number : c.listing.result.number ≡ current s = omega (arith, count, c.listing.ensures.number, ap (λ (v : ServedValue). v.version.number) c.served.ensures.served) in
-    let seq : last_flushed s ≡ c.listing.result.flushed = flushed_is c.self.inside.versions.edits c.self.inside.versions.served s t ∙ sym (c.listing.ensures.flushed ∙ ap (λ (v : ServedValue). v.version.flushed) c.served.ensures.served) in
-    let files : current_files s ≡ map place_of c.listing.result.files.now = files_are c.self.inside.versions.edits c.self.inside.versions.served s t ∙ ap (λ (fs : List FileMeta). map place_of fs) (sym (c.listing.ensures.files ∙ ap (λ (v : ServedValue). v.version.files) c.served.ensures.served)) in
+    let seq : last_flushed s ≡ c.listing.result.flushed = flushed_is c.self.inside.versions.stored.edits c.self.inside.versions.served s t ∙ sym (c.listing.ensures.flushed ∙ ap (λ (v : ServedValue). v.version.flushed) c.served.ensures.served) in
+    let files : current_files s ≡ map place_of c.listing.result.files.now = files_are c.self.inside.versions.stored.edits c.self.inside.versions.served s t ∙ ap (λ (fs : List FileMeta). map place_of fs) (sym (c.listing.ensures.files ∙ ap (λ (v : ServedValue). v.version.files) c.served.ensures.served)) in
     let lists : Lists s c.listing.result.number c.listing.result.flushed (map place_of c.listing.result.files.now) =
     rw number (lists_current s (omega (arith, count)) ∙ (λ i. Some (record { flushed = seq i; files = files i }))) in
     (s, (show_may s h.up, (number, lists, refl)), h))

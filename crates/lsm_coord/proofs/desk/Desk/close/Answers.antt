@@ -18,5 +18,5 @@ returns-clause-sound g c =
     let d = c.self.inside in
     let ids : List JobId = claim_of d.first ++ (claim_of d.second ++ (claim_of d.third ++ claim_of d.fourth)) in
     let all = four_in_turn _ _ _ _ _ (claim_of d.first) (claim_of d.second) (claim_of d.third) (claim_of d.fourth) c.close.ensures c.close-2.ensures c.close-3.ensures c.close-4.ensures in
-    let old : SeatValue = seat_of g.V.Vault.edits g.V.Vault.tables g.V.Vault.failures c.args.seat.now in
+    let old : SeatValue = seat_of g.V.Vault.stored g.V.Vault.failures c.args.seat.now in
     subst (λ (v : SeatValue). CoreKeepsSound old.core v.core) (sym all) (all_returned_keep old ids)

@@ -6,5 +6,5 @@ use Rattle.lsm_nodes.proofs.hub.Hub.close.Goals as goal
 pub returns-clause-edits : goal.returns-clause-edits
 returns-clause-edits g c =
     let history = c.history-history.result.now in
-    more_installs (installs_in c.matches.new.self.coord.edits) (installs_in g.J.Start.start.edits) (installed_in history) c.args.tally.installed c.history-history.ensures.installs
+    more_installs (installs_in c.matches.new.self.coord.stored.edits) (installs_in g.J.Start.start.stored.edits) (installed_in history) c.args.tally.installed c.history-history.ensures.installs
     (ap (λ h. length (installed_in h)) (c.history-history.ensures.all ∙ ap (λ s. s.history) c.matches.ensures.same.0) ∙ c.matches.ensures.installs c.if-not-matches.false)

@@ -6,17 +6,12 @@ use Rattle.lsm_coord.specs.Contract.Seats.{SeatValue}
 use Rattle.lsm_world.proofs.ClosedStores.{returned_vault}
 use Rattle.lsm_world.proofs.store.Store.close.Goals as goal
 
-pub returns-clause-edits : goal.returns-clause-edits
-returns-clause-edits g c =
+pub returns-clause-vault : goal.returns-clause-vault
+returns-clause-vault g c =
     let ids = claims_of c.parts-seat.result.1 in
-    c.close-2.ensures.edits ∙ ap (λ (s : SeatValue). s.edits) (c.close.ensures.returned ∙ ap (λ (s : SeatValue). after_returning_all s ids) c.parts-seat.ensures.seat) ∙ (returned_vault c.args.self ids).0
-
-pub returns-clause-tables : goal.returns-clause-tables
-returns-clause-tables g c =
-    let ids = claims_of c.parts-seat.result.1 in
-    c.close-2.ensures.tables ∙ ap (λ (s : SeatValue). s.kept) (c.close.ensures.returned ∙ ap (λ (s : SeatValue). after_returning_all s ids) c.parts-seat.ensures.seat) ∙ (returned_vault c.args.self ids).1
+    c.close-2.ensures.vault ∙ ap (λ (s : SeatValue). s.stored) (c.close.ensures.returned ∙ ap (λ (s : SeatValue). after_returning_all s ids) c.parts-seat.ensures.seat) ∙ (returned_vault c.args.self ids).0
 
 pub returns-clause-failures : goal.returns-clause-failures
 returns-clause-failures g c =
     let ids = claims_of c.parts-seat.result.1 in
-    c.close-2.ensures.failures ∙ ap (λ (s : SeatValue). s.failures) (c.close.ensures.returned ∙ ap (λ (s : SeatValue). after_returning_all s ids) c.parts-seat.ensures.seat) ∙ (returned_vault c.args.self ids).2
+    c.close-2.ensures.failures ∙ ap (λ (s : SeatValue). s.failures) (c.close.ensures.returned ∙ ap (λ (s : SeatValue). after_returning_all s ids) c.parts-seat.ensures.seat) ∙ (returned_vault c.args.self ids).1

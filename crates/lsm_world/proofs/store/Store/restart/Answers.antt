@@ -8,12 +8,12 @@ use Rattle.lsm_world.proofs.store.Store.restart.Goals as goal
 
 pub restarted-reply-requires : goal.restarted-reply-requires
 restarted-reply-requires g c =
-    caught_up (seat_of g.V.Vault.edits g.V.Vault.tables g.V.Vault.failures c.parts-seat.result.0) c.restart-seat.result.1 (seat_of g.V.Vault.edits g.V.Vault.tables g.V.Vault.failures c.restart-seat.result.0) c.restart-seat.ensures.restarts
+    caught_up (seat_of g.V.Vault.stored g.V.Vault.failures c.parts-seat.result.0) c.restart-seat.result.1 (seat_of g.V.Vault.stored g.V.Vault.failures c.restart-seat.result.0) c.restart-seat.ensures.restarts
 
 pub seated-store-requires : goal.seated-store-requires
 seated-store-requires g c =
     let is = c.parts-seat.ensures in record {
-      idle = restart_idle (seat_of g.V.Vault.edits g.V.Vault.tables g.V.Vault.failures c.parts-seat.result.0) c.restart-seat.result.1 (seat_of g.V.Vault.edits g.V.Vault.tables g.V.Vault.failures c.restart-seat.result.0) c.restart-seat.ensures.restarts;
+      idle = restart_idle (seat_of g.V.Vault.stored g.V.Vault.failures c.parts-seat.result.0) c.restart-seat.result.1 (seat_of g.V.Vault.stored g.V.Vault.failures c.restart-seat.result.0) c.restart-seat.ensures.restarts;
       history = restart_known (store_of c.args.self) _ _ _ _ _ is.seat is.desk is.network c.restart-seat.ensures.restarts is.history;
     }
 
@@ -30,7 +30,7 @@ returns-clause-follows g c =
 
 pub returns-clause-plain : goal.returns-clause-plain
 returns-clause-plain g c =
-    restart_is_plain (store_of c.args.self) _ c.restart-seat.result.1 (seat_of g.V.Vault.edits g.V.Vault.tables g.V.Vault.failures c.restart-seat.result.0) c.restarted-reply.result c.parts-seat.ensures.seat c.restarted-reply.ensures c.restart-seat.ensures.step c.requires
+    restart_is_plain (store_of c.args.self) _ c.restart-seat.result.1 (seat_of g.V.Vault.stored g.V.Vault.failures c.restart-seat.result.0) c.restarted-reply.result c.parts-seat.ensures.seat c.restarted-reply.ensures c.restart-seat.ensures.step c.requires
 
 pub returns-clause-counted : goal.returns-clause-counted
 returns-clause-counted g c =

@@ -1,12 +1,12 @@
 -- The coordinator of a new store is opened over a vault that has nothing.
-use Rattle.std.proofs.Common.{List, [], ap, refl, subst, ℕ}
+use Rattle.std.proofs.Common.{ap, refl, subst}
 use Rattle.lsm_key.specs.declared.limits.Limits.{Limits}
-use Rattle.lsm_versions.specs.Kept.{Kept}
+use Rattle.lsm_vault.specs.Stored.{VaultValue}
 use Rattle.lsm_versions.specs.Opening.{MayHaveDropped, OpenRefuses}
 use Rattle.lsm_coord.specs.Contract.Value.{CoordValue}
 use Rattle.lsm_world.specs.Schedules.{AreNew}
 use Rattle.lsm_world.proofs.FirstHistory.{first_shown}
-use Rattle.lsm_world.proofs.NewVaults.{new_refused, none_dropped, opened_kept}
+use Rattle.lsm_world.proofs.NewVaults.{new_refused, none_dropped, opened_book, opened_kept}
 use Rattle.lsm_world.proofs.RunningSchedules.{reached_first}
 use Rattle.lsm_world.proofs.world.World.new.Goals as goal
 
@@ -14,7 +14,13 @@ pub invariant_of-result : goal.invariant_of-result
 invariant_of-result g c = (refl, rw c.new-in-Ok.ensures.items (reached_first c.in-Ok.coord.limits c.new.result c.new.ensures.new c.new.ensures.fit))
 
 pub new-requires-clause-kept : goal.new-requires-clause-kept
-new-requires-clause-kept g c = opened_kept (g.V.Vault.edits c.args.vault) (g.V.Vault.tables c.args.vault) c.args.limits c.in-Ok.coord c.in-Ok.ensures.ok c.requires.tables
+new-requires-clause-kept g c = opened_kept (g.V.Vault.stored c.args.vault) c.args.limits c.in-Ok.coord c.in-Ok.ensures.ok c.requires
+
+pub new-requires-clause-shown : goal.new-requires-clause-shown
+new-requires-clause-shown g c = c.in-Ok.ensures.new (ap (λ (v : VaultValue). v.edits) c.requires)
+
+pub new-requires-clause-book : goal.new-requires-clause-book
+new-requires-clause-book g c = opened_book (g.V.Vault.stored c.args.vault) c.args.limits c.in-Ok.coord c.in-Ok.ensures.ok c.requires
 
 pub returns-in-Ok-clause-new : goal.returns-in-Ok-clause-new
 returns-in-Ok-clause-new g c = (
@@ -26,11 +32,9 @@ returns-in-Ok-clause-new g c = (
 )
 
 pub returns-in-Err-clause-refused : goal.returns-in-Err-clause-refused
-returns-in-Err-clause-refused g c = new_refused (g.V.Vault.tables c.args.vault) c.in-Err.why (subst (λ (texts : List (List ℕ)). OpenRefuses texts (g.V.Vault.tables c.args.vault) c.in-Err.why) c.requires.edits c.in-Err.ensures.refused)
+returns-in-Err-clause-refused g c = new_refused c.in-Err.why (subst (λ (v : VaultValue). OpenRefuses v c.in-Err.why) c.requires c.in-Err.ensures.refused)
 
-pub returns-in-Err-clause-tables : goal.returns-in-Err-clause-tables
-returns-in-Err-clause-tables g c =
-    let left = g.V.Vault.tables c.in-Err.vault in
-    none_dropped c.in-Err.why left
-    (subst (λ (kept : Kept). MayHaveDropped c.in-Err.why [] kept left) c.requires.tables
-    (subst (λ (texts : List (List ℕ)). MayHaveDropped c.in-Err.why texts (g.V.Vault.tables c.args.vault) left) c.requires.edits c.in-Err.ensures.tables))
+pub returns-in-Err-clause-left : goal.returns-in-Err-clause-left
+returns-in-Err-clause-left g c =
+    let left = g.V.Vault.stored c.in-Err.vault in
+    none_dropped c.in-Err.why left (subst (λ (v : VaultValue). MayHaveDropped c.in-Err.why v left) c.requires c.in-Err.ensures.left)
