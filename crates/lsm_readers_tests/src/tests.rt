@@ -90,26 +90,58 @@ fn publish_to_seven<J: LogName, R: Wait + Drop>(
     Err("not at 7")?
 }
 
+fn word_of(found: Option<&[u8]>) -> &'static str {
+    match found {
+        None => "none",
+        Some(value) if value == b"1".as_slice() => "1",
+        Some(_) => "another",
+    }
+}
+
+// Publishes version 2 and those after it, up to 7.
+fn publish_flushed<J: LogName, R: Wait + Drop>(
+    alloc: Global,
+    writer: &mut Publisher<J, R>,
+) -> Result<(), Fail>
+    requires { writer.old.taken ≡ [] }
+{
+    publish_to_seven(alloc, writer, flushed(alloc)?)
+}
+
+// At which version a reader answers, and what it answers of a key.
+fn seen<J: LogName>(
+    reader: &mut FollowerReader<J>,
+    key: &[u8],
+) -> Result<(u64, &'static str), Fail> {
+    let (number, found) = reader.get(key)?;
+    Ok((number.number(), word_of(found.as_deref())))
+}
+
+// What has to be dropped dearly is lent, so that no refusal drops it.
 fn told<J: LogName, R: Wait + Drop>(alloc: Global, rt: R, log: NewLog) -> Result<(), Fail>
     requires { log ≡ J.log }
 {
     let (mut writer, mut all) = readers::<J, R>(alloc, rt, log, 2)?;
-    let (Some(mut first), Some(mut second)) = (all.pop(), all.pop()) else {
+    tell_one(alloc, &mut writer, &mut all)
+}
+
+fn tell_one<J: LogName, R: Wait + Drop>(
+    alloc: Global,
+    writer: &mut Publisher<J, R>,
+    all: &mut [FollowerReader<J>],
+) -> Result<(), Fail>
+    requires { writer.old.taken ≡ [] }
+{
+    let [first, second] = all else {
         return Err("no reader")?;
     };
-    let (before, nothing) = first.get(b"a")?;
-    publish_to_seven(alloc, &mut writer, flushed(alloc)?)?;
+    let before = seen(first, b"a")?;
+    publish_flushed(alloc, writer)?;
     second.learn(writer.tell());
-    let (number, found) = second.get(b"a")?;
-    let (same, none) = first.get(b"b")?;
-    if before.number() != 0 || number.number() != 7 || same.number() != 7 {
-        return Err("another version")?;
-    }
-    if nothing.is_some()
-        || none.is_some()
-        || !found.is_some_and(|v| v.as_slice() == b"1".as_slice())
-    {
-        return Err("another value")?;
+    let now = seen(second, b"a")?;
+    let absent = seen(first, b"b")?;
+    if before != (0, "none") || now != (7, "1") || absent != (7, "none") {
+        return Err("another version or another value")?;
     }
     Ok(())
 }
@@ -139,14 +171,24 @@ fn published_beside<J: LogName + Send + Sync, R: Threads + Wait + Sync>(
     requires { log ≡ J.log }
 {
     let (mut writer, mut all) = readers::<J, &R>(alloc, rt, log, 1)?;
-    let Some(mut reader) = all.pop() else {
-        return Err("no reader")?;
-    };
-    let served = flushed(alloc)?;
+    match all.first_mut() {
+        Some(reader) => publish_beside(alloc, rt, &mut writer, reader),
+        None => Err("no reader")?,
+    }
+}
+
+fn publish_beside<'a, J: LogName + Send + Sync, R: Threads + Wait + Sync>(
+    alloc: Global,
+    rt: &'a R,
+    writer: &mut Publisher<J, &'a R>,
+    reader: &mut FollowerReader<J>,
+) -> Result<(), Fail>
+    requires { writer.old.taken ≡ [] }
+{
     let (written, read) = join(
         rt,
-        || publish_to_seven(alloc, &mut writer, served),
-        || reads_to_seven(&mut reader),
+        || publish_flushed(alloc, writer),
+        || reads_to_seven(reader),
     );
     written?;
     if !read {
@@ -155,27 +197,46 @@ fn published_beside<J: LogName + Send + Sync, R: Threads + Wait + Sync>(
     Ok(())
 }
 
-// What a first try did not show for want of memory a second one shows. Then there is nothing to do.
-#[tactic(auto, using(lsm_readers::proofs::Adding::in_step_again))]
 fn caught_up<J: LogName, R: Wait + Drop>(alloc: Global, rt: R, log: NewLog) -> Result<(), Fail>
     requires { log ≡ J.log }
 {
     let (mut writer, mut all) = readers::<J, R>(alloc, rt, log, 1)?;
-    let Some(mut reader) = all.pop() else {
+    catch_up(alloc, &mut writer, &mut all)
+}
+
+fn catch_up<J: LogName, R: Wait + Drop>(
+    alloc: Global,
+    writer: &mut Publisher<J, R>,
+    all: &mut [FollowerReader<J>],
+) -> Result<(), Fail>
+    requires { writer.old.taken ≡ [] }
+{
+    let [reader] = all else {
         return Err("no reader")?;
     };
     let served = flushed(alloc)?;
+    catch_up_to(writer, &served)?;
+    if seen(reader, b"a")? != (2, "1") {
+        return Err("another version or another value")?;
+    }
+    Ok(())
+}
+
+// What a first try did not show for want of memory a second one shows. Then there is nothing to do.
+#[tactic(auto, using(lsm_readers::proofs::Adding::in_step_again))]
+fn catch_up_to<J: LogName, R: Wait + Drop>(
+    writer: &mut Publisher<J, R>,
+    served: &Served,
+) -> Result<(), Fail>
+    requires { writer.old.taken ≡ [] }
+{
     if served.version().number() == 0 {
         return Err("no version")?;
     }
-    if writer.catch_up(&served).is_err() {
-        writer.catch_up(&served)?;
+    if writer.catch_up(served).is_err() {
+        writer.catch_up(served)?;
     }
-    writer.catch_up(&served)?;
-    let (number, found) = reader.get(b"a")?;
-    if number.number() != 2 || !found.is_some_and(|v| v.as_slice() == b"1".as_slice()) {
-        return Err("another version")?;
-    }
+    writer.catch_up(served)?;
     Ok(())
 }
 
