@@ -70,6 +70,7 @@ class Program:
     def __init__(self, path, library, folder):
         self.path, self.library = path, library
         self.script, self.told = (os.path.join(folder, it) for it in ("script", "allocations"))
+        self.readings = {}
 
     def run(self, options, script, fails=(), last=b"#"):
         """Runs a script with allocations of these numbers failing. It comes from a file, since the pieces in which a pipe gives a large one, and so the
@@ -85,7 +86,10 @@ class Program:
     def reading(self, options, script):
         """How many allocations the program asks for before its first event, and a few that are the same for each script: it asks for no others if the
         last line is faulty."""
-        return self.run(options, script, last=b"x").asked
+        read = (*options, *script)
+        if read not in self.readings:
+            self.readings[read] = self.run(options, script, last=b"x").asked
+        return self.readings[read]
 
     def happen(self, options, script, fails=()):
         """Runs a script with allocations of these numbers failing, as counted after its reading."""
