@@ -75,7 +75,8 @@ fn fault_of(alloc: Global, bytes: &[u8]) -> Result<Option<FormatFault>, Fail> {
 fn record_of(alloc: Global, bytes: &[u8]) -> Result<LogRecord, Fail> {
     match decode_log(alloc, Bytes::copy_from_slice(alloc, bytes)?) {
         Ok(logged) => Ok(logged),
-        Err(_) => Err("no record")?,
+        Err(Refused::Fault(_)) => Err("no record")?,
+        Err(Refused::OutOfMemory) => Err("out of memory")?,
     }
 }
 
