@@ -12,6 +12,7 @@ use lsm_block::{BlockFault, decode_block, encode_block};
 use lsm_key::{DEFAULT_BLOCK, Entry, InternalKey, Kind, MAX_KEY_BYTES, Refused, Seq};
 use lsm_table::{BuildError, Table, TableBuilder, encode_table};
 use std::alloc::Global;
+use std::process::Abort;
 use std::test::Fail;
 
 // Of the key a: at sequence 1 a put of 1.
@@ -93,13 +94,18 @@ fn seen(table: &Table, key: &[u8], at: Seq) -> Option<(Kind, usize)> {
     }
 }
 
+// A table is lent to what sees it, so that no refusal and no assertion drops it, which would be long to prove.
+fn see_one(rt: &impl Abort, table: &Table) {
+    let (smallest, largest) = (table.smallest().as_slice(), table.largest().as_slice());
+    assert!(rt; table.bytes().as_slice() == ONE.as_slice());
+    assert!(rt; (table.count(), smallest, largest) == (1, b"a".as_slice(), b"a".as_slice()));
+}
+
 #[test]
 fn one_entry_is_read(rt: HostRuntime) -> Result<(), Fail> {
     let bytes = Bytes::copy_from_slice(rt.alloc(), &ONE)?;
     let table = Table::open(rt.alloc(), bytes)?;
-    let (smallest, largest) = (table.smallest().as_slice(), table.largest().as_slice());
-    assert!(rt; table.bytes().as_slice() == ONE.as_slice());
-    assert!(rt; (table.count(), smallest, largest) == (1, b"a".as_slice(), b"a".as_slice()));
+    see_one(&rt, &table);
     Ok(())
 }
 
@@ -120,31 +126,52 @@ fn table_of_two(alloc: Global, target: u32) -> Result<Table, BuildError>
     builder.finish_open()
 }
 
-#[test]
-fn each_entry_is_written_into_its_block(rt: HostRuntime) -> Result<(), Fail> {
-    let table = table_of_two(rt.alloc(), 1)?;
+fn see_blocks(rt: &impl Abort, table: &Table) {
     assert!(rt; table.bytes().as_slice() == TWO_BLOCKS.as_slice());
     assert_eq!(rt; table.block(), 1);
     assert!(rt; table.span() == &TWO_BLOCKS[47..]);
+}
+
+#[test]
+fn each_entry_is_written_into_its_block(rt: HostRuntime) -> Result<(), Fail> {
+    let table = table_of_two(rt.alloc(), 1)?;
+    see_blocks(&rt, &table);
+    Ok(())
+}
+
+// What the entries of a table are encoded as.
+fn encoded(alloc: Global, table: &Table) -> Result<Bytes, Fail> {
+    let entries = table.entries(alloc)?;
+    Ok(encode_table(alloc, table.block(), &entries)?)
+}
+
+// The same as one block.
+fn encoded_block(alloc: Global, table: &Table) -> Result<Bytes, Fail> {
+    let entries = table.entries(alloc)?;
+    Ok(encode_block(alloc, &entries)?)
+}
+
+fn see_encoded(rt: &impl Abort, alloc: Global, table: &Table) -> Result<(), Fail> {
+    assert!(rt; encoded(alloc, table)?.as_slice() == TWO.as_slice());
+    assert!(rt; encoded_block(alloc, table)?.as_slice() == &TWO[32..]);
     Ok(())
 }
 
 #[test]
 fn entries_are_encoded_as_they_were(rt: HostRuntime) -> Result<(), Fail> {
     let table = table_of_two(rt.alloc(), DEFAULT_BLOCK)?;
-    let entries = table.entries(rt.alloc())?;
-    let bytes = encode_table(rt.alloc(), table.block(), &entries)?;
-    assert!(rt; bytes.as_slice() == TWO.as_slice());
-    let block = encode_block(rt.alloc(), &entries)?;
-    assert!(rt; block.as_slice() == &TWO[32..]);
-    Ok(())
+    see_encoded(&rt, rt.alloc(), &table)
+}
+
+// A copy of the table of two, which is gone.
+fn copy_of_two(alloc: Global) -> Result<Table, Fail> {
+    let table = table_of_two(alloc, DEFAULT_BLOCK)?;
+    Ok(table.copy()?)
 }
 
 #[test]
 fn a_copy_outlives_its_table(rt: HostRuntime) -> Result<(), Fail> {
-    let table = table_of_two(rt.alloc(), DEFAULT_BLOCK)?;
-    let copy = table.copy()?;
-    drop(table);
+    let copy = copy_of_two(rt.alloc())?;
     assert!(rt; copy.bytes().as_slice() == TWO.as_slice());
     assert!(rt; seen(&copy, b"a", Seq::new(1)) == Some((Kind::Put, 1)));
     Ok(())
@@ -179,6 +206,17 @@ fn changed(
     Ok(bytes)
 }
 
+// The fault of the entries' block with these changes.
+fn fault_with(
+    alloc: Global,
+    len: usize,
+    first: (usize, u8),
+    second: (usize, u8),
+) -> Result<Option<BlockFault>, Fail> {
+    let bytes = changed(alloc, len, first, second)?;
+    block_fault(alloc, bytes.get(32..).ok_or("a block")?)
+}
+
 #[test]
 fn each_fault_of_a_block(rt: HostRuntime) -> Result<(), Fail> {
     let same = (32, 0);
@@ -199,8 +237,7 @@ fn each_fault_of_a_block(rt: HostRuntime) -> Result<(), Fail> {
         (63, (42, 2), (46, 1), BlockFault::BadKind),
         (63, (41, 1), (60, 1), BlockFault::Truncated),
     ] {
-        let bytes = changed(rt.alloc(), len, first, second)?;
-        let found = block_fault(rt.alloc(), bytes.get(32..).ok_or("a block")?)?;
+        let found = fault_with(rt.alloc(), len, first, second)?;
         assert!(rt; found == Some(fault), "at {len} {first:?} {second:?}");
     }
     Ok(())

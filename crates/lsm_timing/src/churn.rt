@@ -19,27 +19,35 @@ const DELETION_EVERY: u64 = 8;
 
 /// Times operations on a quarter as many random keys, one in eight a deletion, and then a scan of what is left.
 pub(crate) fn time_churn(bench: Bench, operations: u64) -> Result<(), TimingError> {
-    let coord = time_operations(bench, operations)?;
-    time_whole(bench, &coord, "churn_scan")
-}
-
-fn time_operations(bench: Bench, operations: u64) -> Result<MemoryCoord, TimingError> {
-    let figure = Figure::begin(bench, "churn")?;
-    let mut coord = churned(bench, operations)?;
-    let checksum = shape_of(bench, &mut coord)?;
-    figure.end(bench, operations, checksum)?;
-    Ok(coord)
-}
-
-// A store after the operations, with no level due.
-fn churned(bench: Bench, operations: u64) -> Result<MemoryCoord, TimingError> {
     let mut coord = new_store(bench)?;
+    time_in(bench, &mut coord, operations)
+}
+
+fn time_in(bench: Bench, coord: &mut MemoryCoord, operations: u64) -> Result<(), TimingError> {
+    time_operations(bench, coord, operations)?;
+    time_whole(bench, coord, "churn_scan")
+}
+
+fn time_operations(
+    bench: Bench,
+    coord: &mut MemoryCoord,
+    operations: u64,
+) -> Result<(), TimingError> {
+    let figure = Figure::begin(bench, "churn")?;
+    churn(bench, coord, operations)?;
+    let checksum = shape_of(bench, coord)?;
+    figure.end(bench, operations, checksum)?;
+    Ok(())
+}
+
+// The operations, until no level is due.
+fn churn(bench: Bench, coord: &mut MemoryCoord, operations: u64) -> Result<(), TimingError> {
     for number in 0..batch_count(operations, BATCH) {
         let batch = batch_of_churn(bench, number, operations)?;
-        write(bench, &mut coord, &batch)?;
+        write(bench, coord, &batch)?;
     }
-    settle(bench, &mut coord)?;
-    Ok(coord)
+    settle(bench, coord)?;
+    Ok(())
 }
 
 // One of the batches, by its number from 0.

@@ -23,23 +23,37 @@ pub(crate) fn time_durable(bench: Bench, entries: u64, reads: u64) -> Result<(),
     }
     // The folder's lock is let go at its end, so that it can be opened again.
     time_filling(bench, entries)?;
-    let mut coord = time_opening(bench, entries)?;
-    time_gets(bench, &mut coord, entries, reads)
+    time_opening(bench, entries, reads)
 }
 
 fn time_filling(bench: Bench, entries: u64) -> Result<(), TimingError> {
     let mut coord = store_in_folder(bench)?;
+    time_fill_in(bench, &mut coord, entries)
+}
+
+fn time_fill_in(bench: Bench, coord: &mut FolderCoord, entries: u64) -> Result<(), TimingError> {
     let figure = Figure::begin(bench, "durable_fill")?;
-    fill(bench, &mut coord, entries, BATCH)?;
-    figure.end(bench, entries, with_files(0, &coord))?;
+    fill(bench, coord, entries, BATCH)?;
+    figure.end(bench, entries, with_files(0, coord))?;
     Ok(())
 }
 
-fn time_opening(bench: Bench, entries: u64) -> Result<FolderCoord, TimingError> {
+fn time_opening(bench: Bench, entries: u64, reads: u64) -> Result<(), TimingError> {
     let figure = Figure::begin(bench, "durable_open")?;
-    let coord = store_in_folder(bench)?;
-    figure.end(bench, entries, with_files(0, &coord))?;
-    Ok(coord)
+    let mut coord = store_in_folder(bench)?;
+    time_in(bench, figure, &mut coord, entries, reads)
+}
+
+// Ends the figure of the opening, and times the gets.
+fn time_in(
+    bench: Bench,
+    opening: Figure,
+    coord: &mut FolderCoord,
+    entries: u64,
+    reads: u64,
+) -> Result<(), TimingError> {
+    opening.end(bench, entries, with_files(0, coord))?;
+    time_gets(bench, coord, entries, reads)
 }
 
 fn time_gets(

@@ -121,8 +121,19 @@ fn made(bench: Bench, entries: u64, batch: u64) -> Result<u64, TimingError> {
 /// levels.
 pub(crate) fn time_fill(bench: Bench, entries: u64, batch: u64) -> Result<(), TimingError> {
     time_making(bench, entries, batch)?;
-    let mut coord = time_filling(bench, entries, batch)?;
-    tell_sizes(bench, entries, &mut coord)
+    let mut coord = new_store(bench)?;
+    time_fill_in(bench, &mut coord, entries, batch)
+}
+
+// What has to be dropped dearly is lent, so that no refusal drops it.
+fn time_fill_in(
+    bench: Bench,
+    coord: &mut MemoryCoord,
+    entries: u64,
+    batch: u64,
+) -> Result<(), TimingError> {
+    time_filling(bench, coord, entries, batch)?;
+    tell_sizes(bench, entries, coord)
 }
 
 fn time_making(bench: Bench, entries: u64, batch: u64) -> Result<(), TimingError> {
@@ -132,12 +143,17 @@ fn time_making(bench: Bench, entries: u64, batch: u64) -> Result<(), TimingError
     Ok(())
 }
 
-fn time_filling(bench: Bench, entries: u64, batch: u64) -> Result<MemoryCoord, TimingError> {
+fn time_filling(
+    bench: Bench,
+    coord: &mut MemoryCoord,
+    entries: u64,
+    batch: u64,
+) -> Result<(), TimingError> {
     let figure = Figure::begin(bench, "fill")?;
-    let mut coord = filled(bench, entries, batch)?;
-    let checksum = shape_of(bench, &mut coord)?;
+    fill(bench, coord, entries, batch)?;
+    let checksum = shape_of(bench, coord)?;
     figure.end(bench, entries, checksum)?;
-    Ok(coord)
+    Ok(())
 }
 
 fn tell_sizes(bench: Bench, entries: u64, coord: &mut MemoryCoord) -> Result<(), TimingError> {

@@ -84,7 +84,7 @@ const MEMTABLE: Option<Number> = Some(Number {
 });
 
 /// All commands.
-pub(crate) const FORMS: [Form; 17] = [
+pub(crate) static FORMS: [Form; 17] = [
     Form {
         name: "fill",
         task: Task::Fill,

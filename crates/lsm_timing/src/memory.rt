@@ -4,9 +4,9 @@ use crate::batches::BATCH;
 use crate::bench::Bench;
 use crate::error::{NO_ACCOUNT, TimingError};
 use crate::figure::tell;
-use crate::fill::{bytes_written, filled, new_store, shape_of};
+use crate::fill::{MemoryCoord, bytes_written, filled, new_store, shape_of};
 use crate::tables::{
-    counts_of, memtable_entries, sorted_indices, table_entries, table_of, unflushed,
+    counts_of, flush, memtable_entries, sorted_indices, table_entries, table_of, unflushed,
 };
 use lsm_table::Table;
 use std::fs;
@@ -23,8 +23,18 @@ const UNIT: u64 = 1_024;
 pub(crate) fn tell_filled(bench: Bench, entries: u64) -> Result<(), TimingError> {
     let before = resident(bench)?;
     let mut coord = filled(bench, entries, BATCH)?;
+    tell_filled_since(bench, &mut coord, entries, before)
+}
+
+// What has to be dropped dearly is lent, so that no refusal drops it.
+fn tell_filled_since(
+    bench: Bench,
+    coord: &mut MemoryCoord,
+    entries: u64,
+    before: u64,
+) -> Result<(), TimingError> {
     let growth = growth_since(bench, before)?;
-    let checksum = shape_of(bench, &mut coord)?;
+    let checksum = shape_of(bench, coord)?;
     tell(bench, "memory_fill", entries, checksum, growth)?;
     Ok(())
 }
@@ -34,9 +44,18 @@ pub(crate) fn tell_memtable(bench: Bench, entries: u64) -> Result<(), TimingErro
     let entries = entries.min(memtable_entries(bench));
     let before = resident(bench)?;
     let mut coord = unflushed(bench, entries)?;
+    tell_memtable_since(bench, &mut coord, entries, before)
+}
+
+fn tell_memtable_since(
+    bench: Bench,
+    coord: &mut MemoryCoord,
+    entries: u64,
+    before: u64,
+) -> Result<(), TimingError> {
     let growth = growth_since(bench, before)?;
-    coord.flush()?;
-    let checksum = bytes_written(bench, &mut coord)?;
+    flush(coord)?;
+    let checksum = bytes_written(bench, coord)?;
     tell(bench, "memory_memtable", entries, checksum, growth)?;
     Ok(())
 }
@@ -53,9 +72,17 @@ pub(crate) fn tell_tables(bench: Bench, entries: u64) -> Result<(), TimingError>
 fn tell_tables_of(bench: Bench, indices: &[u64]) -> Result<(), TimingError> {
     let before = resident(bench)?;
     let tables = tables_alone(bench, indices)?;
+    tell_tables_since(bench, &tables, indices.len() as u64, before)
+}
+
+fn tell_tables_since(
+    bench: Bench,
+    tables: &[Table],
+    count: u64,
+    before: u64,
+) -> Result<(), TimingError> {
     let growth = growth_since(bench, before)?;
-    let count = indices.len() as u64;
-    tell(bench, "memory_tables", count, counts_of(&tables), growth)?;
+    tell(bench, "memory_tables", count, counts_of(tables), growth)?;
     Ok(())
 }
 
@@ -63,10 +90,14 @@ fn tell_tables_of(bench: Bench, indices: &[u64]) -> Result<(), TimingError> {
 fn tables_alone(bench: Bench, indices: &[u64]) -> Result<Vec<Table>, TimingError> {
     let mut tables = Vec::new(bench.alloc());
     for chunk in indices.chunks(table_entries(bench)) {
-        let mut coord = new_store(bench)?;
-        tables.push(table_of(bench, &mut coord, chunk)?)?;
+        tables.push(table_alone(bench, chunk)?)?;
     }
     Ok(tables)
+}
+
+fn table_alone(bench: Bench, indices: &[u64]) -> Result<Table, TimingError> {
+    let mut coord = new_store(bench)?;
+    table_of(bench, &mut coord, indices)
 }
 
 fn growth_since(bench: Bench, before: u64) -> Result<u128, TimingError> {

@@ -40,9 +40,17 @@ fn tables_in(bench: Bench, megabytes: u64) -> Result<(Vec<Table>, usize), Timing
     let keys = entries_in(bench, megabytes).wrapping_mul(8) / 9;
     let indices = sorted_indices(bench.alloc(), keys)?;
     let mut coord = new_store(bench)?;
-    let mut tables = tables_at(bench, &mut coord, &indices, 0)?;
+    tables_of_both(bench, &mut coord, &indices)
+}
+
+fn tables_of_both(
+    bench: Bench,
+    coord: &mut MemoryCoord,
+    indices: &[u64],
+) -> Result<(Vec<Table>, usize), TimingError> {
+    let mut tables = tables_at(bench, coord, indices, 0)?;
     let lower = tables.len();
-    let mut upper = tables_at(bench, &mut coord, &indices, 1)?;
+    let mut upper = tables_at(bench, coord, indices, 1)?;
     tables.append(&mut upper)?;
     Ok((tables, lower))
 }

@@ -66,8 +66,8 @@ pub(crate) fn print_help(rt: &HostRuntime) -> io::Result<()> {
     )?;
     rt.println(OPTIONS)?;
     rt.println("Commands:")?;
-    for form in FORMS {
-        rt.println(form)?;
+    for form in &FORMS {
+        rt.println(*form)?;
     }
     Ok(())
 }
@@ -150,9 +150,9 @@ fn form_of(word: &str) -> Result<Form, Refusal<'_>> {
     if word == "--help" || word == "-h" {
         return Err(Refusal::Help);
     }
-    for form in FORMS {
+    for form in &FORMS {
         if word == form.name {
-            return Ok(form);
+            return Ok(*form);
         }
     }
     Err(Refusal::Unexpected(word))

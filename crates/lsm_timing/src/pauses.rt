@@ -11,9 +11,18 @@ use std::time::Duration;
 /// Tells how long the longest write of a fill takes, with the flush and the merges in it.
 pub(crate) fn time_pauses(bench: Bench, entries: u64, batch: u64) -> Result<(), TimingError> {
     let mut coord = new_store(bench)?;
-    let longest = longest_write(bench, &mut coord, entries, batch)?;
-    settle(bench, &mut coord)?;
-    let checksum = shape_of(bench, &mut coord)?;
+    time_in(bench, &mut coord, entries, batch)
+}
+
+fn time_in(
+    bench: Bench,
+    coord: &mut MemoryCoord,
+    entries: u64,
+    batch: u64,
+) -> Result<(), TimingError> {
+    let longest = longest_write(bench, coord, entries, batch)?;
+    settle(bench, coord)?;
+    let checksum = shape_of(bench, coord)?;
     tell(bench, "longest_write", 1, checksum, longest.as_nanos())?;
     Ok(())
 }

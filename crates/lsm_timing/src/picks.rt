@@ -4,7 +4,7 @@ use crate::batches::batch_of;
 use crate::bench::Bench;
 use crate::error::{NO_PICK, TimingError};
 use crate::figure::{Figure, with_number};
-use crate::fill::{MemoryCoord, opened, settle};
+use crate::fill::{MemoryCoord, opened, settle, write};
 use lsm_claim::ClaimBook;
 use lsm_edit::Served;
 use lsm_key::{DEFAULT_BLOCK, Limits, MAX_BASE};
@@ -32,8 +32,12 @@ const TIGHT: Limits = Limits {
 /// Times picks from a version with `files` files in level 1, which needs compaction, with no job running.
 pub(crate) fn time_picks(bench: Bench, files: u64) -> Result<(), TimingError> {
     let coord = version_of(bench, files)?;
+    time_in(bench, coord.served())
+}
+
+fn time_in(bench: Bench, served: &Served) -> Result<(), TimingError> {
     let figure = Figure::begin(bench, "pick")?;
-    let checksum = picked(bench.alloc(), coord.served())?;
+    let checksum = picked(bench.alloc(), served)?;
     figure.end(bench, PICKS, checksum)?;
     Ok(())
 }
@@ -57,9 +61,14 @@ fn picked(alloc: Global, served: &Served) -> Result<u64, TimingError> {
 fn version_of(bench: Bench, files: u64) -> Result<MemoryCoord, TimingError> {
     let mut coord = opened(bench, MemoryVault::new(bench.alloc()), LOOSE)?;
     for index in 0..files {
-        let batch = batch_of(bench, &[index])?;
-        coord.write(&batch)?;
-        settle(bench, &mut coord)?;
+        add_file(bench, &mut coord, index)?;
     }
     Ok(coord)
+}
+
+fn add_file(bench: Bench, coord: &mut MemoryCoord, index: u64) -> Result<(), TimingError> {
+    let batch = batch_of(bench, &[index])?;
+    write(bench, coord, &batch)?;
+    settle(bench, coord)?;
+    Ok(())
 }

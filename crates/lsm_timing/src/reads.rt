@@ -23,10 +23,19 @@ const END: [u8; 17] = [255; 17];
 /// Times gets of random keys that are there, and of keys that are not.
 pub(crate) fn time_gets(bench: Bench, entries: u64, reads: u64) -> Result<(), TimingError> {
     let mut coord = filled(bench, entries, BATCH)?;
+    time_present(bench, &mut coord, entries, reads)
+}
+
+fn time_present(
+    bench: Bench,
+    coord: &mut MemoryCoord,
+    entries: u64,
+    reads: u64,
+) -> Result<(), TimingError> {
     let figure = Figure::begin(bench, "get")?;
-    let checksum = get_present(bench, &mut coord, entries, reads)?;
+    let checksum = get_present(bench, coord, entries, reads)?;
     figure.end(bench, reads, checksum)?;
-    time_absent(bench, &mut coord, entries, reads)
+    time_absent(bench, coord, entries, reads)
 }
 
 fn time_absent(

@@ -8,6 +8,7 @@ use crate::error::{GONE, NO_TABLE, TimingError};
 use crate::figure::{Figure, with_number};
 use crate::fill::{MemoryCoord, bytes_written, new_store};
 use crate::keys::{or_one, scattered_key};
+use lsm_coord::CoordError;
 use lsm_key::MAX_MEMTABLE_WEIGHT;
 use lsm_table::Table;
 use std::alloc::{AllocError, Global};
@@ -80,10 +81,21 @@ pub(crate) fn tables_of(
 pub(crate) fn time_flush(bench: Bench, entries: u64) -> Result<(), TimingError> {
     let entries = entries.min(memtable_entries(bench));
     let mut coord = unflushed(bench, entries)?;
+    time_flush_of(bench, &mut coord, entries)
+}
+
+// What has to be dropped dearly is lent, so that no refusal drops it.
+fn time_flush_of(bench: Bench, coord: &mut MemoryCoord, entries: u64) -> Result<(), TimingError> {
     let figure = Figure::begin(bench, "flush")?;
-    coord.flush()?;
-    let written = bytes_written(bench, &mut coord)?;
+    flush(coord)?;
+    let written = bytes_written(bench, coord)?;
     figure.end(bench, entries, written)?;
+    Ok(())
+}
+
+/// Flushes the memtable.
+pub(crate) fn flush(coord: &mut MemoryCoord) -> Result<(), CoordError> {
+    coord.flush()?;
     Ok(())
 }
 
@@ -104,8 +116,12 @@ pub(crate) fn unflushed(bench: Bench, entries: u64) -> Result<MemoryCoord, Timin
 pub(crate) fn time_open(bench: Bench, megabytes: u64) -> Result<(), TimingError> {
     let count = entries_in(bench, megabytes);
     let tables = made(bench, count)?;
+    time_opening(bench, count, &tables)
+}
+
+fn time_opening(bench: Bench, count: u64, tables: &[Table]) -> Result<(), TimingError> {
     let figure = Figure::begin(bench, "open")?;
-    let opened = opened(bench.alloc(), &tables)?;
+    let opened = opened(bench.alloc(), tables)?;
     figure.end(bench, count, counts_of(&opened))?;
     Ok(())
 }

@@ -13,7 +13,7 @@ use crate::bench::Bench;
 use crate::error::{NO_CLOSE, NO_STORE, TimingError};
 use crate::fill::DEFAULT;
 use course::Course;
-use dispatchers::{dispatch_both, merged};
+use dispatchers::{add, dispatch_both};
 use follower::follow_and_read;
 use lsm_coord::Coord;
 use lsm_edit::Served;
@@ -39,19 +39,24 @@ pub(crate) fn time_threads<R: Threads + Wait + Sync>(
     readers: u64,
     has_workers: bool,
 ) -> Result<(), TimingError> {
-    let alloc = bench.alloc();
+    let course = Course::begin(bench, seconds, readers, has_workers)?;
+    let ends = over_anew(rt, &course)?;
+    tell_ends(bench, ends)
+}
+
+// What has to be dropped dearly is lent from here on, so that no refusal drops it.
+fn over_anew<R: Threads + Wait + Sync>(rt: &R, course: &Course) -> Result<Ends, TimingError> {
+    let alloc = course.bench.alloc();
     let Ok(coord) = Coord::open(alloc, MemoryVault::new(alloc), DEFAULT) else {
         return Err(NO_STORE);
     };
-    let course = Course::begin(bench, seconds, readers, has_workers)?;
-    let ends = over_hub::<MemoryVault, Brand, Snapshot<Served>, R>(
+    over_hub::<MemoryVault, Brand, Snapshot<Served>, R>(
         rt,
-        &course,
+        course,
         coord,
         Blank::new(PARTS),
         NewLog::new(),
-    )?;
-    tell_ends(bench, ends)
+    )
 }
 
 // The same over a coordinator that was just opened.
@@ -66,66 +71,104 @@ fn over_hub<
     requires idle { coord.book.live ≡ [] }
     requires log { log ≡ J.log }
 {
-    let (publisher, all) = readers_of::<J, R>(rt, course, log)?;
-    let (hub, tally) = Hub::<V, J, N>::new(course.bench.alloc(), coord, blank);
-    let (ends, tally) = run_all(rt, course, &hub, tally, publisher, all)?;
+    let (hub, mut tally) = Hub::<V, J, N>::new(course.bench.alloc(), coord, blank);
+    match run_all(rt, course, &hub, &mut tally, log) {
+        Ok(ends) => closed(hub, tally, ends),
+        Err(why) => Err(why),
+    }
+}
+
+// What the threads did, if all that they recorded is the history.
+fn closed<V: Vault + Drop, J: Start, N: Witness + Drop>(
+    hub: Hub<V, J, N>,
+    tally: Tally<J>,
+    ends: Ends,
+) -> Result<Ends, TimingError>
+    requires { J.parts ≡ PARTS }
+{
     match hub.close(tally) {
         Ok(_history) => Ok(ends),
         Err(_) => Err(NO_CLOSE),
     }
 }
 
-// Lets all threads run, and hands back a tally with the records of all.
+// Lets all threads run. The tally has the records of all then.
 fn run_all<
-    'a,
     V: Vault + Send,
     J: Start + LogName + Send + Sync,
     N: Witness + Drop + Send,
     R: Threads + Wait + Sync,
 >(
-    rt: &'a R,
+    rt: &R,
     course: &Course,
     hub: &Hub<V, J, N>,
-    tally: Tally<J>,
-    publisher: Publisher<J, &'a R>,
-    readers: Vec<FollowerReader<J>>,
-) -> Result<(Ends, Tally<J>), TimingError>
-    requires parts { tally.parts ≡ PARTS }
-    requires new { publisher ≡ record { published = []; taken = [] } }
+    tally: &mut Tally<J>,
+    log: NewLog,
+) -> Result<Ends, TimingError>
+    requires parts { tally.old.parts ≡ PARTS }
+    requires log { log ≡ J.log }
 {
-    let mut tally = tally;
-    let first = tally.split();
-    let second = tally.split();
-    let third = tally.split();
-    let (written, (dispatched, read)) = join(
+    let (publisher, readers) = readers_of::<J, R>(rt, course, log)?;
+    let (written, read) = join(
         rt,
-        move || write_until_due(rt, course, hub, tally, first),
-        move || -> ((Tally<J>, Tally<J>), (u64, Reads))
+        || -> Result<Writing, TimingError>
+            requires { tally.now.parts ≡ PARTS }
+        { change_all(rt, course, hub, tally) },
+        move || -> (u64, Reads)
             requires { publisher ≡ record { published = []; taken = [] } }
-        { run_beside(rt, course, hub, second, third, publisher, readers) },
+        { follow_and_read(rt, course, hub, publisher, readers) },
     );
-    ends_of(course, written, dispatched, read)
+    ends_of(course, tally, written, read)
 }
 
-// What the threads did, and the tally with the records of all.
+// Lets the threads run that change the store. The tally has the records of all then.
+fn change_all<
+    V: Vault + Send,
+    J: Start + Send + Sync,
+    N: Witness + Drop + Send,
+    R: Threads + Wait + Sync,
+>(rt: &R, course: &Course, hub: &Hub<V, J, N>, tally: &mut Tally<J>) -> Result<Writing, TimingError>
+    requires { tally.old.parts ≡ PARTS }
+{
+    let mut first = tally.split();
+    let second = tally.split();
+    let third = tally.split();
+    let (written, others) = join(
+        rt,
+        || write_until_due(rt, course, hub, tally, &mut first),
+        move || dispatch_both(rt, course, hub, second, third),
+    );
+    add_all(tally, first, others)?;
+    written
+}
+
+// Adds the records of the other tallies to the first one.
+fn add_all<J: Start>(
+    tally: &mut Tally<J>,
+    first: Tally<J>,
+    others: (Tally<J>, Tally<J>),
+) -> Result<(), TimingError> {
+    let (second, third) = others;
+    add(tally, first)?;
+    add(tally, second)?;
+    add(tally, third)
+}
+
+// What the threads did, of which the tally has the records.
 fn ends_of<J: Start>(
     course: &Course,
-    written: (Result<Writing, TimingError>, (Tally<J>, Tally<J>)),
-    dispatched: (Tally<J>, Tally<J>),
+    tally: &Tally<J>,
+    written: Result<Writing, TimingError>,
     read: (u64, Reads),
-) -> Result<(Ends, Tally<J>), TimingError> {
-    let (writing, (tally, first)) = written;
-    let (second, third) = dispatched;
+) -> Result<Ends, TimingError> {
     let (followed, reads) = read;
-    let tally = merged(merged(merged(tally, first)?, second)?, third)?;
-    let ends = Ends {
-        writing: writing?,
+    Ok(Ends {
+        writing: written?,
         reads,
-        claims: claims_of(&tally),
+        claims: claims_of(tally),
         followed,
         missed: course.missed.load(Ordering::SeqCst),
-    };
-    Ok((ends, tally))
+    })
 }
 
 fn claims_of<J: Start>(tally: &Tally<J>) -> Claims {
@@ -135,31 +178,4 @@ fn claims_of<J: Start>(tally: &Tally<J>) -> Claims {
         returned: tally.returned(),
         stale: tally.stale(),
     }
-}
-
-// All threads but the writers.
-fn run_beside<
-    'a,
-    V: Vault + Send,
-    J: Start + LogName + Send + Sync,
-    N: Witness + Drop + Send,
-    R: Threads + Wait + Sync,
->(
-    rt: &'a R,
-    course: &Course,
-    hub: &Hub<V, J, N>,
-    first: Tally<J>,
-    second: Tally<J>,
-    publisher: Publisher<J, &'a R>,
-    readers: Vec<FollowerReader<J>>,
-) -> ((Tally<J>, Tally<J>), (u64, Reads))
-    requires new { publisher ≡ record { published = []; taken = [] } }
-{
-    join(
-        rt,
-        move || dispatch_both(rt, course, hub, first, second),
-        move || -> (u64, Reads)
-            requires { publisher ≡ record { published = []; taken = [] } }
-        { follow_and_read(rt, course, hub, publisher, readers) },
-    )
 }

@@ -65,9 +65,8 @@ fn put_file(out: &mut BytesMut, number: u32, key: u32) -> Result<(), AllocError>
     out.put_u32(1)
 }
 
-// Whether a base is decoded of files with scattered keys of four bytes each, and a last one with this key.
-fn is_base_with(alloc: Global, last: u32) -> Result<bool, Fail> {
-    let mut out = BytesMut::new(alloc);
+// Appends the base of files with scattered keys of four bytes each, and a last one with this key.
+fn put_base(out: &mut BytesMut, last: u32) -> Result<(), AllocError> {
     out.put_u64(2)?;
     out.put_u64(1)?;
     out.put_u64(1)?;
@@ -76,9 +75,15 @@ fn is_base_with(alloc: Global, last: u32) -> Result<bool, Fail> {
     let mut key: u32 = 1;
     for number in 0..MANY {
         key = key.wrapping_mul(1_664_525).wrapping_add(1_013_904_223);
-        put_file(&mut out, number + 1, key)?;
+        put_file(out, number + 1, key)?;
     }
-    put_file(&mut out, MANY + 1, last)?;
+    put_file(out, MANY + 1, last)
+}
+
+// Whether such a base is decoded.
+fn is_base_with(alloc: Global, last: u32) -> Result<bool, Fail> {
+    let mut out = BytesMut::new(alloc);
+    put_base(&mut out, last)?;
     match decode_base(alloc, out.freeze()?) {
         Ok(version) => Ok(version.files().len() == MANY as usize + 1),
         Err(Refused::Fault(_)) => Ok(false),

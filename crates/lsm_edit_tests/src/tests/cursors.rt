@@ -8,6 +8,7 @@ use bytes::Bytes;
 use lsm_edit::{FileMeta, LevelCursor, Served, decode_base, is_as_recorded};
 use lsm_table::Table;
 use std::alloc::Global;
+use std::process::Abort;
 use std::test::Fail;
 
 // A version of seven files: its number, flushed sequence, epoch and next file number, and the count of its files.
@@ -123,7 +124,7 @@ fn push_entries(alloc: Global, text: &mut String, cursor: LevelCursor<'_>) -> Re
 }
 
 // What each cursor gives, as `m9 | y8 | e5 g6 |`.
-pub(super) fn shown_from(alloc: Global, served: &Served, lo: &[u8]) -> Result<String, Fail> {
+fn shown_from(alloc: Global, served: &Served, lo: &[u8]) -> Result<String, Fail> {
     let mut text = String::new(alloc);
     for cursor in served.cursors_from(lo)? {
         push_entries(alloc, &mut text, cursor)?;
@@ -131,9 +132,21 @@ pub(super) fn shown_from(alloc: Global, served: &Served, lo: &[u8]) -> Result<St
     Ok(text)
 }
 
-#[test]
-fn cursors_over_three_levels(rt: HostRuntime) -> Result<(), Fail> {
-    let served = example(rt.alloc())?;
+// Sees that the cursors from a key give this.
+pub(super) fn see_from(
+    rt: &impl Abort,
+    alloc: Global,
+    served: &Served,
+    lo: &str,
+    want: &str,
+) -> Result<(), Fail> {
+    let shown = shown_from(alloc, served, lo.as_bytes())?;
+    assert_eq!(rt; shown.as_str(), want, "from {lo}");
+    Ok(())
+}
+
+// What has to be dropped dearly is lent, so that no refusal drops it.
+fn see_cursors(rt: &impl Abort, alloc: Global, served: &Served) -> Result<(), Fail> {
     for (lo, want) in [
         // Before all keys, and at the first one.
         ("", "b9 m9 | b8 y8 | c5 e5 g6 k6 m7 o7 | a3 h3 p4 z4 |"),
@@ -159,8 +172,13 @@ fn cursors_over_three_levels(rt: HostRuntime) -> Result<(), Fail> {
         ("z", "| | z4 |"),
         ("z1", "| |"),
     ] {
-        let shown = shown_from(rt.alloc(), &served, lo.as_bytes())?;
-        assert_eq!(rt; shown.as_str(), want, "from {lo}");
+        see_from(rt, alloc, served, lo, want)?;
     }
     Ok(())
+}
+
+#[test]
+fn cursors_over_three_levels(rt: HostRuntime) -> Result<(), Fail> {
+    let served = example(rt.alloc())?;
+    see_cursors(&rt, rt.alloc(), &served)
 }

@@ -1,9 +1,10 @@
 //! A version with its tables through several edits, and reads of it.
 
 ghost use Rattle.std.specs.Prelude.{◌≡◌, IfOk, IsTrue, [], ◌∷◌};
+ghost use Rattle.lsm_edit.specs.Edit.{IsEdit};
 ghost use Rattle.lsm_edit.specs.Served.{AreAsRecorded};
 
-use super::cursors::shown_from;
+use super::cursors::see_from;
 use super::versions::{NEXT, are_numbered, version_after};
 use super::{EPOCH, FLUSH, edit_of};
 use bytes::Bytes;
@@ -11,6 +12,7 @@ use lsm_edit::{Edit, FileMeta, Served, is_as_recorded};
 use lsm_key::Seq;
 use lsm_table::Table;
 use std::alloc::Global;
+use std::process::Abort;
 use std::test::Fail;
 
 // Both files become one of level 1.
@@ -58,29 +60,40 @@ fn just(alloc: Global, table: Table) -> Result<Vec<Table>, Fail>
     Ok(tables)
 }
 
-fn table_of(alloc: Global, bytes: &'static [u8]) -> Result<Table, Fail> {
-    Ok(Table::open(alloc, Bytes::from_static(bytes))?)
+// The table of the one file.
+fn table_of(alloc: Global, files: &[FileMeta], bytes: &'static [u8]) -> Result<Vec<Table>, Fail>
+    ensures { IfOk result (λ tables. AreAsRecorded files.now tables.items) }
+{
+    let table = Table::open(alloc, Bytes::from_static(bytes))?;
+    if !is_recorded(files, &table) {
+        return Err("another table")?;
+    }
+    just(alloc, table)
+}
+
+// Advances by an edit, with these tables.
+fn advance(served: &mut Served, edit: &Edit, tables: Vec<Table>) -> Result<(), Fail>
+    requires sound { IsEdit edit.now }
+    requires recorded { AreAsRecorded edit.now.added tables.items }
+{
+    match served.advance(edit, tables) {
+        Ok(()) => Ok(()),
+        Err((why, _tables)) => Err(why)?,
+    }
 }
 
 // Advances by an edit that adds one file, with its table.
-fn step(alloc: Global, served: &mut Served, edit: &[u8], table: Table) -> Result<(), Fail> {
+fn step(alloc: Global, served: &mut Served, edit: &[u8], table: &'static [u8]) -> Result<(), Fail> {
     let edit = edit_of(alloc, edit)?;
-    if !is_recorded(edit.added.as_slice(), &table) {
-        return Err("another table")?;
-    }
-    served
-        .advance(&edit, just(alloc, table)?)
-        .map_err(|(why, _)| why)?;
-    Ok(())
+    let tables = table_of(alloc, edit.added.as_slice(), table)?;
+    advance(served, &edit, tables)
 }
 
 // A store that is opened.
 fn opened(alloc: Global) -> Result<Served, Fail> {
     let mut served = Served::new(alloc);
     let opening = Edit::epoch(alloc, served.version());
-    served
-        .advance(&opening, Vec::new(alloc))
-        .map_err(|(why, _)| why)?;
+    advance(&mut served, &opening, Vec::new(alloc))?;
     Ok(served)
 }
 
@@ -92,7 +105,7 @@ fn after_an_install(alloc: Global) -> Result<Served, Fail> {
         (NEXT.as_slice(), OF_B),
         (MERGED.as_slice(), OF_BOTH),
     ] {
-        step(alloc, &mut served, edit, table_of(alloc, table)?)?;
+        step(alloc, &mut served, edit, table)?;
     }
     Ok(served)
 }
@@ -100,12 +113,8 @@ fn after_an_install(alloc: Global) -> Result<Served, Fail> {
 // A new store that became the version after an opening and the flush of a.
 fn rebased(alloc: Global) -> Result<Served, Fail> {
     let version = version_after(alloc, &[&EPOCH, &FLUSH])?;
-    let table = table_of(alloc, OF_A)?;
-    if !is_recorded(version.files(), &table) {
-        return Err("another table")?;
-    }
-    let served = Served::from_tables(version, just(alloc, table)?)?;
-    Ok(served)
+    let tables = table_of(alloc, version.files(), OF_A)?;
+    Ok(Served::from_tables(version, tables)?)
 }
 
 // Whether a read of the key gives this value.
@@ -146,14 +155,29 @@ fn a_served_version_becomes_another(rt: HostRuntime) -> Result<(), Fail> {
     Ok(())
 }
 
+// What has to be dropped dearly is lent, so that no assertion drops it.
+fn see_rebased(rt: &impl Abort, alloc: Global, served: &Served) -> Result<(), Fail> {
+    assert!(rt; gives(served, b"a", b"1"));
+    assert!(rt; served.get(b"b").is_none() && !is_found(served, b"a", 0));
+    for (lo, want) in [("", "a1 |"), ("a", "a1 |"), ("b", "|")] {
+        see_from(rt, alloc, served, lo, want)?;
+    }
+    Ok(())
+}
+
 #[test]
 fn what_is_read_of_a_served_version(rt: HostRuntime) -> Result<(), Fail> {
     let served = rebased(rt.alloc())?;
-    assert!(rt; gives(&served, b"a", b"1"));
-    assert!(rt; served.get(b"b").is_none() && !is_found(&served, b"a", 0));
-    for (lo, want) in [("", "a1 |"), ("a", "a1 |"), ("b", "|")] {
-        let shown = shown_from(rt.alloc(), &served, lo.as_bytes())?;
-        assert_eq!(rt; shown.as_str(), want, "from {lo}");
+    see_rebased(&rt, rt.alloc(), &served)
+}
+
+fn see_installed(rt: &impl Abort, alloc: Global, served: &Served) -> Result<(), Fail> {
+    assert!(rt; has_only(served, 3));
+    for (key, at, found) in [(b"a", 2, true), (b"b", 1, false), (b"c", 2, false)] {
+        assert!(rt; is_found(served, key, at) == found);
+    }
+    for (lo, want) in [("a", "a1 b2 |"), ("b", "b2 |"), ("c", "")] {
+        see_from(rt, alloc, served, lo, want)?;
     }
     Ok(())
 }
@@ -161,13 +185,5 @@ fn what_is_read_of_a_served_version(rt: HostRuntime) -> Result<(), Fail> {
 #[test]
 fn what_is_read_after_an_install(rt: HostRuntime) -> Result<(), Fail> {
     let served = after_an_install(rt.alloc())?;
-    assert!(rt; has_only(&served, 3));
-    for (key, at, found) in [(b"a", 2, true), (b"b", 1, false), (b"c", 2, false)] {
-        assert!(rt; is_found(&served, key, at) == found);
-    }
-    for (lo, want) in [("a", "a1 b2 |"), ("b", "b2 |"), ("c", "")] {
-        let shown = shown_from(rt.alloc(), &served, lo.as_bytes())?;
-        assert_eq!(rt; shown.as_str(), want, "from {lo}");
-    }
-    Ok(())
+    see_installed(&rt, rt.alloc(), &served)
 }

@@ -7,6 +7,7 @@ use crate::tests::table_of_two;
 use lsm_block::Cursor;
 use lsm_key::Seq;
 use lsm_table::{BuildError, Table, TableBuilder};
+use std::alloc::Global;
 use std::test::Fail;
 
 // Copies the entries that a cursor has left.
@@ -19,11 +20,11 @@ fn copy_left(builder: &mut TableBuilder, cursor: &mut Cursor<'_>) -> Result<(), 
     Ok(())
 }
 
-// Copies a table. Gives the weight of its entries, the last one's sequence, and whether the copy is byte for byte the same.
-fn copied(
-    builder: &mut TableBuilder,
-    table: &Table,
-) -> Result<(usize, Option<Seq>, bool), BuildError>
+// Of a copy: the weight of its entries, the last one's sequence, and whether it is byte for byte the same.
+type Copied = (usize, Option<Seq>, bool);
+
+// Copies a table.
+fn copied(builder: &mut TableBuilder, table: &Table) -> Result<Copied, BuildError>
     requires { builder.old.entries ≡ [] }
     ensures { OnOk result (builder.new.entries ≡ []) }
 {
@@ -38,15 +39,29 @@ fn copied(
     Ok((weight, last, bytes.as_slice() == table.bytes().as_slice()))
 }
 
+// Copies it twice. Gives whether nothing is left in the builder, too.
+fn copied_twice(
+    builder: &mut TableBuilder,
+    table: &Table,
+) -> Result<(Copied, Copied, bool), BuildError>
+    requires { builder.old.entries ≡ [] }
+{
+    let first = copied(builder, table)?;
+    let again = copied(builder, table)?;
+    let empty = matches!(builder.take_table(), Err(BuildError::EmptyTable));
+    Ok((first, again, empty))
+}
+
+// The same of the table of two.
+fn copies_of_two(alloc: Global) -> Result<(Copied, Copied, bool), BuildError> {
+    let table = table_of_two(alloc, 1)?;
+    let mut builder = TableBuilder::new(alloc, 1);
+    copied_twice(&mut builder, &table)
+}
+
 #[test]
 fn a_builder_copies_a_table_twice(rt: HostRuntime) -> Result<(), Fail> {
-    let table = table_of_two(rt.alloc(), 1)?;
-    let mut builder = TableBuilder::new(rt.alloc(), 1);
-    let first = copied(&mut builder, &table)?;
-    let again = copied(&mut builder, &table)?;
-    let empty = matches!(builder.take_table(), Err(BuildError::EmptyTable));
-    drop(builder);
-    drop(table);
+    let (first, again, empty) = copies_of_two(rt.alloc())?;
     assert!(rt; first == (31, Some(Seq::new(1)), true));
     assert!(rt; again == first);
     assert!(rt; empty);

@@ -4,6 +4,7 @@ use crate::tests::{add, put_at};
 use lsm_block::Cursor;
 use lsm_table::{BuildError, Table, TableBuilder};
 use std::alloc::Global;
+use std::process::Abort;
 use std::test::Fail;
 
 // A table of three keys, one of which has two versions, each entry in a block of its own.
@@ -38,9 +39,7 @@ fn five_in(mut cursor: Cursor<'_>) -> [Option<(u8, u64)>; 5] {
     [first, second, third, fourth, fifth]
 }
 
-#[test]
-fn a_cursor_begins_at_the_first_entry_from_a_key(rt: HostRuntime) -> Result<(), Fail> {
-    let table = table_of_three(rt.alloc())?;
+fn see_cursors(rt: &impl Abort, table: &Table) {
     let (b3, d9, d5, f2) = (
         Some((b'b', 3)),
         Some((b'd', 9)),
@@ -60,5 +59,11 @@ fn a_cursor_begins_at_the_first_entry_from_a_key(rt: HostRuntime) -> Result<(), 
     ] {
         assert!(rt; five_in(table.cursor_from(lo)) == want, "{lo:?}");
     }
+}
+
+#[test]
+fn a_cursor_begins_at_the_first_entry_from_a_key(rt: HostRuntime) -> Result<(), Fail> {
+    let table = table_of_three(rt.alloc())?;
+    see_cursors(&rt, &table);
     Ok(())
 }

@@ -73,17 +73,17 @@ fn dispatch_until_over<
     tally
 }
 
-/// A tally with another one's records.
-pub(crate) fn merged<J: Start>(tally: Tally<J>, other: Tally<J>) -> Result<Tally<J>, TimingError> {
+/// Adds another one's records to a tally.
+pub(crate) fn add<J: Start>(tally: &mut Tally<J>, other: Tally<J>) -> Result<(), TimingError> {
     let parts = tally.parts().checked_add(other.parts());
     let picked = tally.picked().checked_add(other.picked());
     if parts.is_none() || picked.is_none() {
         return Err(EXHAUSTED);
     }
-    let (mut tally, mut other) = (tally, other);
+    let mut other = other;
     for _try in 0..TRIES {
         match tally.merge(other) {
-            Ok(()) => return Ok(tally),
+            Ok(()) => return Ok(()),
             Err(back) => other = back,
         }
     }

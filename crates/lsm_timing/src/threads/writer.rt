@@ -61,16 +61,16 @@ pub(crate) fn write_until_due<
     rt: &R,
     course: &Course,
     hub: &Hub<V, J, N>,
-    first: Tally<J>,
-    second: Tally<J>,
-) -> (Result<Writing, TimingError>, (Tally<J>, Tally<J>)) {
-    let ((one, first), (other, second)) = join(
+    first: &mut Tally<J>,
+    second: &mut Tally<J>,
+) -> Result<Writing, TimingError> {
+    let (one, other) = join(
         rt,
-        move || write_as(rt, course, hub, 0, first),
-        move || write_as(rt, course, hub, 1, second),
+        || write_timed(rt, course, hub, 0, first),
+        || write_timed(rt, course, hub, 1, second),
     );
     course.is_over.store(true, Ordering::SeqCst);
-    (of_both(one, other), (first, second))
+    of_both(one, other)
 }
 
 fn of_both(
@@ -81,18 +81,6 @@ fn of_both(
 }
 
 // The batches of one of the writers.
-fn write_as<V: Vault, J: Start, N: Witness + Drop, R: Wait>(
-    rt: &R,
-    course: &Course,
-    hub: &Hub<V, J, N>,
-    index: u64,
-    tally: Tally<J>,
-) -> (Result<Writing, TimingError>, Tally<J>) {
-    let mut tally = tally;
-    let writing = write_timed(rt, course, hub, index, &mut tally);
-    (writing, tally)
-}
-
 fn write_timed<V: Vault, J: Start, N: Witness + Drop, R: Wait>(
     rt: &R,
     course: &Course,
@@ -134,12 +122,26 @@ fn write_next<V: Vault, J: Start, N: Witness + Drop, R: Wait>(
 ) -> Result<Writing, TimingError> {
     let before = writing.entries / BATCH;
     let number = before.wrapping_mul(WRITERS).wrapping_add(index);
-    let Ok(batch) = batch_number(course.bench, number, u64::MAX, BATCH) else {
-        course.miss();
-        return Ok(writing);
-    };
+    match batch_number(course.bench, number, u64::MAX, BATCH) {
+        Ok(batch) => write_timed_once(rt, course, hub, tally, &batch, writing),
+        Err(_) => {
+            course.miss();
+            Ok(writing)
+        }
+    }
+}
+
+// Writes a batch, and counts it if it is written.
+fn write_timed_once<V: Vault, J: Start, N: Witness + Drop, R: Wait>(
+    rt: &R,
+    course: &Course,
+    hub: &Hub<V, J, N>,
+    tally: &mut Tally<J>,
+    batch: &Batch,
+    writing: Writing,
+) -> Result<Writing, TimingError> {
     let start = course.now()?;
-    let wrote = write(rt, course, hub, tally, &batch)?;
+    let wrote = write(rt, course, hub, tally, batch)?;
     let took = course.now()?.saturating_sub(start);
     let longest = writing.longest.max(took);
     if wrote != Wrote::All {
@@ -167,6 +169,17 @@ fn write<V: Vault, J: Start, N: Witness + Drop, R: Wait>(
         ended => return Ok(ended),
     }
     let _turn = course.turn(rt);
+    write_in_turn(rt, course, hub, tally, batch)
+}
+
+// The same in this writer's turn.
+fn write_in_turn<V: Vault, J: Start, N: Witness + Drop, R: Wait>(
+    rt: &R,
+    course: &Course,
+    hub: &Hub<V, J, N>,
+    tally: &mut Tally<J>,
+    batch: &Batch,
+) -> Result<Wrote, TimingError> {
     match write_once(rt, course, hub, tally, batch)? {
         Wrote::Full => {}
         ended => return Ok(ended),

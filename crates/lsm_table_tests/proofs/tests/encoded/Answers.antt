@@ -4,11 +4,11 @@ use Rattle.lsm_table.specs.Cuts.{cut_of}
 use Rattle.lsm_table.specs.Tables.{table, table_of}
 use Rattle.lsm_table.proofs.TableCuts.{cut_one}
 use Rattle.lsm_table.proofs.TableSizes.{target_is}
-use Rattle.lsm_table_tests.proofs.tests.entries_are_encoded_as_they_were.Goals as goal
+use Rattle.lsm_table_tests.proofs.tests.encoded.Goals as goal
 
 pub encode_table-requires-clause-small : goal.encode_table-requires-clause-small
-encode_table-requires-clause-small g c =
-    let t = c.in_ok-table.table in
+encode_table-requires-clause-small c =
+    let t = c.args.table.now in
     let is = c.in_ok-entries.ensures.sound in
     let cut = cut_one is.target is.blocks is.cut ∙ ap (cut_of is.target) (sym is.whole) in
     let spelled : t.bytes ≡ table_of is.target t.entries = is.spelled ∙ ap (table is.target) cut in
