@@ -1,6 +1,6 @@
 //! A vault that fails once, for tests.
 
-ghost use Rattle.std.specs.Prelude.{◌≡◌, ◌+◌, ◌++◌, ◌∷◌, [], Some, IfOk, OnOk, OnErr, min, ◌^◌, ◌-◌};
+ghost use Rattle.std.specs.Prelude.{◌≡◌, ◌+◌, ◌++◌, ◌∷◌, [], Some, IfOk, OnOk, OnErr, drop, min, ◌^◌, ◌-◌};
 ghost use Rattle.std.specs.FinMap as map;
 ghost use Rattle.lsm_vault.specs.Failures.{CountsFailures};
 ghost use Rattle.lsm_vault.specs.Fuse.{Burns, fuse_failures};
@@ -122,6 +122,36 @@ impl<V: Vault> Vault for FusedVault<V> {
     {
         count_call(&mut self.left)?;
         self.inside.numbers()
+    }
+
+    fn append_log(&mut self, logged: Bytes) -> Result<(), VaultError>
+        ensures ok { OnOk result (V.stored self.new.inside ≡ record (V.stored self.old.inside) { log = (V.stored self.old.inside).log ++ logged ∷ [] }) }
+        ensures err { OnErr result (V.stored self.new.inside ≡ V.stored self.old.inside) }
+        ensures counted { CountsFailures result (V.failures self.old.inside + fuse_failures self.old.left) (V.failures self.new.inside + fuse_failures self.new.left) }
+        ensures fuse { Burns self.old.left result self.new.left }
+    {
+        count_call(&mut self.left)?;
+        self.inside.append_log(logged)
+    }
+
+    fn log(&mut self) -> Result<Vec<Bytes>, VaultError>
+        ensures ok { IfOk result (λ all. all.items ≡ (V.stored self.old.inside).log) }
+        ensures stays { V.stored self.new.inside ≡ V.stored self.old.inside }
+        ensures counted { CountsFailures result (V.failures self.old.inside + fuse_failures self.old.left) (V.failures self.new.inside + fuse_failures self.new.left) }
+        ensures fuse { Burns self.old.left result self.new.left }
+    {
+        count_call(&mut self.left)?;
+        self.inside.log()
+    }
+
+    fn cut_log(&mut self, count: usize) -> Result<(), VaultError>
+        ensures ok { OnOk result (V.stored self.new.inside ≡ record (V.stored self.old.inside) { log = drop count (V.stored self.old.inside).log }) }
+        ensures err { OnErr result (V.stored self.new.inside ≡ V.stored self.old.inside) }
+        ensures counted { CountsFailures result (V.failures self.old.inside + fuse_failures self.old.left) (V.failures self.new.inside + fuse_failures self.new.left) }
+        ensures fuse { Burns self.old.left result self.new.left }
+    {
+        count_call(&mut self.left)?;
+        self.inside.cut_log(count)
     }
 
     fn failures(&self) -> u64 {

@@ -1,6 +1,6 @@
 //! A vault in memory.
 
-ghost use Rattle.std.specs.Prelude.{◌≡◌};
+ghost use Rattle.std.specs.Prelude.{◌≡◌, drop};
 ghost use Rattle.lsm_vault.specs.Stored.{empty_vault};
 
 use crate::tables::Tables;
@@ -15,10 +15,11 @@ pub struct MemoryVault {
     alloc: Global,
     edits: Vec<Bytes>,
     tables: Tables,
+    log: Vec<Bytes>,
 }
 
 impl MemoryVault {
-    /// A vault without edits and tables. Allocates nothing.
+    /// A vault without edits, tables and log. Allocates nothing.
     pub fn new(alloc: Global) -> MemoryVault
         ensures { ⟦<MemoryVault as Vault>⟧.stored result ≡ empty_vault }
     {
@@ -26,12 +27,21 @@ impl MemoryVault {
             alloc,
             edits: Vec::new(alloc),
             tables: Tables::new(alloc),
+            log: Vec::new(alloc),
         }
     }
 }
 
+// Removes this many records, the first ones; all, where there are fewer. Takes no memory.
+fn cut_first(log: &mut Vec<Bytes>, count: usize)
+    ensures { log.new.items ≡ drop count log.old.items }
+{
+    let count = count.min(log.len());
+    log.drain(..count);
+}
+
 impl Vault for MemoryVault {
-    ghost stored = { λ v. record { edits = v.edits.items; tables = v.tables } };
+    ghost stored = { λ v. record { edits = v.edits.items; tables = v.tables; log = v.log.items } };
 
     ghost failures = { λ _. 0 };
 
@@ -60,6 +70,20 @@ impl Vault for MemoryVault {
 
     fn numbers(&mut self) -> Result<Vec<FileNumber>, VaultError> {
         Ok(self.tables.numbers(self.alloc)?)
+    }
+
+    fn append_log(&mut self, logged: Bytes) -> Result<(), VaultError> {
+        self.log.push(logged)?;
+        Ok(())
+    }
+
+    fn log(&mut self) -> Result<Vec<Bytes>, VaultError> {
+        Ok(self.log.clone()?)
+    }
+
+    fn cut_log(&mut self, count: usize) -> Result<(), VaultError> {
+        cut_first(&mut self.log, count);
+        Ok(())
     }
 
     fn failures(&self) -> u64 {

@@ -1,6 +1,6 @@
 //! What every vault promises.
 
-ghost use Rattle.std.specs.Prelude.{◌≡◌, ◌++◌, ◌∷◌, [], ◌^◌, ◌-◌, ℕ, IfOk, OnOk, OnErr, min};
+ghost use Rattle.std.specs.Prelude.{◌≡◌, ◌++◌, ◌∷◌, [], ◌^◌, ◌-◌, ℕ, IfOk, OnOk, OnErr, drop, min};
 ghost use Rattle.std.specs.FinMap as map;
 ghost use Rattle.lsm_vault.specs.Failures.{CountsFailures};
 ghost use Rattle.lsm_vault.specs.Stored.{VaultValue};
@@ -9,8 +9,8 @@ use crate::VaultError;
 use bytes::Bytes;
 use lsm_key::FileNumber;
 
-/// What outlives a restart: the edits in the order in which they were appended, and the tables by file number. Each call happens whole or
-/// not at all, and the bytes are shared, never copied.
+/// What outlives a restart: the edits and the records of the log, each in the order in which they were appended, and the tables by file
+/// number. Each call happens whole or not at all, and the bytes are shared, never copied.
 ///
 /// A call reports `Device` only if the count of failures rose in it. The count never falls.
 pub trait Vault {
@@ -52,6 +52,24 @@ pub trait Vault {
     fn numbers(&mut self) -> Result<Vec<FileNumber>, VaultError>
         ensures ok { IfOk result (λ all. all.items ≡ map.keys (stored self.old).tables) }
         ensures stays { stored self.new ≡ stored self.old }
+        ensures counted { CountsFailures result (failures self.old) (failures self.new) };
+
+    /// Adds a record to the log, after the others.
+    fn append_log(&mut self, logged: Bytes) -> Result<(), VaultError>
+        ensures ok { OnOk result (stored self.new ≡ record (stored self.old) { log = (stored self.old).log ++ logged ∷ [] }) }
+        ensures err { OnErr result (stored self.new ≡ stored self.old) }
+        ensures counted { CountsFailures result (failures self.old) (failures self.new) };
+
+    /// The records of the log, in the order in which they were appended.
+    fn log(&mut self) -> Result<Vec<Bytes>, VaultError>
+        ensures ok { IfOk result (λ all. all.items ≡ (stored self.old).log) }
+        ensures stays { stored self.new ≡ stored self.old }
+        ensures counted { CountsFailures result (failures self.old) (failures self.new) };
+
+    /// Removes this many records of the log, the first ones; all, where there are fewer.
+    fn cut_log(&mut self, count: usize) -> Result<(), VaultError>
+        ensures ok { OnOk result (stored self.new ≡ record (stored self.old) { log = drop count (stored self.old).log }) }
+        ensures err { OnErr result (stored self.new ≡ stored self.old) }
         ensures counted { CountsFailures result (failures self.old) (failures self.new) };
 
     /// How often the device failed. The number saturates: of a count past the greatest `u64` it is that.

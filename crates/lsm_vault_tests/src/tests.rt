@@ -6,9 +6,9 @@ use lsm_vault::{FusedVault, MemoryVault, Vault, VaultError};
 use std::test::Fail;
 
 /// How many calls `call` has.
-const CALLS: u64 = 7;
+const CALLS: u64 = 11;
 
-/// One of each kind of call, and a second edit.
+/// One of each kind of call, a second edit, and a second record of the log before its cut.
 fn call<V: Vault>(vault: &mut V, place: u64) -> Result<(), VaultError> {
     match place {
         0 => vault.put_table(FileNumber::new(7), Bytes::from_static(b"table"))?,
@@ -23,7 +23,13 @@ fn call<V: Vault>(vault: &mut V, place: u64) -> Result<(), VaultError> {
             vault.numbers()?;
         }
         5 => vault.remove_table(FileNumber::new(7))?,
-        _ => vault.append_edit(Bytes::from_static(b"second"))?,
+        6 => vault.append_edit(Bytes::from_static(b"second"))?,
+        7 => vault.append_log(Bytes::from_static(b"first"))?,
+        8 => {
+            vault.log()?;
+        }
+        9 => vault.append_log(Bytes::from_static(b"second"))?,
+        _ => vault.cut_log(1)?,
     }
     Ok(())
 }
@@ -88,6 +94,24 @@ fn edits_come_back_in_order(rt: HostRuntime) -> Result<(), Fail> {
 }
 
 #[test]
+fn a_log_is_cut_at_its_beginning(rt: HostRuntime) -> Result<(), Fail> {
+    for (count, left) in [(0, "abb"), (1, "bb"), (3, ""), (usize::MAX, "")] {
+        let mut vault = MemoryVault::new(rt.alloc());
+        for record in ["a", "b", "b"] {
+            vault.append_log(Bytes::from_static(record.as_bytes()))?;
+        }
+        vault.cut_log(count)?;
+        let log = vault.log()?;
+        let mut text = Vec::new(rt.alloc());
+        for record in log.iter() {
+            text.extend_from_slice(record.as_slice())?;
+        }
+        assert!(rt; text.as_slice() == left.as_bytes(), "{count} cut");
+    }
+    Ok(())
+}
+
+#[test]
 fn the_call_after_those_that_pass_fails_once(rt: HostRuntime) -> Result<(), Fail> {
     for calls in 0..CALLS + 1 {
         let mut vault = FusedVault::new(MemoryVault::new(rt.alloc()), calls);
@@ -110,7 +134,17 @@ fn the_call_after_those_that_pass_fails_once(rt: HostRuntime) -> Result<(), Fail
 
 #[test]
 fn the_call_that_fails_does_nothing(rt: HostRuntime) -> Result<(), Fail> {
-    for (calls, tables, edits) in [(0, 0, 2), (1, 0, 1), (3, 0, 2), (5, 1, 2), (6, 0, 1)] {
+    for (calls, tables, edits, records) in [
+        (0, 0, 2, 1),
+        (1, 0, 1, 1),
+        (3, 0, 2, 1),
+        (5, 1, 2, 1),
+        (6, 0, 1, 1),
+        (7, 0, 2, 0),
+        (8, 0, 2, 1),
+        (9, 0, 2, 0),
+        (10, 0, 2, 2),
+    ] {
         let mut vault = FusedVault::new(MemoryVault::new(rt.alloc()), calls);
         for place in 0..CALLS {
             has_failed(call(&mut vault, place))?;
@@ -119,6 +153,8 @@ fn the_call_that_fails_does_nothing(rt: HostRuntime) -> Result<(), Fail> {
         assert!(rt; numbers.len() == tables, "tables after {calls}");
         let kept = vault.edits()?;
         assert!(rt; kept.len() == edits, "edits after {calls}");
+        let log = vault.log()?;
+        assert!(rt; log.len() == records, "records after {calls}");
     }
     Ok(())
 }
