@@ -1,4 +1,4 @@
--- What the file of the edits holds (RocksDB, log_reader.h: a log's records, of which the last one may be cut short by a crash; the layout is the store's own).
+-- What the file of the edits holds, and that of the log, whose records stand where edits do (RocksDB, log_reader.h: a log's records, of which the last one may be cut short by a crash; the layout is the store's own).
 use Rattle.std.specs.Prelude.{◌≡◌, ℕ, ◌+◌, ◌^◌, ◌<◌, true, false, List, [], ◌∷◌, ◌++◌, length, drop, IsErr}
 use Rattle.lsm_file_vault.specs.Frames.{checksum, frame_at, frames, is_torn}
 

@@ -1,22 +1,24 @@
 //! Files that are set aside: under names that nobody reads, of which none is ever written over.
 
 use crate::host_folder::{sync_folder, write_file};
-use crate::names::{file_path, lost_edits_name, lost_table_name};
+use crate::names::{file_path, lost_bytes_name, lost_table_name};
 use lsm_key::FileNumber;
 use std::fs;
 use std::io::{self, ErrorKind};
 use std::rt::Files;
 
-/// Writes what is behind the last edit, from this offset on, to a file of its own, so that it outlives the process. Returns its name.
-pub(crate) fn write_lost_edits<R: Files + AllocGlobal>(
+/// Writes the torn bytes of the file `of`, which begin there at this offset, to a file of their own, so that they outlive the process.
+/// Returns its name.
+pub(crate) fn write_lost_bytes<R: Files + AllocGlobal>(
     files: &R,
     path: &str,
+    of: &str,
     offset: u64,
     torn: &[u8],
 ) -> io::Result<String> {
     let alloc = files.alloc();
     for copy in 1..u64::MAX {
-        let name = lost_edits_name(alloc, offset, copy)?;
+        let name = lost_bytes_name(alloc, of, offset, copy)?;
         let file = file_path(alloc, path, name.as_str())?;
         if is_free(files, file.as_str())? {
             write_file(files, file.as_str(), &[], torn)?;

@@ -10,4 +10,7 @@ pub enum Change {
     TablePut(FileNumber, Snapshot<Bytes>),
     TableRemoved(FileNumber),
     EditAppended(Snapshot<Bytes>),
+    LogAppended(Snapshot<Bytes>),
+    /// This many of the first records are gone, or all if there are fewer.
+    LogCut(usize),
 }

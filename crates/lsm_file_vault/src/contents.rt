@@ -4,7 +4,7 @@ use crate::edits_file::{EditsFile, read_edits};
 use crate::error::called;
 use crate::frame::only_frame;
 use crate::listing::{Listing, list};
-use crate::names::{EDITS, file_path, table_path};
+use crate::names::{EDITS, LOG, file_path, table_path};
 use crate::{FileCall, OpenError};
 use bytes::Bytes;
 use lsm_key::{FileNumber, Refused};
@@ -28,16 +28,25 @@ pub struct Contents {
     pub torn_bytes: u64,
     /// These bytes.
     pub(crate) torn: Bytes,
+    /// The records of the log, in the order in which they were appended.
+    pub log: Vec<Bytes>,
+    /// How many bytes the records take in their file, with their frames.
+    pub log_bytes: u64,
+    /// How many bytes are behind the last record: what a stop in the middle of an append has left, or a last record that is damaged.
+    pub torn_log_bytes: u64,
+    /// These bytes.
+    pub(crate) torn_log: Bytes,
     /// The names of the files that were set aside, in order.
     pub lost_files: Vec<String>,
-    /// Whether there is a file that a table was written to before it took its name.
+    /// Whether there is a file that a table or a log was written to before it took its name.
     pub(crate) has_new: bool,
 }
 
 impl Contents {
-    /// Reads the folder at `path`. It writes, cuts and locks nothing. A folder without a file of edits has none, and no table.
+    /// Reads the folder at `path`. It writes, cuts and locks nothing. A folder without a file of edits has none, no table and no log
+    /// record, and one without a log an empty one.
     ///
-    /// Damaged edits and a foreign file are errors. Damaged tables and torn bytes are reported.
+    /// Damaged edits, a damaged log and a foreign file are errors. Damaged tables and torn bytes are reported.
     pub fn read<R: Files + AllocGlobal + Clone + Drop>(
         files: &R,
         path: &str,
@@ -49,13 +58,17 @@ impl Contents {
             numbers,
             lost_files,
             has_edits,
+            has_log,
             has_new,
         } = list(files, path)?;
         let has_tables = !numbers.is_empty();
         for number in numbers {
             add_table(files, path, number, &mut tables, &mut damaged_tables)?;
         }
-        let found = edits_of(files, path, has_edits, has_tables)?;
+        let log_file = bytes_of(files, path, LOG, has_log)?;
+        let needs_edits = has_tables || !log_file.is_empty();
+        let found = edits_of(files, path, has_edits, needs_edits)?;
+        let logged = log_of(alloc, path, log_file)?;
         Ok(Contents {
             tables,
             damaged_tables,
@@ -63,6 +76,10 @@ impl Contents {
             edits_bytes: found.edits_bytes,
             torn_bytes: found.torn.len() as u64,
             torn: found.torn,
+            log: logged.edits,
+            log_bytes: logged.edits_bytes,
+            torn_log_bytes: logged.torn.len() as u64,
+            torn_log: logged.torn,
             lost_files,
             has_new,
         })
@@ -97,28 +114,50 @@ fn table_of<R: Files + AllocGlobal>(
     Ok(only_frame(bytes)?)
 }
 
-// The edits. Tables without a file of edits are refused.
+// The edits. A folder that needs a file of edits is refused without one.
 fn edits_of<R: Files + AllocGlobal>(
     files: &R,
     path: &str,
     has_edits: bool,
-    has_tables: bool,
+    needs_edits: bool,
 ) -> Result<EditsFile, OpenError> {
     let alloc = files.alloc();
     let file = file_path(alloc, path, EDITS)?;
-    if !has_edits && has_tables {
+    if !has_edits && needs_edits {
         return Err(OpenError::MissingEdits { file });
     }
-    let bytes = if has_edits {
-        read_file(files, file.as_str())?
-    } else {
-        Bytes::new()
-    };
+    let bytes = bytes_of(files, path, EDITS, has_edits)?;
     match read_edits(alloc, bytes) {
         Ok(found) => Ok(found),
         Err(Refused::Fault(offset)) => Err(OpenError::DamagedEdits { file, offset }),
         Err(Refused::OutOfMemory) => Err(OpenError::OutOfMemory),
     }
+}
+
+// The log, whose records stand in its bytes as edits do in theirs.
+fn log_of(alloc: Global, path: &str, bytes: Bytes) -> Result<EditsFile, OpenError> {
+    match read_edits(alloc, bytes) {
+        Ok(found) => Ok(found),
+        Err(Refused::Fault(offset)) => {
+            let file = file_path(alloc, path, LOG)?;
+            Err(OpenError::DamagedLog { file, offset })
+        }
+        Err(Refused::OutOfMemory) => Err(OpenError::OutOfMemory),
+    }
+}
+
+// All bytes of the file of this name, or none if it is not there.
+fn bytes_of<R: Files + AllocGlobal>(
+    files: &R,
+    path: &str,
+    name: &str,
+    is_there: bool,
+) -> Result<Bytes, OpenError> {
+    if !is_there {
+        return Ok(Bytes::new());
+    }
+    let file = file_path(files.alloc(), path, name)?;
+    read_file(files, file.as_str())
 }
 
 // All bytes of a file.

@@ -1,4 +1,4 @@
-//! The file of the edits: a frame for each.
+//! The file of the edits: a frame for each. That of the log is read as one too: its records stand where edits do.
 
 ghost use Rattle.std.specs.Prelude.{◌≡◌, Err, IfOk, drop, length};
 ghost use Rattle.lsm_key.specs.declared.refused.Refused.TheVariants.{Fault};

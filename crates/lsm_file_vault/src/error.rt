@@ -31,8 +31,8 @@ pub enum OpenError {
     ForeignFile {
         file: String,
     },
-    /// The folder has tables, and no file of edits: it was there before each of them.
-    #[error("the file {file} is missing, and the folder has tables")]
+    /// The folder has tables or a log that is not empty, and no file of edits: it was there before each of them.
+    #[error("the file {file} is missing, and the folder has tables or a log")]
     MissingEdits {
         file: String,
     },
@@ -45,6 +45,12 @@ pub enum OpenError {
     /// An edit is not what was written, and others may follow it. The edit begins at this offset.
     #[error("the file {file} is damaged: the edit at offset {offset} is not whole")]
     DamagedEdits {
+        file: String,
+        offset: u64,
+    },
+    /// A record of the log is not what was written, and others may follow it. The record begins at this offset.
+    #[error("the file {file} is damaged: the log record at offset {offset} is not whole")]
+    DamagedLog {
         file: String,
         offset: u64,
     },

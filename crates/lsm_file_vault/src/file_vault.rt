@@ -1,6 +1,6 @@
 //! The vault over a folder.
 
-ghost use Rattle.std.specs.Prelude.{◌≡◌, IsErr};
+ghost use Rattle.std.specs.Prelude.{◌≡◌, drop, IsErr};
 ghost use Rattle.lsm_vault.specs.Failures.{CountsFailures};
 
 use crate::Folder;
@@ -10,25 +10,34 @@ use lsm_vault::{Tables, Vault, VaultError};
 use std::alloc::Global;
 use std::io;
 
-/// A vault whose tables and edits are in a folder and also in memory, from which they are read: the bytes of a table are shared with
-/// who reads it. So a read never fails for the folder, and a change that the folder refused is not seen.
+/// A vault whose tables, edits and log are in a folder and also in memory, from which they are read: the bytes of a table are shared
+/// with who reads it. So a read never fails for the folder, and a change that the folder refused is not seen.
 #[derive(Drop)]
 pub struct FileVault<F: Folder> {
     alloc: Global,
     folder: F,
     tables: Tables,
     edits: Vec<Bytes>,
+    log: Vec<Bytes>,
     failures: u64,
     ghost same_tables: { tables ≡ F.tables folder },
     ghost same_edits: { edits.items ≡ F.edits folder },
+    ghost same_log: { log.items ≡ F.log folder },
 }
 
 impl<F: Folder> FileVault<F> {
-    /// A vault over a folder that has these tables and edits. No failure is counted yet.
-    pub fn new(alloc: Global, folder: F, tables: Tables, edits: Vec<Bytes>) -> FileVault<F>
+    /// A vault over a folder that has these tables, edits and log records. No failure is counted yet.
+    pub fn new(
+        alloc: Global,
+        folder: F,
+        tables: Tables,
+        edits: Vec<Bytes>,
+        log: Vec<Bytes>,
+    ) -> FileVault<F>
         requires same_tables { tables ≡ F.tables folder }
         requires same_edits { edits.items ≡ F.edits folder }
-        ensures stored { ⟦<FileVault<F> as Vault>⟧.stored result ≡ record { edits = F.edits folder; tables = F.tables folder } }
+        requires same_log { log.items ≡ F.log folder }
+        ensures stored { ⟦<FileVault<F> as Vault>⟧.stored result ≡ record { edits = F.edits folder; tables = F.tables folder; log = F.log folder } }
         ensures failures { ⟦<FileVault<F> as Vault>⟧.failures result ≡ 0 }
     {
         FileVault {
@@ -36,6 +45,7 @@ impl<F: Folder> FileVault<F> {
             folder,
             tables,
             edits,
+            log,
             failures: 0,
         }
     }
@@ -58,9 +68,24 @@ fn refusal<T>(failures: &mut u64, error: io::Error) -> Result<T, VaultError>
     }
 }
 
+// The records without this many of the first ones; none, if there are fewer.
+fn left_after(log: &[Bytes], count: usize) -> &[Bytes]
+    ensures { result.now ≡ drop count log.now }
+{
+    &log[count.min(log.len())..]
+}
+
+// Removes this many records, the first ones; all, if there are fewer. Takes no memory.
+fn cut_first(log: &mut Vec<Bytes>, count: usize)
+    ensures { log.new.items ≡ drop count log.old.items }
+{
+    let count = count.min(log.len());
+    log.drain(..count);
+}
+
 #[tactic(auto, using(lsm_vault::proofs::Restoring::put_restored))]
 impl<F: Folder> Vault for FileVault<F> {
-    ghost stored = { λ v. record { edits = F.edits v.folder; tables = F.tables v.folder } };
+    ghost stored = { λ v. record { edits = F.edits v.folder; tables = F.tables v.folder; log = F.log v.folder } };
 
     ghost failures = { λ v. v.failures };
 
@@ -108,6 +133,34 @@ impl<F: Folder> Vault for FileVault<F> {
 
     fn numbers(&mut self) -> Result<Vec<FileNumber>, VaultError> {
         Ok(self.tables.numbers(self.alloc)?)
+    }
+
+    fn append_log(&mut self, logged: Bytes) -> Result<(), VaultError> {
+        self.log.reserve(1)?;
+        match self.folder.append_log(&logged) {
+            Ok(()) => {
+                self.log.push_reserved(logged);
+                Ok(())
+            }
+            Err(error) => refusal(&mut self.failures, error),
+        }
+    }
+
+    fn log(&mut self) -> Result<Vec<Bytes>, VaultError> {
+        Ok(self.log.clone()?)
+    }
+
+    fn cut_log(&mut self, count: usize) -> Result<(), VaultError> {
+        match self
+            .folder
+            .cut_log(count, left_after(self.log.as_slice(), count))
+        {
+            Ok(()) => {
+                cut_first(&mut self.log, count);
+                Ok(())
+            }
+            Err(error) => refusal(&mut self.failures, error),
+        }
     }
 
     fn failures(&self) -> u64 {

@@ -2,10 +2,11 @@
 
 ghost use Rattle.std.specs.Prelude.{◌≡◌, IfOk};
 
-use crate::aside::{rename_lost_table, write_lost_edits};
+use crate::aside::{rename_lost_table, write_lost_bytes};
 use crate::error::called;
 use crate::frame::write_header;
-use crate::names::{EDITS, NEW_TABLE, file_path, table_path};
+use crate::log_file::LogFile;
+use crate::names::{EDITS, NEW_FILE, file_path, table_path};
 use crate::{Change, Contents, FileCall, Folder, Incidents, Notes, OpenError, SetAside};
 use bytes::{Bytes, BytesMut};
 use lsm_key::FileNumber;
@@ -15,8 +16,8 @@ use std::io::{self, ErrorKind, Seek, SeekFrom, Write};
 use std::rt::Files;
 use std::snapshot::Snapshot;
 
-/// A folder of the operating system: a file for each table, and one for the edits. What a call leaves there is synced before it
-/// returns `Ok`.
+/// A folder of the operating system: a file for each table, one for the edits, and one for the log. What a call leaves there is synced
+/// before it returns `Ok`.
 ///
 /// No clause tells of a file. So `notes` stands for what the folder holds, and that each call makes the file calls which it notes is
 /// to be read in its body.
@@ -32,7 +33,8 @@ pub struct HostFolder<R: Files + AllocGlobal + Drop> {
     is_torn: bool,
     // These bytes, until they are set aside.
     torn: Bytes,
-    // A table that was never finished is there, until the first append.
+    log_file: LogFile<R>,
+    // A table or a log that was never finished is there, until the first edit is appended.
     has_new: bool,
     // A refused edit may still stand behind the others, so no other one can follow them, and the tables that it names have to stay as
     // they are.
@@ -44,8 +46,8 @@ pub struct HostFolder<R: Files + AllocGlobal + Drop> {
 }
 
 impl<R: Files + AllocGlobal + Drop> HostFolder<R> {
-    /// The folder at `path` that was found to have these contents. The file of the edits is made if there is none, and nothing else
-    /// is changed.
+    /// The folder at `path` that was found to have these contents. The file of the edits and that of the log are made if there are
+    /// none, and nothing else is changed.
     pub(crate) fn new(
         files: R,
         path: &str,
@@ -55,9 +57,18 @@ impl<R: Files + AllocGlobal + Drop> HostFolder<R> {
     ) -> Result<HostFolder<R>, OpenError>
         ensures tables { IfOk result (λ folder. ⟦<HostFolder<R> as Folder>⟧.tables folder ≡ contents.now.tables) }
         ensures edits { IfOk result (λ folder. ⟦<HostFolder<R> as Folder>⟧.edits folder ≡ contents.now.edits.items) }
+        ensures log { IfOk result (λ folder. ⟦<HostFolder<R> as Folder>⟧.log folder ≡ contents.now.log.items) }
     {
         let torn = contents.torn.clone()?;
-        let edits_file = ready_edits(&files, path, contents)?;
+        let edits = contents.edits.as_slice();
+        let edits_file = ready_file(&files, path, EDITS, edits, contents.edits_bytes)?;
+        let log_file = LogFile::open(&files, path, contents)?;
+        called(
+            files.alloc(),
+            FileCall::Sync,
+            path,
+            sync_folder(&files, path),
+        )?;
         let path = String::from_str(files.alloc(), path)?;
         Ok(HostFolder {
             files,
@@ -66,6 +77,7 @@ impl<R: Files + AllocGlobal + Drop> HostFolder<R> {
             edits_bytes: contents.edits_bytes,
             is_torn: contents.torn_bytes > 0,
             torn,
+            log_file,
             has_new: contents.has_new,
             is_broken: false,
             lock,
@@ -87,7 +99,7 @@ impl<R: Files + AllocGlobal + Drop> HostFolder<R> {
         self.refuse_if_broken()?;
         let path = self.path.as_str();
         let alloc = self.files.alloc();
-        let new = file_path(alloc, path, NEW_TABLE)?;
+        let new = file_path(alloc, path, NEW_FILE)?;
         // A file that is there is not written over: it may be another name of a table's file, as half a renaming leaves it.
         remove_if_there(&self.files, new.as_str())?;
         write_table_file(&self.files, new.as_str(), table)?;
@@ -125,30 +137,32 @@ impl<R: Files + AllocGlobal + Drop> HostFolder<R> {
         ensures { self.new.notes ≡ self.old.notes }
     {
         self.refuse_if_broken()?;
-        let framed = framed_edit(self.files.alloc(), edit)?;
+        let framed = frame_of(self.files.alloc(), edit)?;
         self.clear_opened()?;
-        let written = self.write_at_end(framed.as_slice());
+        let written = write_at(&mut self.edits_file, self.edits_bytes, framed.as_slice());
         match written {
             Ok(()) => {
                 self.edits_bytes = self.edits_bytes.saturating_add(framed.len() as u64);
                 self.is_torn = false;
             }
-            Err(_) => self.is_broken = self.cut_edits().is_err(),
+            Err(_) => self.is_broken = cut_at(&self.edits_file, self.edits_bytes).is_err(),
         }
         written
     }
 
-    // What an opening leaves to the first append, since it changes nothing itself: what is behind the edits is set aside and cut off,
-    // and a table that was never finished is removed.
+    // What an opening leaves to the first append, since it changes nothing itself: what is behind the edits and behind the log is set
+    // aside and cut off, and a table or a log that was never finished is removed.
     fn clear_opened(&mut self) -> io::Result<()>
         ensures { self.new.notes ≡ self.old.notes }
     {
         if self.is_torn {
             self.set_torn_aside()?;
-            self.cut_edits()?;
+            cut_at(&self.edits_file, self.edits_bytes)?;
         }
+        self.log_file
+            .clear_torn(&self.files, self.path.as_str(), &self.incidents)?;
         if self.has_new {
-            let new = file_path(self.files.alloc(), self.path.as_str(), NEW_TABLE)?;
+            let new = file_path(self.files.alloc(), self.path.as_str(), NEW_FILE)?;
             remove_if_there(&self.files, new.as_str())?;
             self.has_new = false;
         }
@@ -164,74 +178,78 @@ impl<R: Files + AllocGlobal + Drop> HostFolder<R> {
         }
         self.incidents.reserve()?;
         let torn = self.torn.as_slice();
-        let name = write_lost_edits(&self.files, self.path.as_str(), self.edits_bytes, torn)?;
+        let path = self.path.as_str();
+        let name = write_lost_bytes(&self.files, path, EDITS, self.edits_bytes, torn)?;
         let bytes = torn.len() as u64;
         self.incidents
             .note_set_aside(SetAside::Edits { name, bytes });
         self.torn = Bytes::new();
         Ok(())
     }
-
-    // Writes bytes behind the edits, and syncs them.
-    fn write_at_end(&mut self, framed: &[u8]) -> io::Result<()>
-        ensures { self.new.notes ≡ self.old.notes }
-    {
-        self.edits_file.seek(SeekFrom::Start(self.edits_bytes))?;
-        self.edits_file.write_all(framed)?;
-        self.edits_file.sync_data()
-    }
-
-    // Cuts off what stands behind the edits.
-    fn cut_edits(&mut self) -> io::Result<()>
-        ensures { self.new.notes ≡ self.old.notes }
-    {
-        self.edits_file.set_len(self.edits_bytes)?;
-        self.edits_file.sync_all()
-    }
 }
 
-// The file of the edits, made if there is none. The last edit is written again with the same bytes and synced: if its sync has
-// failed before the process ended, it is read from memory and not on the disk, and another sync alone does not bring it there.
-fn ready_edits<R: Files + AllocGlobal>(
+/// The file of this name, of these edits or log records, which take so many bytes in it; it is made if there is none. The last one is
+/// written again with the same bytes and synced: if its sync has failed before the process ended, it is read from memory and not on
+/// the disk, and another sync alone does not bring it there.
+pub(crate) fn ready_file<R: Files + AllocGlobal>(
     files: &R,
     path: &str,
-    contents: &Contents,
+    name: &str,
+    held: &[Bytes],
+    bytes: u64,
 ) -> Result<R::File, OpenError> {
     let alloc = files.alloc();
-    let name = file_path(alloc, path, EDITS)?;
-    let mut file = open_edits(files, name.as_str())?;
-    let written = write_last_again(alloc, &mut file, contents);
+    let name = file_path(alloc, path, name)?;
+    let mut file = open_file(files, name.as_str())?;
+    let written = write_last_again(alloc, &mut file, held, bytes);
     called(alloc, FileCall::Write, name.as_str(), written)?;
     called(alloc, FileCall::Sync, name.as_str(), file.sync_all())?;
-    called(alloc, FileCall::Sync, path, sync_folder(files, path))?;
     Ok(file)
 }
 
-// Opens the file of the edits, and makes it if there is none.
-fn open_edits<R: Files + AllocGlobal>(files: &R, file: &str) -> Result<R::File, OpenError> {
+// Opens a file, and makes it if there is none.
+fn open_file<R: Files + AllocGlobal>(files: &R, file: &str) -> Result<R::File, OpenError> {
     let mut options = OpenOptions::new();
     options.read(true).write(true).create(true);
     let opened = options.open(files, file);
     called(files.alloc(), FileCall::Open, file, opened)
 }
 
-// Writes the last edit where it is already, if there is one.
+// Writes the last one where it is already, if there is one.
 fn write_last_again<F: Seek + Write>(
     alloc: Global,
     file: &mut F,
-    contents: &Contents,
+    held: &[Bytes],
+    bytes: u64,
 ) -> io::Result<()> {
-    let Some(last) = contents.edits.last() else {
+    let Some(last) = held.last() else {
         return Ok(());
     };
-    let framed = framed_edit(alloc, last.as_slice())?;
-    let offset = contents.edits_bytes.saturating_sub(framed.len() as u64);
+    let framed = frame_of(alloc, last.as_slice())?;
+    let offset = bytes.saturating_sub(framed.len() as u64);
     file.seek(SeekFrom::Start(offset))?;
     file.write_all(framed.as_slice())
 }
 
-// Removes a file, if there is one.
-fn remove_if_there(files: &impl Files, name: &str) -> io::Result<()> {
+/// Writes bytes to a file from this offset on, and syncs them.
+pub(crate) fn write_at<F: Seek + Write + OpenFile>(
+    file: &mut F,
+    offset: u64,
+    bytes: &[u8],
+) -> io::Result<()> {
+    file.seek(SeekFrom::Start(offset))?;
+    file.write_all(bytes)?;
+    file.sync_data()
+}
+
+/// Cuts off what stands in a file from this offset on.
+pub(crate) fn cut_at<F: OpenFile>(file: &F, offset: u64) -> io::Result<()> {
+    file.set_len(offset)?;
+    file.sync_all()
+}
+
+/// Removes a file, if there is one.
+pub(crate) fn remove_if_there(files: &impl Files, name: &str) -> io::Result<()> {
     match fs::remove_file(files, name) {
         Err(error) if error.kind() != ErrorKind::NotFound => Err(error),
         _ => Ok(()),
@@ -242,22 +260,25 @@ fn remove_if_there(files: &impl Files, name: &str) -> io::Result<()> {
 fn write_table_file<R: Files + AllocGlobal>(files: &R, name: &str, table: &[u8]) -> io::Result<()> {
     let mut header = BytesMut::new(files.alloc());
     frame_header(&mut header, table)?;
-    write_file(files, name, header.as_slice(), table)
+    write_file(files, name, header.as_slice(), table)?;
+    Ok(())
 }
 
 /// Makes a file of this name, which no file has, writes two parts to it, and syncs it. If that fails, it is removed.
-pub(crate) fn write_file(
-    files: &impl Files,
+pub(crate) fn write_file<R: Files>(
+    files: &R,
     name: &str,
     front: &[u8],
     rest: &[u8],
-) -> io::Result<()> {
+) -> io::Result<R::File> {
     let mut file = File::create_new(files, name)?;
-    let written = write_parts(&mut file, front, rest);
-    if written.is_err() {
-        let _ = fs::remove_file(files, name);
+    match write_parts(&mut file, front, rest) {
+        Ok(()) => Ok(file),
+        Err(error) => {
+            let _ = fs::remove_file(files, name);
+            Err(error)
+        }
     }
-    written
 }
 
 // Writes two parts to a file, and syncs it.
@@ -267,12 +288,18 @@ fn write_parts<F: Write + OpenFile>(file: &mut F, front: &[u8], rest: &[u8]) -> 
     file.sync_all()
 }
 
-// The frame of an edit.
-fn framed_edit(alloc: Global, edit: &[u8]) -> io::Result<BytesMut> {
+/// The frame of an edit or of a log record.
+pub(crate) fn frame_of(alloc: Global, bytes: &[u8]) -> io::Result<BytesMut> {
     let mut framed = BytesMut::new(alloc);
-    frame_header(&mut framed, edit)?;
-    framed.extend_from_slice(edit)?;
+    put_frame(&mut framed, bytes)?;
     Ok(framed)
+}
+
+/// Appends the frame of an edit or of a log record.
+pub(crate) fn put_frame(out: &mut BytesMut, bytes: &[u8]) -> io::Result<()> {
+    frame_header(out, bytes)?;
+    out.extend_from_slice(bytes)?;
+    Ok(())
 }
 
 // Appends the header of a frame of these bytes. More than a frame can hold is refused.
@@ -294,6 +321,8 @@ impl<R: Files + AllocGlobal + Drop> Folder for HostFolder<R> {
 
     ghost edits = { λ f. f.notes.edits };
 
+    ghost log = { λ f. f.notes.log };
+
     fn put_table(&mut self, number: FileNumber, table: &Bytes) -> io::Result<()> {
         self.incidents
             .noting(self.write_table(number, table.as_slice()))?;
@@ -313,6 +342,26 @@ impl<R: Files + AllocGlobal + Drop> Folder for HostFolder<R> {
         let written = self.write_edit(edit.as_slice());
         self.incidents.noting(written)?;
         self.notes = self.notes.after(&Change::EditAppended(Snapshot::of(edit)));
+        Ok(())
+    }
+
+    fn append_log(&mut self, logged: &Bytes) -> io::Result<()> {
+        let path = self.path.as_str();
+        let written = self
+            .log_file
+            .append(&self.files, path, &self.incidents, logged.as_slice());
+        self.incidents.noting(written)?;
+        self.notes = self.notes.after(&Change::LogAppended(Snapshot::of(logged)));
+        Ok(())
+    }
+
+    fn cut_log(&mut self, count: usize, left: &[Bytes]) -> io::Result<()> {
+        let path = self.path.as_str();
+        let cut = self
+            .log_file
+            .cut(&self.files, path, &self.incidents, count, left);
+        self.incidents.noting(cut)?;
+        self.notes = self.notes.after(&Change::LogCut(count));
         Ok(())
     }
 }

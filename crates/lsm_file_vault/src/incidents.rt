@@ -12,6 +12,8 @@ use std::{fmt, io, mem};
 pub enum SetAside {
     /// The bytes that stood behind the last edit, in the file of this name.
     Edits { name: String, bytes: u64 },
+    /// The bytes that stood behind the last record of the log, in the file of this name.
+    Log { name: String, bytes: u64 },
     /// A table that no edit lists, under this name.
     Table { name: String, number: FileNumber },
 }
@@ -22,6 +24,10 @@ impl fmt::Display for SetAside {
             SetAside::Edits { name, bytes } => write!(
                 f,
                 "{bytes} torn or damaged bytes behind the last edit are set aside in {name}"
+            ),
+            SetAside::Log { name, bytes } => write!(
+                f,
+                "{bytes} torn or damaged bytes behind the last log record are set aside in {name}"
             ),
             SetAside::Table { name, number } => {
                 let number = number.number();

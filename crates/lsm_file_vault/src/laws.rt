@@ -27,8 +27,8 @@ pub fn a_frame_cut_before_zeros_is_torn()
         → is_torn (take k (frame bytes) ++ replicate n 0) ≡ true }
 {}
 
-/// A stop in the middle of an append loses nothing that was appended before: what then stands in the file is read as the edits
-/// before it, and all of the beginning that it left is torn.
+/// A stop in the middle of an append loses nothing that was appended before: what then stands in the file is read as the edits, or the
+/// records of the log, before it, and all of the beginning that it left is torn.
 pub fn a_stop_loses_no_edit()
     ensures { (written read : List (List ℕ)) (last : List ℕ) (k bytes torn : ℕ) → AllFit written → AllFit read → length last < 2 ^ 32
         → ((i : ℕ) → slice_index (take k (frame last)) i < 256) → k < length (frame last)

@@ -1,14 +1,15 @@
-//! The vault in a folder: edits and tables in files, so that a store outlives its process.
+//! The vault in a folder: edits, tables and the log in files, so that a store outlives its process.
 //!
 //! It promises of `FileVault`, over any `Folder`, all that `Vault` does: what it shows is what the calls on its folder leave that
 //! returned `Ok`. It promises of an opening that the edits taken are the frames at the front of their file, and that what is left out
-//! behind them is what a stop in the middle of an append may leave; anything else is refused by name. An opening changes nothing: what
-//! it left out is set aside by the first append, and nothing is deleted but a table that is removed and one that was never finished.
+//! behind them is what a stop in the middle of an append may leave; anything else is refused by name. So it is with the records of the
+//! log. An opening changes nothing: what it left out is set aside by the first append, and nothing is deleted but a table that is
+//! removed, records that are cut off, and a file that was never finished.
 //! It stands on `lsm_vault` for the contract and for tables in memory, and on `lsm_key` for fields.
 //!
-//! Trusted: that `HostFolder` makes the calls on files that it notes (`host_folder.rt`, since no clause tells of a file); that
-//! `Notes`, which no memory holds and two proofs by hand set, is written by nothing else; that a file which was synced gives back what
-//! was written. Crashes are not modelled.
+//! Trusted: that `HostFolder` makes the calls on files that it notes (`host_folder.rt` and `log_file.rt`, since no clause tells of a
+//! file); that `Notes`, which no memory holds and two proofs by hand set, is written by nothing else; that a file which was synced gives
+//! back what was written. Crashes are not modelled.
 #![tactic(auto)]
 
 mod aside;
@@ -23,6 +24,7 @@ mod host_folder;
 mod incidents;
 mod laws;
 mod listing;
+mod log_file;
 mod names;
 mod notes;
 mod opening;

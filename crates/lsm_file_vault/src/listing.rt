@@ -16,6 +16,7 @@ pub(crate) struct Listing {
     /// The names of the files that were set aside, in order.
     pub lost_files: Vec<String>,
     pub has_edits: bool,
+    pub has_log: bool,
     pub has_new: bool,
 }
 
@@ -51,6 +52,7 @@ impl Found {
                 numbers: Vec::new(alloc),
                 lost_files: Vec::new(alloc),
                 has_edits: false,
+                has_log: false,
                 has_new: false,
             },
             beside: None,
@@ -66,7 +68,8 @@ impl Found {
                 self.listing.lost_files.push(name)?;
             }
             FileKind::Edits => self.listing.has_edits = true,
-            FileKind::NewTable => self.listing.has_new = true,
+            FileKind::Log => self.listing.has_log = true,
+            FileKind::New => self.listing.has_new = true,
             FileKind::Lock => {}
             FileKind::Beside => self.beside = Some(file_path(alloc, path, name)?),
             FileKind::Foreign => {

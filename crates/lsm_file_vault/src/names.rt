@@ -6,8 +6,11 @@ use std::alloc::{AllocError, Global};
 /// The file of the edits.
 pub(crate) const EDITS: &str = "edits";
 
-/// The file that a table is written to before it takes its own name.
-pub(crate) const NEW_TABLE: &str = "new";
+/// The file of the log.
+pub(crate) const LOG: &str = "log";
+
+/// The file that a table, or a log that was cut, is written to before it takes its own name.
+pub(crate) const NEW_FILE: &str = "new";
 
 /// The file that the process which has the folder open has locked.
 pub(crate) const LOCK: &str = "lock";
@@ -22,7 +25,8 @@ const DIGITS: usize = 20;
 pub(crate) enum FileKind {
     Table(FileNumber),
     Edits,
-    NewTable,
+    Log,
+    New,
     Lock,
     /// Set aside: nobody reads it.
     Lost,
@@ -35,7 +39,8 @@ pub(crate) enum FileKind {
 pub(crate) fn kind_of(name: &str) -> FileKind {
     match name {
         EDITS => FileKind::Edits,
-        NEW_TABLE => FileKind::NewTable,
+        LOG => FileKind::Log,
+        NEW_FILE => FileKind::New,
         LOCK => FileKind::Lock,
         "lost+found" => FileKind::Beside,
         _ if name.starts_with('.') => FileKind::Beside,
@@ -72,12 +77,17 @@ pub(crate) fn table_path(
     format!(in alloc; "{folder}/{number:020}.table")
 }
 
-/// The name under which the bytes behind the last edit are set aside, which begin at this offset. The first copy has the plain name.
-pub(crate) fn lost_edits_name(alloc: Global, offset: u64, copy: u64) -> Result<String, AllocError> {
+/// The name under which torn bytes are set aside that begin at this offset of the file of this name. The first copy has the plain name.
+pub(crate) fn lost_bytes_name(
+    alloc: Global,
+    file: &str,
+    offset: u64,
+    copy: u64,
+) -> Result<String, AllocError> {
     if copy == 1 {
-        format!(in alloc; "{LOST}edits-{offset}")
+        format!(in alloc; "{LOST}{file}-{offset}")
     } else {
-        format!(in alloc; "{LOST}edits-{offset}-{copy}")
+        format!(in alloc; "{LOST}{file}-{offset}-{copy}")
     }
 }
 

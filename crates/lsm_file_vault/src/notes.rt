@@ -6,12 +6,13 @@ ghost use Rattle.lsm_vault.specs.Stored.{TableMap, table_map_code};
 use crate::{Change, Contents};
 use std::marker::{Model, PhantomData};
 
-/// The tables and the edits of a folder. It has no bytes and owns nothing: it says what the code that notes changes says.
+/// The tables, the edits and the log of a folder. It has no bytes and owns nothing: it says what the code that notes changes says.
 #[derive(Drop)]
 pub struct Notes {
     marker: PhantomData<u8>,
     pub ghost tables: { TableMap } by { table_map_code },
     pub ghost edits: { List (List ℕ) },
+    pub ghost log: { List (List ℕ) },
 }
 
 impl Model for Notes {
@@ -21,11 +22,11 @@ impl Model for Notes {
 }
 
 impl Notes {
-    ghost use Rattle.lsm_file_vault.specs.Changes.{tables_after, edits_after};
+    ghost use Rattle.lsm_file_vault.specs.Changes.{tables_after, edits_after, log_after};
 
     /// What was found in the folder.
     pub(crate) fn of(contents: &Contents) -> Notes
-        ensures { (result.tables ≡ contents.now.tables) × (result.edits ≡ contents.now.edits.items) }
+        ensures { (result.tables ≡ contents.now.tables) × (result.edits ≡ contents.now.edits.items) × (result.log ≡ contents.now.log.items) }
     {
         let _ = contents;
         Notes {
@@ -35,7 +36,7 @@ impl Notes {
 
     /// What a change of it leaves.
     pub(crate) fn after(&self, change: &Change) -> Notes
-        ensures { (result.tables ≡ tables_after change.now self.now.tables) × (result.edits ≡ edits_after change.now self.now.edits) }
+        ensures { (result.tables ≡ tables_after change.now self.now.tables) × (result.edits ≡ edits_after change.now self.now.edits) × (result.log ≡ log_after change.now self.now.log) }
     {
         let _ = change;
         Notes {

@@ -26,11 +26,12 @@ where
 /// Opens the vault in the folder at `path`, and makes the folder if there is none; the folder above it has to be there. No other
 /// process can open it until the vault is dropped or this process ends.
 ///
-/// Every file stays as it is: what is behind the last edit is set aside only by the first edit that is appended, and a table that is
-/// removed before is renamed then. So whoever opens a store refuses it, for what was read, before anything was changed.
+/// Every file stays as it is: what is behind the last edit and the last log record is set aside only by the first edit that is
+/// appended, and a table that is removed before is renamed then. So whoever opens a store refuses it, for what was read, before
+/// anything was changed.
 ///
 /// Of several reasons against it the first one in this order is reported: `NotAFolder`, `ForeignFile`, `Busy`, `MissingEdits`,
-/// `DamagedEdits`, `DamagedTable`. Then nothing was changed but that the folder was made and, if no file is foreign, its lock.
+/// `DamagedEdits`, `DamagedLog`, `DamagedTable`. Then nothing was changed but that the folder was made and, if no file is foreign, its lock.
 pub fn open(rt: &HostRuntime, path: &str) -> Result<Opened<HostRuntime>, OpenError>
     ensures failures { IfOk result (λ opened. ⟦<FileVault<HostFolder<HostRuntime>> as Vault>⟧.failures opened.vault ≡ 0) }
 {
@@ -71,7 +72,7 @@ fn open_contents<R: Files + AllocGlobal + Clone + Drop>(
     let contents = whole_contents(&files, path)?;
     let incidents = Incidents::new(alloc)?;
     let folder = HostFolder::new(files, path, &contents, lock, incidents.share()?)?;
-    let vault = FileVault::new(alloc, folder, contents.tables, contents.edits);
+    let vault = FileVault::new(alloc, folder, contents.tables, contents.edits, contents.log);
     Ok(Opened { vault, incidents })
 }
 

@@ -4,6 +4,7 @@ use bytes::Bytes;
 use lsm_file_vault::{FileCall, OpenError, open};
 use lsm_key::FileNumber;
 use lsm_vault::{Vault, VaultError};
+use std::alloc::Global;
 use std::fs;
 use std::test::Fail;
 
@@ -61,6 +62,127 @@ fn what_was_put_is_there_after_an_opening(rt: HostRuntime) -> Result<(), Fail> {
     for (number, table) in [(3, "three"), (7, "again"), (12, "")] {
         assert!(rt; has(&mut vault, number, table.as_bytes())?, "{number}");
     }
+    fs::remove_dir_all(&rt, path)?;
+    Ok(())
+}
+
+/// Appends these records to the log.
+fn log_all<V: Vault>(vault: &mut V, records: &[&'static str]) -> Result<(), VaultError> {
+    for record in records {
+        let record = *record;
+        vault.append_log(Bytes::from_static(record.as_bytes()))?;
+    }
+    Ok(())
+}
+
+/// The records of the log, each behind a comma.
+fn told_log<V: Vault>(alloc: Global, vault: &mut V) -> Result<Vec<u8>, VaultError> {
+    let mut told = Vec::new(alloc);
+    for record in vault.log()? {
+        told.push(b',')?;
+        told.extend_from_slice(record.as_slice())?;
+    }
+    Ok(told)
+}
+
+// A part of a log is cut off by a new file, and a whole log in its own.
+#[test]
+fn a_log_is_there_after_an_opening(rt: HostRuntime) -> Result<(), Fail> {
+    let path = "lsm_file_vault_log";
+    let _ = fs::remove_dir_all(&rt, path);
+    let mut vault = open(&rt, path)?.vault;
+    log_all(&mut vault, &["one", "", "three"])?;
+    vault.cut_log(1)?;
+    log_all(&mut vault, &["four"])?;
+    drop(vault);
+    let mut vault = open(&rt, path)?.vault;
+    let told = told_log(rt.alloc(), &mut vault)?;
+    assert!(rt; told.as_slice() == b",,three,four".as_slice(), "{told:?}");
+    vault.cut_log(9)?;
+    log_all(&mut vault, &["five"])?;
+    drop(vault);
+    let mut vault = open(&rt, path)?.vault;
+    let told = told_log(rt.alloc(), &mut vault)?;
+    assert!(rt; told.as_slice() == b",five".as_slice(), "{told:?}");
+    fs::remove_dir_all(&rt, path)?;
+    Ok(())
+}
+
+// The frame of `one` has 19 bytes.
+#[test]
+fn a_torn_record_is_set_aside_by_the_next_one(rt: HostRuntime) -> Result<(), Fail> {
+    let path = "lsm_file_vault_torn_log";
+    let _ = fs::remove_dir_all(&rt, path);
+    let mut vault = open(&rt, path)?.vault;
+    log_all(&mut vault, &["one"])?;
+    drop(vault);
+    let mut bytes = fs::read(&rt, "lsm_file_vault_torn_log/log")?;
+    bytes.push(7)?;
+    fs::write(&rt, "lsm_file_vault_torn_log/log", bytes.as_slice())?;
+    let mut vault = open(&rt, path)?.vault;
+    log_all(&mut vault, &["two"])?;
+    drop(vault);
+    let mut vault = open(&rt, path)?.vault;
+    let told = told_log(rt.alloc(), &mut vault)?;
+    assert!(rt; told.as_slice() == b",one,two".as_slice(), "{told:?}");
+    let lost = fs::read(&rt, "lsm_file_vault_torn_log/lost-log-19")?;
+    assert!(rt; lost.as_slice() == b"\x07".as_slice(), "{lost:?}");
+    fs::remove_dir_all(&rt, path)?;
+    Ok(())
+}
+
+/// Makes a change of a log: a record is appended, or as many are cut off as the count says.
+fn change<V: Vault>(vault: &mut V, record: &'static str, count: usize) -> Result<(), VaultError> {
+    if count > 0 {
+        return vault.cut_log(count);
+    }
+    vault.append_log(Bytes::from_static(record.as_bytes()))
+}
+
+/// Makes changes of a log, and prints how each ended. Returns whether each was made.
+fn change_all<V: Vault>(rt: &HostRuntime, vault: &mut V) -> Result<bool, Fail> {
+    let mut are_made = true;
+    for (record, count) in [
+        ("", 9),
+        ("one", 0),
+        ("two", 0),
+        ("three", 0),
+        ("", 1),
+        ("four", 0),
+        ("", 9),
+        ("five", 0),
+        ("six", 0),
+        ("", 1),
+        ("seven", 0),
+    ] {
+        match change(vault, record, count) {
+            Ok(()) => println!(rt; "done")?,
+            Err(VaultError::Device) => {
+                are_made = false;
+                println!(rt; "refused")?;
+            }
+            Err(why) => Err(why)?,
+        }
+    }
+    Ok(are_made)
+}
+
+// `tests/crash` stops it at each of its calls on files, and lets such calls fail: so it prints, and begins with what it finds.
+#[test]
+fn a_log_is_changed(rt: HostRuntime) -> Result<(), Fail> {
+    let path = "lsm_file_vault_changes";
+    let mut vault = open(&rt, path)?.vault;
+    let found = told_log(rt.alloc(), &mut vault)?;
+    println!(rt; "found {found:?}")?;
+    let are_made = change_all(&rt, &mut vault)?;
+    drop(vault);
+    let mut vault = open(&rt, path)?.vault;
+    let found = told_log(rt.alloc(), &mut vault)?;
+    println!(rt; "found {found:?}")?;
+    assert!(rt;
+        !are_made || found.as_slice() == b",six,seven".as_slice(),
+        "{found:?}"
+    );
     fs::remove_dir_all(&rt, path)?;
     Ok(())
 }

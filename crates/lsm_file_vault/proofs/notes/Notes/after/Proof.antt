@@ -16,7 +16,7 @@ use denote.Signature.{plain}
 use denote.Steps.{nothing}
 use denote.Triple.Walked.{Stays, walk_of, says, stay_dropped, Goes-dropped, ends_at}
 use Rattle.lsm_file_vault.specs.declared.notes.Notes.{Notes}
-use Rattle.lsm_file_vault.specs.Changes.{tables_after, edits_after}
+use Rattle.lsm_file_vault.specs.Changes.{tables_after, edits_after, log_after}
 use Rattle.lsm_file_vault.specs.contracts.change.Change as change
 use Rattle.lsm_file_vault.specs.contracts.notes.Notes as notes
 use Rattle.lsm_file_vault.specs.contracts.notes.Notes.after as f
@@ -37,11 +37,11 @@ after_spec 𝓤 𝓛 𝓜 𝓡 wired =
     f.Key.name code.function (code.unfolded 𝓤 𝓛.H 𝓜 𝓡 wired)
     (λ κs. (shr_vals, (shr_vals, tt))) (λ κs. (shr_Tells (named 0) κs.0 notes.the_row, (shr_Tells (named 1) κs.1.0 change.the_row, tt))) (λ κs qs bounds a g are.
     let y : W.Ghost = ((κs, qs, bounds, a, (shr_vals a.0, (shr_vals a.1.0, tt))), tt) in
-    let r : Notes = record { marker = record {}; tables = tables_after a.1.0.now a.0.now.tables; edits = edits_after a.1.0.now a.0.now.edits } in
+    let r : Notes = record { marker = record {}; tables = tables_after a.1.0.now a.0.now.tables; edits = edits_after a.1.0.now a.0.now.edits; log = log_after a.1.0.now a.0.now.log } in
     qed 𝓛 (((‵ (flft κs.0 qs.0) ⊛ (‵ (flft κs.1.0 qs.1.0) ⊛ ‵ ftrue)) ⊛ ‵ ((ShrRef (named 0) κs.0 notes.the_row).own_val a.0 (shr_vals a.0)) ⊛ ‵ ((ShrRef (named 1) κs.1.0 change.the_row).own_val a.1.0 (shr_vals a.1.0)) ⊛ ‵ ftrue) ∷ ‵ ftrue ∷ []) ∵ split ! $ keep ! (0 ∷ []) $
     enter ! _ _ _ _ _ $ alloc_all ! (λ l. pass_all ! refl ((tt, tt), ((tt, tt), tt)) $
     sets ! (agg ! (no_more !)) refl (tt, tt) $ sets ! (agg ! (and_then ! (get ! refl) (no_more !))) refl (tt, (tt, tt)) $
     returns ! (look_at ! 0 refl) $ free_all ! refl $
     pure_i ! ((notes.the_row).own_val r (v ∷ [])) ((λ vss. (tt, ((λ uss. (tt, tt)), tt))), tt) (((vstruct vnil ∷ [], tt), (refl, ((tt, (refl, tt)), tt))), tt) $
-    suffices ! _ (ends_at 𝓛 f.ended stayed c y v r (tt, (tt, tt)) (tt, (tt, tt))) $ says ! (refl, refl) $
+    suffices ! _ (ends_at 𝓛 f.ended stayed c y v r (tt, (tt, tt)) (tt, (tt, tt))) $ says ! (refl, refl, refl) $
     nothing ! $ nothing ! $ fjoin ! $ nothing ! $ fjoin ! $ join ! $ move ! (1 ∷ 0 ∷ []) $ join ! $ done !))
