@@ -1,5 +1,5 @@
 -- A version set as it is opened, and after the edit of its next epoch.
-use Rattle.std.proofs.Common.{◌≡◌, ℕ, Bool, ◌++◌, ◌∷◌, [], List, filter, map, refl, sym, ap, subst, ◌∙◌, inl, inr}
+use Rattle.std.proofs.Common.{◌≡◌, ℕ, ◌≤◌, Bool, ◌++◌, ◌∷◌, [], List, filter, map, refl, sym, ap, subst, ◌∙◌, inl, inr, arith}
 use Rattle.std.specs.List.{list_any}
 use Rattle.std.specs.FinMap.{retain_keys}
 use Rattle.lsm_key.specs.Sets.{IsIn}
@@ -11,11 +11,11 @@ use Rattle.lsm_edit.specs.Served.{IsServed, ServedValue, after_advance}
 use Rattle.lsm_edit.specs.Version.{VersionValue, after_apply, has_number}
 use Rattle.lsm_vault.specs.Stored.{TableMap, VaultValue}
 use Rattle.lsm_versions.specs.declared.error.OpenError.{OpenError}
-use Rattle.lsm_versions.specs.declared.error.OpenError.TheVariants.{OutOfMemory, BadManifest, MissingTable, Device, NumbersExhausted}
+use Rattle.lsm_versions.specs.declared.error.OpenError.TheVariants.{OutOfMemory, BadManifest, MissingTable, BadLog, Device, NumbersExhausted}
 use Rattle.lsm_versions.specs.declared.retired.Retired.{Retired}
 use Rattle.lsm_versions.specs.Kept.{StaysApart, put_tables}
 use Rattle.lsm_versions.specs.Manifest.{IsVersionSet, VersionSetValue, after_logging}
-use Rattle.lsm_versions.specs.Opening.{AreExhausted, EpochRefused, HaveTables, IsNextEpoch, MayHaveDropped, MayHaveLost, MayHaveLostObsolete, OpenRefuses, Opens, Recovers, is_live_file, manifest_version}
+use Rattle.lsm_versions.specs.Opening.{CountsRefusal, EpochRefused, HaveTables, IsNextEpoch, IsRecoverable, MayHaveDropped, MayHaveLost, MayHaveLostObsolete, OpenRefuses, Opens, RecoverRefuses, Recovers, is_live_file, manifest_version}
 use Rattle.lsm_versions.specs.Retention.{put_each, retire, retired_after}
 use Rattle.lsm_versions.proofs.PutTables.{placed_none}
 use Rattle.lsm_versions.proofs.RecoveredTables.{have_tables}
@@ -29,6 +29,10 @@ recovered_set vault s failures is = record {
   retired = none_retired vault.edits s.version is.folds;
   kept = record { listed = is.tables; removed = λ r m. absurd m };
 }
+
+-- a version set is at what its vault's edits replay to
+pub set_recovers : (v : VersionSetValue) → IsVersionSet v → Recovers v.stored v.served
+set_recovers v set = record { folds = set.folds; tables = set.kept.listed }
 
 -- ---- the next epoch
 
@@ -81,16 +85,11 @@ module _ (vault : VaultValue) (s : ServedValue) (is : Recovers vault s) (served 
   version_is : manifest_version vault.edits ≡ s.version
   version_is = is.folds.makes
 
-  pub epoch_refused : (why : OpenError) → EpochRefused s.version why → OpenRefuses vault why
-  epoch_refused BadManifest h = absurd h
-  epoch_refused MissingTable h = absurd h
-  epoch_refused NumbersExhausted h = (
-    folds_once vault.edits s.version is.folds,
-    subst (λ (v : VersionValue). HaveTables vault.tables v.files) (sym version_is) (have_tables vault.tables s served is.tables),
-    subst AreExhausted (sym version_is) h,
-  )
-  epoch_refused OutOfMemory h = tt
-  epoch_refused Device h = tt
+  pub recoverable : IsRecoverable vault
+  recoverable = record {
+    folds = folds_once vault.edits s.version is.folds;
+    tables = subst (λ (v : VersionValue). HaveTables vault.tables v.files) (sym version_is) (have_tables vault.tables s served is.tables);
+  }
 
   obsolete_lost : (new : VaultValue) → new ≡ record vault { tables = new.tables } → MayHaveLost (is_live_file s.version.files []) vault.tables new.tables → MayHaveLostObsolete vault new
   obsolete_lost new rest lost = record {
@@ -102,6 +101,7 @@ module _ (vault : VaultValue) (s : ServedValue) (is : Recovers vault s) (served 
   pub epoch_dropped : (why : OpenError) (new : VaultValue) → EpochRefused s.version why → new ≡ record vault { tables = new.tables } → MayHaveLost (is_live_file s.version.files []) vault.tables new.tables → (why ≡ NumbersExhausted → new ≡ vault) → MayHaveDropped why vault new
   epoch_dropped BadManifest new h rest lost same = absurd h
   epoch_dropped MissingTable new h rest lost same = absurd h
+  epoch_dropped BadLog new h rest lost same = absurd h
   epoch_dropped NumbersExhausted new h rest lost same = same refl
   epoch_dropped OutOfMemory new h rest lost same = inr (obsolete_lost new rest lost)
   epoch_dropped Device new h rest lost same = inr (obsolete_lost new rest lost)
@@ -116,3 +116,41 @@ module _ (vault : VaultValue) (s : ServedValue) (is : Recovers vault s) (served 
         floor = next.floor;
         retired = next.retired;
       }
+
+-- ---- an opening in its two parts
+
+-- what refuses to read a vault refuses the opening
+pub recover_refuses : (vault : VaultValue) (why : OpenError) → RecoverRefuses vault why → OpenRefuses vault why
+recover_refuses vault BadManifest h = h
+recover_refuses vault MissingTable h = h
+recover_refuses vault BadLog h = absurd h
+recover_refuses vault NumbersExhausted h = absurd h
+recover_refuses vault OutOfMemory h = tt
+recover_refuses vault Device h = tt
+
+-- what refuses the next epoch of a vault that was read refuses the opening
+pub epoch_refuses : (vault : VaultValue) → IsRecoverable vault → (why : OpenError) → EpochRefused (manifest_version vault.edits) why → OpenRefuses vault why
+epoch_refuses vault is BadManifest h = absurd h
+epoch_refuses vault is MissingTable h = absurd h
+epoch_refuses vault is BadLog h = absurd h
+epoch_refuses vault is NumbersExhausted h = (is.folds, is.tables, h)
+epoch_refuses vault is OutOfMemory h = tt
+epoch_refuses vault is Device h = tt
+
+-- a vault that is as it was may be what any refusal leaves
+pub unchanged_dropped : (why : OpenError) (old new : VaultValue) → new ≡ old → MayHaveDropped why old new
+unchanged_dropped OutOfMemory old new same = inl same
+unchanged_dropped Device old new same = inl same
+unchanged_dropped BadManifest old new same = same
+unchanged_dropped MissingTable old new same = same
+unchanged_dropped BadLog old new same = same
+unchanged_dropped NumbersExhausted old new same = same
+
+-- the failures before the second part are those before the first, or more
+pub counted_from : (why : OpenError) (before mid after : ℕ) → before ≤ mid → CountsRefusal why mid after → CountsRefusal why before after
+counted_from OutOfMemory before mid after le counted = omega arith
+counted_from Device before mid after le counted = omega arith
+counted_from BadManifest before mid after le counted = omega arith
+counted_from MissingTable before mid after le counted = omega arith
+counted_from BadLog before mid after le counted = omega arith
+counted_from NumbersExhausted before mid after le counted = omega arith

@@ -13,3 +13,4 @@ pub mod ReplayedEdits
 pub mod RecoveredTables
 pub mod Epochs
 pub mod CachedReads
+pub mod OtherLogs

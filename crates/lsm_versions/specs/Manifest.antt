@@ -39,7 +39,7 @@ pub record Folds (texts : List (List ℕ)) (v : VersionValue) : Type 0 where
 -- a version with its tables, the removed files that are kept from the floor on, and what the vault has
 pub record VersionSetValue : Type 0 where
   pub served : ServedValue
-  pub stored : VaultValue  -- the vault's edits and tables
+  pub stored : VaultValue  -- what the vault has
   pub retired : List Retired
   pub floor : ℕ
   pub failures : ℕ  -- how often the vault's device failed

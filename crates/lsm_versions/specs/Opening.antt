@@ -9,6 +9,7 @@ use Rattle.lsm_edit.specs.declared.file.FileMeta.{FileMeta}
 use Rattle.lsm_edit.specs.declared.served.Placed.{Placed}
 use Rattle.lsm_edit.specs.Edit.{edit}
 use Rattle.lsm_edit.specs.Edits.{after_edits}
+use Rattle.lsm_edit.specs.Log.{BadLog as IsBadLog}
 use Rattle.lsm_edit.specs.Next.{epoch_edit}
 use Rattle.lsm_edit.specs.Served.{IsAsRecorded, ServedValue, after_advance}
 use Rattle.lsm_edit.specs.Version.{VersionValue, after_apply, first_version, has_number}
@@ -16,7 +17,7 @@ use Rattle.lsm_vault.specs.declared.error.VaultError.{VaultError}
 use Rattle.lsm_vault.specs.declared.error.VaultError.TheVariants as fault
 use Rattle.lsm_vault.specs.Stored.{TableMap, VaultValue}
 use Rattle.lsm_versions.specs.declared.error.OpenError.{OpenError}
-use Rattle.lsm_versions.specs.declared.error.OpenError.TheVariants.{OutOfMemory, BadManifest, MissingTable, Device, NumbersExhausted}
+use Rattle.lsm_versions.specs.declared.error.OpenError.TheVariants.{OutOfMemory, BadManifest, MissingTable, BadLog, Device, NumbersExhausted}
 use Rattle.lsm_versions.specs.declared.retired.Retired.{Retired}
 use Rattle.lsm_versions.specs.Manifest.{Folds, VersionSetValue, read_edits}
 use Rattle.lsm_versions.specs.Retention.{retired_at}
@@ -65,14 +66,34 @@ HaveTables tables files = (f : FileMeta) → IsIn f files → (t : Opened) × (m
 abbrev pub ArePlacesKept : TableMap → List Placed → Type 0
 ArePlacesKept tables places = (p : Placed) → IsIn p places → map.get tables p.meta.number ≡ Some p.table.bytes
 
+-- the edits replay, and each file of the version that they make has its table
+pub record IsRecoverable (vault : VaultValue) : Type 0 where
+  pub folds : Folds vault.edits (manifest_version vault.edits)
+  pub tables : HaveTables vault.tables (manifest_version vault.edits).files
+
+-- a vault that was read, before the next epoch begins
+pub record RecoveredValue : Type 0 where
+  pub stored : VaultValue
+  pub failures : ℕ  -- how often the vault's device failed
+
 -- there is no next version or no next epoch
 abbrev pub AreExhausted : VersionValue → Type 0
 AreExhausted v = (MAX_NUMBER ≤ v.number) ⊎ (MAX_NUMBER ≤ v.epoch)
 
--- a vault with these edits and tables is not opened, for this reason
+-- a vault is not read, for this reason
+abbrev pub RecoverRefuses : VaultValue → OpenError → Type 0
+RecoverRefuses vault BadManifest = Folds vault.edits (manifest_version vault.edits) → ⊥
+RecoverRefuses vault MissingTable = Folds vault.edits (manifest_version vault.edits) × IsLacking vault.tables (manifest_version vault.edits).files
+RecoverRefuses vault BadLog = ⊥
+RecoverRefuses vault NumbersExhausted = ⊥
+RecoverRefuses vault OutOfMemory = Unit {0}
+RecoverRefuses vault Device = Unit {0}
+
+-- A vault is not opened, for this reason. Of a version set alone a bad log is none.
 abbrev pub OpenRefuses : VaultValue → OpenError → Type 0
 OpenRefuses vault BadManifest = Folds vault.edits (manifest_version vault.edits) → ⊥
 OpenRefuses vault MissingTable = Folds vault.edits (manifest_version vault.edits) × IsLacking vault.tables (manifest_version vault.edits).files
+OpenRefuses vault BadLog = Folds vault.edits (manifest_version vault.edits) × HaveTables vault.tables (manifest_version vault.edits).files × IsBadLog (manifest_version vault.edits).flushed vault.log
 OpenRefuses vault NumbersExhausted = Folds vault.edits (manifest_version vault.edits) × HaveTables vault.tables (manifest_version vault.edits).files × AreExhausted (manifest_version vault.edits)
 OpenRefuses vault OutOfMemory = Unit {0}
 OpenRefuses vault Device = Unit {0}
@@ -88,6 +109,7 @@ CountsRefusal Device before after = before < after
 CountsRefusal OutOfMemory before after = before ≤ after
 CountsRefusal BadManifest before after = before ≤ after
 CountsRefusal MissingTable before after = before ≤ after
+CountsRefusal BadLog before after = before ≤ after
 CountsRefusal NumbersExhausted before after = before ≤ after
 
 -- the manifest replays, and nothing changed but that some tables that no file needs may be gone
@@ -102,6 +124,7 @@ MayHaveDropped OutOfMemory old new = (new ≡ old) ⊎ MayHaveLostObsolete old n
 MayHaveDropped Device old new = (new ≡ old) ⊎ MayHaveLostObsolete old new
 MayHaveDropped BadManifest old new = new ≡ old
 MayHaveDropped MissingTable old new = new ≡ old
+MayHaveDropped BadLog old new = new ≡ old
 MayHaveDropped NumbersExhausted old new = new ≡ old
 
 -- the version that the edits replay to, with the tables of the vault
@@ -120,6 +143,7 @@ pub record IsNextEpoch (old new : VersionSetValue) : Type 0 where
 abbrev pub EpochRefused : VersionValue → OpenError → Type 0
 EpochRefused v BadManifest = ⊥
 EpochRefused v MissingTable = ⊥
+EpochRefused v BadLog = ⊥
 EpochRefused v NumbersExhausted = AreExhausted v
 EpochRefused v OutOfMemory = Unit {0}
 EpochRefused v Device = Unit {0}

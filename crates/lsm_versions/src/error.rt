@@ -13,6 +13,8 @@ pub enum OpenError {
     BadManifest,
     #[error("a file's table is missing or not as recorded")]
     MissingTable,
+    #[error("a record of the log is not valid or not in its place")]
+    BadLog,
     #[error("the device failed")]
     Device,
     #[error("the version or epoch numbers are exhausted")]

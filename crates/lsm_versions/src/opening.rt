@@ -9,7 +9,7 @@ ghost use Rattle.lsm_edit.specs.Edit.{IsSpelledEdit, read_edit};
 ghost use Rattle.lsm_edit.specs.Served.{AreAsRecorded, IsAsRecorded, placed_of};
 ghost use Rattle.lsm_vault.specs.Failures.{CountsFailures};
 ghost use Rattle.lsm_versions.specs.Manifest.{Folds, edits_from, ok_items};
-ghost use Rattle.lsm_versions.specs.Opening.{ArePlacesKept, CountsRefusal, IsLacking, LacksTable, OpenRefuses, Recovers, manifest_version};
+ghost use Rattle.lsm_versions.specs.Opening.{ArePlacesKept, CountsRefusal, IsLacking, LacksTable, RecoverRefuses, Recovers, manifest_version};
 
 use crate::OpenError;
 use crate::recent::edits_below;
@@ -27,7 +27,7 @@ pub(crate) fn recover<V: Vault>(
 ) -> Result<(Served, Vec<Bytes>), OpenError>
     ensures ok { IfOk result (λ r. Recovers (V.stored vault.old) r.0) }
     ensures recent { IfOk result (λ r. r.1.items ≡ edits_from r.0.version.number (V.stored vault.old).edits) }
-    ensures refused { IfErr result (OpenRefuses (V.stored vault.old)) }
+    ensures refused { IfErr result (RecoverRefuses (V.stored vault.old)) }
     ensures stays { V.stored vault.new ≡ V.stored vault.old }
     ensures failures { V.failures vault.old ≤ V.failures vault.new }
     ensures counted { IfErr result (λ e. CountsRefusal e (V.failures vault.old) (V.failures vault.new)) }

@@ -1,7 +1,7 @@
 //! The version set: the current version with its tables, the vault with the edits that made it, and the files that versions from
 //! the floor on have and the current one lacks.
 
-ghost use Rattle.std.specs.Prelude.{◌≡◌, ◌+◌, ◌<◌, ◌≤◌, List, [], None, Some, IfErr, IfOk, IfSome, OnOk, OnErr, slice_get};
+ghost use Rattle.std.specs.Prelude.{◌≡◌, ◌+◌, ◌<◌, ◌≤◌, ◌++◌, ◌∷◌, List, [], None, Some, IfErr, IfOk, IfSome, OnOk, OnErr, drop, slice_get};
 ghost use Rattle.std.specs.Option.{option_copied};
 ghost use Rattle.lsm_key.specs.declared.entry.Entry.{Entry};
 ghost use Rattle.lsm_key.specs.Places.{first_visible};
@@ -13,7 +13,7 @@ ghost use Rattle.lsm_vault.specs.Failures.{CountsFailures};
 ghost use Rattle.lsm_versions.specs.Cached.{CopiesValue};
 ghost use Rattle.lsm_versions.specs.Manifest.{IsVersionSet, MayHavePut, after_logging, after_trimming, read_edits};
 ghost use Rattle.lsm_versions.specs.Kept.{IsTableOf, StaysApart};
-ghost use Rattle.lsm_versions.specs.Opening.{CountsRefusal, EpochRefused, IsNextEpoch, MayHaveDropped, MayHaveLost, OpenRefuses, Opens, is_live, is_live_file, obsolete_tables, without_obsolete};
+ghost use Rattle.lsm_versions.specs.Opening.{CountsRefusal, EpochRefused, IsNextEpoch, IsRecoverable, MayHaveDropped, MayHaveLost, OpenRefuses, Opens, RecoverRefuses, is_live, is_live_file, obsolete_tables, without_obsolete};
 ghost use Rattle.lsm_versions.specs.declared.error.OpenError.TheVariants.{NumbersExhausted};
 ghost use Rattle.lsm_versions.specs.Retention.{bytes_at};
 
@@ -22,6 +22,7 @@ use crate::cached::{new_cache, value_through};
 use crate::opening::{edit_of, recover};
 use crate::putting::{number_tables, remove_obsolete, store};
 use crate::recent::{edits_below, let_go, push_recent};
+use crate::recovered::Recovered;
 use crate::retired::{Retired, put_retired, retired_by, retired_bytes};
 use bytes::Bytes;
 use lsm_cache::BlockCache;
@@ -65,14 +66,29 @@ impl<V: Vault> Model for VersionSet<V> {
 }
 
 impl<V: Vault> VersionSet<V> {
-    /// Opens what a vault has: replays its edits, reads the tables of the version that they make, removes all other tables, and
-    /// logs the edit of the next epoch. The floor is the version after it. A refusal hands the vault back, whose edits are as
-    /// before; some of those other tables may be gone.
+    /// Opens what a vault has: recovers it, and begins the next epoch. A refusal hands the vault back, whose edits and log are as
+    /// before; some tables that no file of the version needs may be gone.
     pub fn open(alloc: Global, vault: V) -> Result<VersionSet<V>, (OpenError, V)>
         ensures ok { IfOk result (Opens (V.stored vault)) }
         ensures failures { IfOk result (λ v. V.failures vault ≤ v.failures) }
         ensures refused { IfErr result (λ e. OpenRefuses (V.stored vault) e.0) }
         ensures left { IfErr result (λ e. MayHaveDropped e.0 (V.stored vault) (V.stored e.1)) }
+        ensures counted { IfErr result (λ e. CountsRefusal e.0 (V.failures vault) (V.failures e.1)) }
+    {
+        match VersionSet::recover(alloc, vault) {
+            Ok(recovered) => recovered.begin(),
+            Err(refused) => Err(refused),
+        }
+    }
+
+    /// Reads what a vault has: replays its edits, and reads the tables of the version that they make. Changes nothing; a refusal
+    /// hands the vault back.
+    pub fn recover(alloc: Global, vault: V) -> Result<Recovered<V>, (OpenError, V)>
+        ensures ok { IfOk result (λ recovered. recovered.stored ≡ V.stored vault) }
+        ensures whole { OnOk result (IsRecoverable (V.stored vault)) }
+        ensures failures { IfOk result (λ recovered. V.failures vault ≤ recovered.failures) }
+        ensures refused { IfErr result (λ e. RecoverRefuses (V.stored vault) e.0) }
+        ensures left { IfErr result (λ e. V.stored e.1 ≡ V.stored vault) }
         ensures counted { IfErr result (λ e. CountsRefusal e.0 (V.failures vault) (V.failures e.1)) }
     {
         let mut vault = vault;
@@ -85,7 +101,7 @@ impl<V: Vault> VersionSet<V> {
             Err(why) => return Err((why, vault)),
         };
         let floor = current.listing().number;
-        let mut versions = VersionSet {
+        let versions = VersionSet {
             alloc,
             current,
             vault,
@@ -94,15 +110,12 @@ impl<V: Vault> VersionSet<V> {
             recent,
             cache,
         };
-        match versions.begin_epoch() {
-            Ok(()) => Ok(versions),
-            Err(why) => Err((why, versions.vault)),
-        }
+        Ok(Recovered::of(versions))
     }
 
-    // Logs the edit of the next epoch, once all tables are removed that no file of the version needs, and raises the floor
-    // to the version after it.
-    fn begin_epoch(&mut self) -> Result<(), OpenError>
+    /// Logs the edit of the next epoch, once all tables are removed that no file of the version needs, and raises the floor
+    /// to the version after it.
+    pub(crate) fn begin_epoch(&mut self) -> Result<(), OpenError>
         requires { self.old.retired ≡ [] }
         ensures ok { OnOk result (IsNextEpoch self.old self.new) }
         ensures refused { IfErr result (EpochRefused self.old.served.version) }
@@ -190,6 +203,33 @@ impl<V: Vault> VersionSet<V> {
         ensures counted { CountsFailures result self.old.failures self.new.failures }
     {
         self.vault.edits()
+    }
+
+    /// The records of the vault's log, in the order in which they were appended. They share the bytes.
+    pub(crate) fn log(&mut self) -> Result<Vec<Bytes>, VaultError>
+        ensures ok { IfOk result (λ records. records.items ≡ self.old.stored.log) }
+        ensures same { self.new ≡ record self.old { failures = self.new.failures } }
+        ensures counted { CountsFailures result self.old.failures self.new.failures }
+    {
+        self.vault.log()
+    }
+
+    /// Adds a record to the vault's log, after the others. Whether it is one, and follows them, is the caller's to see.
+    pub fn append_log(&mut self, logged: Bytes) -> Result<(), VaultError>
+        ensures ok { OnOk result (self.new ≡ record self.old { stored = record self.old.stored { log = self.old.stored.log ++ logged ∷ [] }; failures = self.new.failures }) }
+        ensures err { OnErr result (self.new ≡ record self.old { failures = self.new.failures }) }
+        ensures counted { CountsFailures result self.old.failures self.new.failures }
+    {
+        self.vault.append_log(logged)
+    }
+
+    /// Removes this many records of the vault's log, the first ones; all, where there are fewer.
+    pub fn cut_log(&mut self, count: usize) -> Result<(), VaultError>
+        ensures ok { OnOk result (self.new ≡ record self.old { stored = record self.old.stored { log = drop count self.old.stored.log }; failures = self.new.failures }) }
+        ensures err { OnErr result (self.new ≡ record self.old { failures = self.new.failures }) }
+        ensures counted { CountsFailures result self.old.failures self.new.failures }
+    {
+        self.vault.cut_log(count)
     }
 
     /// The edit that makes the version after this one, from the floor on. It is within the grammar.

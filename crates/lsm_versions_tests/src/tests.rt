@@ -1,11 +1,11 @@
-//! A new version set and its first edit, openings over what a vault has, and a trim whose device fails. What flushes, installs and
-//! other trims make of a version set is tested through the coordinator.
+//! A new version set and its first edit, openings over what a vault has, whole and in their two parts, the vault's log, and a trim
+//! whose device fails. What flushes, installs and other trims make of a version set is tested through the coordinator.
 
 use bytes::Bytes;
 use lsm_edit::decode_edit;
 use lsm_key::{FileNumber, Refused, VersionNumber};
 use lsm_vault::{FusedVault, MemoryVault, Vault, VaultError};
-use lsm_versions::{OpenError, VersionSet};
+use lsm_versions::{OpenError, Recovered, VersionSet};
 use std::alloc::{AllocError, Global};
 use std::test::Fail;
 
@@ -122,6 +122,54 @@ fn an_absent_table_is_missing(rt: HostRuntime) -> Result<(), Fail> {
         return Err("opened")?;
     };
     assert!(rt; why == OpenError::MissingTable, "{why}");
+    Ok(())
+}
+
+// What is read of a vault, of which a refusal is an error of the test.
+fn recovered(
+    alloc: Global,
+    vault: FusedVault<MemoryVault>,
+) -> Result<Recovered<FusedVault<MemoryVault>>, Fail> {
+    match VersionSet::recover(alloc, vault) {
+        Ok(recovered) => Ok(recovered),
+        Err((OpenError::OutOfMemory, _vault)) => Err("out of memory")?,
+        Err((_why, _vault)) => Err("refused")?,
+    }
+}
+
+#[test]
+fn a_vault_is_read_before_it_is_changed(rt: HostRuntime) -> Result<(), Fail> {
+    let mut vault = vault_of(rt.alloc(), &[EPOCH, FLUSH], OF_A, u64::MAX)?;
+    vault.append_log(Bytes::from_static(b"record"))?;
+    let mut recovered = recovered(rt.alloc(), vault)?;
+    assert!(rt; recovered.flushed().number() == 1);
+    let log = recovered.log()?;
+    assert!(rt; log.as_slice() == [Bytes::from_static(b"record")].as_slice());
+    let mut vault = recovered.close();
+    let edits = vault.edits()?;
+    assert!(rt; edits.len() == 2);
+    let numbers = vault.numbers()?;
+    assert!(rt; numbers.len() == 2);
+    Ok(())
+}
+
+#[test]
+fn a_log_outlives_an_opening_and_is_cut(rt: HostRuntime) -> Result<(), Fail> {
+    // Two calls of the test, five of the opening, and the record that is appended; the next one is refused.
+    let mut vault = vault_of(rt.alloc(), &[EPOCH, FLUSH], OF_A, 8)?;
+    for record in [b"first".as_slice(), b"second".as_slice()] {
+        vault.append_log(Bytes::from_static(record))?;
+    }
+    let Ok(mut versions) = opened(rt.alloc(), vault)? else {
+        return Err("refused")?;
+    };
+    versions.append_log(Bytes::from_static(b"third"))?;
+    let refused = versions.append_log(Bytes::from_static(b"fourth"));
+    assert!(rt; refused.is_err());
+    versions.cut_log(2)?;
+    let mut vault = versions.close();
+    let log = vault.log()?;
+    assert!(rt; log.as_slice() == [Bytes::from_static(b"third")].as_slice());
     Ok(())
 }
 

@@ -1,4 +1,4 @@
-use Rattle.std.proofs.Common.{◌≡◌, ◌∙◌, ℕ, List, Result, Ok, Err, OnErr, ◌∷◌, [], ◌++◌, None, sym, ap, subst, rules}
+use Rattle.std.proofs.Common.{◌≡◌, ◌∙◌, Result, Ok, Err, OnErr, ◌∷◌, [], ◌++◌, None, sym, ap, subst, rules}
 use Rattle.lsm_edit.specs.Edit.{edit as spelling}
 use Rattle.lsm_edit.specs.Prepared.{PreparedValue, after_taking_up}
 use Rattle.lsm_edit.specs.Served.{IsServed, ServedValue, after_advance, placed_of}
