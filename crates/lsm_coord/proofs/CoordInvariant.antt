@@ -1,8 +1,13 @@
 -- What a coordinator keeps over its calls.
-use Rattle.std.proofs.Common.{◌≡◌, ℕ, ◌+◌, ◌<◌, ◌≤◌, Bool, true, false, cond, is_some, List, [], ◌∷◌, ◌++◌, Option, None, Some, length, refl, sym, subst, ◌∙◌, arith, inl, inr, eqb, ◌&&◌, is_none}
+use Rattle.std.proofs.Common.{◌≡◌, ℕ, zero, suc, ◌+◌, ◌<◌, ◌≤◌, Bool, true, false, cond, is_some, List, [], ◌∷◌, ◌++◌, Option, None, Some, length, refl, sym, subst, ◌∙◌, arith, inl, inr, eqb, ltb, ◌&&◌, is_none, ltb-false}
+use Rattle.std.specs.Prelude.{sum_by}
+use Rattle.std.proofs.lemmas.Bool.{eqb-false}
 use Rattle.std.specs.List.Sorted.{IsPermutation}
 use Rattle.lsm_key.specs.declared.entry.Entry.{Entry}
+use Rattle.lsm_key.specs.declared.limits.TheConstants.{MAX_MEMTABLE_WEIGHT}
 use Rattle.lsm_key.specs.declared.op.Op.{Op}
+use Rattle.lsm_key.specs.declared.seq.TheConstants.Seq as seq
+use Rattle.lsm_key.specs.Limits.{entry_weight, total_weight}
 use Rattle.lsm_key.specs.Places.{entries_after}
 use Rattle.lsm_key.proofs.Membership.{IsIn-append_cases, SameMembers-permutation}
 use Rattle.lsm_key.proofs.WritesOverStored.{entries_after-range}
@@ -10,17 +15,49 @@ use Rattle.lsm_mem.specs.Memtable.{last_sequence}
 use Rattle.lsm_mem.proofs.MemtableTotals.{last_low}
 use Rattle.lsm_claim.specs.Book.{BookValue}
 use Rattle.lsm_edit.specs.Served.{ServedValue}
-use Rattle.lsm_coord.specs.declared.error.CoordError.TheVariants.{FrozenWaiting, NothingToFreeze, NothingToFlush, NumbersExhausted}
+use Rattle.lsm_coord.specs.declared.error.CoordError.TheVariants.{EmptyBatch, SequenceExhausted, MemtableFull, FrozenWaiting, NothingToFreeze, NothingToFlush, NumbersExhausted}
 use Rattle.lsm_coord.specs.declared.frozen.Frozen.{Frozen}
 use Rattle.lsm_coord.specs.declared.snapshot.Snapshot.{Snapshot}
 use Rattle.lsm_coord.specs.Contract.Memory.{IsCoord, AreLegal}
-use Rattle.lsm_coord.specs.Contract.Calls.{flush_source_of, active_after}
+use Rattle.lsm_coord.specs.Contract.Calls.{active_after, flush_source_of, write_fault}
+use Rattle.lsm_coord.specs.Contract.Value.{CoordValue, start_of}
 
 -- the next sequence is above those of the active memtable
 pub last_below : (active : List Entry) (frozen : Option Frozen) (last : ℕ) (served : ServedValue) (book : BookValue) (snapshots : List Snapshot) → IsCoord active frozen last served book snapshots → last_sequence active < last + 1
 last_below active frozen last served book snapshots is =
     let low : last_sequence active ≤ last = last_low active last (λ e m. (is.recent e m).1) in
     omega arith
+
+-- the active memtable begins at the last flush, or after it
+pub start_low : (active : List Entry) (frozen : Option Frozen) (last : ℕ) (served : ServedValue) (book : BookValue) (snapshots : List Snapshot) → IsCoord active frozen last served book snapshots → served.version.flushed ≤ start_of frozen served.version.flushed
+start_low active None last served book snapshots is = omega arith
+start_low active (Some f) last served book snapshots is = let above = (is.waiting f refl).0 in omega arith
+
+-- and at most after the last sequence
+pub end_low : (active : List Entry) (frozen : Option Frozen) (last : ℕ) (served : ServedValue) (book : BookValue) (snapshots : List Snapshot) → IsCoord active frozen last served book snapshots → (f : Frozen) → frozen ≡ Some f → f.end < last + 1
+end_low active frozen last served book snapshots is f e =
+    let begun : f.end ≤ last = subst (λ (o : Option Frozen). start_of o served.version.flushed ≤ last) e is.begun in
+    omega arith
+
+all_false : (a b d : Bool) → cond a (Some EmptyBatch) (cond b (Some SequenceExhausted) (cond d (Some MemtableFull) None)) ≡ None → (a ≡ false) × (b ≡ false) × (d ≡ false)
+all_false true b d h = absurd cc
+all_false false true d h = absurd cc
+all_false false false true h = absurd cc
+all_false false false false h = (refl, refl, refl)
+
+-- where a batch may be written it has an operation, and there are sequences and room for it
+abbrev pub HasRoom : CoordValue → List Op → Type 0
+HasRoom c ops = (1 ≤ length ops) × (c.last + length ops ≤ seq.MAX) × (sum_by entry_weight c.active + total_weight ops ≤ MAX_MEMTABLE_WEIGHT)
+
+pub writable : (c : CoordValue) (ops : List Op) → write_fault c ops ≡ None → HasRoom c ops
+writable c ops none =
+    let free = all_false (eqb (length ops) 0) (ltb seq.MAX (c.last + length ops)) (ltb MAX_MEMTABLE_WEIGHT (sum_by entry_weight c.active + total_weight ops)) none in
+    let some = eqb-false (length ops) 0 free.0 in
+    (above_zero (length ops) some, ltb-false seq.MAX (c.last + length ops) free.1, ltb-false MAX_MEMTABLE_WEIGHT (sum_by entry_weight c.active + total_weight ops) free.2)
+  where
+    above_zero : (n : ℕ) → (n ≡ 0 → ⊥) → 1 ≤ n
+    above_zero zero h = absurd (h refl)
+    above_zero (suc n) h = omega arith
 
 pub after_write : (active new : List Entry) (frozen : Option Frozen) (last : ℕ) (served : ServedValue) (book : BookValue) (snapshots : List Snapshot) (ops : List Op) → IsCoord active frozen last served book snapshots → IsPermutation (active ++ entries_after last ops) new
     → IsCoord new frozen (last + length ops) served book snapshots
@@ -41,7 +78,7 @@ after_write active new frozen last served book snapshots ops is perm =
     }
 
 -- a memtable with an entry has a sequence above the flushed one
-some_newer : (active : List Entry) (last : ℕ) (served : ServedValue) (book : BookValue) (snapshots : List Snapshot) → IsCoord active None last served book snapshots → 0 < length active → served.version.flushed < last
+pub some_newer : (active : List Entry) (last : ℕ) (served : ServedValue) (book : BookValue) (snapshots : List Snapshot) → IsCoord active None last served book snapshots → 0 < length active → served.version.flushed < last
 some_newer [] last served book snapshots is lt = absurd (omega arith)
 some_newer (e ∷ active) last served book snapshots is lt = let r = is.recent e (inl refl) in let low = r.0 in let high = r.1 in omega arith
 

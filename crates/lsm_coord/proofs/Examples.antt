@@ -12,13 +12,19 @@ use Rattle.lsm_coord.specs.Model.Range.{IsRange}
 use Rattle.lsm_key.specs.Sets.{IsIn}
 use Rattle.lsm_coord.specs.Model.State.{Place, Version, empty_version}
 use Rattle.lsm_coord.specs.Model.Changes.{IsIndex}
-use Rattle.lsm_coord.specs.Model.Examples.{a, b, z, one, two, none, FlushedWriteIsFound, RestartLosesWrites, LastOfABatchCounts, FrozenIsFlushedFirst, AbsentIsRefused, DownUntilRestarted, MergeKeepsAnswers, FollowerLiesBehind, EpochsFollow, CausesBesideTheState, FileGivenTwiceIsNoRun, NewerValueIsNoRun, LostWriteIsNoRun, ShortFlushIsNoRun, EmptyListingIsNoRun, KeptWriteIsNoRun, UnforcedRefusalIsNoRun, SecondWriteLostIsNoRun, FileForgottenIsNoRun, FlushLosesWriteIsNoRun, InstallOfNothingIsNoRun, NumberUsedAgainIsNoRun, LeapIsNoRun, FallBackIsNoRun, NameGivenTwiceIsNoRun, FlushedWriteIsLostIsNoRun, FloorFallsIsNoRun, DownWhileUpIsNoRun, AnswerWhileDownIsNoRun}
+use Rattle.lsm_coord.specs.Model.Examples.{a, b, z, one, two, none, FlushedWriteIsFound, RestartKeepsWrites, FreezeOutlivesRestart, RefusedWriteIsNotThere, LastOfABatchCounts, FrozenIsFlushedFirst, AbsentIsRefused, DownUntilRestarted, MergeKeepsAnswers, FollowerLiesBehind, EpochsFollow, CausesBesideTheState, FileGivenTwiceIsNoRun, NewerValueIsNoRun, LostWriteIsNoRun, ShortFlushIsNoRun, EmptyListingIsNoRun, LostAtRestartIsNoRun, SnapshotKeptIsNoRun, KeptAfterDeviceIsNoRun, UnforcedRefusalIsNoRun, SecondWriteLostIsNoRun, FileForgottenIsNoRun, FlushLosesWriteIsNoRun, InstallOfNothingIsNoRun, NumberUsedAgainIsNoRun, LeapIsNoRun, FallBackIsNoRun, NameGivenTwiceIsNoRun, FlushedWriteIsLostIsNoRun, FloorFallsIsNoRun, DownWhileUpIsNoRun, AnswerWhileDownIsNoRun}
 
 pub flushed_write : FlushedWriteIsFound
 flushed_write = (_, (_, (refl, (refl, refl, refl)), (_, (refl, (refl, refl, refl, refl)), (_, (refl, (refl, refl)), refl))))
 
-pub restart_loses : RestartLosesWrites
-restart_loses = (_, (_, (refl, (refl, refl, refl)), (_, (refl, (refl, refl, refl, refl)), (_, (refl, (refl, refl)), (_, (refl, (refl, refl, refl)), refl)))))
+pub restart_keeps : RestartKeepsWrites
+restart_keeps = (_, (_, (refl, (refl, refl, refl)), (_, (refl, (refl, refl, refl, refl)), (_, (refl, (refl, refl)), (_, (refl, (refl, refl, refl)), refl)))))
+
+pub freeze_outlives : FreezeOutlivesRestart
+freeze_outlives = (_, (_, (refl, (refl, refl, refl)), (_, (refl, (refl, refl)), (_, (refl, (refl, refl, refl)), (_, (refl, (refl, refl, refl, refl)), (_, (refl, (refl, refl, refl, refl)), (_, (refl, (refl, refl, refl, refl)), (_, (refl, (refl, refl)), refl))))))))
+
+pub refused_not_there : RefusedWriteIsNotThere
+refused_not_there = (_, (_, (inr (refl, tt), refl), (_, (refl, (refl, refl)), (_, (refl, (refl, refl, refl)), (_, (inr (refl, tt), refl), (_, (refl, (refl, refl)), refl))))))
 
 -- the batch of three writes
 abbrev batch : List Op
@@ -177,8 +183,14 @@ short_flush (last, (s, (_, (_, _, e)), (_, (_, (_, seq, _, _)), _))) = let v = r
 pub empty_listing : EmptyListingIsNoRun
 empty_listing (last, (s, (_, (_, _, e)), (t, (_, (_, _, _, f)), (_, (_, (_, lists, _)), _)))) = let v = rw (f, e) at lists in let w = ap (λ (o : Option Version). length (unwrap_or o empty_version).files) v in absurd cc
 
-pub kept_write : KeptWriteIsNoRun
-kept_write (last, (s, (_, (_, _, e)), (t, (_, (_, _, _, f)), (_, (_, (value, _)), _)))) = let v = rw (f, e) at value in absurd cc
+pub lost_at_restart : LostAtRestartIsNoRun
+lost_at_restart (last, (s, (_, (_, _, e)), (t, (_, (_, _, seq, f)), _))) = let v = rw (f, e) at seq in absurd cc
+
+pub snapshot_kept : SnapshotKeptIsNoRun
+snapshot_kept (last, (s, _, (t, _, (u, (_, (_, _, _, g)), (_, (may, _), _))))) = let v = rw g at may in absurd cc
+
+pub kept_after_device : KeptAfterDeviceIsNoRun
+kept_after_device (last, (s, (_, e), (_, (_, (value, _)), _))) = let v = rw e at value in absurd cc
 
 pub unforced_refusal : UnforcedRefusalIsNoRun
 unforced_refusal (last, (s, (inl forced, _), _)) = absurd cc

@@ -1,5 +1,5 @@
 -- A scan takes entries in order, and stops.
-use Rattle.std.proofs.Common.{◌≡◌, ℕ, zero, suc, ◌+◌, ◌<◌, ◌≤◌, Bool, true, false, cond, List, [], ◌∷◌, ◌++◌, Option, None, Some, refl, sym, ap, subst, ◌∙◌, inl, inr, arith, length, take, get_or}
+use Rattle.std.proofs.Common.{◌≡◌, ℕ, ◌<◌, ◌≤◌, Bool, true, false, cond, List, [], ◌∷◌, ◌++◌, Option, None, Some, refl, sym, ap, subst, ◌∙◌, inl, inr, arith, length, take}
 use Rattle.std.specs.Prelude.{◌↔◌}
 use Rattle.std.proofs.lemmas.Bool.{true≢false}
 use Rattle.std.proofs.lemmas.List.{append-nil, append_assoc, length-append, take_all}
@@ -8,7 +8,7 @@ use Rattle.lsm_key.specs.Order.{IsInOrder, key_le, key_lt, precedes}
 use Rattle.lsm_key.specs.Places.{all_entries}
 use Rattle.lsm_key.specs.Sets.{IsIn}
 use Rattle.lsm_key.proofs.AscendingEntries.{first_in_order, rest_in_order}
-use Rattle.lsm_key.proofs.Membership.{IsIn-at, SameMembers-permutation}
+use Rattle.lsm_key.proofs.Membership.{SameMembers-permutation}
 use Rattle.lsm_key.proofs.MergedLists.{entries_weak}
 use Rattle.lsm_table.specs.Heads.{AllInOrder, TakesFirst}
 use Rattle.lsm_table.proofs.ReadLists.{cons_in_order}

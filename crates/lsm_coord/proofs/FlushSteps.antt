@@ -1,12 +1,13 @@
 -- What a flush makes of the states that a coordinator shows.
-use Rattle.std.proofs.Common.{◌≡◌, ℕ, ◌+◌, ◌≤◌, List, [], ◌∷◌, ◌++◌, Option, None, Some, refl, sym, ap, subst, ◌∙◌, arith, length, map, take, drop, unwrap_or}
+use Rattle.std.proofs.Common.{◌≡◌, ℕ, ◌+◌, ◌-◌, ◌<◌, ◌≤◌, List, [], ◌∷◌, ◌++◌, Option, None, Some, refl, sym, ap, subst, ◌∙◌, arith, length, map, take, drop, unwrap_or}
 use Rattle.std.specs.FinMap as fin
 use Rattle.std.specs.Option.{option_map}
 use Rattle.std.specs.List.Sorted.{IsPermutation}
-use Rattle.std.proofs.lemmas.List.{map-append, length-take}
+use Rattle.std.proofs.lemmas.List.{drop-drop, map-append, length-take}
 use Rattle.std.proofs.Math.Seq.{drop-length}
 use Rattle.std.proofs.lemmas.List.Sorted.{IsPermutation-refl}
 use Rattle.lsm_key.specs.declared.entry.Entry.{Entry}
+use Rattle.lsm_key.specs.declared.op.Op.{Op}
 use Rattle.lsm_key.specs.Sets.{IsIn}
 use Rattle.lsm_key.specs.Visible.{value_at}
 use Rattle.lsm_key.specs.Places.{IsAbove, entries_after}
@@ -14,6 +15,7 @@ use Rattle.lsm_edit.specs.declared.file.FileMeta.{FileMeta}
 use Rattle.lsm_edit.specs.declared.edit.Edit.{Edit}
 use Rattle.lsm_edit.specs.declared.edit.EditKind.TheVariants as kind
 use Rattle.lsm_edit.specs.Edit.{IsEdit, IsSpelledEdit, edit as spelling}
+use Rattle.lsm_edit.specs.Log.{LogHolds}
 use Rattle.lsm_edit.specs.Served.{AreAsRecorded, IsServed, placed_of}
 use Rattle.lsm_edit.specs.Next.{flush_edit}
 use Rattle.lsm_edit.specs.Version.{IsVersion, VersionValue, apply_fault, after_apply, files_after}
@@ -27,21 +29,24 @@ use Rattle.lsm_versions.proofs.RetiredFiles.{retired-none}
 use Rattle.lsm_coord.specs.declared.frozen.Frozen.{Frozen}
 use Rattle.lsm_coord.specs.Model.State.{State, Version, Place, last_seq, last_flushed, active_start, current_files}
 use Rattle.lsm_coord.specs.Model.Changes.{after_flush, flush_end, flushed_version, with_version}
+use Rattle.lsm_coord.specs.Contract.Logs.{IsLogged, MayCut}
 use Rattle.lsm_coord.specs.Contract.Shows.{listing_of, place_of, Shows, ShowsStored}
 use Rattle.lsm_coord.specs.Contract.Value.{CoordValue, frozen_entries, stored_entries}
 use Rattle.lsm_msg.specs.Installs.{with_flushed}
 use Rattle.lsm_coord.specs.Contract.Calls.{flush_source_of, active_after, after_freezing}
 use Rattle.lsm_coord.proofs.CurrentVersion.{last_flushed-after_flush}
-use Rattle.lsm_coord.proofs.ShownVersions.{files_are, listed-push}
+use Rattle.lsm_coord.proofs.LoggedCalls.{flush_holds}
+use Rattle.lsm_coord.proofs.ShownVersions.{files_are, flushed_is, listed-push}
 use Rattle.lsm_coord.proofs.ReadAnswers.{AreStored, frozen_answers, frozen_reads, frozen_above, frozen_entries_old}
 use Rattle.lsm_coord.proofs.FreezeSteps.{Shows-froze, none_frozen}
+use Rattle.lsm_coord.proofs.WriteSteps.{logged_ops}
 
 take_drop_end : {X : Type 0} (n : ℕ) (xs : List X) → n ≤ length xs → drop n (take n xs) ≡ []
 take_drop_end n xs h = let long : length (take n xs) ≡ n = omega (arith, length-take n xs) in subst (λ (m : ℕ). drop m (take n xs) ≡ []) long (drop-length (take n xs))
 
--- what a coordinator is after a flush to a table
-abbrev pub flushed_to : CoordValue → Option Frozen → FileMeta → Opened → List ℕ → CoordValue
-flushed_to c frozen f t text = record c { active = active_after c.active frozen; frozen = None; served = with_flushed c.served (flush_source_of c.active c.last frozen).end f t; stored = record c.stored { edits = c.stored.edits ++ text ∷ [] } }
+-- what a coordinator is after a flush to a table, with what is left of the log
+abbrev pub flushed_to : CoordValue → Option Frozen → FileMeta → Opened → List ℕ → List (List ℕ) → CoordValue
+flushed_to c frozen f t text log = record c { active = active_after c.active frozen; frozen = None; served = with_flushed c.served (flush_source_of c.active c.last frozen).end f t; stored = record c.stored { edits = c.stored.edits ++ text ∷ []; log = log } }
 
 -- what is logged of a flush: the new table is searched first
 pub logged_is : (old : VersionSetValue) (end : ℕ) (f : FileMeta) (t : Opened) (ts : List Opened) (e : Edit) → IsVersion old.served.version → IsServed old.served → IsEdit e → AreAsRecorded e.added ts → apply_fault old.served.version e ≡ None → e ≡ flush_edit old.served.version end f → ts ≡ t ∷ []
@@ -71,7 +76,7 @@ module _ (c : CoordValue) (z : Frozen) (s : State) (h : Shows c s) (frozen : c.f
   entries_are = ap frozen_entries frozen
 
   module _ (f : FileMeta) (t : Opened) (text : List ℕ) (whole : t.entries ≡ z.memtable) (number : f.number ≡ c.served.version.next_file) (level : f.level ≡ 0)
-      (one : IsSpelledEdit text (flush_edit c.served.version z.end f)) (fits : apply_fault c.served.version (flush_edit c.served.version z.end f) ≡ None) where
+      (one : IsSpelledEdit text (flush_edit c.served.version z.end f)) (fits : apply_fault c.served.version (flush_edit c.served.version z.end f) ≡ None) (log : List (List ℕ)) (held : LogHolds z.end log (drop z.end s.writes) None) where
     table_is : frozen_entries c.frozen ≡ t.entries
     table_is = entries_are ∙ sym whole
 
@@ -113,7 +118,7 @@ module _ (c : CoordValue) (z : Frozen) (s : State) (h : Shows c s) (frozen : c.f
           answers = λ key. rw after_is (same_value key z.end ∙ frozen_answers c.active (frozen_entries c.frozen) (stored_entries c.served) s h.memtables are_stored z.end key (omega (arith, start_is)) (omega (arith, start_is)));
         }
 
-    pub Shows-flushed : Shows (flushed_to c (Some z) f t text) (after_flush s)
+    pub Shows-flushed : Shows (flushed_to c (Some z) f t text log) (after_flush s)
     Shows-flushed =
         let m = h.memtables in
         let within = m.within in
@@ -133,6 +138,7 @@ module _ (c : CoordValue) (z : Frozen) (s : State) (h : Shows c s) (frozen : c.f
             kept = λ x live low key. same_value key x.at ∙ frozen_reads c.active (frozen_entries c.frozen) (stored_entries c.served) s m are_stored x live (omega (arith, after_is, start_is)) key;
             snapped = m.snapped;
           };
+          logged = subst (λ (n : ℕ). LogHolds n log (drop n s.writes) None) (sym after_is) held;
         }
 
 -- ---- a flush of either memtable
@@ -146,11 +152,37 @@ pub end_of : (c : CoordValue) (frozen : Option Frozen) (s : State) → Shows c s
 end_of c None s h e = ap (λ (o : Option ℕ). unwrap_or o (last_seq s)) (none_frozen c s h e) ∙ h.last
 end_of c (Some z) s h e = end_is c z s h e
 
+-- it is above the last flush
+end_above : (c : CoordValue) (frozen : Option Frozen) (s : State) → Shows c s → c.frozen ≡ frozen → last_flushed s ≤ (flush_source_of c.active c.last frozen).end
+end_above c None s h e =
+    let low = h.memtables.flushed in
+    let high = h.memtables.within in
+    let last = h.last in
+    omega (arith, low, high, last)
+end_above c (Some z) s h e =
+    let low = h.memtables.flushed in
+    let start = start_is c z s h e in
+    omega (arith, low, start)
+
+-- what is left of the log holds the writes after it
+left_held : (c : CoordValue) (frozen : Option Frozen) (s : State) (log : List (List ℕ)) → Shows c s → c.frozen ≡ frozen → IsLogged c.active frozen c.last c.served.version.flushed c.stored.log → MayCut (flush_source_of c.active c.last frozen).end c.stored.log log
+    → LogHolds (flush_source_of c.active c.last frozen).end log (drop (flush_source_of c.active c.last frozen).end s.writes) None
+left_held c frozen s log h e l cut =
+    let end : ℕ = (flush_source_of c.active c.last frozen).end in
+    let first : ℕ = c.served.version.flushed in
+    let here : last_flushed s ≡ first = flushed_is c.stored.edits c.served s h.tables in
+    let above : last_flushed s ≤ end = end_above c frozen s h e in
+    let sum : last_flushed s + (end - first) ≡ end = omega (arith, here, above) in
+    let ops : drop (end - first) l.ops ≡ drop end s.writes = ap (drop (end - first)) (logged_ops c s frozen h l) ∙ drop-drop (end - first) (last_flushed s) s.writes ∙ ap (λ (n : ℕ). drop n s.writes) sum in
+    subst (λ (os : List Op). LogHolds end log os None) ops (flush_holds c.active frozen c.last first c.stored.log log l cut)
+
 -- A FLUSH SHOWS ITS STEP.
-pub shows_after : (c : CoordValue) (frozen : Option Frozen) (s : State) (f : FileMeta) (t : Opened) (text : List ℕ) → Shows c s → c.frozen ≡ frozen → t.entries ≡ (flush_source_of c.active c.last frozen).memtable
+pub shows_after : (c : CoordValue) (frozen : Option Frozen) (s : State) (f : FileMeta) (t : Opened) (text : List ℕ) (log : List (List ℕ)) → Shows c s → c.frozen ≡ frozen → t.entries ≡ (flush_source_of c.active c.last frozen).memtable
     → f.number ≡ c.served.version.next_file → f.level ≡ 0 → IsSpelledEdit text (flush_edit c.served.version (flush_source_of c.active c.last frozen).end f)
-    → apply_fault c.served.version (flush_edit c.served.version (flush_source_of c.active c.last frozen).end f) ≡ None → Shows (flushed_to c frozen f t text) (after_flush s)
-shows_after c (Some z) s f t text h e whole number level one fits = Shows-flushed c z s h e f t text whole number level one fits
-shows_after c None s f t text h e whole number level one fits =
-    subst (Shows (flushed_to c None f t text)) (frozen_first s (none_frozen c s h e))
-    (Shows-flushed (after_freezing c) (record { memtable = c.active; end = c.last }) (record s { frozen = Some (last_seq s) }) (Shows-froze c s h e) refl f t text whole number level one fits)
+    → apply_fault c.served.version (flush_edit c.served.version (flush_source_of c.active c.last frozen).end f) ≡ None
+    → IsLogged c.active frozen c.last c.served.version.flushed c.stored.log → MayCut (flush_source_of c.active c.last frozen).end c.stored.log log → 0 < length (flush_source_of c.active c.last frozen).memtable
+    → Shows (flushed_to c frozen f t text log) (after_flush s)
+shows_after c (Some z) s f t text log h e whole number level one fits l cut some = Shows-flushed c z s h e f t text whole number level one fits log (left_held c (Some z) s log h e l cut)
+shows_after c None s f t text log h e whole number level one fits l cut some =
+    subst (Shows (flushed_to c None f t text log)) (frozen_first s (none_frozen c s h e))
+    (Shows-flushed (after_freezing c) (record { memtable = c.active; end = c.last }) (record s { frozen = Some (last_seq s) }) (Shows-froze c s h e l some) refl f t text whole number level one fits log (left_held c None s log h e l cut))

@@ -100,6 +100,7 @@ Shows-beside c book tables failures s h = record {
   floor = h.floor;
   tables = h.tables;
   memtables = h.memtables;
+  logged = h.logged;
 }
 
 pub gives_back_keeps : (c : CoordValue) (id : JobId) → KeepsSound c (after_give_back c id)

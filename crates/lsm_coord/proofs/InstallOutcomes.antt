@@ -150,6 +150,13 @@ stays_apart b id live j is held here named m =
 pub held_by : (b : BookValue) (live : LiveJob) (id : JobId) → find (λ j. same_job_id j.id id) b.live ≡ Some live → holds b id ≡ true
 held_by b live id h = let r = found_some (λ j. same_job_id j.id id) b.live live h in any_from (λ j. same_job_id j.id id) b.live live r.0 r.1
 
+-- an install leaves the flushed sequence and the log as they are
+pub put_same : (block : ℕ) (old : VersionSetValue) (live : LiveJob) (made : JobResult) (number : ℕ) (files : List ℕ) (new : VersionSetValue) → PutsOutputs block old live made (record { number = number; files = files }) new
+    → (new.served.version.flushed ≡ old.served.version.flushed) × (new.stored.log ≡ old.stored.log)
+put_same block old live made number files new p =
+    let is : new ≡ record (after_logging old (install_edit_of old.served.version live.want p.tables) p.tables) { failures = new.failures } = p.new_is ∙ ap (λ (x : Edit). record (after_logging old x p.tables) { failures = new.failures }) p.edit_is in
+    (ap (λ (v : VersionSetValue). v.served.version.flushed) is, ap (λ (v : VersionSetValue). v.stored.log) is)
+
 pub after_install : (block : ℕ) (active : List Entry) (frozen : Option Frozen) (last : ℕ) (old new : VersionSetValue) (book : BookValue) (id : JobId) (live : LiveJob) (made : JobResult) (number : ℕ) (files : List ℕ) (snapshots : List Snapshot)
     → IsCoord active frozen last old.served book snapshots → IsBook book → IsServed old.served → IsVersion old.served.version → find (λ j. same_job_id j.id id) book.live ≡ Some live → PutsOutputs block old live made (record { number = number; files = files }) new
     → IsCoord active frozen last new.served (after_settling book id ending.Installed) snapshots

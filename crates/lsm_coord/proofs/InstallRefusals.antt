@@ -22,7 +22,7 @@ use Rattle.lsm_coord.specs.Inner.Putting.{PutLeaves}
 use Rattle.lsm_coord.proofs.ShownVersions.{version_count}
 use Rattle.lsm_coord.specs.Contract.Sound.{KeepsSound}
 use Rattle.lsm_coord.proofs.OpenedOutputs.{tables_length}
-use Rattle.lsm_coord.proofs.VaultRefusals.{same_stored, stored_keeps, stored_shows}
+use Rattle.lsm_coord.proofs.VaultRefusals.{same_stored, stored_keeps, stored_shows, with_versions}
 
 one_is_over : (a b most : ℕ) → ((a ≤ most) × (b ≤ most) → ⊥) → (most < a) ⊎ (most < b)
 one_is_over a b most none = elim (leb_tells a most) [
@@ -93,12 +93,16 @@ rejected_keeps made why old new left = stored_keeps old new (rejected_stored mad
 
 -- ---- what the version set leaves
 
--- a coordinator with another version set
-abbrev pub with_versions : CoordValue → VersionSetValue → CoordValue
-with_versions c v = record c { served = v.served; stored = v.stored; floor = v.floor; retired = v.retired; failures = v.failures }
-
 pub stored_left : {MayPut : ℕ → List ℕ → Type 0} (c : CoordValue) (v : VersionSetValue) → MayHavePut MayPut (version_set c) v → c.failures ≤ v.failures → MayHaveStored MayPut c (with_versions c v)
 stored_left c v put counted = record { rest = ap (with_versions c) put.rest; below = put.below; put = put.put; counted = counted }
+
+-- whatever is put, the version and the log stay
+pub left_same : (made : JobResult) (why : InstallError) (old new : VersionSetValue) → PutLeaves made why old new → (new.served ≡ old.served) × (new.stored.log ≡ old.stored.log)
+left_same made WrongJob old new left = (ap (λ (v : VersionSetValue). v.served) left, ap (λ (v : VersionSetValue). v.stored.log) left)
+left_same made BadResult old new left = (ap (λ (v : VersionSetValue). v.served) left, ap (λ (v : VersionSetValue). v.stored.log) left)
+left_same made NumbersExhausted old new left = (ap (λ (v : VersionSetValue). v.served) left, ap (λ (v : VersionSetValue). v.stored.log) left)
+left_same made OutOfMemory old new left = (ap (λ (v : VersionSetValue). v.served) left.0.rest, ap (λ (v : VersionSetValue). v.stored.log) left.0.rest)
+left_same made Device old new left = (ap (λ (v : VersionSetValue). v.served) left.0.rest, ap (λ (v : VersionSetValue). v.stored.log) left.0.rest)
 
 pub put_left : (made : JobResult) (why : InstallError) (c : CoordValue) (v : VersionSetValue) → PutLeaves made why (version_set c) v → LeavesRejected made why c (with_versions c v)
 put_left made WrongJob c v left = ap (with_versions c) left

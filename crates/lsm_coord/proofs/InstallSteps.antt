@@ -22,6 +22,7 @@ use Rattle.lsm_claim.specs.Jobs.{JobNumbersRise}
 use Rattle.lsm_table.specs.Tables.{Opened}
 use Rattle.lsm_edit.specs.declared.file.FileMeta.{FileMeta}
 use Rattle.lsm_edit.specs.Edit.{IsSpelledEdit}
+use Rattle.lsm_edit.specs.Log.{LogHolds}
 use Rattle.lsm_edit.specs.Next.{number_after}
 use Rattle.lsm_edit.specs.declared.served.Placed.{Placed}
 use Rattle.lsm_edit.specs.Served.{IsServed, ServedValue}
@@ -169,9 +170,9 @@ module _ (c : CoordValue) (live : LiveJob) (ts : List Opened) (text : List ℕ) 
         answers = λ key. subst (λ (n : ℕ). value_at (stored_entries (next_served c.served live.want ts)) key n ≡ answer s.writes n key) (sym tip_is) ((reads key).2 (last_flushed s) seen ∙ h.tables.answers key);
       }
 
-  pub shows_install : (new : CoordValue) → new.served ≡ next_served c.served live.want ts → new.stored.edits ≡ c.stored.edits ++ text ∷ [] → new.active ≡ c.active → new.frozen ≡ c.frozen → new.last ≡ c.last → new.snapshots ≡ c.snapshots → new.made ≡ c.made → new.floor ≡ c.floor → Shows new after
-  shows_install new served edits active frozen last snapshots made floor =
-      subst (λ (x : CoordValue). Shows x after) (λ i. record new { served = sym served i; stored = record new.stored { edits = sym edits i }; active = sym active i; frozen = sym frozen i; last = sym last i; snapshots = sym snapshots i; made = sym made i; floor = sym floor i })
+  pub shows_install : (new : CoordValue) → new.served ≡ next_served c.served live.want ts → new.stored.edits ≡ c.stored.edits ++ text ∷ [] → new.stored.log ≡ c.stored.log → new.active ≡ c.active → new.frozen ≡ c.frozen → new.last ≡ c.last → new.snapshots ≡ c.snapshots → new.made ≡ c.made → new.floor ≡ c.floor → Shows new after
+  shows_install new served edits log active frozen last snapshots made floor =
+      subst (λ (x : CoordValue). Shows x after) (λ i. record new { served = sym served i; stored = record new.stored { edits = sym edits i; log = sym log i }; active = sym active i; frozen = sym frozen i; last = sym last i; snapshots = sym snapshots i; made = sym made i; floor = sym floor i })
       (record {
         up = h.up;
         last = h.last;
@@ -193,6 +194,7 @@ module _ (c : CoordValue) (live : LiveJob) (ts : List Opened) (text : List ℕ) 
               ]) ∙ h.memtables.kept x m (omega (arith, low, tip_is)) key;
           snapped = h.memtables.snapped;
         };
+        logged = subst (λ (n : ℕ). LogHolds n c.stored.log (drop n s.writes) s.frozen) (sym tip_is) h.logged;
       })
 
   pub is_installed : IsInstalled s (c.served.version.number + 1) numbers after
@@ -280,5 +282,5 @@ install_steps old new claim made number files book served version all_legal all_
     let made_now : CoordValue = record old { served = next_served old.served live.want ts; stored = record old.stored { edits = old.stored.edits ++ install.text ∷ []; tables = new.stored.tables }; retired = retired_after old.retired old.served live.want.files; book = after_settling old.book live.id ending.Installed; failures = new.failures } in (
       then,
       (refl, subst (λ (n : ℕ). IsInstalled s n files then) (sym b.5) (subst (λ (ns : List ℕ). IsInstalled s (old.served.version.number + 1) ns then) (sym b.6) step)),
-      subst (λ (x : CoordValue). Shows x then) (sym (done_is old live ts new install)) (shown made_now refl refl refl refl refl refl refl refl),
+      subst (λ (x : CoordValue). Shows x then) (sym (done_is old live ts new install)) (shown made_now refl refl refl refl refl refl refl refl refl),
     )

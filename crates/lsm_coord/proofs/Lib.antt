@@ -17,6 +17,9 @@ pub mod ServedFiles
 pub mod ToldVersions
 pub mod ReadAnswers
 pub mod ShownStates
+pub mod LogCuts
+pub mod LoggedCalls
+pub mod LogCounts
 pub mod WriteSteps
 pub mod FreezeSteps
 pub mod FlushSteps
@@ -40,6 +43,14 @@ pub mod PutOutputs
 pub mod GatheredParts
 pub mod PickedJobs
 pub mod ServedOneWay
+pub mod LoggedBounds
+pub mod ReplayedRecords
+pub mod ReplayedWrites
+pub mod ReplayedFreezes
+pub mod SpoiledLogs
+pub mod JudgedLogs
+pub mod ReplayedLogs
+pub mod OpenedCoords
 pub mod RestartStops
 pub mod RestartSteps
 pub mod RestartRefusals

@@ -1,7 +1,9 @@
--- An opening over a vault without edits makes a new store.
-use Rattle.std.proofs.Common.{◌≡◌, ℕ, List, [], ◌∷◌, refl, sym, subst, false}
+-- An opening over a vault without edits and log makes a new store.
+use Rattle.std.proofs.Common.{◌≡◌, ℕ, List, [], ◌∷◌, None, refl, sym, subst, arith, false}
 use Rattle.lsm_key.specs.declared.limits.Limits.{Limits}
+use Rattle.lsm_edit.specs.Log.{LogHolds}
 use Rattle.lsm_edit.specs.Served.{IsServed, first_served}
+use Rattle.lsm_edit.proofs.WorkedLogs.{empty_holds}
 use Rattle.lsm_vault.specs.Stored.{VaultValue}
 use Rattle.lsm_versions.proofs.ManifestReplay.{Folds-none}
 use Rattle.lsm_coord.specs.Model.State.{State, empty_version, first_state}
@@ -18,14 +20,13 @@ unopened = record first_state { versions = empty_version ∷ []; epoch = 0; floo
 first_is_served : IsServed first_served
 first_is_served = record { ordered = tt; listed = λ f. (λ m. absurd m, λ m. absurd m); recorded = λ p m. absurd m }
 
--- any vault without edits shows it
-shows_unopened : (vault : VaultValue) → vault.edits ≡ [] → ShowsDown vault unopened
-shows_unopened vault none = record {
+-- any vault without edits and log shows it
+shows_unopened : (vault : VaultValue) → vault.edits ≡ [] → vault.log ≡ [] → ShowsDown vault unopened
+shows_unopened vault none no_log = record {
   down = refl;
-  frozen = refl;
   snapshots = refl;
   made = refl;
-  flushed = refl;
+  flushed = omega arith;
   served = first_served;
   sound = first_is_served;
   tables = λ p m. absurd m;
@@ -38,9 +39,9 @@ shows_unopened vault none = record {
     old = λ e m. absurd m;
     answers = λ key. refl;
   });
+  logged = subst (λ (texts : List (List ℕ)). LogHolds 0 texts [] None) (sym no_log) (empty_holds 0);
 }
 
 -- A NEW STORE shows the first state.
-pub opened_over_nothing : (vault : VaultValue) (limits : Limits) (c : CoordValue) → OpensCoord vault limits c → vault.edits ≡ [] → Shows c first_state
-opened_over_nothing vault limits c is none =
-    subst (λ (x : CoordValue). Shows x first_state) (sym is.is) (Shows-opened vault is.versions is.opens is.set is.served is.version unopened (shows_unopened vault none) limits)
+pub opened_over_nothing : (vault : VaultValue) (limits : Limits) (c : CoordValue) → OpensCoord vault limits c → vault.edits ≡ [] → vault.log ≡ [] → Shows c first_state
+opened_over_nothing vault limits c is none no_log = Shows-opened vault limits c is unopened (shows_unopened vault none no_log)

@@ -1,7 +1,8 @@
 -- An opening that is refused is the step of a refused restart.
-use Rattle.std.proofs.Common.{◌≡◌, ℕ, ◌+◌, List, [], Some, refl, sym, subst, arith, length, inl, inr}
+use Rattle.std.proofs.Common.{◌≡◌, ℕ, ◌+◌, [], Some, refl, sym, ap, subst, ◌∙◌, arith, length, inl, inr}
 use Rattle.lsm_key.proofs.Membership.{IsIn-map}
 use Rattle.lsm_edit.specs.declared.served.Placed.{Placed}
+use Rattle.lsm_edit.specs.Log.{BadLog}
 use Rattle.lsm_edit.specs.Served.{IsServed, ServedValue}
 use Rattle.lsm_edit.specs.Version.{VersionValue}
 use Rattle.lsm_vault.specs.Stored.{TableMap, VaultValue}
@@ -17,7 +18,7 @@ use Rattle.lsm_coord.specs.Model.Changes.{after_stop}
 use Rattle.lsm_coord.specs.Model.Rules.{refusal}
 use Rattle.lsm_coord.specs.Model.Step.{Step}
 use Rattle.lsm_coord.specs.Contract.Seats.{OpenRefusedFollows, ShowsDown, open_refusal}
-use Rattle.lsm_coord.proofs.ShownVersions.{version_count}
+use Rattle.lsm_coord.proofs.ShownVersions.{flushed_is, version_count}
 use Rattle.lsm_coord.proofs.StateRefusals.{restart_past_last}
 
 -- a vault that lacks no file's table
@@ -38,7 +39,6 @@ module _ (vault : VaultValue) (s : State) (down : ShowsDown vault (after_stop s)
   still_down : (tables : TableMap) → ArePlacesKept tables down.served.places → ShowsDown (record vault { tables = tables }) (after_stop s)
   still_down tables are = record {
     down = refl;
-    frozen = refl;
     snapshots = refl;
     made = refl;
     flushed = down.flushed;
@@ -46,6 +46,7 @@ module _ (vault : VaultValue) (s : State) (down : ShowsDown vault (after_stop s)
     sound = down.sound;
     tables = are;
     stored = down.stored;
+    logged = down.logged;
   }
 
   -- over the same
@@ -65,6 +66,7 @@ module _ (vault : VaultValue) (s : State) (down : ShowsDown vault (after_stop s)
   dropped_down opening.Device new (inr lost) = lost_down new lost
   dropped_down opening.BadManifest new same = same_down new same
   dropped_down opening.MissingTable new same = same_down new same
+  dropped_down opening.BadLog new same = same_down new same
   dropped_down opening.NumbersExhausted new same = same_down new same
 
   -- no next version or no next epoch has a number
@@ -82,6 +84,7 @@ module _ (vault : VaultValue) (s : State) (down : ShowsDown vault (after_stop s)
   refused_step opening.Device h = (tt, refl)
   refused_step opening.BadManifest h = absurd (h (folds_once vault.edits down.served.version down.stored.manifest))
   refused_step opening.MissingTable h = absurd (has_each vault.tables down.served down.sound down.tables (subst (λ (v : VersionValue). IsLacking vault.tables v.files) version_is h.1))
+  refused_step opening.BadLog h = absurd (down.logged.good (subst (λ (n : ℕ). BadLog n vault.log) (ap (λ (v : VersionValue). v.flushed) version_is ∙ sym (flushed_is vault.edits down.served (after_stop s) down.stored)) h.2))
   refused_step opening.NumbersExhausted h = (inl (forced (subst AreExhausted version_is h.2)), refl)
 
 -- AN OPENING THAT IS REFUSED IS A REFUSED RESTART.

@@ -1,10 +1,8 @@
 -- An opening that succeeds is the step of a restart.
-use Rattle.std.proofs.Common.{◌≡◌, ℕ, ◌+◌, ◌≤◌, List, [], ◌∷◌, ◌++◌, None, Some, cond, true, false, Bool, Option, refl, sym, ap, subst, ◌∙◌, arith, length, map, take, drop}
+use Rattle.std.proofs.Common.{◌≡◌, ℕ, ◌+◌, ◌-◌, ◌≤◌, List, [], ◌∷◌, ◌++◌, None, Some, cond, true, false, Bool, Option, refl, sym, ap, subst, ◌∙◌, arith, length, map, take, drop, unwrap_or}
 use Rattle.std.specs.FinMap.{get, get-retain_keys, nat_cmp-IsAntisymmetric, retain_keys}
 use Rattle.std.specs.List.Sorted.{IsPermutation}
-use Rattle.std.proofs.Math.Seq.{drop-length}
-use Rattle.std.proofs.lemmas.List.{append-nil, take_all}
-use Rattle.std.proofs.lemmas.List.Sorted.{IsPermutation-refl}
+use Rattle.std.proofs.lemmas.List.{append-nil, drop-drop, drop-take, length-drop}
 use Rattle.lsm_key.specs.declared.entry.Entry.{Entry}
 use Rattle.lsm_key.specs.declared.limits.TheConstants.{MAX_NUMBER}
 use Rattle.lsm_key.specs.declared.limits.Limits.{Limits}
@@ -16,6 +14,7 @@ use Rattle.lsm_key.specs.Writes.{answer}
 use Rattle.lsm_edit.specs.declared.file.FileMeta.{FileMeta}
 use Rattle.lsm_edit.specs.declared.served.Placed.{Placed}
 use Rattle.lsm_edit.specs.Edit.{IsSpelledEdit, edit as spelling}
+use Rattle.lsm_edit.specs.Log.{LogHolds, log_frozen, read_records}
 use Rattle.lsm_edit.specs.Next.{epoch_edit}
 use Rattle.lsm_edit.specs.Served.{IsServed, tables_of}
 use Rattle.lsm_edit.specs.Version.{FileNumbersRise, IsVersion, VersionValue, after_apply, has_overlap}
@@ -24,15 +23,18 @@ use Rattle.lsm_edit.proofs.VersionLaws.{files_after-is}
 use Rattle.lsm_vault.specs.Stored.{TableMap, VaultValue}
 use Rattle.lsm_versions.specs.Manifest.{IsVersionSet, VersionSetValue, versions_of}
 use Rattle.lsm_versions.specs.Opening.{ArePlacesKept, Opens, is_live_file, manifest_version}
-use Rattle.lsm_coord.specs.Model.State.{State, Version, last_flushed, last_seq}
+use Rattle.lsm_coord.specs.Model.State.{State, Version, active_start, last_flushed, last_seq}
 use Rattle.lsm_coord.specs.Model.Event as say
 use Rattle.lsm_coord.specs.Model.Changes.{after_restart, after_stop}
 use Rattle.lsm_coord.specs.Model.Rules.{refusal}
 use Rattle.lsm_coord.specs.Model.Step.{Step}
 use Rattle.lsm_coord.specs.Contract.Seats.{OpenFollows, OpensCoord, ShowsDown, opened_coord, restarted_reply}
 use Rattle.lsm_coord.specs.Contract.Shows.{Shows, ShowsStored, listing_of, place_of}
-use Rattle.lsm_coord.specs.Contract.Value.{CoordValue, stored_entries}
+use Rattle.lsm_coord.specs.Contract.Value.{CoordValue, frozen_entries, start_of, stored_entries}
 use Rattle.lsm_coord.proofs.CurrentVersion.{current_version-risen}
+use Rattle.lsm_coord.proofs.LoggedBounds.{start_high, start_low}
+use Rattle.lsm_coord.proofs.LoggedCalls.{cut_holds, end_in, held_as, log_holds, same_ops}
+use Rattle.lsm_coord.proofs.ReplayedRecords.{start_is}
 use Rattle.lsm_coord.proofs.ServedOneWay.{same_places}
 use Rattle.lsm_coord.proofs.ShownVersions.{current_is, flushed_is, listed-push, version_count}
 use Rattle.lsm_coord.proofs.StateRefusals.{restart_may}
@@ -138,67 +140,129 @@ module _ (vault : VaultValue) (v : VersionSetValue) (opens : Opens vault v) (set
         (ap (λ (es : List Entry). value_at es key (last_flushed (after_stop s))) (sym stored_are) ∙ down.stored.answers key);
   }
 
-  -- there are as many writes as are flushed
-  writes_flushed : last_flushed (after_restart s) ≡ last_seq (after_restart s)
-  writes_flushed = flushed_stays ∙ sym down.flushed
-
-  -- the active memtable is empty
-  none_after : IsPermutation [] (entries_after (last_flushed (after_restart s)) (drop (last_flushed (after_restart s)) (after_restart s).writes))
-  none_after =
-      let none : IsPermutation [] (entries_after (last_seq (after_restart s)) (drop (last_seq (after_restart s)) (after_restart s).writes)) = rw (drop-length (after_restart s).writes) (IsPermutation-refl []) in
-      subst (λ (n : ℕ). IsPermutation [] (entries_after n (drop n (after_restart s).writes))) (sym writes_flushed) none
-
-  -- no frozen one waits
-  none_within : IsPermutation [] (entries_after (last_flushed (after_restart s)) (drop (last_flushed (after_restart s)) (take (last_flushed (after_restart s)) (after_restart s).writes)))
-  none_within =
-      let whole : take (last_flushed (after_restart s)) (after_restart s).writes ≡ (after_restart s).writes = take_all _ _ (omega (arith, writes_flushed)) in
-      subst (λ (ws : List Op). IsPermutation [] (entries_after (last_flushed (after_restart s)) (drop (last_flushed (after_restart s)) ws))) (sym whole) none_after
-
   -- the new version has the next number
   number_is : length s.versions ≡ v.served.version.number
   number_is = version_count vault.edits down.served (after_stop s) down.stored ∙ ap (λ (x : VersionValue). x.number) (sym next_is)
 
-  -- the last sequence is the flushed one
-  last_is : last_seq (after_restart s) ≡ v.served.version.flushed
-  last_is = down.flushed ∙ flushed_is vault.edits down.served (after_stop s) down.stored ∙ ap (λ (x : VersionValue). x.flushed) (sym next_is)
-
-  -- The opened coordinator shows the state after a restart.
-  pub Shows-opened : (limits : Limits) → Shows (opened_coord limits v) (after_restart s)
-  Shows-opened limits = record {
-    up = refl;
-    last = last_is;
-    frozen = refl;
-    snapshots = refl;
-    made = refl;
-    floor = number_is ∙ sym opens.floor;
-    tables = stored_after;
-    memtables = record {
-      flushed = omega arith;
-      within = omega (arith, writes_flushed);
-      active_is = none_after;
-      frozen_is = none_within;
-      kept = λ x live. absurd live;
-      snapped = λ x live. absurd live;
-    };
-  }
-
   -- the numbers of the next epoch and version are within their limits
-  pub restart_allowed : refusal s (say.Restart say.Coordinator) ≡ None
+  restart_allowed : refusal s (say.Restart say.Coordinator) ≡ None
   restart_allowed =
       let epoch : s.epoch + 1 ≡ v.served.version.epoch = stored_after.epoch in
       let fits : v.served.version.epoch ≤ MAX_NUMBER = version_is.epoch in
       let number : v.served.version.number ≤ MAX_NUMBER = version_is.number in
       restart_may s (omega arith) (omega (arith, number_is))
 
+-- ---- what its memtables have
+
+module _ (vault : VaultValue) (limits : Limits) (c : CoordValue) (is : OpensCoord vault limits c) (s : State) (down : ShowsDown vault (after_stop s)) where
+  abbrev v : VersionSetValue
+  v = is.versions
+
+  abbrev flushed : ℕ
+  flushed = v.served.version.flushed
+
+  abbrev start : ℕ
+  start = start_of c.frozen flushed
+
+  here : last_flushed s ≡ flushed
+  here = flushed_is vault.edits down.served (after_stop s) down.stored ∙ ap (λ (x : VersionValue). x.flushed) (sym (next_is vault v is.opens is.set is.served is.version s down))
+
+  there : last_flushed (after_restart s) ≡ last_flushed s
+  there = flushed_stays vault v is.opens is.set is.served is.version s down
+
+  -- the log holds the writes after the last flush
+  ops_are : is.logged.ops ≡ drop (last_flushed s) s.writes
+  ops_are = same_ops c.active c.frozen c.last flushed vault.log is.logged (last_flushed s) (drop (last_flushed s) s.writes) s.frozen here down.logged
+
+  -- and the same frozen end
+  frozen_are : s.frozen ≡ end_in c.frozen
+  frozen_are =
+      down.logged.frozen_is
+      ∙ ap (λ (n : ℕ). log_frozen n (read_records vault.log)) here
+      ∙ sym (log_holds c.active c.frozen c.last flushed vault.log is.logged).frozen_is
+
+  -- no write is lost
+  last_is : last_seq s ≡ c.last
+  last_is =
+      let low : last_flushed s ≤ last_seq s = down.flushed in
+      let count : length is.logged.ops ≡ length (drop (last_flushed s) s.writes) = ap length ops_are in
+      let ends = is.logged.last_is in
+      omega (arith, low, count, ends, here, length-drop (last_flushed s) s.writes)
+
+  low : flushed ≤ start
+  low = start_low c.active c.frozen c.last flushed vault.log is.logged
+
+  high : start ≤ c.last
+  high = start_high c.active c.frozen c.last flushed vault.log is.logged
+
+  begins : active_start (after_restart s) ≡ start
+  begins = (λ i. unwrap_or (frozen_are i) ((there ∙ here) i)) ∙ sym (start_is c.frozen flushed)
+
+  sum : last_flushed s + (start - flushed) ≡ start
+  sum = omega (arith, here, low)
+
+  active_part : drop (start - flushed) is.logged.ops ≡ drop start s.writes
+  active_part = ap (drop (start - flushed)) ops_are ∙ drop-drop (start - flushed) (last_flushed s) s.writes ∙ ap (λ (n : ℕ). drop n s.writes) sum
+
+  frozen_part : take (start - flushed) is.logged.ops ≡ drop (last_flushed s) (take start s.writes)
+  frozen_part = ap (take (start - flushed)) ops_are ∙ sym (drop-take (last_flushed s) (start - flushed) s.writes) ∙ ap (λ (n : ℕ). drop (last_flushed s) (take n s.writes)) sum
+
+  abbrev waiting : List Entry
+  waiting = frozen_entries c.frozen
+
+  active_shown : IsPermutation c.active (entries_after (active_start (after_restart s)) (drop (active_start (after_restart s)) s.writes))
+  active_shown =
+      subst (λ (n : ℕ). IsPermutation c.active (entries_after n (drop n s.writes))) (sym begins)
+      (subst (λ (os : List Op). IsPermutation c.active (entries_after start os)) active_part is.logged.active_is)
+
+  frozen_shown : IsPermutation waiting (entries_after (last_flushed (after_restart s)) (drop (last_flushed (after_restart s)) (take (active_start (after_restart s)) s.writes)))
+  frozen_shown =
+      subst (λ (n : ℕ). IsPermutation waiting (entries_after (last_flushed (after_restart s)) (drop (last_flushed (after_restart s)) (take n s.writes)))) (sym begins)
+      (subst (λ (n : ℕ). IsPermutation waiting (entries_after n (drop n (take start s.writes)))) (sym there)
+      (subst (λ (n : ℕ). IsPermutation waiting (entries_after n (drop (last_flushed s) (take start s.writes)))) (sym here)
+      (subst (λ (os : List Op). IsPermutation waiting (entries_after flushed os)) frozen_part is.logged.frozen_is)))
+
+  -- with what is left of the log
+  log_shown : LogHolds (last_flushed (after_restart s)) c.stored.log (drop (last_flushed (after_restart s)) s.writes) s.frozen
+  log_shown =
+      held_as flushed (last_flushed (after_restart s)) c.stored.log is.logged.ops (drop (last_flushed (after_restart s)) s.writes) (end_in c.frozen) s.frozen (there ∙ here) (ops_are ∙ ap (λ (n : ℕ). drop n s.writes) (sym there)) frozen_are
+      (cut_holds c.active c.frozen c.last flushed vault.log c.stored.log is.logged is.cut)
+
+  -- the coordinator, part by part
+  abbrev opened : CoordValue
+  opened = record (opened_coord limits v) { active = c.active; frozen = c.frozen; stored = record v.stored { log = c.stored.log }; last = c.last; failures = c.failures }
+
+  shows_parts : Shows opened (after_restart s)
+  shows_parts = record {
+    up = refl;
+    last = last_is;
+    frozen = frozen_are;
+    snapshots = refl;
+    made = refl;
+    floor = number_is vault v is.opens is.set is.served is.version s down ∙ sym is.opens.floor;
+    tables = stored_after vault v is.opens is.set is.served is.version s down;
+    memtables = record {
+      flushed = omega (arith, begins, there, here, low);
+      within = omega (arith, begins, last_is, high);
+      active_is = active_shown;
+      frozen_is = frozen_shown;
+      kept = λ x live. absurd live;
+      snapped = λ x live. absurd live;
+    };
+    logged = log_shown;
+  }
+
+  -- The opened coordinator shows the state after a restart.
+  pub Shows-opened : Shows c (after_restart s)
+  Shows-opened = subst (λ (x : CoordValue). Shows x (after_restart s)) (sym is.is) shows_parts
+
   -- Its numbers are the reply to one.
-  pub restarts : (limits : Limits) → Step s (say.Restart say.Coordinator) (restarted_reply (opened_coord limits v)) (after_restart s)
-  restarts limits = (restart_allowed, (sym stored_after.epoch, sym number_is, sym last_is, refl))
+  restarts : Step s (say.Restart say.Coordinator) (restarted_reply c) (after_restart s)
+  restarts = subst (λ (x : CoordValue). Step s (say.Restart say.Coordinator) (restarted_reply x) (after_restart s)) (sym is.is) (
+    restart_allowed vault v is.opens is.set is.served is.version s down,
+    (sym (stored_after vault v is.opens is.set is.served is.version s down).epoch, sym (number_is vault v is.opens is.set is.served is.version s down), sym last_is, refl),
+  )
 
 -- AN OPENING IS A RESTART.
 pub open_follows : (vault : VaultValue) (limits : Limits) (c : CoordValue) → OpensCoord vault limits c → OpenFollows vault c
-open_follows vault limits c is s down =
-    let v = is.versions in (
-      after_restart s,
-      subst (λ (x : CoordValue). Step s (say.Restart say.Coordinator) (restarted_reply x) (after_restart s)) (sym is.is) (restarts vault v is.opens is.set is.served is.version s down limits),
-      subst (λ (x : CoordValue). Shows x (after_restart s)) (sym is.is) (Shows-opened vault v is.opens is.set is.served is.version s down limits),
-    )
+open_follows vault limits c is s down = (after_restart s, restarts vault limits c is s down, Shows-opened vault limits c is s down)

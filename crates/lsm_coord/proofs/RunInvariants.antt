@@ -14,7 +14,7 @@ use Rattle.lsm_coord.specs.Model.Event as say
 use Rattle.lsm_coord.specs.Model.Step.{Step, Lists, FollowerReads}
 use Rattle.lsm_coord.specs.Model.Run.{Run}
 use Rattle.lsm_coord.specs.Model.Laws.{VersionsStay, ListingsAgree, FollowersAgree, GetGivesTheWrite, FlushedAscends, FlushedRises, SparesKey}
-use Rattle.lsm_coord.proofs.StepEffects.{Effect, stays, wrote, froze, flushed, installed, fell, rose, effect}
+use Rattle.lsm_coord.proofs.StepEffects.{Effect, stays, wrote, froze, flushed, versioned, effect}
 use Rattle.lsm_coord.proofs.VersionsStay.{IsSound, step_sound, step_versions, step_writes, run_versions, first_sound, below_tip, tip}
 
 pub versions_stay : VersionsStay
@@ -92,17 +92,12 @@ followers_agree steps run follower other n key x y a b =
 spared : (key : List ℕ) (e : Event) (ops : List Op) → e ≡ say.Write ops → SparesKey key e → last_write ops key ≡ None
 spared key e ops h k = subst (SparesKey key) h k
 
-not_restarted : (key : List ℕ) (e : Event) → e ≡ say.Restart say.Coordinator → SparesKey key e → ⊥
-not_restarted key e h k = subst (SparesKey key) h k
-
 step_last : (s : State) (e : Event) (t : State) (key : List ℕ) (w : Op) → Effect s e t → SparesKey key e → last_write s.writes key ≡ Some w → last_write t.writes key ≡ Some w
 step_last s e t key w (stays a b c) k h = rw a h
 step_last s e t key w (wrote ops f a b c) k h = rw (a, last_write-append s.writes ops key, spared key e ops f k) h
 step_last s e t key w (froze a b c) k h = rw a h
 step_last s e t key w (flushed v f a b c) k h = rw a h
-step_last s e t key w (installed v f a b c) k h = rw a h
-step_last s e t key w (fell f a b c) k h = absurd (not_restarted key e f k)
-step_last s e t key w (rose v f g a b c) k h = absurd (not_restarted key e f k)
+step_last s e t key w (versioned v f a b c) k h = rw a h
 
 run_last : (s : State) (steps : List (Event × Reply)) (t : State) (key : List ℕ) (w : Op) → Run s steps t → ((e : Event) (r : Reply) → IsIn (e, r) steps → SparesKey key e) → last_write s.writes key ≡ Some w → last_write t.writes key ≡ Some w
 run_last s [] t key w h k q = rw h q

@@ -50,6 +50,7 @@ Shows-snapped c s h =
           | inr new ↦ elim new [ inl e ↦ (let at : x.at ≡ last_seq s = ap (λ (y : Snapshot). y.at) e in omega arith) | inr none ↦ absurd none ]
         ];
       };
+      logged = h.logged;
     }
 
 -- ---- a release
@@ -74,6 +75,7 @@ Shows-released c s id h =
         kept = λ x live low key. m.kept x (IsIn-filter others x s.snapshots live).0 low key;
         snapped = λ x live. m.snapped x (IsIn-filter others x s.snapshots live).0;
       };
+      logged = h.logged;
     }
 
 -- ---- the sequence of a read

@@ -1,5 +1,5 @@
 -- What a step may do to the writes, the versions and the frozen memtable.
-use Rattle.std.proofs.Common.{◌≡◌, List, [], ◌∷◌, ◌++◌, None, Some, refl, sym, subst, inl, inr, take}
+use Rattle.std.proofs.Common.{◌≡◌, List, [], ◌∷◌, ◌++◌, None, Some, refl, sym, subst, inl, inr}
 use Rattle.lsm_key.specs.declared.op.Op.{Op}
 use Rattle.lsm_coord.specs.Model.State.{State, Version, last_seq, last_flushed}
 use Rattle.lsm_coord.specs.Model.Event.{Event, Refusal, Reply}
@@ -7,14 +7,13 @@ use Rattle.lsm_coord.specs.Model.Event as say
 use Rattle.lsm_coord.specs.Model.Changes.{flush_end}
 use Rattle.lsm_coord.specs.Model.Step.{Step, Leaves}
 
+-- a version comes with a flush; or of an install or a restart, and then it has the flushed sequence of the one before
 pub data Effect (s : State) (e : Event) (t : State) : Type 0 where
   stays : t.writes ≡ s.writes → t.versions ≡ s.versions → t.frozen ≡ s.frozen → Effect s e t
   wrote : (ops : List Op) → e ≡ say.Write ops → t.writes ≡ s.writes ++ ops → t.versions ≡ s.versions → t.frozen ≡ s.frozen → Effect s e t
   froze : t.writes ≡ s.writes → t.versions ≡ s.versions → t.frozen ≡ Some (last_seq s) → Effect s e t
   flushed : (v : Version) → v.flushed ≡ flush_end s → t.writes ≡ s.writes → t.versions ≡ s.versions ++ v ∷ [] → t.frozen ≡ None → Effect s e t
-  installed : (v : Version) → v.flushed ≡ last_flushed s → t.writes ≡ s.writes → t.versions ≡ s.versions ++ v ∷ [] → t.frozen ≡ s.frozen → Effect s e t
-  fell : e ≡ say.Restart say.Coordinator → t.writes ≡ take (last_flushed s) s.writes → t.versions ≡ s.versions → t.frozen ≡ None → Effect s e t
-  rose : (v : Version) → e ≡ say.Restart say.Coordinator → v.flushed ≡ last_flushed s → t.writes ≡ take (last_flushed s) s.writes → t.versions ≡ s.versions ++ v ∷ [] → t.frozen ≡ None → Effect s e t
+  versioned : (v : Version) → v.flushed ≡ last_flushed s → t.writes ≡ s.writes → t.versions ≡ s.versions ++ v ∷ [] → t.frozen ≡ s.frozen → Effect s e t
 
 to : (s : State) (e : Event) (t u : State) → t ≡ u → Effect s e u → Effect s e t
 to s e t u h x = subst (Effect s e) (sym h) x
@@ -23,9 +22,9 @@ leaves : (s : State) (e : Event) (why : Refusal) (t : State) → Leaves s e why 
 leaves s (say.Trim n) say.Device t h = to s (say.Trim n) t _ h (stays refl refl refl)
 leaves s (say.Trim n) say.OutOfMemory t (inl h) = to s (say.Trim n) t _ h.1 (stays refl refl refl)
 leaves s (say.Trim n) say.OutOfMemory t (inr h) = to s (say.Trim n) t _ h (stays refl refl refl)
-leaves s (say.Restart say.Coordinator) say.OutOfMemory t (inl h) = to s (say.Restart say.Coordinator) t _ h (fell refl refl refl refl)
+leaves s (say.Restart say.Coordinator) say.OutOfMemory t (inl h) = to s (say.Restart say.Coordinator) t _ h (stays refl refl refl)
 leaves s (say.Restart say.Coordinator) say.OutOfMemory t (inr h) = to s (say.Restart say.Coordinator) t _ h (stays refl refl refl)
-leaves s (say.Restart say.Coordinator) why t h = to s (say.Restart say.Coordinator) t _ h (fell refl refl refl refl)
+leaves s (say.Restart say.Coordinator) why t h = to s (say.Restart say.Coordinator) t _ h (stays refl refl refl)
 leaves s e why t h = to s e t _ h (stays refl refl refl)
 
 pub effect : (s : State) (e : Event) (r : Reply) (t : State) → Step s e r t → Effect s e t
@@ -40,14 +39,14 @@ effect s (say.Scan a b c d) (say.Scanned x) t h = to s _ t _ h.1.1 (stays refl r
 effect s (say.Read a b) (say.ReadAt c d) t h = to s _ t _ h.1.2 (stays refl refl refl)
 effect s (say.Show say.Coordinator) (say.Shown a b c) t h = to s _ t _ h.1.2 (stays refl refl refl)
 effect s (say.Show (say.Follower i)) (say.Shown a b c) t h = to s _ t _ h.1.2 (stays refl refl refl)
-effect s (say.Deliver m) (say.Installed a b) t h = to s _ t _ h.1.new_is (installed _ refl refl refl refl)
+effect s (say.Deliver m) (say.Installed a b) t h = to s _ t _ h.1.new_is (versioned _ refl refl refl refl)
 effect s (say.Deliver m) (say.Advanced a) t h = to s _ t _ h.1.5 (stays refl refl refl)
 effect s (say.Deliver m) say.Other t h = to s _ t _ h.1 (stays refl refl refl)
 effect s (say.Pick d) say.Other t h = to s _ t _ h.1.1 (stays refl refl refl)
 effect s (say.GiveUp d) say.Other t h = to s _ t _ h.1.1 (stays refl refl refl)
 effect s (say.Ask i) say.Other t h = to s _ t _ h.1.1 (stays refl refl refl)
 effect s (say.Trim n) (say.Trimmed a) t h = to s _ t _ h.1.1 (stays refl refl refl)
-effect s (say.Restart say.Coordinator) (say.Restarted a b c) t h = to s _ t _ h.1.3 (rose _ refl refl refl refl refl)
+effect s (say.Restart say.Coordinator) (say.Restarted a b c) t h = to s _ t _ h.1.3 (versioned _ refl refl refl refl)
 effect s (say.Restart (say.Worker i)) say.Reset t h = to s _ t _ h.1.1 (stays refl refl refl)
 effect s (say.Restart (say.Follower i)) say.Reset t h = to s _ t _ h.1.1 (stays refl refl refl)
 effect s (say.Show say.Coordinator) r t h = absurd h.1

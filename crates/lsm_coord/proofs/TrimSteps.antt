@@ -19,4 +19,5 @@ Shows-trimmed c s n h =
       floor = ap (λ (floor : ℕ). max floor n) h.floor;
       tables = stored_same c.stored.edits c.served s _ h.tables refl refl refl refl (λ key. refl);
       memtables = record { flushed = m.flushed; within = m.within; active_is = m.active_is; frozen_is = m.frozen_is; kept = m.kept; snapped = m.snapped };
+      logged = h.logged;
     }

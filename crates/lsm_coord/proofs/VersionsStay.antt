@@ -3,14 +3,14 @@ use Rattle.std.proofs.Common.{◌≡◌, ℕ, zero, suc, ◌-◌, ◌≤◌, ◌
 use Rattle.std.specs.List.{slice_get}
 use Rattle.std.specs.Option.{unwrap_or}
 use Rattle.std.proofs.Math.Seq.{get_or-append_seam}
-use Rattle.std.proofs.lemmas.List.{take-append-le, take-take, length-take-le}
+use Rattle.std.proofs.lemmas.List.{take-append-le}
 use Rattle.std.proofs.lemmas.Option.{same_Some, slice_get_within, slice_get-get_or}
 use Rattle.lsm_key.proofs.Lists.{slice_get-front}
 use Rattle.lsm_versions.proofs.GrownLists.{at_grown}
 use Rattle.lsm_coord.specs.Model.State.{State, Version, empty_version, first_state}
 use Rattle.lsm_coord.specs.Model.Event.{Event, Reply}
 use Rattle.lsm_coord.specs.Model.Run.{Run}
-use Rattle.lsm_coord.proofs.StepEffects.{Effect, stays, wrote, froze, flushed, installed, fell, rose, effect}
+use Rattle.lsm_coord.proofs.StepEffects.{Effect, stays, wrote, froze, flushed, versioned, effect}
 
 -- ---- lists of versions
 
@@ -63,9 +63,6 @@ longer n m vs frozen le x = record { rising = x.rising; within = let w = x.withi
 frozen_now : (n : ℕ) (vs : List Version) (frozen : Option ℕ) → Sound n vs frozen → Sound n vs (Some n)
 frozen_now n vs frozen x = record { rising = x.rising; within = x.within; between = λ z h. let e = same_Some n z h in let w = x.within in (omega arith, omega arith) }
 
-cut_back : (n : ℕ) (vs : List Version) (frozen : Option ℕ) → Sound n vs frozen → Sound (tip vs) vs None
-cut_back n vs frozen x = record { rising = x.rising; within = omega arith; between = no_frozen _ _ }
-
 with_flushed : (n : ℕ) (vs : List Version) (frozen : Option ℕ) (v : Version) → v.flushed ≡ unwrap_or frozen n → Sound n vs frozen → Sound n (vs ++ v ∷ []) None
 with_flushed n vs None v e x =
     let w = x.within in
@@ -86,9 +83,7 @@ step_sound s e t (stays a b c) x = rw (a, b, c) x
 step_sound s e t (wrote ops k a b c) x = rw (a, b, c) (longer (length s.writes) (length (s.writes ++ ops)) s.versions s.frozen (omega (arith, length-append s.writes ops)) x)
 step_sound s e t (froze a b c) x = rw (a, b, c) (frozen_now (length s.writes) s.versions s.frozen x)
 step_sound s e t (flushed v k a b c) x = rw (a, b, c) (with_flushed (length s.writes) s.versions s.frozen v k x)
-step_sound s e t (installed v k a b c) x = rw (a, b, c) (with_same (length s.writes) s.versions s.frozen v k x)
-step_sound s e t (fell k a b c) x = rw (a, b, c, length-take-le (tip s.versions) s.writes x.within) (cut_back (length s.writes) s.versions s.frozen x)
-step_sound s e t (rose v k f a b c) x = rw (a, b, c, length-take-le (tip s.versions) s.writes x.within) (with_same (tip s.versions) s.versions None v f (cut_back (length s.writes) s.versions s.frozen x))
+step_sound s e t (versioned v k a b c) x = rw (a, b, c) (with_same (length s.writes) s.versions s.frozen v k x)
 
 -- ---- what stays
 
@@ -97,9 +92,7 @@ step_versions s e t (stays a b c) n v h = rw b h
 step_versions s e t (wrote ops k a b c) n v h = rw b h
 step_versions s e t (froze a b c) n v h = rw b h
 step_versions s e t (flushed x k a b c) n v h = rw b (slice_get-front s.versions (x ∷ []) n v h)
-step_versions s e t (installed x k a b c) n v h = rw b (slice_get-front s.versions (x ∷ []) n v h)
-step_versions s e t (fell k a b c) n v h = rw b h
-step_versions s e t (rose x k f a b c) n v h = rw b (slice_get-front s.versions (x ∷ []) n v h)
+step_versions s e t (versioned x k a b c) n v h = rw b (slice_get-front s.versions (x ∷ []) n v h)
 
 pub run_versions : (s : State) (steps : List (Event × Reply)) (t : State) → Run s steps t → (n : ℕ) (v : Version) → slice_get s.versions n ≡ Some v → slice_get t.versions n ≡ Some v
 run_versions s [] t h n v q = rw h q
@@ -111,9 +104,7 @@ step_writes s e t (stays a b c) x n v h = ap (take v.flushed) a
 step_writes s e t (wrote ops k a b c) x n v h = let i = below_tip s.versions n v x.rising h in let w = x.within in ap (take v.flushed) a ∙ take-append-le v.flushed s.writes ops (omega arith)
 step_writes s e t (froze a b c) x n v h = ap (take v.flushed) a
 step_writes s e t (flushed y k a b c) x n v h = ap (take v.flushed) a
-step_writes s e t (installed y k a b c) x n v h = ap (take v.flushed) a
-step_writes s e t (fell k a b c) x n v h = ap (take v.flushed) a ∙ take-take v.flushed (tip s.versions) s.writes (below_tip s.versions n v x.rising h)
-step_writes s e t (rose y k f a b c) x n v h = ap (take v.flushed) a ∙ take-take v.flushed (tip s.versions) s.writes (below_tip s.versions n v x.rising h)
+step_writes s e t (versioned y k a b c) x n v h = ap (take v.flushed) a
 
 first_flushed : (n : ℕ) (v : Version) → slice_get first_state.versions n ≡ Some v → v.flushed ≡ 0
 first_flushed zero v h = ap (λ (x : Version). x.flushed) (sym (same_Some empty_version v h))

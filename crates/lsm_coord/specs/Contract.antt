@@ -1,6 +1,7 @@
 -- What the contracts of the coordinator's calls say beside the model: the value of a coordinator, which states it represents, and
 -- what each call refuses and makes.
 pub mod Value
+pub mod Logs
 pub mod Shows
 pub mod Replies
 pub mod Memory

@@ -2,3 +2,4 @@
 pub mod Scan
 pub mod Putting
 pub mod Sources
+pub mod Replaying

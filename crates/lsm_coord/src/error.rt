@@ -7,7 +7,7 @@ use std::fmt;
 use thiserror::Error;
 
 /// Why the coordinator refuses a call, the first reason that holds; a device failure comes last. The numbers stay as they are.
-/// `BadManifest` and `MissingTable` are reasons of an opening, which reports them as an `OpenError`.
+/// `BadManifest`, `MissingTable` and `BadLog` are reasons of an opening, which reports them as an `OpenError`.
 #[derive(Clone, Copy, Debug, PartialEq, Eq, Error)]
 pub enum CoordError {
     OutOfMemory = 0,
@@ -28,6 +28,7 @@ pub enum CoordError {
     TooWide = 15,
     BadFloor = 16,
     NumbersExhausted = 17,
+    BadLog = 18,
 }
 
 impl CoordError {
@@ -54,6 +55,7 @@ impl CoordError {
             CoordError::BadFloor => "the floor is above the current version",
             CoordError::NumbersExhausted =>
                 "the version, file, snapshot or job numbers are exhausted",
+            CoordError::BadLog => "a record of the log is not valid or not in its place",
         }
     }
 }

@@ -2,8 +2,8 @@
 //! contract.
 
 ghost use Rattle.lsm_coord.specs.Model.Laws.{VersionsStay, ListingsAgree, FollowersAgree, GetGivesTheWrite, FlushedRises, ScansAreDetermined, SnapshotsAgree};
-ghost use Rattle.lsm_coord.specs.Model.Examples.{FlushedWriteIsFound, RestartLosesWrites, LastOfABatchCounts, FrozenIsFlushedFirst, AbsentIsRefused, DownUntilRestarted, MergeKeepsAnswers, FollowerLiesBehind, EpochsFollow, CausesBesideTheState};
-ghost use Rattle.lsm_coord.specs.Model.Examples.{LostWriteIsNoRun, ShortFlushIsNoRun, EmptyListingIsNoRun, KeptWriteIsNoRun, UnforcedRefusalIsNoRun, FileGivenTwiceIsNoRun, NewerValueIsNoRun};
+ghost use Rattle.lsm_coord.specs.Model.Examples.{FlushedWriteIsFound, RestartKeepsWrites, FreezeOutlivesRestart, RefusedWriteIsNotThere, LastOfABatchCounts, FrozenIsFlushedFirst, AbsentIsRefused, DownUntilRestarted, MergeKeepsAnswers, FollowerLiesBehind, EpochsFollow, CausesBesideTheState};
+ghost use Rattle.lsm_coord.specs.Model.Examples.{LostWriteIsNoRun, ShortFlushIsNoRun, EmptyListingIsNoRun, LostAtRestartIsNoRun, SnapshotKeptIsNoRun, KeptAfterDeviceIsNoRun, UnforcedRefusalIsNoRun, FileGivenTwiceIsNoRun, NewerValueIsNoRun};
 ghost use Rattle.lsm_coord.specs.Model.Examples.{SecondWriteLostIsNoRun, FileForgottenIsNoRun, FlushLosesWriteIsNoRun};
 ghost use Rattle.lsm_coord.specs.Model.Examples.{InstallOfNothingIsNoRun, NumberUsedAgainIsNoRun, LeapIsNoRun, FallBackIsNoRun, NameGivenTwiceIsNoRun};
 ghost use Rattle.lsm_coord.specs.Model.Examples.{FlushedWriteIsLostIsNoRun, FloorFallsIsNoRun, DownWhileUpIsNoRun, AnswerWhileDownIsNoRun};
@@ -24,7 +24,7 @@ pub fn followers_agree()
 {}
 
 /// A get returns what an answered write of its key leaves, the value of a put and none for a deletion, if no event
-/// between them writes the key or restarts the coordinator.
+/// between them writes the key. Restarts of the coordinator lose no write.
 pub fn get_gives_the_write()
     ensures { GetGivesTheWrite }
 {}
@@ -48,7 +48,9 @@ pub fn scans_are_determined()
 /// These are runs of a new store.
 pub fn worked_runs()
     ensures flushed { FlushedWriteIsFound }
-    ensures restarted { RestartLosesWrites }
+    ensures restarted { RestartKeepsWrites }
+    ensures freeze { FreezeOutlivesRestart }
+    ensures device { RefusedWriteIsNotThere }
     ensures batch { LastOfABatchCounts }
     ensures frozen { FrozenIsFlushedFirst }
     ensures absent { AbsentIsRefused }
@@ -64,7 +66,9 @@ pub fn wrong_runs()
     ensures lost { LostWriteIsNoRun }
     ensures short { ShortFlushIsNoRun }
     ensures listing { EmptyListingIsNoRun }
-    ensures kept { KeptWriteIsNoRun }
+    ensures dropped { LostAtRestartIsNoRun }
+    ensures kept { SnapshotKeptIsNoRun }
+    ensures failed { KeptAfterDeviceIsNoRun }
     ensures refused { UnforcedRefusalIsNoRun }
     ensures twice { FileGivenTwiceIsNoRun }
     ensures newer { NewerValueIsNoRun }

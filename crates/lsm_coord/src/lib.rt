@@ -4,8 +4,9 @@
 //! state forces, one step, and a run; the laws of runs are proved beside them. `Coord` is one store over a vault, and
 //! each call promises that it follows them: from every state that the store shows before, the call and its answer are a
 //! step to a state that it shows after. Jobs are picked, their files served and their results installed; a job stays
-//! installable as long as its claim is live. Tables stay and are served until a trim lets them go. A `Seat` is up or down: a
-//! restart loses exactly what was not flushed, and makes every claim stale.
+//! installable as long as its claim is live. Tables stay and are served until a trim lets them go. A write or a freeze is in the
+//! vault's log before it is answered. A `Seat` is up or down: a restart loses no write, ends every snapshot, and makes every claim
+//! stale.
 //!
 //! It stands on `lsm_key` for writes and entries, `lsm_mem` for memtables, `lsm_block` and `lsm_table` for tables, `lsm_edit` for versions
 //! and the tables that they serve, `lsm_versions` for the version set, `lsm_vault` for vaults, `lsm_claim` for
@@ -21,6 +22,7 @@ mod error;
 mod frozen;
 mod job;
 mod laws;
+mod replay;
 mod seat;
 mod snapshot;
 mod source;

@@ -24,7 +24,7 @@ impl<V: Vault> Seat<V> {
     ghost use Rattle.lsm_coord.specs.Contract.Restarts.{RestartFollows, Restarts, after_return, seat_of};
     ghost use Rattle.lsm_coord.specs.Contract.Seats.{ShowsDown, ShowsSeat};
 
-    /// Lets go of all that is not in the vault, and opens the vault again, in the next epoch. What was not flushed is lost, and all
+    /// Lets go of all that is not in the vault, and opens the vault again, in the next epoch. No write is lost; snapshots are, and all
     /// claims are stale. If the opening is refused, the coordinator is down, and a restart may be tried again.
     pub fn restart(self, alloc: Global) -> (Seat<V>, Result<(), OpenError>)
         ensures restarts { Restarts (seat_of V.stored V.failures self) result.1 (seat_of V.stored V.failures result.0) }

@@ -2,6 +2,7 @@
 
 mod copies;
 mod devices;
+mod restarts;
 mod results;
 
 use lsm_coord::{CoordError, InstallError};

@@ -15,6 +15,7 @@ use Rattle.lsm_claim.specs.declared.job.JobId.{JobId}
 use Rattle.lsm_claim.specs.Book.{after_settling}
 use Rattle.lsm_table.specs.Tables.{IsTable, Opened, target_of}
 use Rattle.lsm_edit.specs.declared.file.FileMeta.{FileMeta}
+use Rattle.lsm_edit.specs.declared.log_record.LogRecord.TheVariants as logged
 use Rattle.lsm_edit.specs.declared.edit.Edit.{Edit}
 use Rattle.lsm_edit.specs.Edit.{IsSpelledEdit}
 use Rattle.lsm_edit.specs.Next.{flush_edit}
@@ -30,6 +31,7 @@ use Rattle.lsm_coord.specs.declared.snapshot.SnapId.{SnapId}
 use Rattle.lsm_coord.specs.declared.snapshot.Snapshot.{Snapshot}
 use Rattle.lsm_coord.specs.Model.State.{State, same_snapshot_id, snapshot_at}
 use Rattle.lsm_coord.specs.Model.Range.{IsRange}
+use Rattle.lsm_coord.specs.Contract.Logs.{MayCut, with_logged}
 use Rattle.lsm_coord.specs.Contract.Value.{CoordValue, version_set}
 use Rattle.lsm_coord.specs.Contract.Shows.{Shows}
 
@@ -43,10 +45,11 @@ write_fault c ops =
     else if nat_lt MAX_MEMTABLE_WEIGHT (sum_by entry_weight c.active + total_weight ops) then Some MemtableFull
     else None
 
--- the entries of the batch are in the active memtable, at the next sequences
+-- the entries of the batch are in the active memtable, at the next sequences, and the batch is in the log
 pub record IsWritten (old : CoordValue) (ops : List Op) (new : CoordValue) : Type 0 where
   pub active : IsPermutation (old.active ++ entries_after old.last ops) new.active
-  pub rest : new ≡ record old { active = new.active; last = old.last + length ops }
+  pub rest : new ≡ record old { active = new.active; stored = with_logged old.stored (logged.Write (old.last + 1) ops); last = old.last + length ops; failures = new.failures }
+  pub counted : old.failures ≤ new.failures
 
 -- why nothing is frozen: the first reason that holds
 abbrev pub freeze_fault : CoordValue → Option CoordError
@@ -55,11 +58,27 @@ freeze_fault c =
     else if nat_eq (length c.active) 0 then Some NothingToFreeze
     else None
 
--- the active memtable is frozen, and a new one is empty
+-- the active memtable is frozen, a new one is empty, and the freeze is in the log
 abbrev pub after_freezing : CoordValue → CoordValue
-after_freezing c = record c { active = []; frozen = Some (record { memtable = c.active; end = c.last }) }
+after_freezing c = record c { active = []; frozen = Some (record { memtable = c.active; end = c.last }); stored = with_logged c.stored (logged.Freeze c.last) }
+
+-- so it is after a freeze
+pub record IsFrozen (old new : CoordValue) : Type 0 where
+  pub rest : new ≡ record (after_freezing old) { failures = new.failures }
+  pub counted : old.failures ≤ new.failures
 
 -- ---- the vault
+
+-- the same, but that its device may have failed
+pub record MayHaveFailed (old new : CoordValue) : Type 0 where
+  pub rest : new ≡ record old { failures = new.failures }
+  pub counted : old.failures ≤ new.failures
+
+-- why nothing is written or frozen, and what is left: the first reason that holds; or memory ran out, or the log was refused
+abbrev pub AppendRefuses : Option CoordError → CoordValue → CoordError → CoordValue → Type 0
+AppendRefuses fault old OutOfMemory new = (fault ≡ None) × MayHaveFailed old new
+AppendRefuses fault old Device new = (fault ≡ None) × MayHaveFailed old new × (old.failures < new.failures)
+AppendRefuses fault old e new = (fault ≡ Some e) × (new ≡ old)
 
 -- the same, but that the vault may have some of the tables that may be put, under numbers that no file has been given yet, and its device may have failed
 pub record MayHaveStored (MayPut : ℕ → List ℕ → Type 0) (old new : CoordValue) : Type 0 where
@@ -99,7 +118,7 @@ abbrev pub without_flush_source : CoordValue → CoordValue
 without_flush_source c = record c { active = active_after c.active c.frozen; frozen = None }
 
 -- The edit of the flush applies and is the last of the manifest, the version after it has the table's file, which is searched
--- first, the vault has the table, and the memtable that was taken is gone.
+-- first, the vault has the table, and the memtable that was taken is gone, from the log too unless a cut was refused.
 pub record AddsTable (old : CoordValue) (file : FileMeta) (table : Opened) (new : CoordValue) : Type 0 where
   pub edit : Edit
   pub edit_is : edit ≡ flush_edit old.served.version (flush_source old).end file
@@ -108,9 +127,10 @@ pub record AddsTable (old : CoordValue) (file : FileMeta) (table : Opened) (new 
   pub spelled : IsSpelledEdit text edit
   pub new_is : new ≡ record (without_flush_source old) {
     served = with_flushed old.served (flush_source old).end file table;
-    stored = record old.stored { edits = old.stored.edits ++ text ∷ []; tables = map.insert old.stored.tables file.number table.bytes };
+    stored = record { edits = old.stored.edits ++ text ∷ []; tables = map.insert old.stored.tables file.number table.bytes; log = new.stored.log };
     failures = new.failures;
   }
+  pub cut : MayCut (flush_source old).end old.stored.log new.stored.log
   pub counted : old.failures ≤ new.failures
 
 -- one file more, of a table with exactly the entries of the memtable that was taken, its blocks cut at the store's target

@@ -18,6 +18,7 @@ use Rattle.lsm_versions.specs.Kept.{AreKept}
 use Rattle.lsm_versions.specs.Retention.{AreRetired}
 use Rattle.lsm_coord.specs.declared.frozen.Frozen.{Frozen}
 use Rattle.lsm_coord.specs.declared.snapshot.Snapshot.{Snapshot}
+use Rattle.lsm_coord.specs.Contract.Logs.{IsLogged}
 use Rattle.lsm_coord.specs.Contract.Value.{CoordValue, start_of}
 
 -- entries that were written after one sequence, and up to another
@@ -48,8 +49,8 @@ pub record IsCoord (active : List Entry) (frozen : Option Frozen) (last : ℕ) (
 
 -- What a store keeps of its versions, files and claims, whatever the results held that were installed: the manifest replays to
 -- the current version, no file is removed by two of its edits, each file has its table as recorded, the retired files are those
--- that versions from the floor on list and the current one lacks, the vault has the same tables, claims are counted, and each live
--- one is of a job whose inputs may still be merged.
+-- that versions from the floor on list and the current one lacks, the vault has the same tables, its log holds what the memtables
+-- have, claims are counted, and each live one is of a job whose inputs may still be merged.
 pub record IsFit (c : CoordValue) : Type 0 where
   pub manifest : Folds c.stored.edits c.served.version
   pub once : RemovedOnce (read_edits c.stored.edits)
@@ -57,6 +58,7 @@ pub record IsFit (c : CoordValue) : Type 0 where
   pub served : IsServed c.served
   pub retired : AreRetired (versions_of c.stored.edits) c.served.version c.retired c.floor
   pub kept : AreKept c.stored.tables c.served.places c.retired
+  pub logged : IsLogged c.active c.frozen c.last c.served.version.flushed c.stored.log
   pub book : IsBook c.book
   pub epoch : c.book.epoch ≡ c.served.version.epoch
   pub legal : AreLegal c.served.version.files c.book.live

@@ -20,6 +20,7 @@ use Rattle.lsm_coord.specs.Contract.Shows.{place_of}
 abbrev pub refusal_of : CoordError → Refusal
 refusal_of error.BadManifest = say.BadManifest
 refusal_of error.MissingTable = say.MissingTable
+refusal_of error.BadLog = say.BadLog
 refusal_of error.Device = say.Device
 refusal_of error.SequenceExhausted = say.SequenceExhausted
 refusal_of error.FrozenWaiting = say.FrozenWaiting

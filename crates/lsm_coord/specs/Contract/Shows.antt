@@ -8,6 +8,7 @@ use Rattle.lsm_key.specs.Writes.{answer}
 use Rattle.lsm_key.specs.Visible.{value_at}
 use Rattle.lsm_key.specs.Places.{entries_after, AreOrdered}
 use Rattle.lsm_edit.specs.declared.file.FileMeta.{FileMeta}
+use Rattle.lsm_edit.specs.Log.{LogHolds}
 use Rattle.lsm_edit.specs.Served.{ServedValue, tables_of}
 use Rattle.lsm_edit.specs.Version.{VersionValue}
 use Rattle.lsm_versions.specs.Manifest.{Folds, versions_of}
@@ -45,6 +46,7 @@ pub record ShowsRecent (active frozen tables : List Entry) (s : State) : Type 0 
   pub kept : (x : Snapshot) → IsIn x s.snapshots → x.at ≤ last_flushed s → (key : List ℕ) → value_at tables key x.at ≡ answer s.writes x.at key
   pub snapped : (x : Snapshot) → IsIn x s.snapshots → x.at ≤ last_seq s
 
+-- What it shows is what it has in its tables, its memtables and its log.
 pub record Shows (c : CoordValue) (s : State) : Type 0 where
   pub up : s.up ≡ true
   pub last : last_seq s ≡ c.last
@@ -54,6 +56,7 @@ pub record Shows (c : CoordValue) (s : State) : Type 0 where
   pub floor : s.floor ≡ c.floor
   pub tables : ShowsStored c.stored.edits c.served s
   pub memtables : ShowsRecent c.active (frozen_entries c.frozen) (stored_entries c.served) s
+  pub logged : LogHolds (last_flushed s) c.stored.log (drop (last_flushed s) s.writes) s.frozen
 
 -- For every state shown before, the event and its reply are a step to one shown after.
 abbrev pub Follows : CoordValue → Event → Reply → CoordValue → Type 0

@@ -16,7 +16,7 @@ pub record CoordValue : Type 0 where
   pub active : List Entry  -- the entries of the active memtable
   pub frozen : Option Frozen
   pub served : ServedValue  -- the current version with its tables
-  pub stored : VaultValue  -- the vault's: the encoding of each edit, from edit 1, and the tables
+  pub stored : VaultValue  -- what the vault has: the encoding of each edit, from edit 1, the tables and the log
   pub last : ℕ  -- the last sequence
   pub snapshots : List Snapshot  -- the live ones
   pub made : ℕ  -- how many snapshots this epoch has made

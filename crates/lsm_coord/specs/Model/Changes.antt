@@ -1,5 +1,5 @@
 -- What events do to a state (LevelDB, implementation notes: level 0, compactions, recovery).
-use Rattle.std.specs.Prelude.{◌≡◌, ℕ, ◌+◌, ◌-◌, ◌≤◌, List, [], ◌∷◌, ◌++◌, Option, None, Some, length, map, filter, take, max, Bool, true, false, not, nat_eq, ◌&&◌, slice_get, slice_set}
+use Rattle.std.specs.Prelude.{◌≡◌, ℕ, ◌+◌, ◌-◌, ◌≤◌, List, [], ◌∷◌, ◌++◌, Option, None, Some, length, map, filter, max, Bool, true, false, not, nat_eq, ◌&&◌, slice_get, slice_set}
 use Rattle.std.specs.List.{list_any, range_with_len}
 use Rattle.std.specs.Option.{unwrap_or}
 use Rattle.lsm_key.specs.declared.limits.TheConstants.{MAX_LEVEL, MAX_NUMBER}
@@ -44,9 +44,9 @@ after_flush s = record (with_version s (flushed_version s) (s.next_file + 1)) { 
 abbrev pub after_trim : State → ℕ → State
 after_trim s n = record s { floor = max s.floor n }
 
--- what was not flushed is lost when the coordinator goes down, and so are the snapshots
+-- when the coordinator goes down its snapshots end, and no write is lost
 abbrev pub after_stop : State → State
-after_stop s = record s { writes = take (last_flushed s) s.writes; frozen = None; snapshots = []; made = 0; up = false }
+after_stop s = record s { snapshots = []; made = 0; up = false }
 
 -- and up again, in the next epoch, under a number of its own
 abbrev pub after_restart : State → State

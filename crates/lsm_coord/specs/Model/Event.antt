@@ -38,6 +38,7 @@ pub data Refusal : Type 0 where
   -- of the coordinator
   BadManifest : Refusal
   MissingTable : Refusal
+  BadLog : Refusal
   Device : Refusal
   SequenceExhausted : Refusal
   FrozenWaiting : Refusal

@@ -36,13 +36,35 @@ FlushedWriteIsFound = RunOfNew (
     ∷ (say.Get a None, say.Got (Some one))
     ∷ [])
 
--- a restart loses what was not flushed, and reuses its sequence
-abbrev pub RestartLosesWrites : Type 0
-RestartLosesWrites = RunOfNew (
+-- a restart keeps what was written, and sequences go on after it
+abbrev pub RestartKeepsWrites : Type 0
+RestartKeepsWrites = RunOfNew (
     (say.Write (Put a one ∷ []), say.Wrote 1 1)
-    ∷ (say.Restart say.Coordinator, say.Restarted 2 2 0)
+    ∷ (say.Restart say.Coordinator, say.Restarted 2 2 1)
+    ∷ (say.Get a None, say.Got (Some one))
+    ∷ (say.Write (Put b two ∷ []), say.Wrote 2 2)
+    ∷ [])
+
+-- what is frozen still is after a restart
+abbrev pub FreezeOutlivesRestart : Type 0
+FreezeOutlivesRestart = RunOfNew (
+    (say.Write (Put a one ∷ []), say.Wrote 1 1)
+    ∷ (say.Freeze, say.Froze 1)
+    ∷ (say.Write (Put b two ∷ []), say.Wrote 2 2)
+    ∷ (say.Restart say.Coordinator, say.Restarted 2 2 2)
+    ∷ (say.Flush, say.Flushed 3 1 1)
+    ∷ (say.Flush, say.Flushed 4 2 2)
+    ∷ (say.Get b None, say.Got (Some two))
+    ∷ [])
+
+-- what the device refuses is neither written nor frozen, and its sequence is given again
+abbrev pub RefusedWriteIsNotThere : Type 0
+RefusedWriteIsNotThere = RunOfNew (
+    (say.Write (Put a one ∷ []), say.Refused say.Device)
     ∷ (say.Get a None, say.Got None)
     ∷ (say.Write (Put b two ∷ []), say.Wrote 1 1)
+    ∷ (say.Freeze, say.Refused say.Device)
+    ∷ (say.Freeze, say.Froze 1)
     ∷ [])
 
 -- in a batch the last write of a key counts, and a scan leaves out deleted keys
@@ -184,11 +206,26 @@ EmptyListingIsNoRun = RunOfNew (
     ∷ (say.Show say.Coordinator, say.Shown 2 1 [])
     ∷ []) → ⊥
 
--- A restart keeps nothing that was not flushed.
-abbrev pub KeptWriteIsNoRun : Type 0
-KeptWriteIsNoRun = RunOfNew (
+-- A restart loses no write.
+abbrev pub LostAtRestartIsNoRun : Type 0
+LostAtRestartIsNoRun = RunOfNew (
     (say.Write (Put a one ∷ []), say.Wrote 1 1)
     ∷ (say.Restart say.Coordinator, say.Restarted 2 2 0)
+    ∷ []) → ⊥
+
+-- It keeps no snapshot.
+abbrev pub SnapshotKeptIsNoRun : Type 0
+SnapshotKeptIsNoRun = RunOfNew (
+    (say.Write (Put a one ∷ []), say.Wrote 1 1)
+    ∷ (say.Snap, say.Snapped first_snapshot 1)
+    ∷ (say.Restart say.Coordinator, say.Restarted 2 2 1)
+    ∷ (say.Get a (Some first_snapshot), say.Got (Some one))
+    ∷ []) → ⊥
+
+-- A write that the device refuses is not there.
+abbrev pub KeptAfterDeviceIsNoRun : Type 0
+KeptAfterDeviceIsNoRun = RunOfNew (
+    (say.Write (Put a one ∷ []), say.Refused say.Device)
     ∷ (say.Get a None, say.Got (Some one))
     ∷ []) → ⊥
 

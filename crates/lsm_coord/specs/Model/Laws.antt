@@ -39,14 +39,13 @@ SnapshotsAgree = (steps : List (Event × Reply)) → RunOfNew steps
     → IsIn (say.Get key (Some id), say.Got other_value) steps
     → value ≡ other_value
 
--- the event asks for no write of this key, refused or not, and for no restart of the coordinator
+-- the event asks for no write of this key, refused or not
 abbrev pub SparesKey : List ℕ → Event → Type 0
 SparesKey key (say.Write ops) = last_write ops key ≡ None
-SparesKey key (say.Restart say.Coordinator) = ⊥
 SparesKey key event = Unit {0}
 
 -- In a run, a get returns what the last write of its key leaves: the value of a put, none for a deletion. It is the last of
--- its key in a batch that was answered, and no event between them writes the key or restarts the coordinator.
+-- its key in a batch that was answered, and no event between them writes the key: restarts of the coordinator may be among them.
 abbrev pub GetGivesTheWrite : Type 0
 GetGivesTheWrite = (s t : State) (before between after : List (Event × Reply)) (ops : List Op) (key : List ℕ) (write : Op)
     → (first last : ℕ) (found : Option (List ℕ))

@@ -102,6 +102,8 @@ CannotNumber s = (MAX_NUMBER < length s.versions) ⊎ ((outputs : ℕ) × (outpu
 
 -- refusals whose cause is not in the state: the vault, claims, messages, jobs
 abbrev pub MayRefuse : State → Event → Refusal → Type 0
+MayRefuse s (say.Write ops) say.Device = Unit {0}
+MayRefuse s say.Freeze say.Device = Unit {0}
 MayRefuse s say.Flush say.Device = Unit {0}
 MayRefuse s (say.Trim n) say.Device = Unit {0}
 MayRefuse s (say.Deliver m) say.NoMessage = Unit {0}

@@ -1,19 +1,22 @@
 //! Flushes: a memtable becomes a table.
 
-ghost use Rattle.std.specs.Prelude.{◌≡◌, ◌<◌, ◌≤◌, None, IfErr, OnOk, OnErr};
+ghost use Rattle.std.specs.Prelude.{◌≡◌, ◌<◌, ◌≤◌, None, IfErr, IfSome, OnOk, OnErr};
 ghost use Rattle.lsm_table.specs.Tables.{target_of};
 ghost use Rattle.lsm_edit.specs.File.{IsFile};
+ghost use Rattle.lsm_edit.specs.Log.{read_records};
 ghost use Rattle.lsm_edit.specs.Served.{IsAsRecorded};
 ghost use Rattle.lsm_vault.specs.Failures.{CountsFailures};
 ghost use Rattle.lsm_versions.specs.Manifest.{MayHavePut};
 ghost use Rattle.lsm_coord.specs.Model.Event.{Flush};
 ghost use Rattle.lsm_coord.specs.Contract.Shows.{Follows};
 ghost use Rattle.lsm_coord.specs.Contract.Calls.{Adds, AddsTable, FlushRefuses, IsFlushTable, MayHaveStored, flush_fault, flush_source};
+ghost use Rattle.lsm_coord.specs.Contract.Logs.{records_upto};
 ghost use Rattle.lsm_coord.specs.Contract.Sound.{KeepsSound};
 ghost use Rattle.lsm_coord.specs.Contract.Replies.{flush_reply};
 ghost use Rattle.lsm_coord.specs.Inner.Putting.{AddsFile, CanNumber, IsTableOfFile};
 
 use super::Coord;
+use super::logging::cut_log;
 use crate::CoordError;
 use lsm_edit::{Edit, FileMeta};
 use lsm_key::{FileNumber, MAX_NUMBER, Seq, VersionNumber};
@@ -36,8 +39,8 @@ pub struct Flushed {
 
 impl<V: Vault> Coord<V> {
     /// Turns the frozen memtable, or the active one if none is frozen, into a table of level 0 in the next version: the vault gets
-    /// the table first, and then the edit. A refusal changes nothing, but that the vault may have the table; a later flush puts
-    /// one under the same number.
+    /// the table first, and then the edit; after it the records of that memtable are cut from the log, where the vault does so. A
+    /// refusal changes nothing, but that the vault may have the table; a later flush puts one under the same number.
     pub fn flush(&mut self) -> Result<Flushed, CoordError>
         ensures step { Follows self.old Flush (flush_reply result) self.new }
         ensures ok { OnOk result ((flush_fault self.old ≡ None) × Adds self.old self.new) }
@@ -97,7 +100,18 @@ impl<V: Vault> Coord<V> {
         }
     }
 
-    // Adds a table with the entries of the memtable that a flush takes, which goes. After a refusal the vault may have it.
+    // How many first records of the log have what a flush takes, if it is known.
+    fn flush_records(&self) -> Option<usize>
+        ensures { IfSome result (λ n. n ≡ records_upto (flush_source self.now).end (read_records self.now.stored.log)) }
+    {
+        match &self.frozen {
+            Some(_) => self.frozen_upto,
+            None => self.logged,
+        }
+    }
+
+    // Adds a table with the entries of the memtable that a flush takes, which goes, from the log too. After a refusal the vault may
+    // have the table.
     fn add_table(&mut self, meta: FileMeta, table: Table, end: Seq) -> Result<(), VaultError>
         requires room { CanNumber self.old.served.version }
         requires end { end ≡ (flush_source self.old).end }
@@ -114,7 +128,10 @@ impl<V: Vault> Coord<V> {
     {
         // Proof hint: all files of the version have lower numbers.
         let _files = self.versions.version().files();
+        let upto = self.flush_records();
         put_table(self.alloc, &mut self.versions, meta, table, end)?;
+        self.logged = cut_log(&mut self.versions, self.logged, upto);
+        self.frozen_upto = None;
         if self.frozen.is_some() {
             self.frozen = None;
             return Ok(());

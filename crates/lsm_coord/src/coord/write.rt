@@ -1,28 +1,29 @@
 //! Writes, and freezing the memtable that they went to.
 
-ghost use Rattle.std.specs.Prelude.{◌≡◌, None, IfErr, OnOk, OnErr, Some};
-ghost use Rattle.lsm_key.specs.Faults.{Refuses};
+ghost use Rattle.std.specs.Prelude.{◌≡◌, None, IfErr, OnOk};
 ghost use Rattle.lsm_coord.specs.Model.Event.{Write, Freeze};
 ghost use Rattle.lsm_coord.specs.Contract.Shows.{Follows};
-ghost use Rattle.lsm_coord.specs.Contract.Calls.{write_fault, freeze_fault, IsWritten, after_freezing};
+ghost use Rattle.lsm_coord.specs.Contract.Calls.{AppendRefuses, IsFrozen, IsWritten, freeze_fault, write_fault};
 ghost use Rattle.lsm_coord.specs.Contract.Sound.{KeepsSound};
 ghost use Rattle.lsm_coord.specs.Contract.Replies.{write_reply, freeze_reply};
 
 use super::Coord;
+use super::logging::one_more;
 use crate::CoordError;
 use crate::frozen::Frozen;
+use lsm_edit::{encode_freeze, encode_write};
 use lsm_key::{Batch, MAX_MEMTABLE_WEIGHT, Seq};
 use lsm_mem::Memtable;
 use lsm_vault::Vault;
 use std::mem;
 
 impl<V: Vault> Coord<V> {
-    /// Applies a batch, and returns the first and the last of its sequences. A refusal changes nothing.
+    /// Applies a batch, once the vault's log has it, and returns the first and the last of its sequences. A refusal changes
+    /// nothing.
     pub fn write(&mut self, batch: &Batch) -> Result<(Seq, Seq), CoordError>
         ensures step { Follows self.old (Write batch.now) (write_reply result) self.new }
         ensures ok { OnOk result ((write_fault self.old batch.now ≡ None) × IsWritten self.old batch.now self.new) }
-        ensures err { OnErr result (self.new ≡ self.old) }
-        ensures refused { IfErr result (Refuses CoordError.OutOfMemory (write_fault self.old batch.now)) }
+        ensures refused { IfErr result (λ e. AppendRefuses (write_fault self.old batch.now) self.old e self.new) }
         ensures sound { KeepsSound self.old self.new }
     {
         let count = batch.ops().len() as u64;
@@ -32,7 +33,19 @@ impl<V: Vault> Coord<V> {
         }
         let before = self.newest.number();
         let first = Seq::new(before + 1);
+        let logged = encode_write(self.alloc, first, batch)?;
+        // Proof hint: the memtable's entries are in order.
+        let _last = self.active.last_seq();
+        // All that grows has grown before the log is asked, so what is in it is accepted.
         self.active.apply(first, batch)?;
+        match self.versions.append_log(logged) {
+            Ok(()) => {}
+            Err(why) => {
+                self.active.undo(first);
+                return Err(CoordError::from(why));
+            }
+        }
+        self.logged = one_more(self.logged);
         self.newest = Seq::new(before + count);
         Ok((first, self.newest))
     }
@@ -54,22 +67,25 @@ impl<V: Vault> Coord<V> {
         None
     }
 
-    /// Freezes the active memtable, so that writes go to a new one, and returns its last sequence. Allocates nothing. A
-    /// refusal changes nothing.
+    /// Freezes the active memtable, once the vault's log has the freeze, so that writes go to a new one, and returns its last
+    /// sequence. A refusal changes nothing.
     pub fn freeze(&mut self) -> Result<Seq, CoordError>
         ensures step { Follows self.old Freeze (freeze_reply result) self.new }
-        ensures ok { OnOk result ((freeze_fault self.old ≡ None) × (self.new ≡ after_freezing self.old)) }
-        ensures err { OnErr result (self.new ≡ self.old) }
-        ensures refused { IfErr result (λ e. freeze_fault self.old ≡ Some e) }
+        ensures ok { OnOk result ((freeze_fault self.old ≡ None) × IsFrozen self.old self.new) }
+        ensures refused { IfErr result (λ e. AppendRefuses (freeze_fault self.old) self.old e self.new) }
         ensures sound { KeepsSound self.old self.new }
     {
         match self.freeze_fault() {
             Some(why) => return Err(why),
             None => {}
         }
+        let end = self.newest;
+        let logged = encode_freeze(self.alloc, end)?;
+        self.versions.append_log(logged)?;
+        self.logged = one_more(self.logged);
+        self.frozen_upto = self.logged;
         let next = self.active.successor();
         let memtable = mem::replace(&mut self.active, next);
-        let end = self.newest;
         self.frozen = Some(Frozen { memtable, end });
         Ok(end)
     }

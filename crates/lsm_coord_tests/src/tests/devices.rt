@@ -24,17 +24,17 @@ enum Call {
 /// More calls than these ask of their vault.
 const MOST: u64 = 64;
 
-/// An opening of an empty vault reads the edits and the numbers, and appends the edit of the epoch.
-const OPENING: u64 = 3;
+/// An opening of an empty vault reads the edits, the log and the numbers, appends the edit of the epoch, and cuts the log.
+const OPENING: u64 = 5;
 
-/// What is called, and how often it has to ask the vault: for each table that it puts, reads or removes, for each edit that it appends, for
-/// the edits and for the numbers.
+/// What is called, and how often it has to ask the vault: for each table that it puts, reads or removes, for each edit and each record
+/// that it appends, for the edits, the log and the numbers, and for each cut of the log.
 const CALLS: [(Call, u64); 5] = [
-    (Call::Flush, 2),
-    (Call::Flush, 2),
+    (Call::Flush, 4),
+    (Call::Flush, 4),
     (Call::Install, 2),
     (Call::Trim, 3),
-    (Call::Restart, 4),
+    (Call::Restart, 6),
 ];
 
 fn flush(alloc: Global, coord: &mut Coord<Fused>) -> Result<(), Fail> {

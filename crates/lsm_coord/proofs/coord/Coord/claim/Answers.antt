@@ -9,25 +9,28 @@ use Rattle.lsm_coord.proofs.coord.Coord.claim.Goals as goal
 pub invariant_of-self : goal.invariant_of-self
 invariant_of-self g c =
     let m = c.self.inside in
-    let i = c.self.invariant in
+    let i = c.self.invariant.0 in
     let want = c.args.want in
     let files = m.versions.served.version.files in
     let legal : IsLegal files want = subst (λ (v : CoordValue). IsLegal v.served.version.files want) (sym c.self.view_is) c.requires.legal in
     let new = c.claim.new.self in
-    let either = claimed_or_not c.claim.result m.book new want c.claim.ensures.ok c.claim.ensures.err in
-    record {
-      recent = i.recent;
-      begun = i.begun;
-      waiting = i.waiting;
-      opened = i.opened;
-      same_epoch = elim either [ inl e ↦ ap (λ (b : BookValue). b.epoch) e ∙ i.same_epoch | inr e ↦ ap (λ (b : BookValue). b.epoch) e ∙ i.same_epoch ];
-      legal = elim either [
-        | inl e ↦ subst (λ (b : BookValue). AreLegal files b.live) (sym e) (legal_claimed files m.book want i.legal legal)
-        | inr e ↦ subst (λ (b : BookValue). AreLegal files b.live) (sym e) i.legal
-      ];
-      orderly = elim either [
-        | inl e ↦ subst (λ (b : BookValue). AreJobWants b.live) (sym e) (orderly_claimed m.book want i.orderly c.requires.orderly)
-        | inr e ↦ subst (λ (b : BookValue). AreJobWants b.live) (sym e) i.orderly
-      ];
-      few = i.few;
-    }
+    let either = claimed_or_not c.claim.result m.book new want c.claim.ensures.ok c.claim.ensures.err in (
+      record {
+        recent = i.recent;
+        begun = i.begun;
+        waiting = i.waiting;
+        opened = i.opened;
+        same_epoch = elim either [ inl e ↦ ap (λ (b : BookValue). b.epoch) e ∙ i.same_epoch | inr e ↦ ap (λ (b : BookValue). b.epoch) e ∙ i.same_epoch ];
+        legal = elim either [
+          | inl e ↦ subst (λ (b : BookValue). AreLegal files b.live) (sym e) (legal_claimed files m.book want i.legal legal)
+          | inr e ↦ subst (λ (b : BookValue). AreLegal files b.live) (sym e) i.legal
+        ];
+        orderly = elim either [
+          | inl e ↦ subst (λ (b : BookValue). AreJobWants b.live) (sym e) (orderly_claimed m.book want i.orderly c.requires.orderly)
+          | inr e ↦ subst (λ (b : BookValue). AreJobWants b.live) (sym e) i.orderly
+        ];
+        few = i.few;
+      },
+      c.self.invariant.1,
+      c.self.invariant.2,
+    )

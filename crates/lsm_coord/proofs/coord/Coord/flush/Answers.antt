@@ -10,10 +10,13 @@ use Rattle.lsm_table.proofs.TableWeights.{light_fits}
 use Rattle.lsm_edit.specs.declared.edit.Edit.{Edit}
 use Rattle.lsm_edit.specs.Edit.{IsSpelledEdit}
 use Rattle.lsm_edit.specs.Version.{VersionValue, apply_fault}
+use Rattle.lsm_vault.specs.declared.error.VaultError.TheVariants.{OutOfMemory}
 use Rattle.lsm_coord.specs.Model.Changes.{after_flush}
 use Rattle.lsm_coord.specs.Contract.Value.{CoordValue}
 use Rattle.lsm_coord.specs.Contract.Shows.{Shows}
 use Rattle.lsm_coord.specs.Contract.Calls.{AddsTable, flush_fault, flush_source}
+use Rattle.lsm_coord.specs.Contract.Logs.{IsLogged}
+use Rattle.lsm_coord.specs.Contract.Memory.{IsCoord}
 use Rattle.lsm_coord.specs.Contract.Replies.{refusal_of}
 use Rattle.lsm_coord.specs.Model.Rules.{refusal}
 use Rattle.lsm_coord.specs.Model.Event as say
@@ -50,13 +53,19 @@ pub add_table-requires-clause-newer : goal.add_table-requires-clause-newer
 add_table-requires-clause-newer g c =
     let none : flush_fault c.args.self.now ≡ None = sym c.flush_fault.ensures ∙ c.in-None.is in
     let free = flush_free _ _ (ap flush_fault c.self.view_is ∙ none) in
-    rw (c.flush_end-seq.ensures, ← c.self.view_is) (taken_newer c.self.inside.active c.self.inside.frozen c.self.inside.newest c.self.inside.versions.served c.self.inside.book c.self.inside.live.items c.self.invariant free.0).0
+    rw (c.flush_end-seq.ensures, ← c.self.view_is) (taken_newer c.self.inside.active c.self.inside.frozen c.self.inside.newest c.self.inside.versions.served c.self.inside.book c.self.inside.live.items c.self.invariant.0 free.0).0
 
 pub add_table-requires-clause-whole : goal.add_table-requires-clause-whole
 add_table-requires-clause-whole g c = c.in_ok-table.ensures.0 ∙ c.as_slice.ensures.value ∙ c.in_ok-entries.ensures.all ∙ c.flushable.ensures
 
 pub add_table-requires-clause-cut : goal.add_table-requires-clause-cut
 add_table-requires-clause-cut g c = c.in_ok-table.ensures.1 ∙ ap (λ (x : CoordValue). x.limits.block) c.self.view_is
+
+pub returns-in_err-meta-clause-step : goal.returns-in_err-meta-clause-step
+returns-in_err-meta-clause-step g c = λ s h.
+    let none : flush_fault c.args.self.now ≡ None = sym c.flush_fault.ensures ∙ c.in-None.is in
+    let may : refusal s say.Flush ≡ None = flush_forced c.args.self.now s h ∙ ap (option_map refusal_of) none in
+    (s, flush_failed s c.from_residual-in_err-meta.result OutOfMemory c.from_residual-in_err-meta.ensures.1 may, h)
 
 pub returns-clause-step : goal.returns-clause-step
 returns-clause-step g c = λ s h.
@@ -70,7 +79,10 @@ returns-clause-step g c = λ s h.
     let whole : c.in_ok-table.table.entries ≡ (flush_source v).memtable = c.in_ok-table.ensures.0 ∙ c.as_slice.ensures.value ∙ c.in_ok-entries.ensures.all ∙ c.flushable.ensures in
     let spelled = subst (IsSpelledEdit adds.text) adds.edit_is adds.spelled in
     let applies = subst (λ (e : Edit). apply_fault v.served.version e ≡ None) adds.edit_is adds.applies in
-    let shows = shows_after v v.frozen s c.in_ok-meta.meta c.in_ok-table.table adds.text h refl whole (c.in_ok-meta.ensures.place.0 ∙ file) c.in_ok-meta.ensures.place.1 spelled applies in
+    let l = subst (λ (x : CoordValue). IsLogged x.active x.frozen x.last x.served.version.flushed x.stored.log) c.self.view_is c.self.invariant.1 in
+    let is = subst (λ (x : CoordValue). IsCoord x.active x.frozen x.last x.served x.book x.snapshots) c.self.view_is c.self.invariant.0 in
+    let some = (taken_newer v.active v.frozen v.last v.served v.book v.snapshots is (flush_free _ _ none).0).1 in
+    let shows = shows_after v v.frozen s c.in_ok-meta.meta c.in_ok-table.table adds.text c.add_table.new.self.stored.log h refl whole (c.in_ok-meta.ensures.place.0 ∙ file) c.in_ok-meta.ensures.place.1 spelled applies l adds.cut some in
     (after_flush s, (may, (omega (arith, versions, number, c.new.ensures), c.flush_end-seq.ensures ∙ sym (end_of v v.frozen s h refl), c.new-2.ensures ∙ file ∙ sym h.tables.next_file, refl)), subst (λ (x : CoordValue). Shows x (after_flush s)) (sym adds.new_is) (Shows-beside _ _ _ _ (after_flush s) shows))
 
 pub returns-clause-ok : goal.returns-clause-ok

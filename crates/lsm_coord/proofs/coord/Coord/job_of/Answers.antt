@@ -19,7 +19,7 @@ unwrap-requires g c =
     let parts : JobParts = record { id = record { epoch = c.epoch.result; number = c.made.result + 1 }; level = want.level; block = m.limits.block; points = c.from_vec.result; inputs = c.from_vec-2.result; deeper = c.from_vec-3.result } in
     let files : c.listing.result.files.now ≡ m.versions.served.version.files = c.listing.ensures.files ∙ ap (λ (v : ServedValue). v.version.files) c.served.ensures.served in
     let points : ArePointsOf m.live.items c.from_vec.result = rw c.from_vec.ensures (subst (λ (xs : List Snapshot). ArePointsOf xs c.in_ok-points.points.items) c.deref.ensures.value c.in_ok-points.ensures.all) in
-    let few : length c.from_vec.result ≤ MAX_POINTS = omega (arith, ap (λ (xs : List ℕ). length xs) c.from_vec.ensures, c.in_ok-points.ensures.few, ap (λ (xs : List Snapshot). length xs) c.deref.ensures.value, c.self.invariant.few) in
+    let few : length c.from_vec.result ≤ MAX_POINTS = omega (arith, ap (λ (xs : List ℕ). length xs) c.from_vec.ensures, c.in_ok-points.ensures.few, ap (λ (xs : List Snapshot). length xs) c.deref.ensures.value, c.self.invariant.0.few) in
     let of : IsJobFor c.args.self.now want parts = subst (λ (v : CoordValue). IsJobFor v want parts) c.self.view_is (record {
       id = λ i. record { epoch = c.epoch.ensures i; number = c.made.ensures.value i + 1 };
       level = refl;
@@ -29,7 +29,7 @@ unwrap-requires g c =
       deeper = c.from_vec-3.ensures ∙ c.in_ok-deeper.ensures ∙ ap (λ (fs : List FileMeta). map range_of (deeper_files fs want)) files;
     }) in
     let version : IsVersion c.args.self.now.served.version = subst (λ (v : CoordValue). IsVersion v.served.version) c.self.view_is (subst (λ (v : ServedValue). IsVersion v.version) c.served.ensures.served c.listing.ensures.sound.1) in
-    let opened : 1 ≤ c.args.self.now.served.version.epoch = subst (λ (v : CoordValue). 1 ≤ v.served.version.epoch) c.self.view_is c.self.invariant.opened in
-    let epoch : c.args.self.now.book.epoch ≡ c.args.self.now.served.version.epoch = subst (λ (v : CoordValue). v.book.epoch ≡ v.served.version.epoch) c.self.view_is c.self.invariant.same_epoch in
+    let opened : 1 ≤ c.args.self.now.served.version.epoch = subst (λ (v : CoordValue). 1 ≤ v.served.version.epoch) c.self.view_is c.self.invariant.0.opened in
+    let epoch : c.args.self.now.book.epoch ≡ c.args.self.now.served.version.epoch = subst (λ (v : CoordValue). v.book.epoch ≡ v.served.version.epoch) c.self.view_is c.self.invariant.0.same_epoch in
     let target : IsTarget c.args.self.now.limits.block = subst (λ (v : CoordValue). IsTarget v.limits.block) c.self.view_is (m.limits.block_some, m.limits.block_most) in
     c.new.ensures.within.1 (within_rules c.args.self.now want parts version opened epoch target c.requires of few)

@@ -32,8 +32,9 @@ returns-clause-fit g c = subst IsFit c.self.view_is (record {
   served = subst IsServed c.served.ensures.served c.listing.ensures.sound.0;
   retired = c.served.ensures.set.retired;
   kept = c.served.ensures.set.kept;
+  logged = c.self.invariant.1;
   book = c.live-live.ensures.sound;
-  epoch = c.self.invariant.same_epoch;
-  legal = c.self.invariant.legal;
-  orderly = c.self.invariant.orderly;
+  epoch = c.self.invariant.0.same_epoch;
+  legal = c.self.invariant.0.legal;
+  orderly = c.self.invariant.0.orderly;
 })

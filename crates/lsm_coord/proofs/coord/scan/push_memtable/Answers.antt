@@ -1,4 +1,4 @@
-use Rattle.std.proofs.Common.{◌≡◌, ◌∙◌, ap}
+use Rattle.std.proofs.Common.{◌∙◌, ap}
 use Rattle.lsm_coord.specs.Inner.Sources.{source_lists}
 use Rattle.lsm_coord.proofs.ScanSources.{none_read, one_read}
 use Rattle.lsm_coord.proofs.coord.scan.push_memtable.Goals as goal
