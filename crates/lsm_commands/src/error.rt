@@ -30,7 +30,7 @@ pub enum CommandError {
     /// Standard output or standard error could not be written.
     #[error("write fault")]
     WriteFault,
-    /// Operations since the last flush are lost.
+    /// The flush at the end is refused. No operation is lost: those since the last flush are in the log alone.
     #[error("error: not flushed: {0}")]
     NotFlushed(StoreError),
 }

@@ -17,7 +17,7 @@ pub fn check_folder(rt: &HostRuntime, folder: &str) -> ExitCode {
     }
 }
 
-/// Prints the entries of the store of a folder, and reports what is damaged there. The exit status is 0 only if nothing is.
+/// Prints the entries of the tables of a folder, and reports what is damaged there. The exit status is 0 only if nothing is.
 pub fn dump_folder(rt: &HostRuntime, folder: &str) -> ExitCode {
     let screen = Screen::new(rt);
     match print_entries(rt, folder, &screen) {

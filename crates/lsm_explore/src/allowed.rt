@@ -40,7 +40,7 @@ impl Model {
             }
             Event::RestartCoordinator => {
                 let epoch = self.epoch.saturating_add(1);
-                let last = self.flushed(self.current());
+                let last = self.last_seq();
                 format!(in alloc; "epoch {epoch} version {} last {last}", self.next_version())
             }
             Event::Pick(dispatcher) => self.pick_text(*dispatcher),

@@ -137,19 +137,17 @@ impl Model {
     }
 
     fn restarted(&mut self, reply: &Reply) -> Result<bool, AllocError> {
-        let flushed = self.flushed(self.current());
         let Reply::Restarted(epoch, number, last) = reply else {
             return Ok(false);
         };
         let next = self.next_version();
         if *epoch != self.epoch.saturating_add(1)
             || number.number() != next
-            || last.number() != flushed
+            || last.number() != self.last_seq()
         {
             return Ok(false);
         }
-        self.add_version(flushed, &[], 0, 0)?;
-        self.writes.truncate(flushed as usize);
+        self.add_version(self.flushed(self.current()), &[], 0, 0)?;
         self.snapshots.clear();
         self.floor = next;
         self.made = 0;

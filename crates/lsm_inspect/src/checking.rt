@@ -1,6 +1,6 @@
 //! Whether what a folder holds is what its edits say.
 
-ghost use Rattle.std.specs.Prelude.{◌≡◌, ◌++◌, [], IfErr, IfNone, IfOk, IfSome, OnOk};
+ghost use Rattle.std.specs.Prelude.{◌≡◌, ◌++◌, [], length, IfErr, IfNone, IfOk, IfSome, OnOk};
 ghost use Rattle.std.specs.FinMap as map;
 ghost use Rattle.lsm_versions.specs.Manifest.{Folds};
 ghost use Rattle.lsm_versions.specs.Opening.{HaveTables};
@@ -15,7 +15,7 @@ use lsm_versions::replay;
 use std::alloc::{AllocError, Global};
 
 /// Replays the edits of a folder, and reads each table of the version that they make to its end. Each file whose table is not as
-/// its record says is a finding. Without edits there is no file.
+/// its record says is a finding. Without edits there is no file. The records of the log are counted, and not read.
 pub fn check(alloc: Global, contents: &Contents) -> Result<Report, InspectError>
     ensures version { IfOk result (λ r. Folds contents.now.edits.items r.version) }
     ensures found { IfOk result (λ r. Finds contents.now.tables contents.now.damaged_tables.items r.version.files r.findings.items) }
@@ -25,6 +25,8 @@ pub fn check(alloc: Global, contents: &Contents) -> Result<Report, InspectError>
     ensures unneeded { IfOk result (λ r. r.unneeded.items ≡ unneeded_numbers r.version.files (map.keys contents.now.tables)) }
     ensures beside { IfOk result (λ r. r.damaged_unneeded.items ≡ unneeded_numbers r.version.files contents.now.damaged_tables.items) }
     ensures torn { IfOk result (λ r. r.torn_bytes ≡ contents.now.torn_bytes) }
+    ensures log { IfOk result (λ r. r.log_records ≡ length contents.now.log.items) }
+    ensures torn_log { IfOk result (λ r. r.torn_log_bytes ≡ contents.now.torn_log_bytes) }
     ensures refused { IfErr result (CheckRefuses contents.now.edits.items) }
 {
     let lost_files = contents.lost_files.clone()?;
@@ -39,6 +41,9 @@ pub fn check(alloc: Global, contents: &Contents) -> Result<Report, InspectError>
         unneeded,
         damaged_unneeded,
         torn_bytes: contents.torn_bytes,
+        log_records: contents.log.len(),
+        log_bytes: contents.log_bytes,
+        torn_log_bytes: contents.torn_log_bytes,
         lost_files,
     })
 }

@@ -1,6 +1,6 @@
 //! The entries of a store, as text.
 
-ghost use Rattle.std.specs.Prelude.{◌≡◌, IfErr, IfOk};
+ghost use Rattle.std.specs.Prelude.{◌≡◌, length, IfErr, IfOk};
 ghost use Rattle.std.specs.FinMap as map;
 ghost use Rattle.lsm_versions.specs.Manifest.{Folds};
 ghost use Rattle.lsm_inspect.specs.Check.{DumpRefuses, Finds, IsWriteError, unneeded_numbers};
@@ -18,7 +18,8 @@ use std::fmt;
 use std::io::{self, BufWriter, Write};
 
 /// Writes a line for each entry of the version that the edits make: level by level, the files of a level by number, the entries of
-/// a file in the order of its table. A file whose table is not as its record says is left out. Returns what a check finds.
+/// a file in the order of its table. A file whose table is not as its record says is left out, and so is what the log alone has.
+/// Returns what a check finds.
 pub fn dump<W: Write + Drop>(
     alloc: Global,
     contents: &Contents,
@@ -29,6 +30,8 @@ pub fn dump<W: Write + Drop>(
     ensures unneeded { IfOk result (λ r. r.unneeded.items ≡ unneeded_numbers r.version.files (map.keys contents.now.tables)) }
     ensures beside { IfOk result (λ r. r.damaged_unneeded.items ≡ unneeded_numbers r.version.files contents.now.damaged_tables.items) }
     ensures torn { IfOk result (λ r. r.torn_bytes ≡ contents.now.torn_bytes) }
+    ensures log { IfOk result (λ r. r.log_records ≡ length contents.now.log.items) }
+    ensures torn_log { IfOk result (λ r. r.torn_log_bytes ≡ contents.now.torn_log_bytes) }
     ensures refused { IfErr result (DumpRefuses contents.now.edits.items) }
 {
     let report = check(alloc, contents)?;

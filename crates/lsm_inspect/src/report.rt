@@ -9,8 +9,8 @@ use lsm_key::{FileNumber, NUM_LEVELS};
 use lsm_store::{LevelStats, stats_of};
 use std::fmt;
 
-/// What a check found. It prints as a line for each level that has files, those of `Faults`, one for each table that no file needs, one for
-/// each file that was set aside, and a last one that sums up.
+/// What a check found. It prints as a line for each level that has files, one for a log that has records, those of `Faults`, one for each
+/// table that no file needs, one for each file that was set aside, and a last one that sums up.
 #[derive(Debug, Drop)]
 pub struct Report {
     /// The version that the edits make.
@@ -18,13 +18,20 @@ pub struct Report {
     /// What is wrong with the tables of its files: at most one finding a file, in the order of their numbers.
     pub findings: Vec<Finding>,
     /// The whole tables that no file of the version needs, ascending. A stop may leave them. An opening removes them, or sets them aside
-    /// if bytes are torn.
+    /// if the last edit is torn.
     pub unneeded: Vec<FileNumber>,
     /// The damaged tables that no file of the version needs, in no order. A folder that has one is not opened.
     pub damaged_unneeded: Vec<FileNumber>,
     /// How many bytes behind the last whole edit are none: what a stop in the middle of an append has left, or a last edit that is
     /// damaged. An opening goes on without them, and loses neither them nor a table.
     pub torn_bytes: u64,
+    /// How many records the log has.
+    pub log_records: usize,
+    /// How many bytes they take in its file, with their frames.
+    pub log_bytes: u64,
+    /// How many bytes behind the last whole log record are none: what a stop in the middle of an append has left, or a last record that
+    /// is damaged. An opening goes on without them, and does not lose them.
+    pub torn_log_bytes: u64,
     /// The names of the files that openings have set aside.
     pub lost_files: Vec<String>,
 }
@@ -32,9 +39,12 @@ pub struct Report {
 impl Report {
     /// Whether nothing is damaged or torn.
     pub fn is_whole(&self) -> bool
-        ensures { result ≡ (length self.now.findings.items == 0 && length self.now.damaged_unneeded.items == 0 && self.now.torn_bytes == 0) }
+        ensures { result ≡ (length self.now.findings.items == 0 && length self.now.damaged_unneeded.items == 0 && self.now.torn_bytes == 0 && self.now.torn_log_bytes == 0) }
     {
-        self.findings.is_empty() && self.damaged_unneeded.is_empty() && self.torn_bytes == 0
+        self.findings.is_empty()
+            && self.damaged_unneeded.is_empty()
+            && self.torn_bytes == 0
+            && self.torn_log_bytes == 0
     }
 
     // How many tables are damaged, as far as a count reaches.
@@ -60,6 +70,7 @@ impl Report {
 impl fmt::Display for Report {
     fn fmt<W: fmt::Write>(&self, f: &mut fmt::Formatter<W>) -> fmt::Result {
         write_levels(f, self)?;
+        write_log(f, self)?;
         write_faults(f, self)?;
         write_tables(f, self.unneeded.as_slice(), "no file needs it")?;
         for name in self.lost_files.as_slice() {
@@ -69,8 +80,8 @@ impl fmt::Display for Report {
     }
 }
 
-/// What keeps a store from being whole: a line for each file with a finding, for each damaged table that no file needs, and for the
-/// bytes behind the last whole edit.
+/// What keeps a store from being whole: a line for each file with a finding, for each damaged table that no file needs, for the bytes
+/// behind the last whole edit, and for those behind the last whole log record.
 #[derive(Clone, Copy)]
 pub struct Faults<'a> {
     report: &'a Report,
@@ -89,7 +100,8 @@ fn write_faults<W: fmt::Write>(f: &mut fmt::Formatter<W>, report: &Report) -> fm
         report.damaged_unneeded.as_slice(),
         "its bytes are not those that were written, and no file needs it",
     )?;
-    write_torn(f, report)
+    write_torn(f, report)?;
+    write_torn_log(f, report)
 }
 
 // A line for the bytes behind the last whole edit, and for what an opening does about them.
@@ -114,6 +126,23 @@ fn write_torn<W: fmt::Write>(f: &mut fmt::Formatter<W>, report: &Report) -> fmt:
     f.write_str("\n")
 }
 
+// A line for the bytes behind the last whole log record, and for what an opening does about them.
+fn write_torn_log<W: fmt::Write>(f: &mut fmt::Formatter<W>, report: &Report) -> fmt::Result {
+    if report.torn_log_bytes == 0 {
+        return Ok(());
+    }
+    let torn = report.torn_log_bytes;
+    write!(
+        f,
+        "the last log record is torn or damaged: {torn} bytes; an opening "
+    )?;
+    if report.damaged_tables() > 0 {
+        f.write_str("is refused\n")
+    } else {
+        f.write_str("sets them aside\n")
+    }
+}
+
 // `tables A, B, ..`
 fn write_numbers<W: fmt::Write>(f: &mut fmt::Formatter<W>, tables: &[FileNumber]) -> fmt::Result {
     let mut before = "tables ";
@@ -135,6 +164,15 @@ fn write_levels<W: fmt::Write>(f: &mut fmt::Formatter<W>, report: &Report) -> fm
         }
     }
     Ok(())
+}
+
+// A line for the log, if it has records.
+fn write_log<W: fmt::Write>(f: &mut fmt::Formatter<W>, report: &Report) -> fmt::Result {
+    if report.log_records == 0 {
+        return Ok(());
+    }
+    let (records, bytes) = (report.log_records, report.log_bytes);
+    writeln!(f, "log {records} records {bytes} bytes")
 }
 
 // A line for each finding.
@@ -174,6 +212,9 @@ fn write_sum<W: fmt::Write>(f: &mut fmt::Formatter<W>, report: &Report) -> fmt::
     write!(f, "{damaged} damaged")?;
     if report.torn_bytes > 0 {
         f.write_str(", the last edit not whole")?;
+    }
+    if report.torn_log_bytes > 0 {
+        f.write_str(", the last log record not whole")?;
     }
     Ok(())
 }

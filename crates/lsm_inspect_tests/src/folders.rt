@@ -1,9 +1,10 @@
 //! Small stores in folders, and what is printed of them.
 
+use bytes::Bytes;
 use lsm_file_vault::{Contents, open};
 use lsm_inspect::{check, dump};
 use lsm_store::{Options, Store, StoreError};
-use lsm_vault::Vault;
+use lsm_vault::{Vault, VaultError};
 use std::alloc::Global;
 use std::fs;
 use std::io::ErrorKind;
@@ -30,6 +31,10 @@ fn flush<V: Vault>(store: &mut Store<V>) -> Result<(), StoreError> {
     store.flush()
 }
 
+fn append_log<V: Vault>(vault: &mut V, logged: Bytes) -> Result<(), VaultError> {
+    vault.append_log(logged)
+}
+
 /// The path of a table's file.
 pub fn table_path(alloc: Global, path: &str, number: u64) -> Result<String, Fail> {
     Ok(format!(in alloc; "{path}/{number:020}.table")?)
@@ -53,6 +58,15 @@ pub fn make_store(rt: &HostRuntime, path: &str) -> Result<(), Fail> {
     put(&mut store, b"a", b"")?;
     flush(&mut store)?;
     drop(store);
+    Ok(())
+}
+
+/// Adds two records to the log of a store, of one byte and of two.
+pub fn add_log(rt: &HostRuntime, path: &str) -> Result<(), Fail> {
+    let mut vault = open(rt, path)?.vault;
+    for record in ["1", "23"] {
+        append_log(&mut vault, Bytes::from_static(record.as_bytes()))?;
+    }
     Ok(())
 }
 

@@ -1,7 +1,8 @@
 //! What no clause says: the lines of a check and of a dump, and that a byte that is changed in a file is found.
 
 use crate::folders::{
-    change_last_byte, checked, dumped, make_store, put_byte, remove, table_path, with_byte_changed,
+    add_log, change_last_byte, checked, dumped, make_store, put_byte, remove, table_path,
+    with_byte_changed,
 };
 use std::fs;
 use std::test::Fail;
@@ -85,6 +86,28 @@ fn a_damaged_last_edit_is_reported_with_its_table(rt: HostRuntime) -> Result<(),
     let (_text, faults) = dumped(&rt, path)?;
     let line = "the last edit is torn or damaged: 80 bytes; an opening sets aside tables 2, 3\n";
     assert!(rt; faults.as_str() == line, "{faults}");
+    fs::remove_dir_all(&rt, path)?;
+    Ok(())
+}
+
+// A frame has 16 bytes beside its record.
+#[test]
+fn a_log_is_counted_and_its_torn_record_reported(rt: HostRuntime) -> Result<(), Fail> {
+    let path = "lsm_inspect_log";
+    make_store(&rt, path)?;
+    add_log(&rt, path)?;
+    let text = checked(&rt, path)?;
+    let wanted =
+        "L0 2 files 114 bytes 3 entries\nlog 2 records 35 bytes\nversion 3 flushed 3: 2 files, no damage";
+    assert!(rt; text.as_str() == wanted, "{text}");
+    put_byte(&rt, "lsm_inspect_log/log")?;
+    let text = checked(&rt, path)?;
+    let wanted =
+        "L0 2 files 114 bytes 3 entries\nlog 2 records 35 bytes\nthe last log record is torn or damaged: 1 bytes; an opening sets them aside\nversion 3 flushed 3: 2 files, 0 damaged, the last log record not whole";
+    assert!(rt; text.as_str() == wanted, "{text}");
+    let (_text, faults) = dumped(&rt, path)?;
+    let wanted = "the last log record is torn or damaged: 1 bytes; an opening sets them aside\n";
+    assert!(rt; faults.as_str() == wanted, "{faults}");
     fs::remove_dir_all(&rt, path)?;
     Ok(())
 }

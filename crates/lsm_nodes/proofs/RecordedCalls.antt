@@ -24,7 +24,7 @@ use Rattle.lsm_coord.specs.declared.snapshot.SnapId.{SnapId}
 use Rattle.lsm_coord.specs.Model.Event.{Event, Reply}
 use Rattle.lsm_coord.specs.Model.Event as say
 use Rattle.lsm_coord.specs.Model.State.{State}
-use Rattle.lsm_coord.specs.Contract.Calls.{FlushRefuses, GetRefuses, ScanRefuses, TrimRefuses, with_floor}
+use Rattle.lsm_coord.specs.Contract.Calls.{AppendRefuses, FlushRefuses, GetRefuses, ScanRefuses, TrimRefuses, freeze_fault, with_floor, write_fault}
 use Rattle.lsm_coord.specs.Contract.Replies.{get_reply, scan_reply}
 use Rattle.lsm_coord.specs.Contract.Shows.{Follows, Shows}
 use Rattle.lsm_coord.specs.Contract.Sound.{KeepsSound}
@@ -49,6 +49,12 @@ pub same_after : (past : List WitnessedValue) (a : CoordValue) (w : WitnessedVal
 same_after past a w b asked answered call answer plain same goes =
     plainly past a w b asked answered call answer plain (ap (λ (c : CoordValue). installs_in c.stored.edits) same) (ap (λ (c : CoordValue). c.book) same) goes (λ s shown. nothing_keeps a b same)
 
+-- a write or a freeze that is refused leaves the edits and the book
+append_leaves : (fault : Option CoordError) (e : CoordError) (a b : CoordValue) → AppendRefuses fault a e b → (b.stored.edits ≡ a.stored.edits) × (b.book ≡ a.book)
+append_leaves fault OutOfMemory a b h = (ap (λ (c : CoordValue). c.stored.edits) h.1.rest, ap (λ (c : CoordValue). c.book) h.1.rest)
+append_leaves fault Device a b h = (ap (λ (c : CoordValue). c.stored.edits) h.1.rest, ap (λ (c : CoordValue). c.book) h.1.rest)
+append_leaves fault e a b h = (ap (λ (c : CoordValue). c.stored.edits) h.1, ap (λ (c : CoordValue). c.book) h.1)
+
 -- ---- writes, flushes and snapshots
 
 pub plain_write : (r : Result (ℕ × ℕ) CoordError) → IsPlain (write_answer r)
@@ -57,15 +63,19 @@ plain_write r = plain_answer (λ (seqs : ℕ × ℕ). answer.Wrote seqs.0 seqs.1
 pub extends_write : (past : List WitnessedValue) (a : CoordValue) (w : WitnessedValue) (b : CoordValue) (ops : List Op) (r : Result (ℕ × ℕ) CoordError) → w.exchange.call ≡ call.Write ops → w.exchange.answer ≡ write_answer r → Writes a ops r b → Extends past a w b
 extends_write past a w b ops (Ok x) asked told h =
     plainly past a w b (call.Write ops) (write_answer (Ok x)) asked told tt (ap (λ (c : CoordValue). installs_in c.stored.edits) h.ok.1.rest) (ap (λ (c : CoordValue). c.book) h.ok.1.rest) h.step (λ s shown. h.sound)
-extends_write past a w b ops (Err e) asked told h = same_after past a w b (call.Write ops) (write_answer (Err e)) asked told tt h.err h.step
+extends_write past a w b ops (Err e) asked told h =
+    let left = append_leaves (write_fault a ops) e a b h.refused in
+    plainly past a w b (call.Write ops) (write_answer (Err e)) asked told tt (ap installs_in left.0) left.1 h.step (λ s shown. h.sound)
 
 pub plain_freeze : (r : Result ℕ CoordError) → IsPlain (freeze_answer r)
 plain_freeze r = plain_answer (λ (seq : ℕ). answer.Froze seq) (λ x. tt) r
 
 pub extends_freeze : (past : List WitnessedValue) (a : CoordValue) (w : WitnessedValue) (b : CoordValue) (r : Result ℕ CoordError) → w.exchange.call ≡ call.Freeze → w.exchange.answer ≡ freeze_answer r → Freezes a r b → Extends past a w b
 extends_freeze past a w b (Ok x) asked told h =
-    plainly past a w b call.Freeze (freeze_answer (Ok x)) asked told tt (ap (λ (c : CoordValue). installs_in c.stored.edits) h.ok.1) (ap (λ (c : CoordValue). c.book) h.ok.1) h.step (λ s shown. h.sound)
-extends_freeze past a w b (Err e) asked told h = same_after past a w b call.Freeze (freeze_answer (Err e)) asked told tt h.err h.step
+    plainly past a w b call.Freeze (freeze_answer (Ok x)) asked told tt (ap (λ (c : CoordValue). installs_in c.stored.edits) h.ok.1.rest) (ap (λ (c : CoordValue). c.book) h.ok.1.rest) h.step (λ s shown. h.sound)
+extends_freeze past a w b (Err e) asked told h =
+    let left = append_leaves (freeze_fault a) e a b h.refused in
+    plainly past a w b call.Freeze (freeze_answer (Err e)) asked told tt (ap installs_in left.0) left.1 h.step (λ s shown. h.sound)
 
 -- an edit more, after those of a manifest
 pub installs_push : (texts : List (List ℕ)) (text : List ℕ) (e : Edit) → IsSpelledEdit text e → installs_in (texts ++ text ∷ []) ≡ installs_in texts ++ installs_of (e ∷ [])

@@ -16,7 +16,7 @@ use Rattle.lsm_coord.specs.Model.Changes.{IsIndex}
 use Rattle.lsm_coord.specs.Model.Event.{Reply}
 use Rattle.lsm_coord.specs.Model.Event as say
 use Rattle.lsm_coord.specs.Model.State.{State}
-use Rattle.lsm_coord.specs.Contract.Calls.{Adds, FlushRefuses, GetRefuses, IsWritten, ScanRefuses, TrimRefuses, after_freezing, after_give_back, after_release, after_snapshot, flush_fault, freeze_fault, release_fault, snapshot_fault, trim_fault, with_floor, with_live_tables, write_fault}
+use Rattle.lsm_coord.specs.Contract.Calls.{Adds, AppendRefuses, FlushRefuses, GetRefuses, IsFrozen, IsWritten, ScanRefuses, TrimRefuses, after_give_back, after_release, after_snapshot, flush_fault, freeze_fault, release_fault, snapshot_fault, trim_fault, with_floor, with_live_tables, write_fault}
 use Rattle.lsm_coord.specs.Contract.Installing.{Became, HoldsSoundMerge, IsDone}
 use Rattle.lsm_coord.specs.Contract.Picking.{IsPicked, PickRefuses, Picks}
 use Rattle.lsm_coord.specs.Contract.Replies.{flush_reply, freeze_reply, get_reply, install_reply, pick_reply, refusal_of, release_reply, scan_reply, snapshot_reply, trim_reply, write_reply}
@@ -46,15 +46,13 @@ IsRecorded old new t u exchange = Appends old exchange new × (u ≡ after_recor
 pub record Writes (old : CoordValue) (ops : List Op) (result : Result (ℕ × ℕ) CoordError) (new : CoordValue) : Type 0 where
   pub step : Follows old (say.Write ops) (write_reply result) new
   pub ok : OnOk result ((write_fault old ops ≡ None) × IsWritten old ops new)
-  pub err : OnErr result (new ≡ old)
-  pub refused : IfErr result (Refuses OutOfMemory (write_fault old ops))
+  pub refused : IfErr result (λ e. AppendRefuses (write_fault old ops) old e new)
   pub sound : KeepsSound old new
 
 pub record Freezes (old : CoordValue) (result : Result ℕ CoordError) (new : CoordValue) : Type 0 where
   pub step : Follows old say.Freeze (freeze_reply result) new
-  pub ok : OnOk result ((freeze_fault old ≡ None) × (new ≡ after_freezing old))
-  pub err : OnErr result (new ≡ old)
-  pub refused : IfErr result (λ e. freeze_fault old ≡ Some e)
+  pub ok : OnOk result ((freeze_fault old ≡ None) × IsFrozen old new)
+  pub refused : IfErr result (λ e. AppendRefuses (freeze_fault old) old e new)
   pub sound : KeepsSound old new
 
 pub record Flushes (old : CoordValue) (result : Result Flushed CoordError) (new : CoordValue) : Type 0 where

@@ -180,7 +180,7 @@ DeletesAll old keys answer new = ⊥
 abbrev pub AnswersDelete : CoordValue → List (List ℕ) → Answer → CoordValue → Type 0
 AnswersDelete old args answer new = WithSome (DeletesAll old args answer new) ((answer ≡ Refused (WrongCount command.Delete)) × (new ≡ old)) args
 
--- all that it holds is in the vault
+-- all that it holds is in tables
 abbrev pub Saves : CoordValue → Answer → CoordValue → Type 0
 Saves old (Reply reply) new = (reply ≡ Simple (codes "OK")) × Stores old new
 Saves old (Refused (Store why)) new = OfCoord (StoreFlushRefuses old new) why × Keeps old new

@@ -33,6 +33,6 @@ info_text last flushed files =
     codes "# Keyspace" ++ line_end ++ figure_line (codes "last_sequence") last ++ figure_line (codes "flushed_sequence") flushed
     ++ flat_map (level_lines files) (0 ∷ 1 ∷ 2 ∷ 3 ∷ 4 ∷ 5 ∷ 6 ∷ [])
 
--- the figures of what the store holds, has in its vault, and has on each level
+-- the figures of what the store holds, has in tables, and has on each level
 abbrev pub IsInfo : CoordValue → Answer → Type 0
 IsInfo c answer = (last : ℕ) × IsLatestSequence c last × (answer ≡ Reply (Bulk (Some (info_text last (stored_count c) c.served.version.files))))

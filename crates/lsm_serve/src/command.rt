@@ -27,7 +27,7 @@ pub enum Command {
     MultiSet,
     /// `RANGE lo hi limit`: the first `limit` keys at or after `lo` and before `hi`, each with its value behind it. Not of Redis.
     Range,
-    /// `SAVE`: brings all that the store holds into its vault.
+    /// `SAVE`: brings all that the store holds into tables.
     Save,
     /// `INFO ..`: figures of the store.
     Info,

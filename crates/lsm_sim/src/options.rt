@@ -35,7 +35,7 @@ pub(crate) enum Subcommand<'a> {
     Store(Place<'a>),
     /// Verify the files of a folder.
     Check(&'a str),
-    /// Print the entries of the store of a folder.
+    /// Print the entries of the tables of a folder.
     Dump(&'a str),
     /// Answer requests of Redis clients, to the store of a folder or to a new one in memory.
     Serve(Option<&'a str>, Limits),
@@ -161,7 +161,7 @@ fn check<'a>(alloc: Global) -> Result<Command<'a>, AllocError> {
 /// `dump`, with its option.
 fn dump<'a>(alloc: Global) -> Result<Command<'a>, AllocError> {
     Command::new(alloc, "dump")
-        .about("Print each entry of the store that a folder keeps, and change nothing")
+        .about("Print each entry of the tables that a folder keeps, and change nothing")
         .arg(dir(alloc, "The folder that keeps the data"))
 }
 

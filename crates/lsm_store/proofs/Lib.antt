@@ -5,6 +5,7 @@ pub mod SoundJobs
 pub mod Compactions
 pub mod CompactionAnswers
 pub mod StoreSteps
+pub mod StoreFlushes
 pub mod StoreCompactions
 pub mod RangeParts
 pub mod CurrentAlone

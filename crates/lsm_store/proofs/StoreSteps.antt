@@ -1,13 +1,12 @@
 -- What the coordinator's steps do to what a store holds.
-use Rattle.std.proofs.Common.{◌≡◌, ℕ, ◌+◌, Bool, true, false, List, [], ◌∷◌, ◌++◌, Option, None, Some, Result, Vec, length, refl, sym, ap, subst, ◌∙◌, arith, inl, inr, is_none, ◌&&◌, take}
-use Rattle.std.specs.Prelude.{IsSome, nat_eq}
+use Rattle.std.proofs.Common.{◌≡◌, ℕ, ◌+◌, Bool, true, false, List, [], ◌∷◌, ◌++◌, Option, None, Some, Result, Vec, length, refl, sym, ap, subst, ◌∙◌, arith, inl, inr, is_none}
+use Rattle.std.specs.Prelude.{IsSome}
 use Rattle.std.specs.Bool.{if◌then◌else◌}
-use Rattle.std.proofs.lemmas.Bool.{eqb-true}
 use Rattle.lsm_key.specs.declared.op.Op.{Op}
 use Rattle.lsm_key.specs.Writes.{answer}
 use Rattle.lsm_vault.specs.Stored.{VaultValue}
+use Rattle.lsm_versions.specs.declared.error.OpenError.{OpenError}
 use Rattle.lsm_coord.specs.declared.error.CoordError.{CoordError}
-use Rattle.lsm_coord.specs.declared.error.CoordError.TheVariants as coord
 use Rattle.lsm_coord.specs.declared.snapshot.SnapId.{SnapId}
 use Rattle.lsm_coord.specs.declared.snapshot.Snapshot.{Snapshot}
 use Rattle.lsm_coord.specs.Model.Changes.{IsIndex, after_restart, after_stop, read_at}
@@ -15,17 +14,14 @@ use Rattle.lsm_coord.specs.Model.Event.{Event, Refusal, Reply}
 use Rattle.lsm_coord.specs.Model.Event as say
 use Rattle.lsm_coord.specs.Model.Range.{IsRange}
 use Rattle.lsm_coord.specs.Model.Rules.{read_refusal, unless_down}
-use Rattle.lsm_coord.specs.Model.State.{State, Version, last_flushed, last_seq, snapshot_at}
+use Rattle.lsm_coord.specs.Model.State.{State, snapshot_at}
 use Rattle.lsm_coord.specs.Model.Step.{Leaves}
-use Rattle.lsm_coord.specs.Contract.Replies.{refusal_of}
-use Rattle.lsm_coord.specs.Contract.Seats.{OpenFollows, ShowsDown}
+use Rattle.lsm_coord.specs.Contract.Seats.{OpenFollows, OpenRefusedFollows, ShowsDown, open_refusal}
 use Rattle.lsm_coord.specs.Contract.Shows.{Follows, Shows}
 use Rattle.lsm_coord.specs.Contract.Value.{CoordValue}
-use Rattle.lsm_coord.proofs.CurrentVersion.{current_version-risen}
-use Rattle.lsm_coord.proofs.RestartStops.{down_again, stays_down}
-use Rattle.lsm_coord.proofs.ShownVersions.{flushed_is}
+use Rattle.lsm_coord.proofs.RestartStops.{down_again}
 use Rattle.lsm_store.specs.Compacting.{IsCompacted}
-use Rattle.lsm_store.specs.Store.{AddsSnapshot, CanRead, Holds, HoldsStored, Keeps, ReadsRange, Stores, seen_count, stored_count}
+use Rattle.lsm_store.specs.Store.{Accepts, AddsSnapshot, CanRead, Holds, HoldsStored, Keeps, ReadsRange, seen_count}
 
 -- ---- a state that has the same writes and snapshots
 
@@ -57,6 +53,13 @@ trim_keeps old new n floor follows writes snapshots h =
     let is = ((r.1).1).1 in
     record { state = r.0; shown = r.2; writes_are = ap (λ (x : State). x.writes) is ∙ h.writes_are; snapshots_are = ap (λ (x : State). x.snapshots) is ∙ h.snapshots_are }
 
+-- a write that is refused
+pub refused_write_keeps : (old new : CoordValue) (ops : List Op) (why : Refusal) → Follows old (say.Write ops) (say.Refused why) new → Keeps old new
+refused_write_keeps old new ops why follows writes snapshots h =
+    let r = follows h.state h.shown in
+    let is = (r.1).1 in
+    record { state = r.0; shown = r.2; writes_are = ap (λ (x : State). x.writes) is ∙ h.writes_are; snapshots_are = ap (λ (x : State). x.snapshots) is ∙ h.snapshots_are }
+
 -- a flush that is refused
 pub refused_flush_keeps : (old new : CoordValue) (why : Refusal) → Follows old say.Flush (say.Refused why) new → Keeps old new
 refused_flush_keeps old new why follows writes snapshots h =
@@ -64,33 +67,16 @@ refused_flush_keeps old new why follows writes snapshots h =
     let is = (r.1).1 in
     record { state = r.0; shown = r.2; writes_are = ap (λ (x : State). x.writes) is ∙ h.writes_are; snapshots_are = ap (λ (x : State). x.snapshots) is ∙ h.snapshots_are }
 
--- ---- flushes
+-- a flush
+pub flush_keeps : (old new : CoordValue) (number seq file : ℕ) → Follows old say.Flush (say.Flushed number seq file) new → Keeps old new
+flush_keeps old new number seq file follows writes snapshots h =
+    let r = follows h.state h.shown in
+    let is = ((r.1).1).3 in
+    record { state = r.0; shown = r.2; writes_are = ap (λ (x : State). x.writes) is ∙ h.writes_are; snapshots_are = ap (λ (x : State). x.snapshots) is ∙ h.snapshots_are }
 
--- nothing is left to flush
-nothing_left : (up a b c : Bool) → (if up then (if a && b then Some say.NothingToFlush else if c then Some say.NumbersExhausted else None) else Some say.Down) ≡ Some say.NothingToFlush → b ≡ true
-nothing_left true true true c e = refl
-nothing_left true true false true e = absurd cc
-nothing_left true true false false e = absurd cc
-nothing_left true false b true e = absurd cc
-nothing_left true false b false e = absurd cc
-nothing_left false a b c e = absurd cc
-
-nothing_left_stores : (old new : CoordValue) → Follows old say.Flush (say.Refused say.NothingToFlush) new → Stores old new
-nothing_left_stores old new follows writes snapshots h =
-    let s = h.state in
-    let r = follows s h.shown in
-    let is : r.0 ≡ s = (r.1).1 in
-    elim (r.1).0 [
-      | inl forced ↦
-          let same : last_seq s ≡ last_flushed s = eqb-true (last_seq s) (last_flushed s) (nothing_left s.up (is_none s.frozen) (nat_eq (last_seq s) (last_flushed s)) _ forced) in (
-            record { state = r.0; shown = r.2; writes_are = ap (λ (x : State). x.writes) is ∙ h.writes_are; snapshots_are = ap (λ (x : State). x.snapshots) is ∙ h.snapshots_are },
-            sym (flushed_is new.stored.edits new.served r.0 r.2.tables) ∙ ap last_flushed is ∙ sym same ∙ ap length h.writes_are,
-          )
-      | inr other ↦ absurd other.1
-    ]
-
-pub nothing_stores : (old new : CoordValue) (e : CoordError) → e ≡ coord.NothingToFlush → Follows old say.Flush (say.Refused (refusal_of e)) new → Stores old new
-nothing_stores old new e is follows = nothing_left_stores old new (subst (λ (x : CoordError). Follows old say.Flush (say.Refused (refusal_of x)) new) is follows)
+-- and a write after it
+pub accepts_then : (old mid new : CoordValue) (ops : List Op) → Keeps old mid → Accepts mid ops new → Accepts old ops new
+accepts_then old mid new ops keeps accepts writes snapshots h = accepts writes snapshots (keeps writes snapshots h)
 
 -- ---- snapshots
 
@@ -134,24 +120,24 @@ scan_reads c new lo hi at limit pairs follows writes snapshots h =
 
 -- ---- the vault
 
-pub closed_holds : (c : CoordValue) → ((s : State) → Shows c s → ShowsDown c.stored (after_stop s)) → (writes : List Op) (snapshots : List Snapshot) → Holds c writes snapshots → HoldsStored c.stored (take (stored_count c) writes)
-closed_holds c stops writes snapshots h = record {
-  state = after_stop h.state;
-  shown = stops h.state h.shown;
-  writes_are = λ i. take (flushed_is c.stored.edits c.served h.state h.shown.tables i) (h.writes_are i);
-}
+pub closed_holds : (c : CoordValue) → ((s : State) → Shows c s → ShowsDown c.stored (after_stop s)) → (writes : List Op) (snapshots : List Snapshot) → Holds c writes snapshots → HoldsStored c.stored writes
+closed_holds c stops writes snapshots h = record { state = after_stop h.state; shown = stops h.state h.shown; writes_are = h.writes_are }
 
-pub opened_holds : (vault : VaultValue) (c : CoordValue) → OpenFollows vault c → (writes : List Op) → HoldsStored vault writes → Holds c writes [] × (stored_count c ≡ length writes)
+pub opened_holds : (vault : VaultValue) (c : CoordValue) → OpenFollows vault c → (writes : List Op) → HoldsStored vault writes → Holds c writes []
 opened_holds vault c follows writes h =
     let s = h.state in
     let r = follows s (down_again vault s h.shown) in
     let is : r.0 ≡ after_restart s = (r.1).1.3 in
-    let stopped : after_stop s ≡ s = stays_down vault s h.shown in (
-      record {
-        state = r.0;
-        shown = r.2;
-        writes_are = ap (λ (x : State). x.writes) is ∙ ap (λ (x : State). x.writes) stopped ∙ h.writes_are;
-        snapshots_are = ap (λ (x : State). x.snapshots) is;
-      },
-      sym (flushed_is c.stored.edits c.served r.0 r.2.tables) ∙ ap last_flushed is ∙ ap (λ (v : Version). v.flushed) (current_version-risen s) ∙ sym h.shown.flushed ∙ ap length h.writes_are,
-    )
+    record { state = r.0; shown = r.2; writes_are = ap (λ (x : State). x.writes) is ∙ h.writes_are; snapshots_are = ap (λ (x : State). x.snapshots) is }
+
+-- a restart that is refused
+restart_leaves : (s : State) (why : Refusal) (t : State) → Leaves s (say.Restart say.Coordinator) why t → t.writes ≡ s.writes
+restart_leaves s say.OutOfMemory t (inl is) = ap (λ (x : State). x.writes) is
+restart_leaves s say.OutOfMemory t (inr is) = ap (λ (x : State). x.writes) is
+restart_leaves s why t is = ap (λ (x : State). x.writes) is
+
+pub refused_holds : (vault new : VaultValue) (why : OpenError) → OpenRefusedFollows vault why new → (writes : List Op) → HoldsStored vault writes → HoldsStored new writes
+refused_holds vault new why follows writes h =
+    let s = h.state in
+    let r = follows s (down_again vault s h.shown) in
+    record { state = r.0; shown = r.2; writes_are = restart_leaves s (open_refusal why) r.0 (r.1).1 ∙ h.writes_are }

@@ -39,7 +39,7 @@ pub record HoldsStored (vault : VaultValue) (writes : List Op) : Type 0 where
   pub shown : ShowsDown vault state
   pub writes_are : state.writes ≡ writes
 
--- how many operations the vault has
+-- how many operations are in tables
 abbrev pub stored_count : CoordValue → ℕ
 stored_count c = c.served.version.flushed
 
@@ -47,9 +47,8 @@ stored_count c = c.served.version.flushed
 abbrev pub IsLatestSequence : CoordValue → ℕ → Type 0
 IsLatestSequence c latest = (writes : List Op) (snapshots : List Snapshot) → Holds c writes snapshots → latest ≡ length writes
 
--- between two calls no memtable is frozen, and no job runs
+-- between two calls no job runs
 pub record IsIdle (c : CoordValue) : Type 0 where
-  pub frozen : c.frozen ≡ None
   pub live : c.book.live ≡ []
 
 -- ---- changes
@@ -62,7 +61,7 @@ Keeps old new = (writes : List Op) (snapshots : List Snapshot) → Holds old wri
 abbrev pub Accepts : CoordValue → List Op → CoordValue → Type 0
 Accepts old ops new = (writes : List Op) (snapshots : List Snapshot) → Holds old writes snapshots → Holds new (writes ++ ops) snapshots
 
--- whatever it held, it holds, and all of it is in the vault
+-- whatever it held, it holds, and all of it is in tables
 abbrev pub Stores : CoordValue → CoordValue → Type 0
 Stores old new = (writes : List Op) (snapshots : List Snapshot) → Holds old writes snapshots → Holds new writes snapshots × (stored_count new ≡ length writes)
 
@@ -122,9 +121,15 @@ CompactRefuses old new coord.Device = old.failures < new.failures
 CompactRefuses old new coord.NumbersExhausted = (at : CoordValue) × Keeps old at × CompactionRefuses at coord.NumbersExhausted
 CompactRefuses old new e = ⊥
 
--- why the memtable is not emptied: a flush or the compactions after it are refused
+-- Why the memtables are not flushed: the numbers are exhausted, memory runs out or the device fails, for the first of them or, where
+-- that one was flushed and what the store held was kept, for the second; neither is too empty for it.
+abbrev pub StoreFlushRefuses : CoordValue → CoordValue → CoordError → Type 0
+StoreFlushRefuses old new coord.NothingToFlush = ⊥
+StoreFlushRefuses old new e = (at : CoordValue) × Keeps old at × (old.failures ≤ at.failures) × FlushRefuses at e new
+
+-- why the memtable is not emptied: the flushes or the compactions after them are refused
 abbrev pub RoomRefuses : CoordValue → CoordValue → CoordError → Type 0
-RoomRefuses old new coord.NumbersExhausted = FlushRefuses old coord.NumbersExhausted new ⊎ CompactRefuses old new coord.NumbersExhausted
+RoomRefuses old new coord.NumbersExhausted = StoreFlushRefuses old new coord.NumbersExhausted ⊎ CompactRefuses old new coord.NumbersExhausted
 RoomRefuses old new e = CompactRefuses old new e
 
 -- ---- writes
@@ -133,13 +138,13 @@ RoomRefuses old new e = CompactRefuses old new e
 abbrev pub CanWrite : CoordValue → List Op → Type 0
 CanWrite c ops = (write_fault c ops ≡ None) ⊎ (write_fault c ops ≡ Some coord.MemtableFull)
 
--- Why a batch is refused: it is empty, or there are no sequences for it; otherwise memory may run out, and if the memtable
--- has to be flushed first, the numbers may be exhausted, by the flush or by a compaction, or the device may fail.
+-- Why a batch is refused: it is empty, or there are no sequences for it; otherwise memory may run out or the device may fail, and if
+-- the memtable has to be flushed first, the numbers may be exhausted, by a flush or by a compaction.
 abbrev pub WriteRefuses : CoordValue → List Op → CoordValue → StoreError → Type 0
 WriteRefuses old ops new (Coord coord.EmptyBatch) = write_fault old ops ≡ Some coord.EmptyBatch
 WriteRefuses old ops new (Coord coord.SequenceExhausted) = write_fault old ops ≡ Some coord.SequenceExhausted
 WriteRefuses old ops new (Coord coord.OutOfMemory) = CanWrite old ops
-WriteRefuses old ops new (Coord coord.Device) = (write_fault old ops ≡ Some coord.MemtableFull) × (old.failures < new.failures)
+WriteRefuses old ops new (Coord coord.Device) = CanWrite old ops × (old.failures < new.failures)
 WriteRefuses old ops new (Coord coord.NumbersExhausted) = (write_fault old ops ≡ Some coord.MemtableFull) × RoomRefuses old new coord.NumbersExhausted
 WriteRefuses old ops new e = ⊥
 
@@ -150,11 +155,6 @@ OpRefuses old op new (Coord coord.OutOfMemory) = Unit {0}
 OpRefuses old op new (Coord e) = (push_fault [] op ≡ None) × WriteRefuses old (op ∷ []) new (Coord e)
 
 -- ---- flushes and compactions
-
--- why a flush fails: the numbers are exhausted, memory runs out or the device fails; no memtable is too empty for it
-abbrev pub StoreFlushRefuses : CoordValue → CoordValue → CoordError → Type 0
-StoreFlushRefuses old new coord.NothingToFlush = ⊥
-StoreFlushRefuses old new e = FlushRefuses old e new
 
 -- What is due after compactions: no candidate is left, or none that is within the job limits, or as many compactions were made as
 -- were asked for, each of which made a version.
@@ -175,6 +175,16 @@ pub record LeavesMemtable (old new : CoordValue) : Type 0 where
 pub record EmptiesMemtable (old new : CoordValue) : Type 0 where
   pub active : new.active ≡ []
   pub last : new.last ≡ old.last
+
+-- the frozen memtable is flushed, or the active one if none is frozen, unless both are empty; the last sequence stays
+pub record FlushesNext (old new : CoordValue) : Type 0 where
+  pub frozen : new.frozen ≡ None
+  pub active : old.frozen ≡ None → new.active ≡ []
+  pub last : new.last ≡ old.last
+
+-- why the next memtable is not flushed, which is not that both are empty
+abbrev pub FlushNextRefuses : CoordValue → CoordValue → CoordError → Type 0
+FlushNextRefuses old new e = (e ≡ coord.NothingToFlush → ⊥) × FlushRefuses old e new
 
 -- one compaction, which makes the next version; or none is due, and nothing has changed
 abbrev pub CompactsNext : CoordValue → CoordValue → Bool → Type 0

@@ -14,8 +14,8 @@ pub use range::Range;
 use std::alloc::Global;
 use std::marker::Model;
 
-/// A store over a vault: all its flushes and compactions run inside its calls. What is not in the vault is lost when it ends, so
-/// flush before you close it. Between two calls no memtable is frozen, and no job runs.
+/// A store over a vault: all its flushes and compactions run inside its calls. The vault has each operation before it is answered, in
+/// its log or in a table, so that no operation is lost when the store ends; its snapshots are. Between two calls no job runs.
 #[derive(Drop)]
 pub struct Store<V: Vault> {
     alloc: Global,
@@ -38,21 +38,22 @@ impl<V: Vault> Model for Store<V> {
 }
 
 impl<V: Vault> Store<V> {
-    ghost use Rattle.std.specs.Prelude.{◌≡◌, ◌≤◌, ℕ, [], List, IfErr, IfOk, length, take};
+    ghost use Rattle.std.specs.Prelude.{◌≡◌, ◌≤◌, [], List, IfErr, IfOk};
     ghost use Rattle.lsm_key.specs.declared.op.Op.{Op};
     ghost use Rattle.lsm_versions.specs.Opening.{CountsRefusal, MayHaveDropped, OpenRefuses};
     ghost use Rattle.lsm_coord.specs.declared.snapshot.Snapshot.{Snapshot};
-    ghost use Rattle.lsm_coord.specs.Contract.Seats.{OpensCoord};
-    ghost use Rattle.lsm_store.specs.Store.{Holds, HoldsStored, stored_count};
+    ghost use Rattle.lsm_coord.specs.Contract.Seats.{LogComesFirst, OpensCoord};
+    ghost use Rattle.lsm_store.specs.Store.{Holds, HoldsStored};
 
-    /// Opens what a vault has: all that was flushed, and nothing else. A vault without edits is a new store. A refusal hands the
-    /// vault back with its edits; some tables that no file of the version needs may be gone.
+    /// Opens what a vault has: what is in its tables, and what its log has after that. A vault without edits and log is a new store. A
+    /// refusal hands the vault back with its edits and its log; some tables that no file of the version needs may be gone.
     pub fn open(alloc: Global, vault: V, options: Options) -> Result<Store<V>, (OpenError, V)>
         ensures ok { IfOk result (OpensCoord (V.stored vault) options.limits) }
         ensures failures { IfOk result (λ store. V.failures vault ≤ store.failures) }
-        ensures stored { (writes : List Op) → HoldsStored (V.stored vault) writes → IfOk result (λ store. Holds store writes [] × (stored_count store ≡ length writes)) }
-        ensures new { IfOk result (λ store. (V.stored vault).edits ≡ [] → Holds store [] []) }
+        ensures stored { (writes : List Op) → HoldsStored (V.stored vault) writes → IfOk result (λ store. Holds store writes []) }
+        ensures new { IfOk result (λ store. (V.stored vault).edits ≡ [] → (V.stored vault).log ≡ [] → Holds store [] []) }
         ensures refused { IfErr result (λ e. OpenRefuses (V.stored vault) e.0) }
+        ensures first { IfErr result (λ e. LogComesFirst (V.stored vault) e.0) }
         ensures left { IfErr result (λ e. MayHaveDropped e.0 (V.stored vault) (V.stored e.1)) }
         ensures counted { IfErr result (λ e. CountsRefusal e.0 (V.failures vault) (V.failures e.1)) }
         ensures stays { (writes : List Op) → HoldsStored (V.stored vault) writes → IfErr result (λ e. HoldsStored (V.stored e.1) writes) }
@@ -63,11 +64,11 @@ impl<V: Vault> Store<V> {
         }
     }
 
-    /// Ends it, and hands the vault back. All that was not flushed is lost.
+    /// Ends it, and hands the vault back, which has all operations.
     pub fn close(self) -> V
         ensures vault { V.stored result ≡ self.stored }
         ensures failures { V.failures result ≡ self.failures }
-        ensures stored { (writes : List Op) (snapshots : List Snapshot) → Holds self writes snapshots → HoldsStored self.stored (take (stored_count self) writes) }
+        ensures stored { (writes : List Op) (snapshots : List Snapshot) → Holds self writes snapshots → HoldsStored self.stored writes }
     {
         let Store { alloc: _, coord } = self;
         coord.close()

@@ -1,5 +1,7 @@
 //! Compactions: which version and files they make, and that reads stay.
 
+mod restarts;
+
 use bytes::Bytes;
 use lsm_claim::Claim;
 use lsm_coord::{Coord, CoordError, Desk, Seat, SnapId};

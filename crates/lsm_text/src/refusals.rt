@@ -34,6 +34,7 @@ fn coord_name(error: CoordError) -> &'static str
     match error {
         CoordError::BadManifest => "BadManifest",
         CoordError::MissingTable => "MissingTable",
+        CoordError::BadLog => "BadLog",
         CoordError::Device => "Device",
         CoordError::SequenceExhausted => "SequenceExhausted",
         CoordError::FrozenWaiting => "FrozenWaiting",
@@ -61,6 +62,7 @@ fn open_name(error: OpenError) -> &'static str
         OpenError::OutOfMemory => "OutOfMemory",
         OpenError::BadManifest => "BadManifest",
         OpenError::MissingTable => "MissingTable",
+        OpenError::BadLog => "BadLog",
         OpenError::Device => "Device",
         OpenError::NumbersExhausted => "NumbersExhausted",
     }

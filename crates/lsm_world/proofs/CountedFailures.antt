@@ -1,10 +1,7 @@
 -- Replies that the device failed, and the failures that the vault counts: a call reports one only where the count has risen.
 use Rattle.std.proofs.Common.{◌≡◌, ℕ, ◌+◌, ◌≤◌, List, Option, None, Some, refl, sym, ap, subst, ◌∙◌, arith, inl, inr}
-use Rattle.std.specs.Prelude.{length, nat_eq, nat_le, nat_lt, is_none, is_some, sum_by, MatchOption}
-use Rattle.lsm_key.specs.declared.limits.TheConstants.{MAX_MEMTABLE_WEIGHT, MAX_NUMBER, MAX_SNAPSHOTS}
-use Rattle.lsm_key.specs.declared.op.Op.{Op}
-use Rattle.lsm_key.specs.declared.seq.TheConstants.Seq as seq
-use Rattle.lsm_key.specs.Limits.{entry_weight, total_weight}
+use Rattle.std.specs.Prelude.{length, nat_le, is_none, MatchOption}
+use Rattle.lsm_key.specs.declared.limits.TheConstants.{MAX_NUMBER, MAX_SNAPSHOTS}
 use Rattle.lsm_key.specs.Faults.{Refuses}
 use Rattle.lsm_claim.specs.declared.job.LiveJob.{LiveJob}
 use Rattle.lsm_msg.specs.declared.job.JobResult.{JobResult}
@@ -20,7 +17,7 @@ use Rattle.lsm_coord.specs.declared.coord.install.InstallError.TheVariants as ke
 use Rattle.lsm_coord.specs.declared.error.CoordError.{CoordError}
 use Rattle.lsm_coord.specs.declared.error.CoordError.TheVariants as error
 use Rattle.lsm_coord.specs.declared.snapshot.SnapId.{SnapId}
-use Rattle.lsm_coord.specs.Contract.Calls.{FlushRefuses, HasValue, TrimRefuses, freeze_fault, point_of, release_fault, snapshot_fault, write_fault}
+use Rattle.lsm_coord.specs.Contract.Calls.{AppendRefuses, FlushRefuses, HasValue, TrimRefuses, freeze_fault, point_of, release_fault, snapshot_fault, write_fault}
 use Rattle.lsm_coord.specs.Contract.Installing.{Became, LeavesRejected}
 use Rattle.lsm_coord.specs.Contract.Picking.{PickRefuses}
 use Rattle.lsm_coord.specs.Contract.Replies.{error_of}
@@ -39,7 +36,7 @@ use Rattle.lsm_world.specs.declared.reply.Sent.{Sent}
 use Rattle.lsm_world.specs.Asks.{Asks, AsksNetwork, AsksNode, AsksOther, Calls, Delivers, DeliversAt, DeliversOn, Dispatches, GivesUp, Receives, TakesResult, follower_reply, install_answer, looked_up, worker_reply}
 use Rattle.lsm_world.specs.Nodes.{NetworkValue, NodesValue}
 use Rattle.lsm_world.specs.Schedules.{device_failures}
-use Rattle.lsm_world.proofs.PlainReplies.{one_reason, three_reasons, two_reasons}
+use Rattle.lsm_world.proofs.PlainReplies.{one_reason, two_reasons}
 
 -- the failures that are counted go up by what the reply says, or more
 abbrev pub Counts : ℕ → Reply → ℕ → Type 0
@@ -60,19 +57,6 @@ refuses_none : (o : Option CoordError) (e : CoordError) → (o ≡ Some error.De
 refuses_none o e none (inl forced) is = none (forced ∙ ap (λ (x : CoordError). Some x) is)
 refuses_none o e none (inr memory) is = let m = memory.1 in cc
 
-write_none : (c : CoordValue) (ops : List Op) → write_fault c ops ≡ Some error.Device → ⊥
-write_none c ops is =
-    elim (three_reasons (nat_eq (length ops) 0) (nat_lt seq.MAX (c.last + length ops)) (nat_lt MAX_MEMTABLE_WEIGHT (sum_by entry_weight c.active + total_weight ops)) error.EmptyBatch error.SequenceExhausted error.MemtableFull error.Device is) [
-      | inl a ↦ let x : error.EmptyBatch ≡ error.Device = a in cc
-      | inr rest ↦ elim rest [ inl b ↦ let x : error.SequenceExhausted ≡ error.Device = b in cc | inr d ↦ let x : error.MemtableFull ≡ error.Device = d in cc ]
-    ]
-
-freeze_none : (c : CoordValue) → freeze_fault c ≡ Some error.Device → ⊥
-freeze_none c is = elim (two_reasons (is_some c.frozen) (nat_eq (length c.active) 0) error.FrozenWaiting error.NothingToFreeze error.Device is) [
-  | inl a ↦ let x : error.FrozenWaiting ≡ error.Device = a in cc
-  | inr b ↦ let x : error.NothingToFreeze ≡ error.Device = b in cc
-]
-
 snapshot_none : (c : CoordValue) → snapshot_fault c ≡ Some error.Device → ⊥
 snapshot_none c is = elim (two_reasons (nat_le MAX_SNAPSHOTS (length c.snapshots)) (nat_le MAX_NUMBER c.made) error.TooManySnapshots error.NumbersExhausted error.Device is) [
   | inl a ↦ let x : error.TooManySnapshots ≡ error.Device = a in cc
@@ -92,6 +76,11 @@ scan_none (Some point) e refuses is = cc
 
 -- ---- the coordinator's own calls
 
+append_counted : (fault : Option CoordError) (old new : CoordValue) (e : CoordError) → AppendRefuses fault old e new → Counts old.failures (reply.Refused (why.Coord e)) new.failures
+append_counted fault old new error.OutOfMemory is = let counted = is.1.counted in omega (arith, counted)
+append_counted fault old new error.Device is = let failed = is.2 in omega (arith, failed)
+append_counted fault old new e is = still old.failures new.failures (ap (λ (c : CoordValue). c.failures) is.1)
+
 flush_counted : (old new : CoordValue) (e : CoordError) → FlushRefuses old e new → Counts old.failures (reply.Refused (why.Coord e)) new.failures
 flush_counted old new error.OutOfMemory is = let counted = is.1.counted in omega (arith, counted)
 flush_counted old new error.Device is = let failed = is.1.1 in omega (arith, failed)
@@ -108,11 +97,11 @@ module _ (old new : CoordValue) where
   unchanged same = ap (λ (c : CoordValue). c.failures) same
 
   pub calls_counted : (e : Event) (r : Reply) → Calls old e r new → Counts old.failures r new.failures
-  calls_counted (event.Write ops) (reply.Wrote first last) is = still old.failures new.failures (ap (λ (c : CoordValue). c.failures) is.2.rest)
+  calls_counted (event.Write ops) (reply.Wrote first last) is = let counted = is.2.counted in omega (arith, counted)
   calls_counted (event.Write ops) (reply.Refused (why.Key k)) is = still old.failures new.failures (unchanged is.1)
-  calls_counted (event.Write ops) (reply.Refused (why.Coord e)) is = counts_none old.failures new.failures e (refuses_none (write_fault old ops) e (write_none old ops) is.1) (unchanged is.2)
-  calls_counted event.Freeze (reply.Froze seq) is = still old.failures new.failures (ap (λ (c : CoordValue). c.failures) is.1)
-  calls_counted event.Freeze (reply.Refused (why.Coord e)) is = counts_none old.failures new.failures e (λ device. freeze_none old (is.0 ∙ ap (λ (x : CoordError). Some x) device)) (unchanged is.1)
+  calls_counted (event.Write ops) (reply.Refused (why.Coord e)) is = append_counted (write_fault old ops) old new e is.1
+  calls_counted event.Freeze (reply.Froze seq) is = let counted = is.1.counted in omega (arith, counted)
+  calls_counted event.Freeze (reply.Refused (why.Coord e)) is = append_counted (freeze_fault old) old new e is
   calls_counted event.Flush (reply.Flushed f) is = let counted = is.1.3.counted in omega (arith, counted)
   calls_counted event.Flush (reply.Refused (why.Coord e)) is = flush_counted old new e is
   calls_counted event.Snap (reply.Snapped id seq) is = still old.failures new.failures (ap (λ (c : CoordValue). c.failures) is.1)

@@ -68,10 +68,10 @@ core_shows (Some c) seat s numbers h =
       floor = h.floor;
       tables = stored_same c.stored.edits c.served s (with_followers s numbers) h.tables refl refl refl refl (λ key. refl);
       memtables = record { flushed = m.flushed; within = m.within; active_is = m.active_is; frozen_is = m.frozen_is; kept = m.kept; snapped = m.snapped };
+      logged = h.logged;
     }
 core_shows None seat s numbers h = record {
   down = h.down;
-  frozen = h.frozen;
   snapshots = h.snapshots;
   made = h.made;
   flushed = h.flushed;
@@ -79,6 +79,7 @@ core_shows None seat s numbers h = record {
   sound = h.sound;
   tables = h.tables;
   stored = stored_same seat.stored.edits h.served s (with_followers s numbers) h.stored refl refl refl refl (λ key. refl);
+  logged = h.logged;
 }
 
 rising_with : (s : State) (numbers : List ℕ) → FlushedAscends s → FlushedAscends (with_followers s numbers)

@@ -6,9 +6,10 @@ use Rattle.lsm_key.specs.declared.limits.Limits.{Limits}
 use Rattle.lsm_claim.specs.Book.{new_book}
 use Rattle.lsm_edit.specs.Next.{epoch_edit}
 use Rattle.lsm_edit.specs.Version.{VersionValue, after_apply, first_version}
+use Rattle.lsm_edit.proofs.WorkedLogs.{empty_holds}
 use Rattle.lsm_vault.specs.Stored.{TableMap, VaultValue, empty_vault}
 use Rattle.lsm_versions.specs.declared.error.OpenError.{OpenError}
-use Rattle.lsm_versions.specs.declared.error.OpenError.TheVariants.{OutOfMemory, BadManifest, MissingTable, Device, NumbersExhausted}
+use Rattle.lsm_versions.specs.declared.error.OpenError.TheVariants.{OutOfMemory, BadManifest, MissingTable, BadLog, Device, NumbersExhausted}
 use Rattle.lsm_versions.specs.Manifest.{Folds}
 use Rattle.lsm_versions.specs.Opening.{MayHaveDropped, MayHaveLost, MayHaveLostObsolete, OpenRefuses, is_live_file, manifest_version}
 use Rattle.lsm_coord.specs.Contract.Seats.{OpensCoord}
@@ -23,6 +24,7 @@ new_refused OutOfMemory h = inl refl
 new_refused Device h = inr refl
 new_refused BadManifest h = absurd (h folds_none)
 new_refused MissingTable h = absurd (h.1).1
+new_refused BadLog h = absurd ((empty_holds (manifest_version []).flushed).good h.2)
 new_refused NumbersExhausted h = elim h.2 [ inl number ↦ absurd (omega arith) | inr epoch ↦ absurd (omega arith) ]
 
 -- of no table none is lost
@@ -37,6 +39,7 @@ none_dropped OutOfMemory new h = elim h [ inl same ↦ same | inr lost ↦ none_
 none_dropped Device new h = elim h [ inl same ↦ same | inr lost ↦ none_lost new lost ]
 none_dropped BadManifest new h = h
 none_dropped MissingTable new h = h
+none_dropped BadLog new h = h
 none_dropped NumbersExhausted new h = h
 
 -- ---- an opening that succeeds

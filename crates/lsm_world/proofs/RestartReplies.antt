@@ -17,7 +17,7 @@ forced_numbers : (t : Bool) (other : say.Refusal) → cond t (Some say.NumbersEx
 forced_numbers true other e = cc
 forced_numbers false other e = absurd cc
 
--- A RESTART FINDS NO BAD MANIFEST AND MISSES NO TABLE.
+-- A RESTART FINDS NO BAD MANIFEST AND NO BAD LOG, AND MISSES NO TABLE.
 pub restart_plain : (s t : State) (e : OpenError) → Step s (say.Restart say.Coordinator) (say.Refused (open_refusal e)) t → IsPlain (reply.Refused (why.Open e))
 restart_plain s t opening.OutOfMemory is = tt
 restart_plain s t opening.Device is = tt
@@ -28,5 +28,9 @@ restart_plain s t opening.BadManifest is = elim is.0 [
 ]
 restart_plain s t opening.MissingTable is = elim is.0 [
   | inl forced ↦ let e : say.MissingTable ≡ say.NumbersExhausted = forced_numbers (nat_lt MAX_NUMBER (s.epoch + 1) || nat_lt MAX_NUMBER (length s.versions)) say.MissingTable forced in absurd cc
+  | inr other ↦ absurd other.1
+]
+restart_plain s t opening.BadLog is = elim is.0 [
+  | inl forced ↦ let e : say.BadLog ≡ say.NumbersExhausted = forced_numbers (nat_lt MAX_NUMBER (s.epoch + 1) || nat_lt MAX_NUMBER (length s.versions)) say.BadLog forced in absurd cc
   | inr other ↦ absurd other.1
 ]

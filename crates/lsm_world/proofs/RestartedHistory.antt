@@ -76,6 +76,7 @@ dropped_none opening.Device old new (inl same) n bytes found = ap (λ (v : Vault
 dropped_none opening.Device old new (inr lost) n bytes found = lost_none (is_live_file (manifest_version old.edits).files []) old.tables new.tables lost.lost n bytes found
 dropped_none opening.BadManifest old new same n bytes found = ap (λ (v : VaultValue). get v.tables n) (sym same) ∙ found
 dropped_none opening.MissingTable old new same n bytes found = ap (λ (v : VaultValue). get v.tables n) (sym same) ∙ found
+dropped_none opening.BadLog old new same n bytes found = ap (λ (v : VaultValue). get v.tables n) (sym same) ∙ found
 dropped_none opening.NumbersExhausted old new same n bytes found = ap (λ (v : VaultValue). get v.tables n) (sym same) ∙ found
 
 -- all but the tables is as before
@@ -86,6 +87,7 @@ dropped_rest opening.Device old new (inl same) = tables_alone old new old.tables
 dropped_rest opening.Device old new (inr lost) = lost.rest
 dropped_rest opening.BadManifest old new same = tables_alone old new old.tables same
 dropped_rest opening.MissingTable old new same = tables_alone old new old.tables same
+dropped_rest opening.BadLog old new same = tables_alone old new old.tables same
 dropped_rest opening.NumbersExhausted old new same = tables_alone old new old.tables same
 
 -- WHAT A VAULT HAS OF A HISTORY, IT STILL HAS AFTER AN OPENING THAT IS REFUSED.

@@ -1,5 +1,5 @@
 -- One event more at the end of a schedule.
-use Rattle.std.proofs.Common.{◌≡◌, ℕ, ◌+◌, ◌≤◌, List, [], ◌∷◌, ◌++◌, length, refl, sym, ap, subst, ◌∙◌, append_assoc, append-nil, arith}
+use Rattle.std.proofs.Common.{◌≡◌, ℕ, ◌+◌, ◌≤◌, List, [], ◌∷◌, ◌++◌, length, refl, sym, ap, subst, ◌∙◌, append_assoc, append-nil, arith, inr}
 use Rattle.std.specs.List.{zip}
 use Rattle.std.specs.Prelude.{sum_by}
 use Rattle.std.proofs.lemmas.List.Sums.{sum_by-append}
@@ -9,7 +9,7 @@ use Rattle.lsm_coord.specs.Contract.Memory.{IsFit}
 use Rattle.lsm_coord.specs.Model.Event as say
 use Rattle.lsm_coord.specs.Model.Run.{Run}
 use Rattle.lsm_coord.specs.Model.State.{State, first_state}
-use Rattle.lsm_coord.specs.Model.Step.{Step}
+use Rattle.lsm_coord.specs.Model.Step.{Leaves, Step}
 use Rattle.lsm_coord.proofs.RunInvariants.{run_then}
 use Rattle.lsm_world.specs.declared.event.Event.{Event}
 use Rattle.lsm_world.specs.declared.refusal.Refusal.TheVariants as why
@@ -81,6 +81,17 @@ counted_more rs r old mid new first then = rw (sum_by-append device_failures rs 
 
 pub reached_first : (due : Limits) (n : NodesValue) → AreNew due n → IsFit n.core → IsReached (record { nodes = up_store n; trace = [] })
 reached_first due n is fit = record { steps = []; taken = refl; state = first_state; run = refl; shown = first_shown due n is fit }
+
+-- ---- an event that is not taken
+
+-- want of memory leaves the state
+memory_leaves : (s : State) (e : say.Event) → Leaves s e say.OutOfMemory s
+memory_leaves s (say.Trim n) = inr refl
+memory_leaves s (say.Restart say.Coordinator) = inr refl
+memory_leaves s e = refl
+
+pub untaken_follows : (store : StoreValue) (e : Event) → FollowsStore store (event_of e) (reply_of (reply.Refused why.NotTaken)) store
+untaken_follows store e s shown = (s, (tt, memory_leaves s (event_of e)), shown)
 
 pub reached_more : (old new : StoreValue) (es : List Event) (e : Event) (r : Reply) → IsReached (record { nodes = old; trace = es }) → FollowsStore old (event_of e) (reply_of r) new → IsReached (record { nodes = new; trace = es ++ e ∷ [] })
 reached_more old new es e r is follows =

@@ -1,5 +1,5 @@
 -- What leaves the files as they were.
-use Rattle.std.proofs.Common.{◌≡◌, ◌⊎◌, ℕ, List, inl, inr, ap, max, subst}
+use Rattle.std.proofs.Common.{◌≡◌, ◌⊎◌, ℕ, List, Option, inl, inr, ap, max, subst}
 use Rattle.std.specs.Prelude.{nat_le}
 use Rattle.lsm_key.specs.Sets.{IsIn}
 use Rattle.lsm_key.proofs.AscendingEntries.{IsIn-filter}
@@ -11,7 +11,7 @@ use Rattle.lsm_coord.specs.declared.coord.install.InstallError.{InstallError}
 use Rattle.lsm_coord.specs.declared.coord.install.InstallError.TheVariants as rejected
 use Rattle.lsm_coord.specs.declared.error.CoordError.{CoordError}
 use Rattle.lsm_coord.specs.declared.error.CoordError.TheVariants as error
-use Rattle.lsm_coord.specs.Contract.Calls.{FlushRefuses, IsFlushTable, MayHaveStored, MayHaveTrimmed, TrimRefuses, after_snapshot, with_live_tables}
+use Rattle.lsm_coord.specs.Contract.Calls.{AppendRefuses, FlushRefuses, IsFlushTable, MayHaveFailed, MayHaveStored, MayHaveTrimmed, TrimRefuses, after_snapshot, with_live_tables}
 use Rattle.lsm_coord.specs.Contract.Installing.{IsOutput, LeavesRejected}
 use Rattle.lsm_coord.specs.Contract.Shows.{Shows}
 use Rattle.lsm_coord.specs.Contract.Sound.{KeepsSound}
@@ -29,6 +29,23 @@ snapshot_keeps old new shown sound is = record {
   sound = sound shown.0 shown.1;
   files = inl (record { served = ap (λ (c : CoordValue). c.served) is; edits = ap (λ (c : CoordValue). c.stored.edits) is; retired = ap (λ (c : CoordValue). c.retired) is; book = ap (λ (c : CoordValue). c.book) is });
 }
+
+unchanged_files : (old new : CoordValue) → new ≡ old → HasSameFiles old new
+unchanged_files old new is = record { served = ap (λ (c : CoordValue). c.served) is; edits = ap (λ (c : CoordValue). c.stored.edits) is; retired = ap (λ (c : CoordValue). c.retired) is; book = ap (λ (c : CoordValue). c.book) is }
+
+-- a write or a freeze that is refused
+failed_files : (old new : CoordValue) → MayHaveFailed old new → HasSameFiles old new
+failed_files old new may =
+    let is = may.rest in
+    record { served = ap (λ (c : CoordValue). c.served) is; edits = ap (λ (c : CoordValue). c.stored.edits) is; retired = ap (λ (c : CoordValue). c.retired) is; book = ap (λ (c : CoordValue). c.book) is }
+
+append_files : (fault : Option CoordError) (old new : CoordValue) (e : CoordError) → AppendRefuses fault old e new → HasSameFiles old new
+append_files fault old new error.OutOfMemory is = failed_files old new is.1
+append_files fault old new error.Device is = failed_files old new is.1
+append_files fault old new e is = unchanged_files old new is.1
+
+pub append_keeps : (fault : Option CoordError) (old new : CoordValue) (e : CoordError) → AppendRefuses fault old e new → KeepsSound old new → KeepsFiles old new
+append_keeps fault old new e is sound = record { sound = sound; files = inl (append_files fault old new e is) }
 
 -- ---- what the vault may have refused
 
@@ -70,9 +87,6 @@ trimmed_files old new n failures is sound = record {
   sound = sound;
   files = inr (inr (fewer_files old new n (ap (λ (c : CoordValue). c.served) is) (ap (λ (c : CoordValue). c.stored.edits) is) (ap (λ (c : CoordValue). c.retired) is) (ap (λ (c : CoordValue). c.book) is)));
 }
-
-unchanged_files : (old new : CoordValue) → new ≡ old → HasSameFiles old new
-unchanged_files old new is = record { served = ap (λ (c : CoordValue). c.served) is; edits = ap (λ (c : CoordValue). c.stored.edits) is; retired = ap (λ (c : CoordValue). c.retired) is; book = ap (λ (c : CoordValue). c.book) is }
 
 pub trim_keeps : (old new : CoordValue) (n : ℕ) (e : CoordError) → TrimRefuses old n e new → KeepsSound old new → KeepsFiles old new
 trim_keeps old new n e refuses sound = record { sound = sound; files = by e refuses }

@@ -27,7 +27,7 @@ use Rattle.lsm_world.specs.declared.store.Store.TheVariants.{Up, Down}
 use Rattle.lsm_world.specs.History.{History, IsDownHistory, IsStoreHistory, versions_in}
 use Rattle.lsm_world.specs.Inner.Handing.{IsNoRestart}
 use Rattle.lsm_world.specs.Inner.Stopping.{StoppedValue, down_store}
-use Rattle.lsm_world.specs.Inner.Storing.{IsCaughtUp, IsFitWhileUp, IsIdleWhileDown, store_of}
+use Rattle.lsm_world.specs.Inner.Storing.{IsFitWhileUp, IsIdleWhileDown, store_of}
 use Rattle.lsm_world.specs.Nodes.{NetworkValue, NodesValue, StoreValue, number_of, store_with, up_store}
 use Rattle.lsm_world.specs.Replies.{reply_of}
 use Rattle.lsm_world.specs.Schedules.{IsFitBy, IsFitDown, IsPlain}
@@ -72,7 +72,7 @@ told_restart (Ok done) new = by new.core
     by (Some c) = refl
 told_restart (Err e) new = refl
 
--- no manifest is bad and no table is missing
+-- no manifest is bad, no table is missing and no log is bad
 pub restart_is_plain : (store : StoreValue) (old : SeatValue) (opened : Result (Unit {0}) OpenError) (seat : SeatValue) (r : Reply) → old ≡ store.seat → r ≡ restart_answer opened seat.core → RestartFollows old opened seat → (s : State) × ShowsStore store s → IsPlain r
 restart_is_plain store old opened seat r same told follows shown =
     subst IsPlain (sym told) (by opened (follows shown.0 (subst (λ (x : SeatValue). ShowsSeat x shown.0) (sym same) shown.1.seat)))
@@ -84,11 +84,6 @@ restart_is_plain store old opened seat r same told follows shown =
     by : (o : Result (Unit {0}) OpenError) → (t : State) × Step shown.0 (say.Restart say.Coordinator) (restart_reply o seat) t × ShowsSeat seat t → IsPlain (restart_answer o seat.core)
     by (Ok done) then = plain seat.core
     by (Err e) then = restart_plain shown.0 then.0 e then.1
-
--- a coordinator that was just opened has no write that was not flushed
-pub caught_up : (old : SeatValue) (opened : Result (Unit {0}) OpenError) (seat : SeatValue) → Restarts old opened seat → IsCaughtUp seat.core
-caught_up old (Ok done) seat is = subst (λ (x : SeatValue). IsCaughtUp x.core) (sym is.2) (subst (λ (x : CoordValue). x.last ≡ x.served.version.flushed) (sym is.1.is) refl)
-caught_up old (Err e) seat is = subst (λ (x : SeatValue). IsCaughtUp x.core) (sym is.3) tt
 
 -- a book that outlives a refused opening is new
 pub restart_idle : (old : SeatValue) (opened : Result (Unit {0}) OpenError) (seat : SeatValue) → Restarts old opened seat → IsIdleWhileDown seat.core seat.book

@@ -30,6 +30,7 @@ refused_counted n m opening.Device rose = omega (arith, rose)
 refused_counted n m opening.OutOfMemory rose = omega (arith, rose)
 refused_counted n m opening.BadManifest rose = omega (arith, rose)
 refused_counted n m opening.MissingTable rose = omega (arith, rose)
+refused_counted n m opening.BadLog rose = omega (arith, rose)
 refused_counted n m opening.NumbersExhausted rose = omega (arith, rose)
 
 write_counted : (n : ℕ) (o : Option KeyError) → Counts n (reply.Refused (down_write o)) n

@@ -30,7 +30,7 @@ use Rattle.lsm_coord.specs.declared.coord.install.Install.TheVariants as became
 use Rattle.lsm_coord.specs.declared.dispatcher.Dispatcher.{Dispatcher}
 use Rattle.lsm_coord.specs.declared.dispatcher.Dispatcher.TheVariants.{Idle, Busy}
 use Rattle.lsm_coord.specs.declared.error.CoordError.TheVariants as error
-use Rattle.lsm_coord.specs.Contract.Calls.{write_fault, IsWritten, freeze_fault, after_freezing, flush_fault, Adds, FlushRefuses, snapshot_fault, after_snapshot, release_fault, after_release, after_give_back, GetRefuses, ScanRefuses, TrimRefuses, trim_fault, with_floor, with_live_tables}
+use Rattle.lsm_coord.specs.Contract.Calls.{AppendRefuses, write_fault, IsWritten, freeze_fault, IsFrozen, flush_fault, Adds, FlushRefuses, snapshot_fault, after_snapshot, release_fault, after_release, after_give_back, GetRefuses, ScanRefuses, TrimRefuses, trim_fault, with_floor, with_live_tables}
 use Rattle.lsm_coord.specs.Contract.Desks.{dispatcher_of, with_dispatcher}
 use Rattle.lsm_coord.specs.Contract.Installing.{Became}
 use Rattle.lsm_coord.specs.Contract.Picking.{IsPicked, Picks, PickRefuses}
@@ -82,14 +82,14 @@ abbrev pub ListsVersion : VersionValue → ShownVersion → Type 0
 ListsVersion v told = (told.number ≡ v.number) × (told.flushed ≡ v.flushed) × (told.files ≡ v.files)
 
 -- The coordinator's call for each of its events: what it makes of the coordinator, and when it refuses. A refusal changes nothing,
--- but for what a flush may have stored in the vault and what a trim may have let go.
+-- but for what a flush may have stored in the vault, what a trim may have let go, and how often the vault's device has failed.
 -- Which value a read returns, and which sequences a write gets, is what a step says.
 abbrev pub Calls : CoordValue → Event → Reply → CoordValue → Type 0
 Calls old (event.Write ops) (reply.Wrote first last) new = (batch_fault ops ≡ None) × (write_fault old ops ≡ None) × IsWritten old ops new
 Calls old (event.Write ops) (reply.Refused (why.Key e)) new = (batch_fault ops ≡ Some e) × (new ≡ old)
-Calls old (event.Write ops) (reply.Refused (why.Coord e)) new = (batch_fault ops ≡ None) × Refuses error.OutOfMemory (write_fault old ops) e × (new ≡ old)
-Calls old event.Freeze (reply.Froze seq) new = (freeze_fault old ≡ None) × (new ≡ after_freezing old)
-Calls old event.Freeze (reply.Refused (why.Coord e)) new = (freeze_fault old ≡ Some e) × (new ≡ old)
+Calls old (event.Write ops) (reply.Refused (why.Coord e)) new = (batch_fault ops ≡ None) × AppendRefuses (write_fault old ops) old e new
+Calls old event.Freeze (reply.Froze seq) new = (freeze_fault old ≡ None) × IsFrozen old new
+Calls old event.Freeze (reply.Refused (why.Coord e)) new = AppendRefuses (freeze_fault old) old e new
 Calls old event.Flush (reply.Flushed f) new = (flush_fault old ≡ None) × Adds old new
 Calls old event.Flush (reply.Refused (why.Coord e)) new = FlushRefuses old e new
 Calls old event.Snap (reply.Snapped id seq) new = (snapshot_fault old ≡ None) × (new ≡ after_snapshot old)

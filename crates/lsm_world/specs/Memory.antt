@@ -7,7 +7,6 @@ use Rattle.lsm_world.specs.declared.reply.Reply.{Reply}
 use Rattle.lsm_world.specs.declared.reply.Reply.TheVariants as reply
 
 abbrev pub TakesNoMemory : Event → Type 0
-TakesNoMemory event.Freeze = Unit {0}
 TakesNoMemory (event.Release id) = Unit {0}
 TakesNoMemory (event.GiveUp d) = Unit {0}
 TakesNoMemory (event.RestartWorker index) = Unit {0}

@@ -94,12 +94,14 @@ IsTraced old steps new = new ≡ old ++ trace_of steps
 abbrev pub IsTaken : WorldValue → Event → Reply → WorldValue → Type 0
 IsTaken old e r new = IsTraced old.trace ((e, r) ∷ []) new.trace
 
--- no manifest is bad, no table is missing, and no result is of another job or not its merge
+-- no manifest is bad, no table is missing, no log is bad, and no result is of another job or not its merge
 abbrev pub IsPlain : Reply → Type 0
 IsPlain (reply.Refused (why.Open opening.BadManifest)) = ⊥
 IsPlain (reply.Refused (why.Open opening.MissingTable)) = ⊥
+IsPlain (reply.Refused (why.Open opening.BadLog)) = ⊥
 IsPlain (reply.Refused (why.Coord error.BadManifest)) = ⊥
 IsPlain (reply.Refused (why.Coord error.MissingTable)) = ⊥
+IsPlain (reply.Refused (why.Coord error.BadLog)) = ⊥
 IsPlain (reply.Refused (why.Coord error.WrongJob)) = ⊥
 IsPlain (reply.Refused (why.Coord error.BadResult)) = ⊥
 IsPlain r = Unit {0}

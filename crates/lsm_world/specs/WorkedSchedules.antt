@@ -42,7 +42,7 @@ EachCallAnswers = IsWorked (
     ∷ (event.Show, reply.Shown (record { number = 2; flushed = 1; files = first_file ∷ [] }))
     ∷ (event.Release first_snapshot, reply.Released first_snapshot)
     ∷ (event.Trim 2, reply.Trimmed 2 [])
-    ∷ (event.RestartCoordinator, reply.Restarted 2 3 1)
+    ∷ (event.RestartCoordinator, reply.Restarted 2 3 2)
     ∷ (event.RestartWorker 1, reply.RestartedWorker 1)
     ∷ (event.RestartFollower 1, reply.RestartedFollower 1)
     ∷ [])

@@ -193,9 +193,8 @@ pub(crate) fn know_fit<V: Vault>(coord: &Coord<V>)
 
 /// What a coordinator tells that was just opened.
 pub(crate) fn restarted<V: Vault>(coord: &Coord<V>) -> Reply
-    requires { coord.now.last ≡ coord.now.served.version.flushed }
     ensures { result ≡ restarted_as (Some coord.now) }
 {
     let listing = coord.show();
-    Reply::Restarted(coord.epoch(), listing.number, listing.flushed)
+    Reply::Restarted(coord.epoch(), listing.number, coord.latest_sequence())
 }

@@ -7,7 +7,7 @@ ghost use Rattle.lsm_world.specs.declared.event.Event.TheVariants.{RestartCoordi
 ghost use Rattle.lsm_world.specs.Asks.{AsksStore, restart_answer, restarted_as};
 ghost use Rattle.lsm_world.specs.Events.{event_of};
 ghost use Rattle.lsm_world.specs.History.{History, IsStoreHistory};
-ghost use Rattle.lsm_world.specs.Inner.Storing.{IsCaughtUp, IsIdleWhileDown, store_in, store_of};
+ghost use Rattle.lsm_world.specs.Inner.Storing.{IsIdleWhileDown, store_in, store_of};
 ghost use Rattle.lsm_world.specs.Memory.{IsNotShort};
 ghost use Rattle.lsm_world.specs.Nodes.{store_with};
 ghost use Rattle.lsm_world.specs.Replies.{reply_of};
@@ -191,7 +191,6 @@ fn seated<V: Vault>(alloc: Global, seat: Seat<V>, desk: Desk, network: Network) 
 
 // What is told of an opening.
 fn restarted<V: Vault>(seat: &Seat<V>, opened: Result<(), OpenError>) -> Reply
-    requires { IsCaughtUp (seat_of V.stored V.failures seat.now).core }
     ensures { result ≡ restart_answer opened (seat_of V.stored V.failures seat.now).core }
 {
     match opened {
@@ -202,7 +201,6 @@ fn restarted<V: Vault>(seat: &Seat<V>, opened: Result<(), OpenError>) -> Reply
 
 // What is told of an opening that succeeded.
 fn restarted_seat<V: Vault>(seat: &Seat<V>) -> Reply
-    requires { IsCaughtUp (seat_of V.stored V.failures seat.now).core }
     ensures { result ≡ restarted_as (seat_of V.stored V.failures seat.now).core }
 {
     match seat {

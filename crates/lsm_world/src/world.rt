@@ -55,8 +55,8 @@ impl<V: Vault> Model for World<V> {
 }
 
 impl<V: Vault> World<V> {
-    /// The nodes of a new store, over a vault that has nothing yet. It is refused only if memory runs out or the device fails, and
-    /// then the vault, which still has nothing, is handed back.
+    /// The nodes of a new store, over a vault that has nothing yet: no edit, no table and no record of a log. It is refused only if
+    /// memory runs out or the device fails, and then the vault, which still has nothing, is handed back.
     pub fn new(alloc: Global, vault: V, limits: Limits) -> Result<World<V>, (OpenError, V)>
         requires { V.stored vault ≡ empty_vault }
         ensures new { IfOk result (IsNew limits) }
@@ -125,8 +125,8 @@ impl<V: Vault> World<V> {
     /// Nodes that show one version number show one listing, and followers at one version give one answer (`one_listing`,
     /// `one_answer`).
     /// No file is merged twice: none is removed by two of the vault's edits (`world`).
-    /// No manifest is found bad, no table is missing, no result is of another job or not its merge (`plain`), and a device is
-    /// said to have failed only where the vault counted a failure (`counted`).
+    /// No manifest and no log is found bad, no table is missing, no result is of another job or not its merge (`plain`), and a
+    /// device is said to have failed only where the vault counted a failure (`counted`).
     pub fn run(&mut self, events: &[Event]) -> Result<Vec<Reply>, AllocError>
         // As many replies as events, so that `zip` puts each event beside its reply.
         ensures each { IfOk result (λ replies. length replies.items ≡ length events.now) }

@@ -234,24 +234,43 @@ fn the_other_calls(rt: HostRuntime) -> Result<(), Fail> {
 }
 
 #[test]
+fn a_write_whose_device_fails(rt: HostRuntime) -> Result<(), Fail> {
+    // The call of the write, after five of the opening.
+    see_fail(&rt, rt.alloc(), 5, &[&UNWRITTEN])
+}
+
+#[test]
+fn a_freeze_whose_device_fails(rt: HostRuntime) -> Result<(), Fail> {
+    // The call of the freeze, after five of the opening and that of the write.
+    see_fail(&rt, rt.alloc(), 6, &[&UNFROZEN])
+}
+
+#[test]
+fn a_cut_whose_device_fails_is_not_told(rt: HostRuntime) -> Result<(), Fail> {
+    // The last call of the first flush, after five of the opening, that of the write and two of the flush.
+    see_fail(&rt, rt.alloc(), 8, &[&UNCUT])
+}
+
+#[test]
 fn a_flush_whose_device_fails(rt: HostRuntime) -> Result<(), Fail> {
-    // The first call of the flush, after three of the opening.
-    see_fail(&rt, rt.alloc(), 3, &[&FAILED])
+    // The first call of the flush, after five of the opening and that of the write.
+    see_fail(&rt, rt.alloc(), 6, &[&FAILED])
 }
 
 #[test]
 fn a_restart_whose_device_fails(rt: HostRuntime) -> Result<(), Fail> {
-    // The first call of the restart, after three of the opening and two of each flush.
-    see_fail(&rt, rt.alloc(), 7, &[&PICKED, &STOPPED])
+    // The first call of the restart, after five of the opening, one of each write and three of each flush.
+    see_fail(&rt, rt.alloc(), 13, &[&PICKED, &STOPPED])
 }
 
 #[test]
 fn a_trim_whose_device_fails(rt: HostRuntime) -> Result<(), Fail> {
-    // After the opening, two flushes and an edit: the numbers are read, the first table is removed, the second one is not.
+    // After the opening, two writes with their flushes and an edit: the numbers are read, the first table is removed, the second one is
+    // not.
     see_fail(
         &rt,
         rt.alloc(),
-        10,
+        16,
         &[&PICKED, &MERGED, &INSTALLED, &TRIMMED],
     )
 }

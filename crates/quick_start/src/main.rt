@@ -16,7 +16,7 @@ fn main(rt: HostRuntime) -> Result<(), Error> {
     let mut store = open(&rt, "data")?;
     let before = write(rt.alloc(), &mut store)?;
     read(&rt, &mut store, before)?;
-    store.flush()?; // from here on, all of it outlives the process
+    store.flush()?; // into tables; the log has had all of it from each answer on
     Ok(())
 }
 

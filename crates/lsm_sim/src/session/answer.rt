@@ -18,7 +18,7 @@ use std::alloc::Global;
 pub(crate) enum Answer {
     /// What is answered to the event in a script.
     Reply(Reply),
-    /// All operations up to this sequence are in the vault, and no others.
+    /// All operations up to this sequence are in tables, and no others.
     Stored(Seq),
 }
 

@@ -12,15 +12,15 @@ Commands, one a line:
   get K [@E.N]                'value V' or 'none', latest or at a snapshot
   scan LO HI LIMIT [@E.N]     The first keys from LO up to HI: 'range C K=V ..'
   snap, release E.N           'snapshot E.N at S', 'released E.N'
-  flush                       Bring all operations into the folder: 'flushed S'
+  flush                       Bring all operations into tables: 'flushed S'
   compact                     Run the compactions that are due: 'compacted', or 'compacted but for what exceeds the job limits'
   show c                      The files of each level
   stats                       The sequences, what each level has and whether it is due, and how much was written to tables
   help                        This list
   quit, exit                  End the session, as the end of the input does
 Words stand between spaces; %41 is the byte of that hexadecimal number, %20 a space, and \"\" the empty text. A call that is refused
-prints 'refused' and why. A faulty line is reported on standard error and skipped; the exit status is then 2. What is not flushed is
-flushed when the input ends, on a terminal by Ctrl-D; Ctrl-C loses it.";
+prints 'refused' and why. A faulty line is reported on standard error and skipped; the exit status is then 2. An operation that was
+answered is in the folder, and Ctrl-C does not lose it. What is in no table is flushed when the input ends, on a terminal by Ctrl-D.";
 
 /// How the command of a faulty line is written, or where its name is found; nothing of a line that is too long, which was not kept.
 pub(crate) fn usage_of(line: &[u8], fault: LineFault) -> Option<&'static str> {

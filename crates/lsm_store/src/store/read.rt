@@ -50,7 +50,7 @@ impl<V: Vault> Store<V> {
         self.coord.latest_sequence()
     }
 
-    /// The operations up to this sequence are in the vault, and no others.
+    /// The operations up to this sequence are in tables, and no others; those after it are in the log.
     pub fn flushed_sequence(&self) -> Seq
         ensures { result ≡ stored_count self.now }
     {

@@ -2,10 +2,9 @@
 
 ghost use Rattle.std.specs.Prelude.{◌≡◌, ◌∷◌, ◌≤◌, [], None, IfErr, OnErr, OnOk};
 ghost use Rattle.lsm_key.specs.declared.op.Op.TheVariants.{Delete, Put};
-ghost use Rattle.lsm_key.specs.Faults.{Refuses};
 ghost use Rattle.lsm_key.specs.Limits.{push_fault};
-ghost use Rattle.lsm_coord.specs.Contract.Calls.{write_fault};
-ghost use Rattle.lsm_store.specs.Store.{Accepts, CanWrite, CompactsIfFull, EmptiesMemtable, IsNoneDue, Keeps, LeavesNoneDue, OfCoord, OpRefuses, RoomRefuses, StoreFlushRefuses, Stores, WriteRefuses};
+ghost use Rattle.lsm_coord.specs.Contract.Calls.{AppendRefuses, write_fault};
+ghost use Rattle.lsm_store.specs.Store.{Accepts, CanWrite, CompactsIfFull, EmptiesMemtable, FlushNextRefuses, FlushesNext, IsNoneDue, Keeps, LeavesNoneDue, OfCoord, OpRefuses, RoomRefuses, StoreFlushRefuses, Stores, WriteRefuses};
 
 use super::Store;
 use crate::StoreError;
@@ -50,9 +49,9 @@ impl<V: Vault> Store<V> {
         self.write(&batch)
     }
 
-    /// Applies a batch as a whole: its operations are in the store once this is `Ok`. If the memtable has no room for it, it is flushed
-    /// first, and all compactions that are due are run. If it is refused, the store holds what it held, and the call can be tried
-    /// again.
+    /// Applies a batch as a whole: its operations are in the store, and in the vault, once this is `Ok`. If the memtable has no room for
+    /// it, it is flushed first, and all compactions that are due are run. If it is refused, the store holds what it held, and the call
+    /// can be tried again.
     pub fn write(&mut self, batch: &Batch) -> Result<(), StoreError>
         ensures ok { OnOk result (CanWrite self.old batch.now × Accepts self.old batch.now self.new) }
         ensures compacted { OnOk result (CompactsIfFull self.old batch.now self.new) }
@@ -76,8 +75,8 @@ impl<V: Vault> Store<V> {
     fn accept(&mut self, batch: &Batch) -> Result<(), CoordError>
         ensures ok { OnOk result ((write_fault self.old batch.now ≡ None) × Accepts self.old batch.now self.new) }
         ensures due { OnOk result (IsNoneDue self.old → IsNoneDue self.new) }
-        ensures err { OnErr result (self.new ≡ self.old) }
-        ensures refused { IfErr result (Refuses CoordError.OutOfMemory (write_fault self.old batch.now)) }
+        ensures err { OnErr result (Keeps self.old self.new) }
+        ensures refused { IfErr result (λ e. AppendRefuses (write_fault self.old batch.now) self.old e self.new) }
     {
         self.coord.write(batch)?;
         Ok(())
@@ -89,6 +88,7 @@ impl<V: Vault> Store<V> {
         ensures compacted { OnOk result (LeavesNoneDue self.old self.new) }
         ensures keeps { Keeps self.old self.new }
         ensures refused { IfErr result (OfCoord (RoomRefuses self.old self.new)) }
+        ensures failures { self.old.failures ≤ self.new.failures }
     {
         self.flush()?;
         self.compact(u64::MAX)?;
@@ -97,7 +97,7 @@ impl<V: Vault> Store<V> {
         Ok(())
     }
 
-    /// Brings all that the store holds into the vault, if something is not there yet. If it is refused, the store holds what it
+    /// Brings all that the store holds into tables, if something is in none yet. If it is refused, the store holds what it
     /// held.
     pub fn flush(&mut self) -> Result<(), StoreError>
         ensures ok { OnOk result (Stores self.old self.new) }
@@ -106,12 +106,25 @@ impl<V: Vault> Store<V> {
         ensures refused { IfErr result (OfCoord (StoreFlushRefuses self.old self.new)) }
         ensures failures { self.old.failures ≤ self.new.failures }
     {
+        // A log may be opened that has a freeze: then there are two memtables, and the frozen one goes first.
+        self.flush_next()?;
+        self.flush_next()?;
+        Ok(())
+    }
+
+    // Flushes the frozen memtable, or the active one if none is frozen, unless both are empty.
+    fn flush_next(&mut self) -> Result<(), CoordError>
+        ensures ok { OnOk result (FlushesNext self.old self.new) }
+        ensures keeps { Keeps self.old self.new }
+        ensures refused { IfErr result (FlushNextRefuses self.old self.new) }
+        ensures failures { self.old.failures ≤ self.new.failures }
+    {
         let Err(why) = self.coord.flush() else {
             return Ok(());
         };
         if why == CoordError::NothingToFlush {
             return Ok(());
         }
-        Err(StoreError::Coord(why))
+        Err(why)
     }
 }

@@ -22,11 +22,6 @@ abbrev pub store_in : {V : Type 0} → Option (Store V) → StoreValue
 store_in None = no_store
 store_in (Some store) = store_of store
 
--- each write was flushed, if the coordinator is up
-abbrev pub IsCaughtUp : Option CoordValue → Type 0
-IsCaughtUp (Some c) = c.last ≡ c.served.version.flushed
-IsCaughtUp None = Unit {0}
-
 -- no claim is live, if the coordinator is down
 abbrev pub IsIdleWhileDown : Option CoordValue → BookValue → Type 0
 IsIdleWhileDown (Some c) book = Unit {0}

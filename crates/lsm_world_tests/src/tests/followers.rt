@@ -78,5 +78,6 @@ fn a_table_that_a_follower_awaits_is_let_go(rt: HostRuntime) -> Result<(), Fail>
 
 #[test]
 fn followers_go_on_without_a_coordinator(rt: HostRuntime) -> Result<(), Fail> {
-    see_fail(&rt, rt.alloc(), 5, &[&DOWN])
+    // The first call of the restart, after five of the opening, that of the write and three of the flush.
+    see_fail(&rt, rt.alloc(), 9, &[&DOWN])
 }

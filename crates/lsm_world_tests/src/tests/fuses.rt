@@ -1,7 +1,7 @@
 //! Schedules over a vault of which one call fails, each call in turn: an event that is refused for it is done once more, and all
 //! replies are then those over a vault that does not fail.
 
-use super::schedules::{Does, MERGED, PICKED, REFUSED, TWO, TWO_JOBS, Tells, Turn};
+use super::schedules::{Does, FROZEN, MERGED, PICKED, REFUSED, TWO, TWO_JOBS, Tells, Turn};
 use super::{BASE, Fused, event_of, is_told, step};
 use lsm_coord::CoordError;
 use lsm_key::{DEFAULT_BLOCK, Limits};
@@ -162,6 +162,11 @@ fn each_call_fails_while_a_store_restarts_twice(rt: HostRuntime) -> Result<(), F
         }
     }
     Err("a call fails each time".into())
+}
+
+#[test]
+fn each_call_fails_while_a_frozen_memtable_outlives_a_restart(rt: HostRuntime) -> Result<(), Fail> {
+    see_each(&rt, rt.alloc(), &[&FROZEN])
 }
 
 #[test]

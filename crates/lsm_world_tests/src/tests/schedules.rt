@@ -181,6 +181,52 @@ pub(super) const REFUSED: [Turn; 3] = [
     (Does::Pick(1), Tells::Picked(2, 1, 0, &[1, 2], 7)),
 ];
 
+/// A write that is refused is not there, and its sequence is given again.
+pub(super) const UNWRITTEN: [Turn; 6] = [
+    (
+        Does::Put(b"a", b"1"),
+        Tells::Refused(Refusal::Coord(CoordError::Device)),
+    ),
+    (Does::Get(b"a"), Tells::Got(None)),
+    (Does::Put(b"b", b"2"), Tells::Wrote(1)),
+    (Does::RestartCoordinator, Tells::Restarted(2, 2, 1)),
+    (Does::Get(b"a"), Tells::Got(None)),
+    (Does::Get(b"b"), Tells::Got(Some(b"2"))),
+];
+
+/// A freeze that is refused freezes nothing, and is done again.
+pub(super) const UNFROZEN: [Turn; 5] = [
+    (Does::Put(b"a", b"1"), Tells::Wrote(1)),
+    (
+        Does::Freeze,
+        Tells::Refused(Refusal::Coord(CoordError::Device)),
+    ),
+    (Does::Put(b"a", b"2"), Tells::Wrote(2)),
+    (Does::Freeze, Tells::Froze(2)),
+    (Does::Flush, Tells::Flushed(2, 2, 1)),
+];
+
+/// Records that a flush could not cut are read past by the next opening, and cut.
+pub(super) const UNCUT: [Turn; 6] = [
+    (Does::Put(b"a", b"1"), Tells::Wrote(1)),
+    (Does::Flush, Tells::Flushed(2, 1, 1)),
+    (Does::Put(b"a", b"2"), Tells::Wrote(2)),
+    (Does::RestartCoordinator, Tells::Restarted(2, 3, 2)),
+    (Does::Flush, Tells::Flushed(4, 2, 2)),
+    (Does::Get(b"a"), Tells::Got(Some(b"2"))),
+];
+
+/// What is frozen is so after a restart, and is flushed first.
+pub(super) const FROZEN: [Turn; 7] = [
+    (Does::Put(b"a", b"1"), Tells::Wrote(1)),
+    (Does::Freeze, Tells::Froze(1)),
+    (Does::Put(b"b", b"2"), Tells::Wrote(2)),
+    (Does::RestartCoordinator, Tells::Restarted(2, 2, 2)),
+    (Does::Flush, Tells::Flushed(3, 1, 1)),
+    (Does::Flush, Tells::Flushed(4, 2, 2)),
+    (Does::Get(b"b"), Tells::Got(Some(b"2"))),
+];
+
 /// A flush that is refused is done again.
 pub(super) const FAILED: [Turn; 4] = [
     (Does::Put(b"a", b"1"), Tells::Wrote(1)),

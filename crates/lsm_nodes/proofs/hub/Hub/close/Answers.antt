@@ -1,7 +1,11 @@
-use Rattle.std.proofs.Common.{ℕ, List, length, ap, ◌∙◌}
-use Rattle.lsm_nodes.specs.Histories.{installed_in, installs_in}
+use Rattle.std.proofs.Common.{◌∷◌, length, sym, ap, subst, ◌∙◌}
+use Rattle.lsm_nodes.specs.Closing.{IsPartedInto}
+use Rattle.lsm_nodes.specs.Histories.{SharedValue, installed_in, installs_in}
 use Rattle.lsm_nodes.proofs.TalliedRecords.{more_installs}
 use Rattle.lsm_nodes.proofs.hub.Hub.close.Goals as goal
+
+pub returns-clause-history : goal.returns-clause-history
+returns-clause-history g c = subst (λ (s : SharedValue). IsPartedInto s.history (c.args.tally.mine ∷ c.args.tally.others)) (sym c.matches.ensures.same.0) (c.matches.ensures.exact.0 c.if-not-matches.false)
 
 pub returns-clause-edits : goal.returns-clause-edits
 returns-clause-edits g c =

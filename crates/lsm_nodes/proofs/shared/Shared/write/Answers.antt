@@ -13,7 +13,7 @@ use Rattle.lsm_nodes.proofs.shared.Shared.write.Goals as goal
 pub invariant_of-self-2 : goal.invariant_of-self-2
 invariant_of-self-2 g c =
     let e = c.write-result.ensures in
-    let does : Writes c.self.inside.coord c.args.batch.now c.write-result.result c.write-result.new.self = record { step = e.step; ok = e.ok; err = e.err; refused = e.refused; sound = e.sound } in
+    let does : Writes c.self.inside.coord c.args.batch.now c.write-result.result c.write-result.new.self = record { step = e.step; ok = e.ok; refused = e.refused; sound = e.sound } in
     let w : WitnessedValue = record { exchange = exchange_of c.in-Ok.calls c.write_answers-answers.result; before = g.N.Witness.seen c.of-before.result } in
     shared_push g.J.Start.start _ _ c.self.inside.book.total c.log.new.book.total w c.self.invariant
     (c.log.ensures.history ∙ ap (λ (l : List WitnessedValue). l ++ w ∷ []) c.has_room.ensures.history)
@@ -23,7 +23,7 @@ invariant_of-self-2 g c =
 pub returns : goal.returns
 returns g c =
     let e = c.write-result.ensures in
-    let does : Writes c.self.inside.coord c.args.batch.now c.write-result.result c.write-result.new.self = record { step = e.step; ok = e.ok; err = e.err; refused = e.refused; sound = e.sound } in
+    let does : Writes c.self.inside.coord c.args.batch.now c.write-result.result c.write-result.new.self = record { step = e.step; ok = e.ok; refused = e.refused; sound = e.sound } in
     let new : SharedValue = record { coord = c.write-result.new.self; history = c.log.new.history.items } in
     inr (
       recorded_plainly _ _ new _ _ c.has_room.new.history.items c.has_room.new.mine.items c.log.new.mine.items c.in-Ok.calls (call.Write c.args.batch.now) c.write_answers-answers.result (write_answer c.write-result.result) (g.N.Witness.seen c.of-before.result)

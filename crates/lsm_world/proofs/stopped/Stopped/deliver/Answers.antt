@@ -10,3 +10,6 @@ pub hand_over-requires : goal.hand_over-requires
 hand_over-requires g c =
     let at = subst (λ (n : StoppedValue). IsMessageAt n.network.messages c.args.number c.in-Ok.message) c.self.view_is c.in-Ok.ensures.ok in
     record { stored = stored_at c.args.self.now.network.messages c.args.number c.in-Ok.message at }
+
+pub returns-in-Ok-clause-follows : goal.returns-in-Ok-clause-follows
+returns-in-Ok-clause-follows g c = c.hand_over.ensures.follows c.args.number

@@ -2,13 +2,9 @@
 use Rattle.std.proofs.Common.{inr}
 use Rattle.lsm_coord.specs.Contract.Restarts.{seat_of}
 use Rattle.lsm_world.specs.Inner.Storing.{store_of}
-use Rattle.lsm_world.proofs.StoreEvents.{caught_up, known_down, restart_asks, restart_follows, restart_idle, restart_is_plain, restart_known}
+use Rattle.lsm_world.proofs.StoreEvents.{known_down, restart_asks, restart_follows, restart_idle, restart_is_plain, restart_known}
 use Rattle.lsm_world.proofs.StoreFailures.{restart_counted}
 use Rattle.lsm_world.proofs.store.Store.restart.Goals as goal
-
-pub restarted-reply-requires : goal.restarted-reply-requires
-restarted-reply-requires g c =
-    caught_up (seat_of g.V.Vault.stored g.V.Vault.failures c.parts-seat.result.0) c.restart-seat.result.1 (seat_of g.V.Vault.stored g.V.Vault.failures c.restart-seat.result.0) c.restart-seat.ensures.restarts
 
 pub seated-store-requires : goal.seated-store-requires
 seated-store-requires g c =

@@ -17,7 +17,7 @@ pub new-requires-clause-kept : goal.new-requires-clause-kept
 new-requires-clause-kept g c = opened_kept (g.V.Vault.stored c.args.vault) c.args.limits c.in-Ok.coord c.in-Ok.ensures.ok c.requires
 
 pub new-requires-clause-shown : goal.new-requires-clause-shown
-new-requires-clause-shown g c = c.in-Ok.ensures.new (ap (λ (v : VaultValue). v.edits) c.requires)
+new-requires-clause-shown g c = c.in-Ok.ensures.new (ap (λ (v : VaultValue). v.edits) c.requires) (ap (λ (v : VaultValue). v.log) c.requires)
 
 pub new-requires-clause-book : goal.new-requires-clause-book
 new-requires-clause-book g c = opened_book (g.V.Vault.stored c.args.vault) c.args.limits c.in-Ok.coord c.in-Ok.ensures.ok c.requires
