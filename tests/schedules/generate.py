@@ -106,8 +106,8 @@ class Schedule:
     # Choices.
 
     def weights_now(self):
-        """The weights of commands, less for one that would do nothing now, and more for a pick that would give a job, and for a trim while a
-        follower waits for tables."""
+        """The weights of commands, less for one that would do nothing now, and more for a pick that would give a job, for a trim while a
+        follower waits for tables, and for a restart while something is frozen."""
         store, is_held = self.world.coordinator, any(self.world.held.values())
         followers = self.world.followers.values()
         has_moved, is_waiting = any(it.version.flushed for it in followers), any(it.target for it in followers)
@@ -118,7 +118,7 @@ class Schedule:
             "pick": self.eager if pick(store.version, store.book, store.limits) else 0.2,
             "giveup": 1 if is_held else 0.2,
             "deliver": 1 if self.undelivered else 0.1,
-            "restart_coordinator": 1 if is_held else 0.2,
+            "restart_coordinator": 4 if store.frozen is not None else 1 if is_held or store.active() else 0.2,
             "read": 1 if has_moved else 0.2,
             "restart_follower": 1 if has_moved else 0.2,
             "trim": 0.3 if store.version.number == store.floor else 3 if is_waiting else 1,

@@ -23,6 +23,8 @@ def what_it_meets(world, event):
     """Of an event that is about to be: of a delivery what its message is, and what it finds; of another one the age of what it names."""
     if isinstance(event, events.Trim):
         return at_floor(world.coordinator, event.number)
+    if isinstance(event, events.RestartCoordinator):
+        return not_flushed(world.coordinator)
     if hasattr(event, "follower"):
         return state_of(world, event.follower)
     if not isinstance(event, events.Deliver):
@@ -81,6 +83,12 @@ def at_floor(coordinator, number):
     if number <= coordinator.floor:
         return "not above the floor"
     return "at the current version" if number == coordinator.version.number else "between the floor and the current version"
+
+
+def not_flushed(coordinator):
+    """What a restart finds in the log."""
+    found = ["a frozen memtable"] * (coordinator.frozen is not None) + ["writes"] * bool(coordinator.active())
+    return f"with {' and '.join(found) or 'nothing'} in the log"
 
 
 def state_of(world, index):

@@ -129,7 +129,7 @@ def full_memtables():
 
 
 def restart(batch, count):
-    """A restart empties a full memtable, and ends the snapshots."""
+    """A restart keeps a full memtable, and ends the snapshots."""
     snapshots = [("snap", f"snapshot 1.{number} at 0") for number in range(1, 65)]
     return [
         *snapshots,
@@ -139,10 +139,18 @@ def restart(batch, count):
         (batch, f"seq 1-{count}"),
         (batch, f"seq {count + 1}-{2 * count}"),
         ("del k", "refused MemtableFull"),
-        ("restart c", "epoch 2 version 2 last 0"),
-        ("del k", "seq 1"),
-        ("snap", "snapshot 2.1 at 1"),
-        (batch, f"seq 2-{count + 1}"),
+        ("restart c", f"epoch 2 version 2 last {2 * count}"),
+        ("del k", "refused MemtableFull"),
+        ("snap", f"snapshot 2.1 at {2 * count}"),
+        ("freeze", f"frozen {2 * count}"),
+        (batch, f"seq {2 * count + 1}-{3 * count}"),
+        (batch, f"seq {3 * count + 1}-{4 * count}"),
+        ("restart c", f"epoch 3 version 3 last {4 * count}"),
+        ("del k", "refused MemtableFull"),
+        ("flush", f"version 4 flushed {2 * count} file 1"),
+        ("del k", "refused MemtableFull"),
+        ("flush", f"version 5 flushed {4 * count} file 2"),
+        ("del k", f"seq {4 * count + 1}"),
     ]
 
 

@@ -2,36 +2,64 @@
 
 Its reads are answered from the list of accepted writes. Each is also looked up as a store does it, in memtables and levels, and
 must be the same: so each merge of a schedule is tested against what it means."""
+from contextlib import suppress
+from itertools import accumulate
+
 from .claims import ClaimBook, Name
 from .entries import value_of, visible, weight_of
-from .limits import LAST_LEVEL, MEMTABLE_WEIGHT, SEQUENCE, SNAPSHOTS, refuse_if
+from .limits import LAST_LEVEL, MEMTABLE_WEIGHT, SEQUENCE, SNAPSHOTS, Refused, refuse_if
+from .log import Frozen, Written, count_up_to, found_in
 from .messages import Ask, Base, Current, Fetch, FetchedTable, Gone, Job
 from .picker import deeper_ranges, pick
 from .tables import Table
+from .vault import Vault
 from .versions import EPOCH, FLUSH, INSTALL, Edit, Version, applied, file_meta
 from .writes import answer, answers, batch_of, entries_of
 
 
 class Coordinator:
-    def __init__(self, limits):
-        self.limits = limits
-        self.writes, self.versions, self.edits, self.tables = [], [Version()], [], {}
+    def __init__(self, limits, vault=None):
+        self.limits, self.vault = limits, vault or Vault()
+        self.writes, self.frozen, self.versions = [], None, [Version()]
         self.open()
 
     def stop(self):
-        """Loses what was not flushed: memtables, snapshots and claims."""
-        self.writes, self.frozen = self.writes[: self.version.flushed], None
+        """Ends snapshots and claims. What was accepted stays, and what is frozen."""
         self.snapshots, self.snapshots_made = {}, 0
         self.book = ClaimBook(self.version.epoch)
 
     def open(self):
-        """Begins an epoch with what was flushed, and without memtables, snapshots, claims and older versions (LevelDB: recovery)."""
+        """Begins an epoch with what the tables and the log have, and without snapshots, claims and older versions (LevelDB: recovery). The log is cut
+        last, and whether that is done is not answered."""
         self.stop()
+        self.recover()
+        for it in sorted(self.vault.read(set(self.tables)) - {it.number for it in self.version.files}):
+            self.vault.remove_table(it)
         self.append(EPOCH, epoch=self.version.epoch + 1)
         self.floor = self.version.number
-        self.tables = {it.number: self.tables[it.number] for it in self.version.files}
         self.book = ClaimBook(self.version.epoch)
+        self.cut_log()
         return self.version.epoch, self.version.number, self.last
+
+    def recover(self):
+        """Reads the vault: its edits make the versions, and its log has the writes that are not flushed, and what of them is frozen."""
+        self.versions = [*accumulate(self.vault.read(self.vault.edits), applied, initial=Version())]
+        for it in self.version.files:
+            self.vault.read(self.tables[it.number])
+        flushed = self.version.flushed
+        found = found_in(self.vault.read(self.vault.log), flushed)
+        is_kept = (found.operations, found.frozen) == (self.writes[flushed:], self.frozen)
+        assert is_kept or not self.vault.is_right, "the log holds something else than was accepted"
+        self.writes[flushed:], self.frozen = found
+
+    def cut_log(self):
+        """Lets the records go that are flushed. A refused cut only leaves the log longer."""
+        with suppress(Refused):
+            self.vault.cut_log(count_up_to(self.vault.log, self.version.flushed))
+
+    @property
+    def tables(self):
+        return self.vault.tables
 
     @property
     def version(self):
@@ -46,8 +74,9 @@ class Coordinator:
         """Goes on to the next version, by an edit that changes this and nothing else."""
         now = self.version
         same = {"flushed": now.flushed, "epoch": now.epoch, "next_file": now.next_file}
-        self.edits.append(Edit(now.number + 1, kind, **{**same, **changes}))
-        self.versions.append(applied(now, self.edits[-1]))
+        edit = Edit(now.number + 1, kind, **{**same, **changes})
+        self.vault.append_edit(edit)
+        self.versions.append(applied(now, edit))
 
     # Writes.
 
@@ -60,20 +89,23 @@ class Coordinator:
         refuse_if(not batch, "EmptyBatch")
         refuse_if(self.last + len(batch) > SEQUENCE, "SequenceExhausted")
         refuse_if(sum(map(weight_of, self.active() + batch)) > MEMTABLE_WEIGHT, "MemtableFull")
+        self.vault.append_log(Written(self.last + 1, tuple(batch)))
         self.writes += batch
         return self.last - len(batch) + 1, self.last
 
     def freeze(self):
         refuse_if(self.frozen is not None, "FrozenWaiting")
         refuse_if(not self.active(), "NothingToFreeze")
+        self.vault.append_log(Frozen(self.last))
         self.frozen = self.last
         return self.frozen
 
     def flush(self):
-        """Writes the frozen memtable, or the active one if none is frozen, as a file of level 0."""
+        """Writes the frozen memtable, or the active one if none is frozen, as a file of level 0, and cuts the log behind it."""
         flushed, number, table = self.put_flushed()
         self.append(FLUSH, flushed=flushed, next_file=number + 1, added=(file_meta(number, 0, table),))
         self.frozen = None
+        self.cut_log()
         return self.version.number, flushed, number
 
     def put_flushed(self):
@@ -81,7 +113,7 @@ class Coordinator:
         flushed = self.last if self.frozen is None else self.frozen
         refuse_if(flushed == self.version.flushed, "NothingToFlush")
         number, table = self.version.next_file, Table(entries_of(self.writes, self.version.flushed + 1, flushed))
-        self.tables[number] = table
+        self.vault.put_table(number, table)
         return flushed, number, table
 
     # Reads.
@@ -164,7 +196,8 @@ class Coordinator:
     def put_outputs(self, tables):
         """Keeps tables of a result, which are of no version yet, and answers their numbers."""
         numbers = list(range(self.version.next_file, self.version.next_file + len(tables)))
-        self.tables.update(zip(numbers, tables))
+        for number, table in zip(numbers, tables):
+            self.vault.put_table(number, table)
         return numbers
 
     # What is kept for followers, and what it answers to messages.
@@ -172,9 +205,9 @@ class Coordinator:
     def trim(self, number):
         """Lets the tables go that no version from a number on lists, and answers from which one on they are kept, and how many went."""
         self.raise_floor(number)
-        obsolete = [it for it in self.tables if not self.is_served(it)]
+        obsolete = sorted(it for it in self.vault.read(set(self.tables)) if not self.is_served(it))
         for it in obsolete:
-            del self.tables[it]
+            self.vault.remove_table(it)
         return self.floor, len(obsolete)
 
     def raise_floor(self, number):
@@ -198,4 +231,4 @@ class Coordinator:
         version."""
         if number >= self.version.number:
             return Current(self.version.number)
-        return self.edits[number] if number + 1 >= self.floor else Base(self.version)
+        return self.vault.edits[number] if number + 1 >= self.floor else Base(self.version)

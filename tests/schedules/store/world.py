@@ -16,8 +16,8 @@ def shown(version):
 
 
 class World:
-    def __init__(self, limits):
-        self.coordinator = Coordinator(limits)
+    def __init__(self, limits, vault=None):
+        self.coordinator = Coordinator(limits, vault)
         self.held = {it: None for it in range(1, NODES + 1)}
         self.workers = {it: Worker() for it in range(1, NODES + 1)}
         self.followers = {it: Follower() for it in range(1, NODES + 1)}
@@ -130,11 +130,14 @@ class World:
         return events.Ignored()
 
     def take_result(self, dispatcher, result):
-        """The result of a worker goes to its dispatcher, whose claim it spends."""
+        """The result of a worker goes to its dispatcher, whose claim it spends; but if the vault refuses it, the claim stays held."""
         refuse_if(self.held[dispatcher] != result.job, "NoClaim")
+        if not self.coordinator.is_live(result.job):
+            self.held[dispatcher] = None
+            raise Refused("OldEpoch")
+        installed = self.coordinator.install(result.job, result.tables)
         self.held[dispatcher] = None
-        refuse_if(not self.coordinator.is_live(result.job), "OldEpoch")
-        return events.Installed(*self.coordinator.install(result.job, result.tables))
+        return events.Installed(*installed)
 
     def to_worker(self, message):
         change, missing, bodies = self.workers[message.dst.index].on_message(message.body)
@@ -149,9 +152,11 @@ class World:
     # Restarts.
 
     def restart_coordinator(self, _):
-        """Dispatchers keep their claims, which are stale from now on, and workers their jobs."""
+        """Dispatchers keep their claims, which are stale from now on, and workers their jobs. A restart that is refused leaves the coordinator down."""
+        self.is_down = True
+        opened = self.coordinator.open()
         self.is_down = False
-        return events.Opened(*self.coordinator.open())
+        return events.Opened(*opened)
 
     def stop_coordinator(self):
         """What is left of a restart that is refused: the coordinator is down until the next one."""
