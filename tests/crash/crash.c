@@ -11,8 +11,8 @@
 //       names           as lost, but files have what was written
 //       contents        as lost, but the folder has the names that were given
 //       mixed           of each name and of each file's bytes either, by CRASH_SEED; a file's end may be zeros; a name that was renamed may be there too
-//   CRASH_SPOILT=FILE   what the disk has of the edits is written there at the stop, if one of their syncs failed; a process that finds the file begins
-//                       with it, as if it saw by memory what the disk does not have
+//   CRASH_SPOILT=FILE   what the disk has of the edits, or of the file CRASH_SPOILT_OF, is written there at the stop, if a sync of it failed; a process
+//                       that finds the file begins with it, as if it saw by memory what the disk does not have
 //   FAIL_AT=N           call N fails with FAIL_ERRNO; a write then takes half of its bytes if FAIL_HALF=1, and the next call fails
 //   FAIL_COUNT=C        so do the C - 1 calls after it
 //   FAIL_READ_AT=N      call N of those that only read fails with FAIL_ERRNO
@@ -43,7 +43,7 @@ struct file { struct bytes synced, last, spoilt; int is_gone; };
 struct name { char text[64]; int file; };
 struct names { struct name of[NAMES]; int count; };
 
-static char folder[PATH_MAX], way[16];
+static char folder[PATH_MAX], way[16], spoilt_of[64];
 static long crash_at, fail_at, fail_count, calls, fail_read_at, reads;
 static int fail_errno, fail_half, tell_fd = -1, is_made = 0, is_made_synced = 1, torn_file = -1;
 static uint64_t seed;
@@ -176,20 +176,21 @@ static __attribute__((constructor)) void start(void) {
         if (entry->d_name[0] != '.') gives(&now, entry->d_name, file_named(entry->d_name));
     if (all) closedir(all);
     synced = now;
-    struct name *edits = found(&now, "edits");
+    snprintf(spoilt_of, sizeof spoilt_of, "%s", (it = getenv("CRASH_SPOILT_OF")) ? it : "edits");
+    struct name *named = found(&now, spoilt_of);
     struct bytes disk = (it = getenv("CRASH_SPOILT")) ? content(AT_FDCWD, it) : (struct bytes){NULL, 0};
-    if (edits && disk.at) {
-        files[edits->file].synced = disk;
-        spoil(edits->file, of_name("edits"));
+    if (named && disk.at) {
+        files[named->file].synced = disk;
+        spoil(named->file, of_name(spoilt_of));
     }
 }
 
-// Leaves what the disk has of the edits to the next process, if a sync of them failed.
+// Leaves what the disk has of the edits, or of another file, to the next process, if a sync of it failed.
 static void leave_spoilt(void) {
     const char *to = getenv("CRASH_SPOILT");
-    struct name *edits = found(&now, "edits");
-    if (!to || !edits || !has_spoilt(edits->file)) return;
-    struct bytes disk = brought(edits->file, of_name("edits"));
+    struct name *named = found(&now, spoilt_of);
+    if (!to || !named || !has_spoilt(named->file)) return;
+    struct bytes disk = brought(named->file, of_name(spoilt_of));
     int fd = syscall(SYS_openat, AT_FDCWD, to, O_WRONLY | O_CREAT | O_TRUNC, 0644);
     if (syscall(SYS_write, fd, disk.at, disk.len) != (long)disk.len) abort();
 }

@@ -157,9 +157,11 @@ def flips(pool, room, good):
 
 
 def layout(_room, good, _held):
-    """Each table is the one frame of its file, and the edits are frames without a gap."""
+    """Each table is the one frame of its file, the edits are frames without a gap, and there is a log, which is empty since all is flushed."""
     check_worked()
-    tables = [it for it in good.iterdir() if it.name not in ("edits", "lock")]
+    if (good / "log").read_bytes():
+        raise Wrong("the log is not empty")
+    tables = [it for it in good.iterdir() if it.name not in ("edits", "log", "lock")]
     if not tables or any(len(it.stem) != 20 or begins(it.read_bytes()) != [0] for it in tables):
         raise Wrong("a table is not one frame in a file of 20 digits")
     if len(begins((good / "edits").read_bytes())) < 4:
@@ -193,15 +195,15 @@ def names_taken(room, good, _held):
 
 
 def half_renamed(room, good, held):
-    """`new` is another name of a table's file, before an opening, and before a flush of a store that is open."""
-    for table in sorted(good.glob("*.table")):
+    """`new` is another name of a table's file, or of the log, before an opening, and before a flush of a store that is open."""
+    for file in [*sorted(good.glob("*.table")), good / "log"]:
         folder = copied(good, room)
-        os.link(folder / table.name, folder / "new")
+        os.link(folder / file.name, folder / "new")
         opened(folder, Model(held))
         folder = copied(good, room)
         session = Session(folder)
         session.ask(SCAN)
-        os.link(folder / table.name, folder / "new")
+        os.link(folder / file.name, folder / "new")
         run(session, ["put y 1", "flush"], model := Model(held))
         end_of(session)
         opened(folder, Model(model.states[-1]))
@@ -219,12 +221,12 @@ def missing_edits(room, good, _held):
     folder = room / "no_edits"
     shutil.copytree(good, folder)
     (folder / "edits").unlink()
-    refused(folder, f"the file {folder / 'edits'} is missing, and the folder has tables")
+    refused(folder, f"the file {folder / 'edits'} is missing, and the folder has tables or a log")
 
 
 def foreign_file(room, good, _held):
     wrong = ("+0000000000000000007.table", "99999999999999999999.table", "0000000000000000000a.table", "00000000000000000001.tables")
-    for name in ("notes.txt", "1.table", "EDITS", *wrong):
+    for name in ("notes.txt", "1.table", "EDITS", "LOG", "log.1", *wrong):
         folder = room / f"foreign.{name}"
         shutil.copytree(good, folder)
         (folder / name).write_text("mine")
@@ -307,7 +309,7 @@ def tried(pool, room, _shim):
         ("files as documented", layout),
         ("edits that end in the middle or in zeros", cuts),
         ("names of what is set aside that are taken", names_taken),
-        ("a new table that is another name of a table", half_renamed),
+        ("a new table that is another name of a table or of the log", half_renamed),
         ("a missing table", missing_table),
         ("tables without edits", missing_edits),
         ("a foreign file", foreign_file),

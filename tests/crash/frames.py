@@ -6,7 +6,8 @@ from stores import Wrong
 
 HEAD_BYTES = 16
 WORD = (1 << 64) - 1
-# The worked frames of docs/FORMATS.md.
+# The worked log record and frames of docs/FORMATS.md.
+WORKED_RECORD = "01000000000000000100000001010001610000000131"
 WORKED = {b"a": "00000001fffffffe407448d2b89b181361", b"": "00000000ffffffffd1fba762150c532c", b"seven": "00000005fffffffa01075f0222defe31736576656e"}
 
 
@@ -54,7 +55,25 @@ def begins(data):
     return found
 
 
+def record_of(first, *ops):
+    """The log record of a batch from a sequence on: each operation is a key and its value, or of a deletion a key alone."""
+    parts = [(1, 1), (first, 8), (len(ops), 4)]
+    return b"".join(it.to_bytes(n, "big") for it, n in parts) + b"".join(map(op_of, ops))
+
+
+def op_of(op):
+    key, value = op[0], b"".join(len(it).to_bytes(4, "big") + it for it in op[1:])
+    return bytes([len(op) - 1]) + len(key).to_bytes(2, "big") + key + value
+
+
+def freeze_of(at):
+    """The log record of a freeze."""
+    return b"\2" + at.to_bytes(8, "big")
+
+
 def check_worked():
+    if record_of(1, (b"a", b"1")).hex() != WORKED_RECORD:
+        raise Wrong(f"the log record of a put is {record_of(1, (b'a', b'1')).hex()}")
     for data, wanted in WORKED.items():
         if frame_of(data).hex() != wanted:
             raise Wrong(f"the frame of {data} is {frame_of(data).hex()}")

@@ -51,6 +51,12 @@ class Session:
         answer, _, self.answers = self.answers.partition(b"\n")
         return answer.decode()
 
+    def kill(self):
+        """Kills the process, and returns what standard error has."""
+        self.process.kill()
+        _, said = self.process.communicate(timeout=PATIENCE)
+        return said.decode(errors="replace").strip()
+
     def end(self):
         """Ends the input, and returns the status and what standard error has."""
         try:
@@ -85,22 +91,27 @@ def after(pairs, line):
 
 
 class Model:
-    """What a store held after each write that it accepted, and how many of these outlive its process."""
+    """What a store held after each write that it accepted, and which of these states outlive its process: those from the last write on that was answered,
+    and those that a write leaves that its device refused, if no other was accepted since."""
 
     def __init__(self, pairs=None, may_refuse=False):
         self.states = [pairs or {}]
         self.stored = 0
+        self.refused = []
         self.may_refuse = may_refuse
 
     def note(self, line, answer):
         """Takes what a line was answered. A line without an answer may have been done."""
         is_write = line.split(" ")[0] in ("put", "del", "batch")
-        if is_write and (answer is None or answer.startswith("seq ")):
-            self.states.append(after(self.states[-1], line))
-        elif line == "flush" and answer is not None and answer.startswith("flushed "):
-            self.stored = len(self.states) - 1
-        elif answer is not None and not self.is_right(line, answer):
+        if answer is not None and not self.is_right(line, answer):
             raise Wrong(f"{line} is answered {answer}")
+        if is_write and answer is None:
+            self.states.append(after(self.states[-1], line))
+        elif is_write and answer.startswith("seq "):
+            self.states.append(after(self.states[-1], line))
+            self.stored, self.refused = len(self.states) - 1, []
+        elif is_write:
+            self.refused.append(after(self.states[-1], line))
 
     def is_right(self, line, answer):
         word = line.split(" ")[0]
@@ -108,8 +119,12 @@ class Model:
         return answer.startswith(starts[word]) or (self.may_refuse and answer.startswith("refused "))
 
     def allows(self, pairs):
-        """Whether a store may hold these once it is opened again: what it held after a write, with all that are stored."""
-        return pairs in self.states[self.stored:]
+        """Whether a store may hold these once it is opened again."""
+        return pairs in self.states[self.stored :] or pairs in self.refused
+
+    def wanted(self):
+        """The states that it allows, as text."""
+        return " or ".join(told(it) for it in self.states[self.stored :] + self.refused)
 
 
 def run(session, lines, model):
@@ -123,17 +138,17 @@ def run(session, lines, model):
 
 
 def opened(folder, model):
-    """Opens a folder twice: it shows what the model allows, takes a write in between, and loses nothing of it."""
+    """Opens a folder twice: it shows what the model allows, takes writes in between, of which one is not flushed, is killed, and loses nothing of them."""
     session = Session(folder)
     first = session.ask(SCAN)
     if first is None:
         raise Wrong("the folder is not opened: {1} (status {0})".format(*session.end()))
     first = pairs_in(first)
     if not model.allows(first):
-        raise Wrong(f"it holds {told(first)} and not one of the last {len(model.states) - model.stored} states: {told(model.states[model.stored])} to {told(model.states[-1])}")
+        raise Wrong(f"it holds {told(first)} and not {model.wanted()}")
     more = Model(first)
-    run(session, ["put zz 1", "flush", "put zz 2", "flush"], more)
-    end_of(session)
+    run(session, ["put zz 1", "flush", "put zz 2"], more)
+    session.kill()
     session = Session(folder)
     second = pairs_in(session.ask(SCAN))
     end_of(session)
