@@ -30,6 +30,7 @@ pub mod ListedFiles
 pub mod ServedAfterRebase
 pub mod LogOperationLaws
 pub mod LogRecordLaws
+pub mod LoggedOps
 pub mod LogLaws
 pub mod GrownLogs
 pub mod FlushedLogs

@@ -1,5 +1,5 @@
 -- Records of the log: what they may say, and how they are encoded (LevelDB, write_batch.cc: a sequence, a count and the operations; the layout is the store's own).
-use Rattle.std.specs.Prelude.{◌≡◌, ℕ, ◌+◌, ◌-◌, ◌≤◌, ◌^◌, List, ◌++◌, length, min, Result, Ok, Err, None, nat_lt, ◌==◌, if◌then◌else◌}
+use Rattle.std.specs.Prelude.{◌≡◌, ℕ, ◌+◌, ◌-◌, ◌≤◌, ◌^◌, List, [], ◌++◌, length, min, Result, Ok, Err, None, nat_lt, ◌==◌, if◌then◌else◌}
 use Rattle.std.specs.Int.{w8, w32, w64, to_be_bytes}
 use Rattle.std.specs.List.{flat_map}
 use Rattle.lsm_key.specs.declared.op.Op.{Op}
@@ -30,6 +30,11 @@ IsRecord (Freeze at) = (1 ≤ at) × (at ≤ seq.MAX)
 abbrev pub op_bytes : Op → List ℕ
 op_bytes (Put k value) = to_be_bytes w8 1 ++ (key k ++ (to_be_bytes w32 (length value) ++ value))
 op_bytes (Delete k) = to_be_bytes w8 0 ++ key k
+
+-- the value of an operation, empty for a deletion
+abbrev pub value_in : Op → List ℕ
+value_in (Put k value) = value
+value_in (Delete k) = []
 
 abbrev pub record_bytes : LogRecord → List ℕ
 record_bytes (Write first ops) = to_be_bytes w8 1 ++ (to_be_bytes w64 first ++ (to_be_bytes w32 (length ops) ++ flat_map op_bytes ops))

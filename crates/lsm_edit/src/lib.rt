@@ -12,6 +12,7 @@ mod file;
 mod format;
 mod laws;
 mod log_record;
+mod logged_op;
 mod next;
 mod recorded;
 mod served;
@@ -31,7 +32,10 @@ pub use laws::{
     a_log_holds_what_a_store_has, a_log_is_good_or_bad, a_number_names_one_file,
     no_file_is_removed_twice, worked_edits, worked_logs,
 };
-pub use log_record::{LogRecord, decode_log, encode_freeze, encode_log, encode_write};
+pub use log_record::{
+    LogRecord, WRITE_HEAD_BYTES, append_write, decode_log, encode_freeze, encode_log, encode_write,
+};
+pub use logged_op::{LoggedOp, find_logged};
 pub use recorded::{is_as_recorded, open_as_recorded};
 pub use served::{LevelCursor, Listing, Placed, Prepared, Room, Served};
 pub use valid::{are_keys, files_rise};

@@ -243,11 +243,23 @@ fn write_ops(out: &mut BytesMut, ops: &[Op]) -> Result<(), AllocError>
     Ok(())
 }
 
-// The size of a write without its operations: the code, the sequence and the count.
-const HEAD_BYTES: usize = 13;
+/// The size of a write without its operations, in bytes: the code, the sequence and the count.
+pub const WRITE_HEAD_BYTES: usize = 13;
 
 // The size of a freeze: the code and the sequence.
 const FREEZE_BYTES: usize = 9;
+
+/// Appends the one encoding of a batch whose first operation has the sequence `first`. It has no more bytes than
+/// `WRITE_HEAD_BYTES` and what the batch weighs.
+pub fn append_write(out: &mut BytesMut, first: Seq, batch: &Batch) -> Result<(), AllocError>
+    ensures { OnOk result (out.new.items ≡ out.old.items ++ record_bytes (Write first batch.now)) }
+{
+    out.put_u8(WRITE)?;
+    out.put_u64(first.number())?;
+    out.put_u32(batch.ops().len() as u32)?;
+    write_ops(out, batch.ops())?;
+    Ok(())
+}
 
 /// The one encoding of a batch whose first operation has the sequence `first`. The batch is not empty, and the sequence
 /// of its last operation is at most `Seq::MAX`.
@@ -257,12 +269,8 @@ pub fn encode_write(alloc: Global, first: Seq, batch: &Batch) -> Result<Bytes, A
     requires fits { first + length batch.now ≤ Seq.MAX + 1 }
     ensures { IfOk result (λ b. b ≡ record_bytes (Write first batch.now)) }
 {
-    // No operation takes more bytes than it weighs.
-    let mut out = BytesMut::with_capacity(alloc, HEAD_BYTES + batch.weight())?;
-    out.put_u8(WRITE)?;
-    out.put_u64(first.number())?;
-    out.put_u32(batch.ops().len() as u32)?;
-    write_ops(&mut out, batch.ops())?;
+    let mut out = BytesMut::with_capacity(alloc, WRITE_HEAD_BYTES + batch.weight())?;
+    append_write(&mut out, first, batch)?;
     Ok(out.freeze()?)
 }
 

@@ -2,4 +2,3 @@ pub mod Buckets
 pub mod Chains
 pub mod Laws
 pub mod Memtable
-pub mod Runs

@@ -1,8 +1,10 @@
 //! A memtable's entries, in buckets by the prefixes of their keys.
 
-ghost use Rattle.std.specs.Prelude.{◌≡◌, length, take, drop, IfOk, OnOk};
+ghost use Rattle.std.specs.Prelude.{◌≡◌, ◌+◌, length, take, drop, IfOk, OnOk};
 ghost use Rattle.lsm_key.specs.Places.{entry_of};
-ghost use Rattle.lsm_mem.specs.Runs.{bytes_in};
+ghost use Rattle.lsm_key.specs.Writes.{key_of};
+ghost use Rattle.lsm_edit.specs.declared.log_record.LogRecord.TheVariants.{Write};
+ghost use Rattle.lsm_edit.specs.LogRecord.{op_bytes, record_bytes, value_in};
 
 use crate::bucket::Bucket;
 use crate::bucket_cursor::BucketCursor;
@@ -10,7 +12,8 @@ use crate::chunk::Chunk;
 use crate::front::Front;
 use crate::memtable_cursor::MemtableCursor;
 use bytes::Bytes;
-use lsm_key::{Entry, InternalKey, Kind, Op, Seq, prefix_of};
+use lsm_edit::{LoggedOp, WRITE_HEAD_BYTES, find_logged};
+use lsm_key::{Batch, Entry, InternalKey, Kind, Op, Seq, prefix_of};
 use std::alloc::{AllocError, Global};
 use std::collections::BTreeMap;
 use std::marker::Model;
@@ -41,7 +44,7 @@ impl Model for Buckets {
 }
 
 impl Buckets {
-    ghost use Rattle.std.specs.Prelude.{◌≢◌, ◌≤◌, ◌+◌, ◌-◌, ℕ, List, [], IsTrue, ◌↔◌, IfSome, IfNone, OnErr};
+    ghost use Rattle.std.specs.Prelude.{◌≢◌, ◌≤◌, ◌-◌, ℕ, List, [], IsTrue, ◌↔◌, IfSome, IfNone, OnErr};
     ghost use Rattle.lsm_key.specs.Sets.{IsIn};
     ghost use Rattle.lsm_key.specs.Places.{entries_after};
     ghost use Rattle.lsm_mem.specs.Chains.{Chain, AreChains, entries_in, with_entry, with_entries, without_newest, chains_before, chains_from};
@@ -101,35 +104,62 @@ impl Buckets {
             .versions(key)
     }
 
-    /// Adds the entries of operations, from a sequence on. Copies their keys and values. If memory runs out, nothing
-    /// changes.
-    pub(crate) fn put_all(&mut self, ops: &[Op], first: Seq) -> Result<(), AllocError>
+    /// Adds the entries of a batch, from a sequence on, and returns the log record of the batch, whose bytes they share. If
+    /// memory runs out, nothing changes.
+    pub(crate) fn put_all(&mut self, batch: &Batch, first: Seq) -> Result<Bytes, AllocError>
+        requires chained { AreChains self.old }
+        requires some { 1 ≤ first }
+        requires fits { first + length batch.now ≤ Seq.MAX + 1 }
+        ensures ok { OnOk result (self.new ≡ with_entries (entries_after (first - 1) batch.now) self.old) }
+        ensures logged { IfOk result (λ logged. logged ≡ record_bytes (Write first batch.now)) }
+        ensures err { OnErr result (self.new ≡ self.old) }
+    {
+        let logged = self.chunk.record_of(first, batch)?;
+        self.put_each(batch.ops(), first, &logged)?;
+        Ok(logged)
+    }
+
+    // Adds the entry of each operation of a record, from a sequence on. If memory runs out, nothing changes.
+    fn put_each(&mut self, ops: &[Op], first: Seq, logged: &Bytes) -> Result<(), AllocError>
         requires chained { AreChains self.old }
         requires some { 1 ≤ first }
         requires fits { first + length ops.now ≤ Seq.MAX + 1 }
+        requires logged { logged.now ≡ record_bytes (Write first ops.now) }
         ensures ok { OnOk result (self.new ≡ with_entries (entries_after (first - 1) ops.now) self.old) }
         ensures err { OnErr result (self.new ≡ self.old) }
     {
-        let mut run = self.chunk.run_of(ops)?;
+        let mut at = WRITE_HEAD_BYTES;
         for (done, op) in ops.iter().enumerate() {
             let seq = Seq::new(first.number() + done as u64);
-            if let Err(refused) = self.put_next(&mut run, op, seq) {
-                self.take_all(&ops[..done]);
-                return Err(refused);
+            match self.put_next(logged, at, op, seq) {
+                Ok(end) => at = end,
+                Err(refused) => {
+                    self.take_all(&ops[..done]);
+                    return Err(refused);
+                }
             }
         }
         Ok(())
     }
 
-    // Adds the entry of an operation whose bytes come next, and takes them off. If memory runs out, nothing changes.
-    fn put_next(&mut self, run: &mut Bytes, op: &Op, seq: Seq) -> Result<(), AllocError>
-        requires { take (length (bytes_in op.now)) run.old ≡ bytes_in op.now }
+    // Adds the entry of an operation that is encoded at `at` in a record, and returns where its encoding ends. If memory
+    // runs out, nothing changes.
+    fn put_next(
+        &mut self,
+        logged: &Bytes,
+        at: usize,
+        op: &Op,
+        seq: Seq,
+    ) -> Result<usize, AllocError>
+        requires { take (length (op_bytes op.now)) (drop at logged.now) ≡ op_bytes op.now }
         ensures ok { OnOk result (self.new ≡ with_entry (entry_of seq op.now) self.old) }
-        ensures rest { OnOk result (run.new ≡ drop (length (bytes_in op.now)) run.old) }
+        ensures end { IfOk result (λ end. end ≡ at + length (op_bytes op.now)) }
         ensures err { OnErr result (self.new ≡ self.old) }
     {
-        let entry = next_entry(run, op, seq)?;
-        self.put(entry)
+        let found = find_logged(logged, at, op)?;
+        let end = found.end;
+        self.put(entry_from(found, op, seq))?;
+        Ok(end)
     }
 
     // Adds an entry as the newest of its key. If memory runs out, nothing changes.
@@ -210,20 +240,19 @@ impl Buckets {
     }
 }
 
-// The entry of an operation whose bytes come next. Takes them off.
-fn next_entry(run: &mut Bytes, op: &Op, seq: Seq) -> Result<Entry, AllocError>
-    requires { take (length (bytes_in op.now)) run.old ≡ bytes_in op.now }
-    ensures entry { IfOk result (λ entry. entry ≡ entry_of seq op.now) }
-    ensures rest { OnOk result (run.new ≡ drop (length (bytes_in op.now)) run.old) }
+// The entry of an operation as it lies in a record.
+fn entry_from(found: LoggedOp, op: &Op, seq: Seq) -> Entry
+    requires key { found.key ≡ key_of op.now }
+    requires value { found.value ≡ value_in op.now }
+    ensures { result ≡ entry_of seq op.now }
 {
-    let key = run.split_to(op.key().len())?;
-    let value = run.split_to(op.value_len())?;
+    let LoggedOp { key, value, end: _ } = found;
     let kind = match op {
         Op::Put(_, _) => Kind::Put,
         Op::Delete(_) => Kind::Delete,
     };
-    Ok(Entry {
+    Entry {
         ikey: InternalKey { key, seq, kind },
         value,
-    })
+    }
 }

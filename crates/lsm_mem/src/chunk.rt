@@ -1,19 +1,21 @@
 //! The memory that the bytes of a memtable lie in.
 
-ghost use Rattle.std.specs.Prelude.{◌≡◌, ◌++◌, [], List, IfOk, OnOk, OnErr};
-ghost use Rattle.lsm_mem.specs.Runs.{run_of, value_in};
+ghost use Rattle.std.specs.Prelude.{◌≡◌, IfOk};
+ghost use Rattle.lsm_edit.specs.declared.log_record.LogRecord.TheVariants.{Write};
+ghost use Rattle.lsm_edit.specs.LogRecord.{record_bytes};
 
-use bytes::{BufMut, Bytes, BytesMut};
-use lsm_key::Op;
+use bytes::{Bytes, BytesMut};
+use lsm_edit::{WRITE_HEAD_BYTES, append_write};
+use lsm_key::{Batch, Seq};
 use std::alloc::{AllocError, Global};
 
 // The size of a chunk, in bytes.
 const CHUNK_BYTES: usize = 64 * 1024;
 
-// A batch of more bytes gets memory of its own, so that at most a quarter of a chunk stays unused.
+// A record of more bytes gets memory of its own, so that at most a quarter of a chunk stays unused.
 const MAX_SHARED_BYTES: usize = CHUNK_BYTES / 4;
 
-/// What is left of a chunk that some batches share (LevelDB, `Arena`).
+/// What is left of a chunk that some records share (LevelDB, `Arena`).
 #[derive(Debug, Drop)]
 pub(crate) struct Chunk {
     alloc: Global,
@@ -29,52 +31,22 @@ impl Chunk {
         }
     }
 
-    /// A copy of the keys and values of operations, one after another.
-    pub(crate) fn run_of(&mut self, ops: &[Op]) -> Result<Bytes, AllocError>
-        ensures { IfOk result (λ run. run ≡ run_of ops.now) }
+    /// The log record of a batch whose first operation has the sequence `first`.
+    pub(crate) fn record_of(&mut self, first: Seq, batch: &Batch) -> Result<Bytes, AllocError>
+        ensures { IfOk result (λ logged. logged ≡ record_bytes (Write first batch.now)) }
     {
-        let need = size_of(ops);
+        // No operation takes more bytes than it weighs.
+        let need = WRITE_HEAD_BYTES + batch.weight();
         if need > MAX_SHARED_BYTES {
             let mut own = BytesMut::with_capacity(self.alloc, need)?;
-            append(&mut own, ops)?;
+            append_write(&mut own, first, batch)?;
             return Ok(own.freeze()?);
         }
         self.room.clear();
         if need > self.room.capacity() {
             self.room = BytesMut::with_capacity(self.alloc, CHUNK_BYTES)?;
         }
-        append(&mut self.room, ops)?;
+        append_write(&mut self.room, first, batch)?;
         self.room.freeze_to(self.room.len())
-    }
-}
-
-// How many bytes their keys and values have, or `usize::MAX` if that is more.
-fn size_of(ops: &[Op]) -> usize {
-    let mut size = 0usize;
-    for op in ops {
-        size = size.saturating_add(op.key().len());
-        size = size.saturating_add(op.value_len());
-    }
-    size
-}
-
-// Appends their keys and values.
-fn append(run: &mut BytesMut, ops: &[Op]) -> Result<(), AllocError>
-    ensures { OnOk result (run.new.items ≡ run.old.items ++ run_of ops.now) }
-{
-    for op in ops {
-        run.put_slice(op.key().as_slice())?;
-        run.put_slice(value_of(op))?;
-    }
-    Ok(())
-}
-
-// The value of an operation, empty for a deletion.
-fn value_of(op: &Op) -> &[u8]
-    ensures { result.now ≡ value_in op.now }
-{
-    match op {
-        Op::Put(_, value) => value.as_slice(),
-        Op::Delete(_) => &[],
     }
 }

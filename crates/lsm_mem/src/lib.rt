@@ -2,8 +2,8 @@
 //!
 //! It promises that a batch is applied as a whole or not at all and can be taken out again, look-ups that return what is
 //! visible in the set of its entries, and its entries in order: all, those of a range, or one after the other from a key on.
-//! It finds a key by its prefix, a number, and owns the bytes of its entries in chunks that many of them share. It stands on
-//! `lsm_key`.
+//! It finds a key by its prefix, a number, and owns the bytes of its entries, those of their batches' log records, in chunks
+//! that many of them share. It stands on `lsm_edit` and `lsm_key`.
 #![tactic(auto)]
 
 mod bucket;

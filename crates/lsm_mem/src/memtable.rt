@@ -5,6 +5,7 @@ use crate::front::Front;
 use crate::memtable_cursor::MemtableCursor;
 use crate::totals::totals_of;
 use crate::versions::newest_at;
+use bytes::Bytes;
 use lsm_key::{Batch, Entry, EntryRef, Seq};
 use std::alloc::{AllocError, Global};
 use std::marker::Model;
@@ -43,6 +44,8 @@ impl Memtable {
     ghost use Rattle.lsm_key.specs.Limits.{entry_weight, total_weight};
     ghost use Rattle.lsm_key.specs.Places.{entries_after};
     ghost use Rattle.lsm_key.specs.Visible.{visible, lent_entry};
+    ghost use Rattle.lsm_edit.specs.declared.log_record.LogRecord.TheVariants.{Write};
+    ghost use Rattle.lsm_edit.specs.LogRecord.{record_bytes};
     ghost use Rattle.lsm_mem.specs.Memtable.{IsMemtable, last_sequence};
     ghost use Rattle.lsm_key.specs.Order.{is_between, key_le};
 
@@ -76,22 +79,25 @@ impl Memtable {
 
     /// Adds the entries of a batch: its operation number i, from 0, gets the sequence `first_seq` + i. `first_seq`
     /// comes after every sequence in the memtable, the last operation's is at most `Seq::MAX`, and the entries fit the
-    /// memtable's weight. If memory runs out, the memtable stays as it was.
-    pub fn apply(&mut self, first_seq: Seq, batch: &Batch) -> Result<(), AllocError>
+    /// memtable's weight. Returns the log record of the batch, whose bytes the entries share. If memory runs out, the
+    /// memtable stays as it was.
+    pub fn apply(&mut self, first_seq: Seq, batch: &Batch) -> Result<Bytes, AllocError>
         requires newer { last_sequence self.old < first_seq }
         requires room { sum_by entry_weight self.old + total_weight batch.now ≤ MAX_MEMTABLE_WEIGHT }
         requires fits { first_seq + length batch.now ≤ Seq.MAX + 1 }
         ensures ok { OnOk result (IsPermutation (self.old ++ entries_after (first_seq - 1) batch.now) self.new) }
+        ensures logged { IfOk result (λ logged. logged ≡ record_bytes (Write first_seq batch.now)) }
         ensures err { OnErr result (self.new ≡ self.old) }
     {
         let ops = batch.ops();
-        self.buckets.put_all(ops, first_seq)?;
+        let logged = self.buckets.put_all(batch, first_seq)?;
         self.weight += batch.weight();
         self.count += ops.len();
-        if !ops.is_empty() {
-            self.last = Seq::new(first_seq.number() + (ops.len() as u64 - 1));
+        if ops.is_empty() {
+            return Ok(logged);
         }
-        Ok(())
+        self.last = Seq::new(first_seq.number() + (ops.len() as u64 - 1));
+        Ok(logged)
     }
 
     /// Removes the entries whose sequence is at least `first_seq`: after an `apply` with that first sequence, what it

@@ -11,7 +11,7 @@ use super::Coord;
 use super::logging::one_more;
 use crate::CoordError;
 use crate::frozen::Frozen;
-use lsm_edit::{encode_freeze, encode_write};
+use lsm_edit::encode_freeze;
 use lsm_key::{Batch, MAX_MEMTABLE_WEIGHT, Seq};
 use lsm_mem::Memtable;
 use lsm_vault::Vault;
@@ -33,11 +33,10 @@ impl<V: Vault> Coord<V> {
         }
         let before = self.newest.number();
         let first = Seq::new(before + 1);
-        let logged = encode_write(self.alloc, first, batch)?;
         // Proof hint: the memtable's entries are in order.
         let _last = self.active.last_seq();
         // All that grows has grown before the log is asked, so what is in it is accepted.
-        self.active.apply(first, batch)?;
+        let logged = self.active.apply(first, batch)?;
         match self.versions.append_log(logged) {
             Ok(()) => {}
             Err(why) => {

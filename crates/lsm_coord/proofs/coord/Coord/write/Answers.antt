@@ -44,7 +44,7 @@ invariant_of-self-in-Err g c =
     let ops = c.args.batch.now in
     let first : c.new-first.result ≡ m.newest + 1 = omega (arith, c.new-first.ensures, c.number-before.ensures.value) in
     let newer : last_sequence m.active < c.new-first.result = rw first (last_below m.active m.frozen m.newest m.versions.served m.book m.live.items c.self.invariant.0) in
-    let left : c.undo.new.self ≡ m.active = c.undo.ensures.older ∙ batch_taken_back m.active c.apply.new.self c.new-first.result ops c.last_seq-last.ensures.sound.ascending c.undo.ensures.sound.ascending newer c.in_ok-apply.ensures.ok in
+    let left : c.undo.new.self ≡ m.active = c.undo.ensures.older ∙ batch_taken_back m.active c.apply.new.self c.new-first.result ops c.last_seq-last.ensures.sound.ascending c.undo.ensures.sound.ascending newer c.in_ok-logged.ensures.ok in
     let vs : VersionSetValue = c.append_log.new.self in
     let failed : vs ≡ record m.versions { failures = vs.failures } = c.in-Err.ensures.err in
     rw (left, failed) c.self.invariant
@@ -55,7 +55,7 @@ returns-in-Err-clause-step g c =
     let ops = c.args.batch.now in
     let first : c.new-first.result ≡ m.newest + 1 = omega (arith, c.new-first.ensures, c.number-before.ensures.value) in
     let newer : last_sequence m.active < c.new-first.result = rw first (last_below m.active m.frozen m.newest m.versions.served m.book m.live.items c.self.invariant.0) in
-    let left : c.undo.new.self ≡ m.active = c.undo.ensures.older ∙ batch_taken_back m.active c.apply.new.self c.new-first.result ops c.last_seq-last.ensures.sound.ascending c.undo.ensures.sound.ascending newer c.in_ok-apply.ensures.ok in
+    let left : c.undo.new.self ≡ m.active = c.undo.ensures.older ∙ batch_taken_back m.active c.apply.new.self c.new-first.result ops c.last_seq-last.ensures.sound.ascending c.undo.ensures.sound.ascending newer c.in_ok-logged.ensures.ok in
     let vs : VersionSetValue = c.append_log.new.self in
     let failed : vs ≡ record m.versions { failures = vs.failures } = c.in-Err.ensures.err in
     let old : CoordValue = c.args.self.now in
@@ -71,7 +71,7 @@ returns-in-Err-clause-refused g c =
     let ops = c.args.batch.now in
     let first : c.new-first.result ≡ m.newest + 1 = omega (arith, c.new-first.ensures, c.number-before.ensures.value) in
     let newer : last_sequence m.active < c.new-first.result = rw first (last_below m.active m.frozen m.newest m.versions.served m.book m.live.items c.self.invariant.0) in
-    let left : c.undo.new.self ≡ m.active = c.undo.ensures.older ∙ batch_taken_back m.active c.apply.new.self c.new-first.result ops c.last_seq-last.ensures.sound.ascending c.undo.ensures.sound.ascending newer c.in_ok-apply.ensures.ok in
+    let left : c.undo.new.self ≡ m.active = c.undo.ensures.older ∙ batch_taken_back m.active c.apply.new.self c.new-first.result ops c.last_seq-last.ensures.sound.ascending c.undo.ensures.sound.ascending newer c.in_ok-logged.ensures.ok in
     let vs : VersionSetValue = c.append_log.new.self in
     let failed : vs ≡ record m.versions { failures = vs.failures } = c.in-Err.ensures.err in
     let old : CoordValue = c.args.self.now in
@@ -86,7 +86,7 @@ returns-in-Err-clause-sound g c =
     let ops = c.args.batch.now in
     let first : c.new-first.result ≡ m.newest + 1 = omega (arith, c.new-first.ensures, c.number-before.ensures.value) in
     let newer : last_sequence m.active < c.new-first.result = rw first (last_below m.active m.frozen m.newest m.versions.served m.book m.live.items c.self.invariant.0) in
-    let left : c.undo.new.self ≡ m.active = c.undo.ensures.older ∙ batch_taken_back m.active c.apply.new.self c.new-first.result ops c.last_seq-last.ensures.sound.ascending c.undo.ensures.sound.ascending newer c.in_ok-apply.ensures.ok in
+    let left : c.undo.new.self ≡ m.active = c.undo.ensures.older ∙ batch_taken_back m.active c.apply.new.self c.new-first.result ops c.last_seq-last.ensures.sound.ascending c.undo.ensures.sound.ascending newer c.in_ok-logged.ensures.ok in
     let vs : VersionSetValue = c.append_log.new.self in
     let failed : vs ≡ record m.versions { failures = vs.failures } = c.in-Err.ensures.err in
     let old : CoordValue = c.args.self.now in
@@ -101,8 +101,8 @@ invariant_of-self-2 g c =
     let count : length c.ops.result.now ≡ length ops = ap (λ (x : List Op). length x) c.ops.ensures.all in
     let last : c.new-self-inside.result ≡ m.newest + length ops = omega (arith, c.new-self-inside.ensures, count, c.number-before.ensures.value) in
     let before : c.new-first.result - 1 ≡ m.newest = omega (arith, c.new-first.ensures, c.number-before.ensures.value) in
-    let perm : IsPermutation (m.active ++ entries_after m.newest ops) c.apply.new.self = subst (λ (n : ℕ). IsPermutation (m.active ++ entries_after n ops) c.apply.new.self) before c.in_ok-apply.ensures.ok in
-    let bytes : c.in_ok-logged.logged ≡ record_bytes (logged.Write (m.newest + 1) ops) = c.in_ok-logged.ensures ∙ ap (λ (n : ℕ). record_bytes (logged.Write n ops)) first in
+    let perm : IsPermutation (m.active ++ entries_after m.newest ops) c.apply.new.self = subst (λ (n : ℕ). IsPermutation (m.active ++ entries_after n ops) c.apply.new.self) before c.in_ok-logged.ensures.ok in
+    let bytes : c.in_ok-logged.logged ≡ record_bytes (logged.Write (m.newest + 1) ops) = c.in_ok-logged.ensures.logged ∙ ap (λ (n : ℕ). record_bytes (logged.Write n ops)) first in
     let none : write_fault c.args.self.now ops ≡ None = sym c.write_fault.ensures ∙ c.in-None.is in
     let free = subst (λ (v : CoordValue). HasRoom v ops) (sym c.self.view_is) (writable c.args.self.now ops none) in
     let flushed : ℕ = m.versions.served.version.flushed in
@@ -125,8 +125,8 @@ returns-clause-step g c =
     let count : length c.ops.result.now ≡ length ops = ap (λ (x : List Op). length x) c.ops.ensures.all in
     let last : c.new-self-inside.result ≡ m.newest + length ops = omega (arith, c.new-self-inside.ensures, count, c.number-before.ensures.value) in
     let before : c.new-first.result - 1 ≡ m.newest = omega (arith, c.new-first.ensures, c.number-before.ensures.value) in
-    let perm : IsPermutation (m.active ++ entries_after m.newest ops) c.apply.new.self = subst (λ (n : ℕ). IsPermutation (m.active ++ entries_after n ops) c.apply.new.self) before c.in_ok-apply.ensures.ok in
-    let bytes : c.in_ok-logged.logged ≡ record_bytes (logged.Write (m.newest + 1) ops) = c.in_ok-logged.ensures ∙ ap (λ (n : ℕ). record_bytes (logged.Write n ops)) first in
+    let perm : IsPermutation (m.active ++ entries_after m.newest ops) c.apply.new.self = subst (λ (n : ℕ). IsPermutation (m.active ++ entries_after n ops) c.apply.new.self) before c.in_ok-logged.ensures.ok in
+    let bytes : c.in_ok-logged.logged ≡ record_bytes (logged.Write (m.newest + 1) ops) = c.in_ok-logged.ensures.logged ∙ ap (λ (n : ℕ). record_bytes (logged.Write n ops)) first in
     let none : write_fault c.args.self.now ops ≡ None = sym c.write_fault.ensures ∙ c.in-None.is in
     let free = subst (λ (v : CoordValue). HasRoom v ops) (sym c.self.view_is) (writable c.args.self.now ops none) in
     let flushed : ℕ = m.versions.served.version.flushed in
@@ -149,8 +149,8 @@ returns-clause-ok g c =
     let count : length c.ops.result.now ≡ length ops = ap (λ (x : List Op). length x) c.ops.ensures.all in
     let last : c.new-self-inside.result ≡ m.newest + length ops = omega (arith, c.new-self-inside.ensures, count, c.number-before.ensures.value) in
     let before : c.new-first.result - 1 ≡ m.newest = omega (arith, c.new-first.ensures, c.number-before.ensures.value) in
-    let perm : IsPermutation (m.active ++ entries_after m.newest ops) c.apply.new.self = subst (λ (n : ℕ). IsPermutation (m.active ++ entries_after n ops) c.apply.new.self) before c.in_ok-apply.ensures.ok in
-    let bytes : c.in_ok-logged.logged ≡ record_bytes (logged.Write (m.newest + 1) ops) = c.in_ok-logged.ensures ∙ ap (λ (n : ℕ). record_bytes (logged.Write n ops)) first in
+    let perm : IsPermutation (m.active ++ entries_after m.newest ops) c.apply.new.self = subst (λ (n : ℕ). IsPermutation (m.active ++ entries_after n ops) c.apply.new.self) before c.in_ok-logged.ensures.ok in
+    let bytes : c.in_ok-logged.logged ≡ record_bytes (logged.Write (m.newest + 1) ops) = c.in_ok-logged.ensures.logged ∙ ap (λ (n : ℕ). record_bytes (logged.Write n ops)) first in
     let none : write_fault c.args.self.now ops ≡ None = sym c.write_fault.ensures ∙ c.in-None.is in
     rw (c.in-Ok.ensures.ok, bytes, last, ← c.self.view_is) (ap (λ (v : CoordValue). write_fault v ops) c.self.view_is ∙ none, record { active = perm; rest = refl; counted = c.in-Ok.ensures.counted })
 

@@ -36,4 +36,4 @@ returns-clause-ok c = λ records h.
     let count : length c.ops.result.now ≡ length ops = ap length c.ops.ensures.all in
     let last : c.new-2.result ≡ c.args.first + length ops - 1 = omega (arith, c.new-2.ensures, c.number-from.ensures.value, count, c.requires.sound.1) in
     let above : c.args.flushed < c.args.first = omega (arith, c.if-from-below.false, c.number-from.ensures.value, c.number-below.ensures.value) in
-    rw last (taken_up c.args.flushed records c.args.self.now h c.args.first ops c.requires.sound (sym c.comes_next.ensures ∙ c.if-not-comes_next.false) above c.apply.new.self c.in_ok-apply.ensures.ok (omega (arith, c.if-weight-gt-MAX_MEMTABLE_WEIGHT.false, c.weight.ensures.value, c.weight-2.ensures.value)))
+    rw last (taken_up c.args.flushed records c.args.self.now h c.args.first ops c.requires.sound (sym c.comes_next.ensures ∙ c.if-not-comes_next.false) above c.apply.new.self c.in_ok-_logged.ensures.ok (omega (arith, c.if-weight-gt-MAX_MEMTABLE_WEIGHT.false, c.weight.ensures.value, c.weight-2.ensures.value)))
