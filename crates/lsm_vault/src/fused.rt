@@ -154,6 +154,15 @@ impl<V: Vault> Vault for FusedVault<V> {
         self.inside.cut_log(count)
     }
 
+    fn sync_log(&mut self) -> Result<(), VaultError>
+        ensures stays { V.stored self.new.inside ≡ V.stored self.old.inside }
+        ensures counted { CountsFailures result (V.failures self.old.inside + fuse_failures self.old.left) (V.failures self.new.inside + fuse_failures self.new.left) }
+        ensures fuse { Burns self.old.left result self.new.left }
+    {
+        count_call(&mut self.left)?;
+        self.inside.sync_log()
+    }
+
     fn failures(&self) -> u64 {
         match self.left {
             None => self.inside.failures().saturating_add(1),

@@ -86,6 +86,10 @@ impl Vault for MemoryVault {
         Ok(())
     }
 
+    fn sync_log(&mut self) -> Result<(), VaultError> {
+        Ok(())
+    }
+
     fn failures(&self) -> u64 {
         0
     }

@@ -72,6 +72,13 @@ pub trait Vault {
         ensures err { OnErr result (stored self.new ≡ stored self.old) }
         ensures counted { CountsFailures result (failures self.old) (failures self.new) };
 
+    /// Makes the records of the log durable, where it was not done as each was appended: once it is `Ok`, all of them outlive what the
+    /// vault outlives, but for those that a refused `cut_log` was to remove. After a refusal those that were appended since the last
+    /// such call may not.
+    fn sync_log(&mut self) -> Result<(), VaultError>
+        ensures stays { stored self.new ≡ stored self.old }
+        ensures counted { CountsFailures result (failures self.old) (failures self.new) };
+
     /// How often the device failed. The number saturates: of a count past the greatest `u64` it is that.
     fn failures(&self) -> u64
         ensures { result ≡ min (failures self.now) (2 ^ 64 - 1) };

@@ -6,9 +6,9 @@ use lsm_vault::{FusedVault, MemoryVault, Vault, VaultError};
 use std::test::Fail;
 
 /// How many calls `call` has.
-const CALLS: u64 = 11;
+const CALLS: u64 = 12;
 
-/// One of each kind of call, a second edit, and a second record of the log before its cut.
+/// One of each kind of call, a second edit, and a second record of the log before its cut and its sync.
 fn call<V: Vault>(vault: &mut V, place: u64) -> Result<(), VaultError> {
     match place {
         0 => vault.put_table(FileNumber::new(7), Bytes::from_static(b"table"))?,
@@ -29,7 +29,8 @@ fn call<V: Vault>(vault: &mut V, place: u64) -> Result<(), VaultError> {
             vault.log()?;
         }
         9 => vault.append_log(Bytes::from_static(b"second"))?,
-        _ => vault.cut_log(1)?,
+        10 => vault.cut_log(1)?,
+        _ => vault.sync_log()?,
     }
     Ok(())
 }
@@ -144,6 +145,7 @@ fn the_call_that_fails_does_nothing(rt: HostRuntime) -> Result<(), Fail> {
         (8, 0, 2, 1),
         (9, 0, 2, 0),
         (10, 0, 2, 2),
+        (11, 0, 2, 1),
     ] {
         let mut vault = FusedVault::new(MemoryVault::new(rt.alloc()), calls);
         for place in 0..CALLS {
