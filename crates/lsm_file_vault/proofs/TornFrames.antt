@@ -3,10 +3,10 @@ use Rattle.std.proofs.Common.{◌≡◌, ℕ, zero, suc, ◌+◌, ◌-◌, ◌^�
 use Rattle.std.specs.Prelude.{◌==◌}
 use Rattle.std.specs.List.{list_all}
 use Rattle.std.specs.Int.{w32, w64, to_be_bytes, from_be_bytes}
-use Rattle.std.proofs.lemmas.Bool.{cases_lt, lt-ltb, le-leb, eq-eqb}
-use Rattle.std.proofs.lemmas.List.{length-append, length-drop, length-replicate, length-take-le, take_at, drop_at, drop-drop, take-append-le, drop-append-le, take-take, drop-take, drop-replicate}
+use Rattle.std.proofs.lemmas.Bool.{cases_lt, eq-eqb}
+use Rattle.std.proofs.lemmas.List.{append-nil, length-drop, length-take-le, take_at, drop_at, drop-drop, take-append-le, drop-append-le, take-take, drop-take, drop-replicate}
 use Rattle.lsm_key.proofs.FieldLaws.{wide32}
-use Rattle.lsm_file_vault.specs.Frames.{checksum, turned, frame, claimed, reaches_end, is_torn}
+use Rattle.lsm_file_vault.specs.Frames.{checksum, turned, frame, claimed, ends_in_zeros, is_torn}
 use Rattle.lsm_file_vault.proofs.FrameReading.{regrouped}
 
 -- the last of three tests
@@ -42,42 +42,35 @@ complement_of_front bytes k short enough =
     ∙ take_at other more 4 refl in
     ap (from_be_bytes w32) next ∙ wide32.again (turned n) (omega (arith, short))
 
--- a frame that was cut short behind its header claims more than there is
-reaches : (bytes : List ℕ) (k : ℕ) → length bytes < 2 ^ 32 → 16 ≤ k → k < length (frame bytes) → reaches_end (take k (frame bytes)) ≡ true
-reaches bytes k short enough lt =
-    let n = length bytes in
-    rw (claim_of_front bytes k short (omega (arith, enough)), complement_of_front bytes k short (omega (arith, enough)), length-take-le k (frame bytes) (omega (arith, lt)), eq-eqb (turned n) (turned n) refl, le-leb (k - 16) n (omega (arith, lt, enough))) refl
-
--- so it does if zeros are behind it, up to where it ended
-reaches_zeros : (bytes : List ℕ) (k n : ℕ) → length bytes < 2 ^ 32 → 8 ≤ k → k < length (frame bytes) → k + n ≤ length (frame bytes) → reaches_end (take k (frame bytes) ++ replicate n 0) ≡ true
-reaches_zeros bytes k n short enough lt le =
-    let front = take k (frame bytes) in
-    let zs : List ℕ = replicate n 0 in
-    let size : length front ≡ k = length-take-le k (frame bytes) (omega (arith, lt)) in
-    let all : length (front ++ zs) ≡ k + n = omega (arith, length-append front zs, size, length-replicate {A = ℕ} n 0) in
-    let claim : claimed (front ++ zs) ≡ length bytes = ap (from_be_bytes w32) (take-append-le 4 front zs (omega (arith, size, enough))) ∙ claim_of_front bytes k short (omega (arith, enough)) in
-    let behind : 4 ≤ length (drop 4 front) = omega (arith, length-drop 4 front, size, enough) in
-    let next : take 4 (drop 4 (front ++ zs)) ≡ take 4 (drop 4 front) = ap (take 4) (drop-append-le 4 front zs (omega (arith, size, enough))) ∙ take-append-le 4 (drop 4 front) zs behind in
-    let complement : from_be_bytes w32 (take 4 (drop 4 (front ++ zs))) ≡ turned (length bytes) = ap (from_be_bytes w32) next ∙ complement_of_front bytes k short enough in
-    rw (claim, complement, all, eq-eqb (turned (length bytes)) (turned (length bytes)) refl, le-leb ((k + n) - 16) (length bytes) (omega (arith, le))) refl
-
 -- zeros are zeros
 zeros : (n : ℕ) → list_all (λ b. b == 0) (replicate n 0) ≡ true
 zeros zero = refl
 zeros (suc n) = zeros n
 
--- a beginning of a length and its complement, with zeros behind it
-zeros_behind : (front : List ℕ) (n : ℕ) → length front ≤ 8 → list_all (λ b. b == 0) (drop 8 (front ++ replicate n 0)) ≡ true
-zeros_behind front n few =
+-- zeros behind a front that ends before so many bytes
+zeros_behind : (m : ℕ) (front : List ℕ) (n : ℕ) → length front ≤ m → list_all (λ b. b == 0) (drop m (front ++ replicate n 0)) ≡ true
+zeros_behind m front n few =
     let zs : List ℕ = replicate n 0 in
     let k = length front in
-    let apart : k + (8 - k) ≡ 8 = omega (arith, few) in
-    let rest : drop 8 (front ++ zs) ≡ replicate (n - (8 - k)) 0 =
-    ap (λ (m : ℕ). drop m (front ++ zs)) (sym apart)
-    ∙ sym (drop-drop (8 - k) k (front ++ zs))
-    ∙ ap (drop (8 - k)) (drop_at front zs k refl)
-    ∙ drop-replicate {X = ℕ} (8 - k) n 0 in
-    ap (list_all (λ b. b == 0)) rest ∙ zeros (n - (8 - k))
+    let apart : k + (m - k) ≡ m = omega (arith, few) in
+    let rest : drop m (front ++ zs) ≡ replicate (n - (m - k)) 0 =
+    ap (λ (i : ℕ). drop i (front ++ zs)) (sym apart)
+    ∙ sym (drop-drop (m - k) k (front ++ zs))
+    ∙ ap (drop (m - k)) (drop_at front zs k refl)
+    ∙ drop-replicate {X = ℕ} (m - k) n 0 in
+    ap (list_all (λ b. b == 0)) rest ∙ zeros (n - (m - k))
+
+-- a frame that was cut short behind its lengths has zeros alone behind where it would end
+ends : (bytes : List ℕ) (k n : ℕ) → length bytes < 2 ^ 32 → 8 ≤ k → k < length (frame bytes) → ends_in_zeros (take k (frame bytes) ++ replicate n 0) ≡ true
+ends bytes k n short enough lt =
+    let front = take k (frame bytes) in
+    let zs : List ℕ = replicate n 0 in
+    let size : length front ≡ k = length-take-le k (frame bytes) (omega (arith, lt)) in
+    let claim : claimed (front ++ zs) ≡ length bytes = ap (from_be_bytes w32) (take-append-le 4 front zs (omega (arith, size, enough))) ∙ claim_of_front bytes k short (omega (arith, enough)) in
+    let behind : 4 ≤ length (drop 4 front) = omega (arith, length-drop 4 front, size, enough) in
+    let next : take 4 (drop 4 (front ++ zs)) ≡ take 4 (drop 4 front) = ap (take 4) (drop-append-le 4 front zs (omega (arith, size, enough))) ∙ take-append-le 4 (drop 4 front) zs behind in
+    let complement : from_be_bytes w32 (take 4 (drop 4 (front ++ zs))) ≡ turned (length bytes) = ap (from_be_bytes w32) next ∙ complement_of_front bytes k short enough in
+    rw (claim, complement, eq-eqb (turned (length bytes)) (turned (length bytes)) refl, zeros_behind (16 + length bytes) front n (omega (arith, size, lt))) refl
 
 -- the middle one of three tests
 second : (a b c : Bool) → b ≡ true → (a || b || c) ≡ true
@@ -85,21 +78,17 @@ second true b c e = refl
 second false true c e = refl
 second false false c e = absurd cc
 
--- what is left of a frame whose end is zeros is torn
-pub torn_before_zeros : (bytes : List ℕ) (k n : ℕ) → length bytes < 2 ^ 32 → k < length (frame bytes) → k + n ≤ length (frame bytes) → is_torn (take k (frame bytes) ++ replicate n 0) ≡ true
-torn_before_zeros bytes k n short lt le =
+-- what is left of a frame, with zeros behind it, is torn
+pub torn_before_zeros : (bytes : List ℕ) (k n : ℕ) → length bytes < 2 ^ 32 → k < length (frame bytes) → is_torn (take k (frame bytes) ++ replicate n 0) ≡ true
+torn_before_zeros bytes k n short lt =
     let front = take k (frame bytes) in
     let rest : List ℕ = front ++ replicate n 0 in
     let size : length front ≡ k = length-take-le k (frame bytes) (omega (arith, lt)) in
     elim (cases_lt k 8) [
-      | inl few ↦ second (ltb (length rest) 16) (list_all (λ b. b == 0) (drop 8 rest)) (reaches_end rest) (zeros_behind front n (omega (arith, size, few)))
-      | inr enough ↦ third (ltb (length rest) 16) (list_all (λ b. b == 0) (drop 8 rest)) (reaches_end rest) (reaches_zeros bytes k n short enough lt le)
+      | inl few ↦ second (ltb (length rest) 16) (list_all (λ b. b == 0) (drop 8 rest)) (ends_in_zeros rest) (zeros_behind 8 front n (omega (arith, size, few)))
+      | inr enough ↦ third (ltb (length rest) 16) (list_all (λ b. b == 0) (drop 8 rest)) (ends_in_zeros rest) (ends bytes k n short enough lt)
     ]
 
 -- what a stop in the middle of an append left of a frame is torn
 pub torn_front : (bytes : List ℕ) (k : ℕ) → length bytes < 2 ^ 32 → k < length (frame bytes) → is_torn (take k (frame bytes)) ≡ true
-torn_front bytes k short lt =
-    elim (cases_lt k 16) [
-      | inl few ↦ rw (length-take-le k (frame bytes) (omega (arith, lt)), lt-ltb k 16 few) refl
-      | inr enough ↦ third (ltb (length (take k (frame bytes))) 16) (list_all (λ b. b == 0) (drop 8 (take k (frame bytes)))) (reaches_end (take k (frame bytes))) (reaches bytes k short enough lt)
-    ]
+torn_front bytes k short lt = ap is_torn (sym (append-nil (take k (frame bytes)))) ∙ torn_before_zeros bytes k 0 short lt

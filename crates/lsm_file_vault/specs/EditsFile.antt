@@ -6,7 +6,7 @@ use Rattle.lsm_file_vault.specs.Frames.{checksum, frame_at, frames, is_torn}
 abbrev pub Begins : List ℕ → List (List ℕ) → ℕ → Type 0
 Begins file edits bytes = (file ≡ frames edits ++ drop bytes file) × IsErr (frame_at (drop bytes file))
 
--- the edits of a file, the bytes that they take, and how many a stop in the middle of an append left behind them
+-- the edits of a file, the bytes that they take, and how many a stop left behind them of appends that were not synced
 abbrev pub IsEditsFile : List ℕ → List (List ℕ) → ℕ → ℕ → Type 0
 IsEditsFile file edits bytes torn = Begins file edits bytes × (is_torn (drop bytes file) ≡ true) × (bytes + torn ≡ length file)
 

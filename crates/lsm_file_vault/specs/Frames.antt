@@ -1,5 +1,5 @@
 -- A frame: how an edit and a table stand in their files (RocksDB, db/log_format.h: a checksum and a length before the bytes; the layout is the store's own).
-use Rattle.std.specs.Prelude.{◌≡◌, ℕ, ◌-◌, ◌^◌, Bool, ◌==◌, ◌||◌, ◌&&◌, nat_lt, nat_le, List, [], ◌∷◌, ◌++◌, length, take, drop, Option, Some, None, Result, Ok, Err, IsErr, if◌then◌else◌}
+use Rattle.std.specs.Prelude.{◌≡◌, ℕ, ◌+◌, ◌-◌, ◌^◌, Bool, ◌==◌, ◌||◌, ◌&&◌, nat_lt, List, [], ◌∷◌, ◌++◌, length, take, drop, Option, Some, None, Result, Ok, Err, IsErr, if◌then◌else◌}
 use Rattle.std.specs.List.{list_all}
 use Rattle.std.specs.Int.{w32, w64, to_be_bytes, from_be_bytes}
 use Rattle.std.specs.Hash.DefaultHasher as sip
@@ -55,10 +55,10 @@ TakesFrame None before after = (after ≡ before) × IsErr (frame_at before)
 abbrev pub claimed : List ℕ → ℕ
 claimed rest = from_be_bytes w32 (take 4 rest)
 
--- a length and its complement agree, and the frame would reach to the end of the bytes or past it
-abbrev pub reaches_end : List ℕ → Bool
-reaches_end rest = from_be_bytes w32 (take 4 (drop 4 rest)) == turned (claimed rest) && nat_le (length rest - 16) (claimed rest)
+-- a length and its complement agree, and behind where the frame would end there are zeros alone, or nothing
+abbrev pub ends_in_zeros : List ℕ → Bool
+ends_in_zeros rest = from_be_bytes w32 (take 4 (drop 4 rest)) == turned (claimed rest) && list_all (λ b. b == 0) (drop (16 + claimed rest) rest)
 
--- what a stop in the middle of the last append may leave, where no frame begins: less than a header, zeros from the checksum on, or a frame that was cut short or has lost bytes
+-- what a stop may leave of appends that were not synced, where no frame begins: less than a header, zeros from the checksum on, or a frame that was cut short or has lost bytes, and no other behind it
 abbrev pub is_torn : List ℕ → Bool
-is_torn rest = nat_lt (length rest) 16 || list_all (λ b. b == 0) (drop 8 rest) || reaches_end rest
+is_torn rest = nat_lt (length rest) 16 || list_all (λ b. b == 0) (drop 8 rest) || ends_in_zeros rest

@@ -24,7 +24,7 @@ pub struct Contents {
     pub edits: Vec<Bytes>,
     /// How many bytes the edits take in their file, with their frames.
     pub edits_bytes: u64,
-    /// How many bytes are behind the last edit: what a stop in the middle of an append has left, or a last edit that is damaged.
+    /// How many bytes are behind the last edit: what a stop has left of an append that was not synced, or a last edit that is damaged.
     pub torn_bytes: u64,
     /// These bytes.
     pub(crate) torn: Bytes,
@@ -32,7 +32,7 @@ pub struct Contents {
     pub log: Vec<Bytes>,
     /// How many bytes the records take in their file, with their frames.
     pub log_bytes: u64,
-    /// How many bytes are behind the last record: what a stop in the middle of an append has left, or a last record that is damaged.
+    /// How many bytes are behind the last record: what a stop has left of appends that were not synced, or a last record that is damaged.
     pub torn_log_bytes: u64,
     /// These bytes.
     pub(crate) torn_log: Bytes,

@@ -16,7 +16,7 @@ pub(crate) struct EditsFile {
     pub edits: Vec<Bytes>,
     /// How many bytes they take, with their frames.
     pub edits_bytes: u64,
-    /// What is behind them: what a stop in the middle of an append may leave.
+    /// What is behind them: what a stop may leave of appends that were not synced.
     pub torn: Bytes,
 }
 

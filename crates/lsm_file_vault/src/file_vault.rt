@@ -163,6 +163,13 @@ impl<F: Folder> Vault for FileVault<F> {
         }
     }
 
+    fn sync_log(&mut self) -> Result<(), VaultError> {
+        match self.folder.sync_log() {
+            Ok(()) => Ok(()),
+            Err(error) => refusal(&mut self.failures, error),
+        }
+    }
+
     fn failures(&self) -> u64 {
         self.failures
     }

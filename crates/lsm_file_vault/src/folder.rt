@@ -35,7 +35,7 @@ pub trait Folder {
         ensures tables { tables self.new ≡ tables self.old }
         ensures log { log self.new ≡ log self.old };
 
-    /// Adds a record to the log, after the others, so that it outlives the process.
+    /// Adds a record to the log, after the others, so that it outlives the process, at the latest once `sync_log` has returned `Ok`.
     fn append_log(&mut self, logged: &Bytes) -> io::Result<()>
         ensures log { log self.new ≡ (if is_ok result then log self.old ++ logged.now ∷ [] else log self.old) }
         ensures tables { tables self.new ≡ tables self.old }
@@ -46,6 +46,12 @@ pub trait Folder {
     fn cut_log(&mut self, count: usize, left: &[Bytes]) -> io::Result<()>
         requires left { left.now ≡ drop count (log self.old) }
         ensures log { log self.new ≡ (if is_ok result then drop count (log self.old) else log self.old) }
+        ensures tables { tables self.new ≡ tables self.old }
+        ensures edits { edits self.new ≡ edits self.old };
+
+    /// Makes the records of the log outlive a power cut, those that do not yet.
+    fn sync_log(&mut self) -> io::Result<()>
+        ensures log { log self.new ≡ log self.old }
         ensures tables { tables self.new ≡ tables self.old }
         ensures edits { edits self.new ≡ edits self.old };
 }

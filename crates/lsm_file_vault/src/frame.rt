@@ -1,10 +1,10 @@
 //! Frames: how an edit stands in its file, and a table in its own.
 
 ghost use Rattle.std.specs.List.{list_all};
-ghost use Rattle.std.specs.Prelude.{◌≡◌, ◌==◌, ◌<◌, ◌≤◌, ◌^◌, ◌++◌, length, IfOk, IsErr, OnOk};
+ghost use Rattle.std.specs.Prelude.{◌≡◌, ◌==◌, ◌<◌, ◌≤◌, ◌^◌, ◌++◌, length, drop, IfOk, IsErr, OnOk};
 ghost use Rattle.lsm_key.specs.Reading.{Gives};
 ghost use Rattle.lsm_file_vault.specs.declared.frame.TheConstants.{HEAD_BYTES};
-ghost use Rattle.lsm_file_vault.specs.Frames.{TakesFrame, checksum, frame_at, frames, header_of, is_torn, only_frame_at, reaches_end};
+ghost use Rattle.lsm_file_vault.specs.Frames.{TakesFrame, checksum, ends_in_zeros, frame_at, frames, header_of, is_torn, only_frame_at};
 
 use bytes::{BufMut, Bytes, BytesMut};
 use lsm_key::{Refused, know_bytes, read_piece, read_u32, read_u64};
@@ -94,15 +94,15 @@ pub(crate) fn read_frames(alloc: Global, mut rest: Bytes) -> Result<(Vec<Bytes>,
     Ok((held, rest))
 }
 
-/// Whether bytes behind the last frame are what a stop in the middle of an append may leave. Bytes behind a frame that has gone bad
-/// are not.
+/// Whether bytes behind the last frame are what a stop may leave of appends that were not synced. Bytes behind a frame that has gone bad
+/// are not, unless they are zeros: a file may have its length before it has its bytes.
 pub(crate) fn is_torn(rest: &[u8]) -> bool
     ensures { result ≡ is_torn rest.now }
 {
     if rest.len() < HEAD_BYTES {
         return true;
     }
-    are_zeros(&rest[LENGTHS_BYTES..]) || reaches_end(rest)
+    are_zeros(&rest[LENGTHS_BYTES..]) || ends_in_zeros(rest)
 }
 
 // Whether all of these bytes are zero.
@@ -112,17 +112,24 @@ fn are_zeros(bytes: &[u8]) -> bool
     bytes.iter().all(|byte| *byte == 0)
 }
 
-// Whether a header stands here whose frame would reach to the end of the bytes or past it.
-fn reaches_end(rest: &[u8]) -> bool
+// What is behind so many bytes; nothing, if there are fewer.
+fn behind(bytes: &[u8], count: usize) -> &[u8]
+    ensures { result.now ≡ drop count bytes.now }
+{
+    &bytes[count.min(bytes.len())..]
+}
+
+// Whether a header stands here behind whose frame there are zeros alone, or nothing.
+fn ends_in_zeros(rest: &[u8]) -> bool
     requires { HEAD_BYTES ≤ length rest.now }
-    ensures { result ≡ reaches_end rest.now }
+    ensures { result ≡ ends_in_zeros rest.now }
 {
     match rest.split_first_chunk::<4>() {
         Some((claim, after)) => match after.split_first_chunk::<4>() {
             Some((turned, _)) => {
                 let claim = u32::from_be_bytes(*claim);
                 u32::from_be_bytes(*turned) == u32::MAX - claim
-                    && rest.len() - HEAD_BYTES <= claim as usize
+                    && are_zeros(behind(rest, HEAD_BYTES + claim as usize))
             }
             None => false,
         },

@@ -7,7 +7,7 @@ use crate::error::called;
 use crate::frame::write_header;
 use crate::log_file::LogFile;
 use crate::names::{EDITS, NEW_FILE, file_path, table_path};
-use crate::{Change, Contents, FileCall, Folder, Incidents, Notes, OpenError, SetAside};
+use crate::{Change, Contents, FileCall, Folder, Incidents, LogSync, Notes, OpenError, SetAside};
 use bytes::{Bytes, BytesMut};
 use lsm_key::FileNumber;
 use std::alloc::Global;
@@ -17,7 +17,9 @@ use std::rt::Files;
 use std::snapshot::Snapshot;
 
 /// A folder of the operating system: a file for each table, one for the edits, and one for the log. What a call leaves there is synced
-/// before it returns `Ok`.
+/// before it returns `Ok`, but for records of the log: those are synced as `LogSync` says, and all of them before an edit is appended. If
+/// that is refused, so is the edit; then neither a record nor an edit is taken until a cut has written the log anew, or the folder is
+/// opened again.
 ///
 /// No clause tells of a file. So `notes` stands for what the folder holds, and that each call makes the file calls which it notes is
 /// to be read in its body.
@@ -54,15 +56,16 @@ impl<R: Files + AllocGlobal + Drop> HostFolder<R> {
         contents: &Contents,
         lock: Option<File>,
         incidents: Incidents,
+        log_sync: LogSync,
     ) -> Result<HostFolder<R>, OpenError>
         ensures tables { IfOk result (λ folder. ⟦<HostFolder<R> as Folder>⟧.tables folder ≡ contents.now.tables) }
         ensures edits { IfOk result (λ folder. ⟦<HostFolder<R> as Folder>⟧.edits folder ≡ contents.now.edits.items) }
         ensures log { IfOk result (λ folder. ⟦<HostFolder<R> as Folder>⟧.log folder ≡ contents.now.log.items) }
     {
         let torn = contents.torn.clone()?;
-        let edits = contents.edits.as_slice();
-        let edits_file = ready_file(&files, path, EDITS, edits, contents.edits_bytes)?;
-        let log_file = LogFile::open(&files, path, contents)?;
+        let last = last_of(contents.edits.as_slice());
+        let edits_file = ready_file(&files, path, EDITS, last, contents.edits_bytes)?;
+        let log_file = LogFile::open(&files, path, contents, log_sync)?;
         called(
             files.alloc(),
             FileCall::Sync,
@@ -132,13 +135,16 @@ impl<R: Files + AllocGlobal + Drop> HostFolder<R> {
         Ok(())
     }
 
-    // Writes an edit behind the others. What a refused one may have left is cut off.
+    // Writes an edit behind the others, once the log is synced: else a power cut could leave a log that ends before what the edit says is
+    // flushed. What a refused one may have left is cut off.
     fn write_edit(&mut self, edit: &[u8]) -> io::Result<()>
         ensures { self.new.notes ≡ self.old.notes }
     {
         self.refuse_if_broken()?;
-        let framed = frame_of(self.files.alloc(), edit)?;
+        let mut framed = BytesMut::new(self.files.alloc());
+        put_frame(&mut framed, edit)?;
         self.clear_opened()?;
+        self.log_file.sync()?;
         let written = write_at(&mut self.edits_file, self.edits_bytes, framed.as_slice());
         match written {
             Ok(()) => {
@@ -188,20 +194,25 @@ impl<R: Files + AllocGlobal + Drop> HostFolder<R> {
     }
 }
 
-/// The file of this name, of these edits or log records, which take so many bytes in it; it is made if there is none. The last one is
-/// written again with the same bytes and synced: if its sync has failed before the process ended, it is read from memory and not on
-/// the disk, and another sync alone does not bring it there.
+// The last edit alone, or none if there is none.
+fn last_of(edits: &[Bytes]) -> &[Bytes] {
+    &edits[edits.len().saturating_sub(1)..]
+}
+
+/// The file of this name, in which the edits or the log records take so many bytes; it is made if there is none. The last ones, which
+/// are these, are written again with the same bytes and synced: if a sync of them has failed before the process ended, they are read
+/// from memory and not on the disk, and another sync alone does not bring them there.
 pub(crate) fn ready_file<R: Files + AllocGlobal>(
     files: &R,
     path: &str,
     name: &str,
-    held: &[Bytes],
+    last: &[Bytes],
     bytes: u64,
 ) -> Result<R::File, OpenError> {
     let alloc = files.alloc();
     let name = file_path(alloc, path, name)?;
     let mut file = open_file(files, name.as_str())?;
-    let written = write_last_again(alloc, &mut file, held, bytes);
+    let written = write_again(alloc, &mut file, last, bytes);
     called(alloc, FileCall::Write, name.as_str(), written)?;
     called(alloc, FileCall::Sync, name.as_str(), file.sync_all())?;
     Ok(file)
@@ -215,30 +226,31 @@ fn open_file<R: Files + AllocGlobal>(files: &R, file: &str) -> Result<R::File, O
     called(files.alloc(), FileCall::Open, file, opened)
 }
 
-// Writes the last one where it is already, if there is one.
-fn write_last_again<F: Seek + Write>(
+// Writes the last ones where they are already: at the end of so many bytes.
+fn write_again<F: Seek + Write>(
     alloc: Global,
     file: &mut F,
-    held: &[Bytes],
+    last: &[Bytes],
     bytes: u64,
 ) -> io::Result<()> {
-    let Some(last) = held.last() else {
-        return Ok(());
-    };
-    let framed = frame_of(alloc, last.as_slice())?;
+    let framed = frames_of(alloc, last)?;
     let offset = bytes.saturating_sub(framed.len() as u64);
-    file.seek(SeekFrom::Start(offset))?;
-    file.write_all(framed.as_slice())
+    put_at(file, offset, framed.as_slice())
 }
 
-/// Writes bytes to a file from this offset on, and syncs them.
+/// Writes bytes to a file from this offset on.
+pub(crate) fn put_at<F: Seek + Write>(file: &mut F, offset: u64, bytes: &[u8]) -> io::Result<()> {
+    file.seek(SeekFrom::Start(offset))?;
+    file.write_all(bytes)
+}
+
+/// The same, and syncs them.
 pub(crate) fn write_at<F: Seek + Write + OpenFile>(
     file: &mut F,
     offset: u64,
     bytes: &[u8],
 ) -> io::Result<()> {
-    file.seek(SeekFrom::Start(offset))?;
-    file.write_all(bytes)?;
+    put_at(file, offset, bytes)?;
     file.sync_data()
 }
 
@@ -288,10 +300,12 @@ fn write_parts<F: Write + OpenFile>(file: &mut F, front: &[u8], rest: &[u8]) -> 
     file.sync_all()
 }
 
-/// The frame of an edit or of a log record.
-pub(crate) fn frame_of(alloc: Global, bytes: &[u8]) -> io::Result<BytesMut> {
+/// The frames of these edits or log records, one after another.
+pub(crate) fn frames_of(alloc: Global, held: &[Bytes]) -> io::Result<BytesMut> {
     let mut framed = BytesMut::new(alloc);
-    put_frame(&mut framed, bytes)?;
+    for bytes in held {
+        put_frame(&mut framed, bytes.as_slice())?;
+    }
     Ok(framed)
 }
 
@@ -363,5 +377,10 @@ impl<R: Files + AllocGlobal + Drop> Folder for HostFolder<R> {
         self.incidents.noting(cut)?;
         self.notes = self.notes.after(&Change::LogCut(count));
         Ok(())
+    }
+
+    fn sync_log(&mut self) -> io::Result<()> {
+        let synced = self.log_file.sync();
+        self.incidents.noting(synced)
     }
 }

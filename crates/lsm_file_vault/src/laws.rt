@@ -1,6 +1,6 @@
 //! What frames keep. The functions do nothing: each is the proof of its contract.
 
-ghost use Rattle.std.specs.Prelude.{◌≡◌, ℕ, ◌+◌, ◌<◌, ◌≤◌, ◌^◌, true, List, ◌++◌, length, replicate, slice_index, take, Ok};
+ghost use Rattle.std.specs.Prelude.{◌≡◌, ℕ, ◌<◌, ◌^◌, true, List, ◌++◌, length, replicate, slice_index, take, Ok};
 ghost use Rattle.lsm_file_vault.specs.EditsFile.{AllFit, IsEditsFile};
 ghost use Rattle.lsm_file_vault.specs.Frames.{frame, frame_at, frames, is_torn};
 
@@ -21,9 +21,10 @@ pub fn a_frame_cut_short_is_torn()
     ensures { (bytes : List ℕ) (k : ℕ) → length bytes < 2 ^ 32 → k < length (frame bytes) → is_torn (take k (frame bytes)) ≡ true }
 {}
 
-/// What a power cut may leave of a frame whose file has its whole length already, a beginning of it and zeros, is torn.
+/// What a power cut may leave of a frame, and of others behind it, whose file has its whole length already, a beginning of the frame and
+/// zeros, is torn.
 pub fn a_frame_cut_before_zeros_is_torn()
-    ensures { (bytes : List ℕ) (k n : ℕ) → length bytes < 2 ^ 32 → k < length (frame bytes) → k + n ≤ length (frame bytes)
+    ensures { (bytes : List ℕ) (k n : ℕ) → length bytes < 2 ^ 32 → k < length (frame bytes)
         → is_torn (take k (frame bytes) ++ replicate n 0) ≡ true }
 {}
 

@@ -2,9 +2,10 @@
 //!
 //! It promises of `FileVault`, over any `Folder`, all that `Vault` does: what it shows is what the calls on its folder leave that
 //! returned `Ok`. It promises of an opening that the edits taken are the frames at the front of their file, and that what is left out
-//! behind them is what a stop in the middle of an append may leave; anything else is refused by name. So it is with the records of the
-//! log. An opening changes nothing: what it left out is set aside by the first append, and nothing is deleted but a table that is
-//! removed, records that are cut off, and a file that was never finished.
+//! behind them is what a stop may leave of appends that were not synced; anything else is refused by name. So it is with the records of the
+//! log, which are synced one by one, or when it is asked for, as `LogSync` says. An opening changes nothing: what it left out is set
+//! aside by the first append, and nothing is deleted but a table that is removed, records that are cut off, and a file that was never
+//! finished.
 //! It stands on `lsm_vault` for the contract and for tables in memory, and on `lsm_key` for fields.
 //!
 //! Trusted: that `HostFolder` makes the calls on files that it notes (`host_folder.rt` and `log_file.rt`, since no clause tells of a
@@ -25,6 +26,7 @@ mod incidents;
 mod laws;
 mod listing;
 mod log_file;
+mod log_sync;
 mod names;
 mod notes;
 mod opening;
@@ -41,5 +43,6 @@ pub use laws::{
     a_frame_cut_before_zeros_is_torn, a_frame_cut_short_is_torn, a_stop_loses_no_edit,
     a_written_frame_is_read,
 };
+pub use log_sync::LogSync;
 pub use notes::Notes;
-pub use opening::{Opened, open, open_unlocked, read};
+pub use opening::{Opened, open, open_unlocked, open_with, read};

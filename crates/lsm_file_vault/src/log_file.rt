@@ -2,38 +2,52 @@
 
 use crate::aside::write_lost_bytes;
 use crate::host_folder::{
-    cut_at, frame_of, put_frame, ready_file, remove_if_there, sync_folder, write_at, write_file,
+    cut_at, frames_of, put_at, put_frame, ready_file, remove_if_there, sync_folder, write_at,
+    write_file,
 };
 use crate::names::{LOG, NEW_FILE, file_path};
-use crate::{Contents, Incidents, OpenError, SetAside};
+use crate::{Contents, Incidents, LogSync, OpenError, SetAside};
 use bytes::{Bytes, BytesMut};
-use std::alloc::Global;
 use std::fs::{self, OpenFile};
 use std::io;
 use std::rt::Files;
 
-/// The file of a folder's log, open. What a call leaves in it is synced before it returns `Ok`.
+// How many bytes of frames are gathered before they are written.
+const MOST_GATHERED: usize = 64 * 1024;
+
+// Room for more than this is let go once it is empty: one large record has made it.
+const MOST_ROOM: usize = 4 * MOST_GATHERED;
+
+/// The file of a folder's log, open. What a cut leaves in it is synced before it returns `Ok`, and what is appended as `LogSync` says.
 #[derive(Drop)]
 pub(crate) struct LogFile<R: Files + AllocGlobal + Drop> {
     file: R::File,
-    // How many bytes the records take in it.
+    log_sync: LogSync,
+    // How many bytes the records take in it, those that are gathered left out.
     bytes: u64,
+    // The frames of the last records, which are not written yet.
+    gathered: BytesMut,
+    // Records that are written were not synced since.
+    is_unsynced: bool,
     // The file was opened with bytes behind the records, which are not cut off yet.
     is_torn: bool,
     // These bytes, until they are set aside.
     torn: Bytes,
-    // A refused record may still stand behind the others, or the file may not be the one that has the log's name on the disk. So no
-    // record can follow until a cut has written the log anew, or the folder is opened again.
+    // A refused record may still stand behind the others, records may be missing that a refused sync was to bring to the disk, or the
+    // file may not be the one that has the log's name there. So no record can follow until a cut has written the log anew, or the
+    // folder is opened again.
     is_broken: bool,
 }
 
 impl<R: Files + AllocGlobal + Drop> LogFile<R> {
     /// The file of the log in the folder at `path`, which was found to have these contents. It is made if there is none, and the folder
-    /// has to be synced then.
+    /// has to be synced then. All records are written again and synced: a process before this one may have ended after a sync that
+    /// failed, or without one.
     pub(crate) fn open(
         files: &R,
         path: &str,
         contents: &Contents,
+        log_sync: LogSync,
     ) -> Result<LogFile<R>, OpenError> {
         let torn = contents.torn_log.clone()?;
         let file = ready_file(
@@ -45,14 +59,17 @@ impl<R: Files + AllocGlobal + Drop> LogFile<R> {
         )?;
         Ok(LogFile {
             file,
+            log_sync,
             bytes: contents.log_bytes,
+            gathered: BytesMut::new(files.alloc()),
+            is_unsynced: false,
             is_torn: contents.torn_log_bytes > 0,
             torn,
             is_broken: false,
         })
     }
 
-    /// Writes a record behind the others. What a refused one may have left is cut off.
+    /// Adds a record behind the others. What a refused one may have left is cut off.
     pub(crate) fn append(
         &mut self,
         files: &R,
@@ -60,17 +77,82 @@ impl<R: Files + AllocGlobal + Drop> LogFile<R> {
         incidents: &Incidents,
         logged: &[u8],
     ) -> io::Result<()> {
-        if self.is_broken {
-            return Err(io::Error::other("a refused record may be in the file of the log"));
-        }
-        let framed = frame_of(files.alloc(), logged)?;
+        self.refuse_if_broken()?;
         self.clear_torn(files, path, incidents)?;
-        let written = write_at(&mut self.file, self.bytes, framed.as_slice());
+        let before = self.gathered.len();
+        let added = self.add(logged);
+        if added.is_err() {
+            self.gathered.truncate(before);
+        }
+        if self.gathered.is_empty() && self.gathered.capacity() > MOST_ROOM {
+            self.gathered = BytesMut::new(files.alloc());
+        }
+        added
+    }
+
+    // Gathers the frame of a record, and writes what is gathered when it is time. If that is refused, a part of the frame, or all of it,
+    // may be gathered.
+    fn add(&mut self, logged: &[u8]) -> io::Result<()> {
+        put_frame(&mut self.gathered, logged)?;
+        if self.log_sync == LogSync::Gathered && self.gathered.len() < MOST_GATHERED {
+            return Ok(());
+        }
+        self.write_gathered()
+    }
+
+    // Writes what is gathered behind the others, and syncs it if each record is to be synced.
+    fn write_gathered(&mut self) -> io::Result<()> {
+        let is_synced = self.log_sync == LogSync::Each;
+        let written = if is_synced {
+            write_at(&mut self.file, self.bytes, self.gathered.as_slice())
+        } else {
+            put_at(&mut self.file, self.bytes, self.gathered.as_slice())
+        };
         match written {
-            Ok(()) => self.bytes = self.bytes.saturating_add(framed.len() as u64),
+            Ok(()) => {
+                self.count_gathered();
+                self.is_unsynced = !is_synced;
+            }
             Err(_) => self.is_broken = cut_at(&self.file, self.bytes).is_err(),
         }
         written
+    }
+
+    // What was gathered stands in the file.
+    fn count_gathered(&mut self) {
+        self.bytes = self.bytes.saturating_add(self.gathered.len() as u64);
+        self.gathered.clear();
+    }
+
+    /// Syncs the records that were appended since the last sync, and writes those of them that are gathered. If it is refused, the log is
+    /// broken, and each sync after it is refused until it no longer is.
+    pub(crate) fn sync(&mut self) -> io::Result<()> {
+        if self.is_synced() {
+            return Ok(());
+        }
+        self.refuse_if_broken()?;
+        // In doubt until it is synced: another sync after one that fails does not bring to the disk what that one was to bring.
+        self.is_broken = true;
+        write_at(&mut self.file, self.bytes, self.gathered.as_slice())?;
+        self.count_gathered();
+        self.is_unsynced = false;
+        self.is_broken = false;
+        Ok(())
+    }
+
+    // Whether each record is in the file and synced.
+    fn is_synced(&self) -> bool {
+        !self.is_unsynced && self.gathered.is_empty()
+    }
+
+    fn refuse_if_broken(&self) -> io::Result<()> {
+        if !self.is_broken {
+            return Ok(());
+        }
+        if self.is_synced() {
+            return Err(io::Error::other("a refused record may be in the file of the log"));
+        }
+        Err(io::Error::other("records of the log may not be on the disk"))
     }
 
     /// Cuts this many records off the front, or all if there are fewer; these are left. A log that is broken is written anew, and no
@@ -83,7 +165,8 @@ impl<R: Files + AllocGlobal + Drop> LogFile<R> {
         count: usize,
         left: &[Bytes],
     ) -> io::Result<()> {
-        if !self.is_broken && (count == 0 || self.bytes == 0) {
+        let has_none = self.bytes == 0 && self.gathered.is_empty();
+        if !self.is_broken && (count == 0 || has_none) {
             return Ok(());
         }
         self.clear_torn(files, path, incidents)?;
@@ -129,6 +212,8 @@ impl<R: Files + AllocGlobal + Drop> LogFile<R> {
         self.is_broken = true;
         self.file.sync_all()?;
         self.bytes = 0;
+        self.gathered.clear();
+        self.is_unsynced = false;
         self.is_broken = false;
         Ok(())
     }
@@ -147,17 +232,12 @@ impl<R: Files + AllocGlobal + Drop> LogFile<R> {
         fs::rename(files, new.as_str(), named.as_str())?;
         self.file = file;
         self.bytes = framed.len() as u64;
+        // The file that may still have the name on the disk lacks what was not synced there.
+        self.is_unsynced = !self.is_synced();
+        self.gathered.clear();
         sync_folder(files, path)?;
+        self.is_unsynced = false;
         self.is_broken = false;
         Ok(())
     }
-}
-
-// The frames of these records, one after another.
-fn frames_of(alloc: Global, records: &[Bytes]) -> io::Result<BytesMut> {
-    let mut framed = BytesMut::new(alloc);
-    for record in records {
-        put_frame(&mut framed, record.as_slice())?;
-    }
-    Ok(framed)
 }

@@ -6,7 +6,7 @@ use crate::error::called;
 use crate::host_folder::sync_folder;
 use crate::listing::list;
 use crate::names::{LOCK, file_path, table_path};
-use crate::{Contents, FileCall, FileVault, Folder, HostFolder, Incidents, OpenError};
+use crate::{Contents, FileCall, FileVault, Folder, HostFolder, Incidents, LogSync, OpenError};
 use lsm_vault::Vault;
 use std::alloc::Global;
 use std::fs::{self, File, OpenOptions, TryLockError};
@@ -24,7 +24,7 @@ where
 }
 
 /// Opens the vault in the folder at `path`, and makes the folder if there is none; the folder above it has to be there. No other
-/// process can open it until the vault is dropped or this process ends.
+/// process can open it until the vault is dropped or this process ends. Each record of the log is synced before it is answered.
 ///
 /// Every file stays as it is: what is behind the last edit and the last log record is set aside only by the first edit that is
 /// appended, and a table that is removed before is renamed then. So whoever opens a store refuses it, for what was read, before
@@ -35,10 +35,21 @@ where
 pub fn open(rt: &HostRuntime, path: &str) -> Result<Opened<HostRuntime>, OpenError>
     ensures failures { IfOk result (λ opened. ⟦<FileVault<HostFolder<HostRuntime>> as Vault>⟧.failures opened.vault ≡ 0) }
 {
+    open_with(rt, path, LogSync::Each)
+}
+
+/// The same, with records of the log that are synced as `log_sync` says.
+pub fn open_with(
+    rt: &HostRuntime,
+    path: &str,
+    log_sync: LogSync,
+) -> Result<Opened<HostRuntime>, OpenError>
+    ensures failures { IfOk result (λ opened. ⟦<FileVault<HostFolder<HostRuntime>> as Vault>⟧.failures opened.vault ≡ 0) }
+{
     create_folder(rt, path)?;
     let _listing = list(rt, path)?;
     let lock = lock(rt, path)?;
-    open_contents(rt.clone()?, path, Some(lock))
+    open_contents(rt.clone()?, path, Some(lock), log_sync)
 }
 
 /// Opens the vault in the folder at `path`, of which the caller knows that nobody else has it open, over any files.
@@ -49,7 +60,7 @@ pub fn open_unlocked<R: Files + AllocGlobal + Clone + Drop>(
     ensures failures { IfOk result (λ opened. ⟦<FileVault<HostFolder<R>> as Vault>⟧.failures opened.vault ≡ 0) }
 {
     create_folder(&files, path)?;
-    open_contents(files, path, None)
+    open_contents(files, path, None, LogSync::Each)
 }
 
 /// Reads what the folder at `path` holds, and changes nothing there; damaged tables and torn bytes are reported. The folder is
@@ -65,13 +76,14 @@ fn open_contents<R: Files + AllocGlobal + Clone + Drop>(
     files: R,
     path: &str,
     lock: Option<File>,
+    log_sync: LogSync,
 ) -> Result<Opened<R>, OpenError>
     ensures failures { IfOk result (λ opened. ⟦<FileVault<HostFolder<R>> as Vault>⟧.failures opened.vault ≡ 0) }
 {
     let alloc = files.alloc();
     let contents = whole_contents(&files, path)?;
     let incidents = Incidents::new(alloc)?;
-    let folder = HostFolder::new(files, path, &contents, lock, incidents.share()?)?;
+    let folder = HostFolder::new(files, path, &contents, lock, incidents.share()?, log_sync)?;
     let vault = FileVault::new(alloc, folder, contents.tables, contents.edits, contents.log);
     Ok(Opened { vault, incidents })
 }

@@ -1,7 +1,7 @@
 //! What no clause says: that calls succeed and files give back what they were given, and the texts of calls.
 
 use bytes::Bytes;
-use lsm_file_vault::{FileCall, OpenError, open};
+use lsm_file_vault::{FileCall, LogSync, OpenError, open, open_with};
 use lsm_key::FileNumber;
 use lsm_vault::{Vault, VaultError};
 use std::alloc::Global;
@@ -131,31 +131,119 @@ fn a_torn_record_is_set_aside_by_the_next_one(rt: HostRuntime) -> Result<(), Fai
     Ok(())
 }
 
-/// Makes a change of a log: a record is appended, or as many are cut off as the count says.
-fn change<V: Vault>(vault: &mut V, record: &'static str, count: usize) -> Result<(), VaultError> {
-    if count > 0 {
-        return vault.cut_log(count);
+// A vault that is dropped is as a process that is killed.
+#[test]
+fn records_are_there_as_their_sync_has_it(rt: HostRuntime) -> Result<(), Fail> {
+    let path = "lsm_file_vault_synced";
+    for (log_sync, left) in [
+        (LogSync::Each, ",one,two"),
+        (LogSync::Asked, ",one,two"),
+        (LogSync::Gathered, ",one"),
+    ] {
+        let _ = fs::remove_dir_all(&rt, path);
+        let mut vault = open_with(&rt, path, log_sync)?.vault;
+        log_all(&mut vault, &["one"])?;
+        vault.sync_log()?;
+        log_all(&mut vault, &["two"])?;
+        let told = told_log(rt.alloc(), &mut vault)?;
+        assert!(rt;
+            told.as_slice() == b",one,two".as_slice(),
+            "{log_sync:?}: {told:?}"
+        );
+        drop(vault);
+        let mut vault = open(&rt, path)?.vault;
+        let told = told_log(rt.alloc(), &mut vault)?;
+        assert!(rt;
+            told.as_slice() == left.as_bytes(),
+            "{log_sync:?}: {told:?}"
+        );
     }
-    vault.append_log(Bytes::from_static(record.as_bytes()))
+    fs::remove_dir_all(&rt, path)?;
+    Ok(())
+}
+
+// What is gathered is written before an edit is, and once it is 64 KiB.
+#[test]
+fn gathered_records_are_written(rt: HostRuntime) -> Result<(), Fail> {
+    let path = "lsm_file_vault_gathered";
+    let _ = fs::remove_dir_all(&rt, path);
+    let mut vault = open_with(&rt, path, LogSync::Gathered)?.vault;
+    log_all(&mut vault, &["one", "two"])?;
+    vault.append_edit(Bytes::from_static(b"edit"))?;
+    log_all(&mut vault, &["lost"])?;
+    drop(vault);
+    let mut vault = open_with(&rt, path, LogSync::Gathered)?.vault;
+    let told = told_log(rt.alloc(), &mut vault)?;
+    assert!(rt; told.as_slice() == b",one,two".as_slice(), "{told:?}");
+    let mut large = Vec::new(rt.alloc());
+    large.resize(65_536, b'x')?;
+    log_all(&mut vault, &["three"])?;
+    vault.append_log(Bytes::from_vec(large)?)?;
+    log_all(&mut vault, &["lost"])?;
+    drop(vault);
+    let mut vault = open(&rt, path)?.vault;
+    let log = vault.log()?;
+    assert!(rt; log.len() == 4, "{} records", log.len());
+    fs::remove_dir_all(&rt, path)?;
+    Ok(())
+}
+
+/// A change of a log, or a sync of it.
+#[derive(Clone, Copy)]
+enum Change {
+    Append(&'static str),
+    Cut(usize),
+    Sync,
+}
+
+/// Cuts of all records and of a part.
+const CHANGES: [Change; 11] = [
+    Change::Cut(9),
+    Change::Append("one"),
+    Change::Append("two"),
+    Change::Append("three"),
+    Change::Cut(1),
+    Change::Append("four"),
+    Change::Cut(9),
+    Change::Append("five"),
+    Change::Append("six"),
+    Change::Cut(1),
+    Change::Append("seven"),
+];
+
+/// The same, with syncs between them.
+const SYNCED: [Change; 15] = [
+    Change::Cut(9),
+    Change::Append("one"),
+    Change::Append("two"),
+    Change::Sync,
+    Change::Append("three"),
+    Change::Cut(1),
+    Change::Append("four"),
+    Change::Sync,
+    Change::Cut(9),
+    Change::Append("five"),
+    Change::Append("six"),
+    Change::Cut(1),
+    Change::Append("seven"),
+    Change::Sync,
+    Change::Sync,
+];
+
+/// Makes a change of a log.
+fn make_change<V: Vault>(vault: &mut V, change: Change) -> Result<(), VaultError> {
+    match change {
+        Change::Append(record) => vault.append_log(Bytes::from_static(record.as_bytes())),
+        Change::Cut(count) => vault.cut_log(count),
+        Change::Sync => vault.sync_log(),
+    }
 }
 
 /// Makes changes of a log, and prints how each ended. Returns whether each was made.
-fn change_all<V: Vault>(rt: &HostRuntime, vault: &mut V) -> Result<bool, Fail> {
+fn change_all<V: Vault>(rt: &HostRuntime, vault: &mut V, changes: &[Change]) -> Result<bool, Fail> {
     let mut are_made = true;
-    for (record, count) in [
-        ("", 9),
-        ("one", 0),
-        ("two", 0),
-        ("three", 0),
-        ("", 1),
-        ("four", 0),
-        ("", 9),
-        ("five", 0),
-        ("six", 0),
-        ("", 1),
-        ("seven", 0),
-    ] {
-        match change(vault, record, count) {
+    for next in changes {
+        match make_change(vault, *next) {
             Ok(()) => println!(rt; "done")?,
             Err(VaultError::Device) => {
                 are_made = false;
@@ -167,23 +255,48 @@ fn change_all<V: Vault>(rt: &HostRuntime, vault: &mut V) -> Result<bool, Fail> {
     Ok(are_made)
 }
 
-// `tests/crash` stops it at each of its calls on files, and lets such calls fail: so it prints, and begins with what it finds.
+/// Opens a folder, prints what its log has, makes these changes of it, opens the folder again, and prints what its log has then. Returns
+/// whether a change was refused, or the log has what it is to have.
+fn change_in(
+    rt: &HostRuntime,
+    path: &str,
+    log_sync: LogSync,
+    changes: &[Change],
+) -> Result<bool, Fail> {
+    let mut vault = open_with(rt, path, log_sync)?.vault;
+    let found = told_log(rt.alloc(), &mut vault)?;
+    println!(rt; "found {found:?}")?;
+    let are_made = change_all(rt, &mut vault, changes)?;
+    drop(vault);
+    let mut vault = open_with(rt, path, log_sync)?.vault;
+    let found = told_log(rt.alloc(), &mut vault)?;
+    println!(rt; "found {found:?}")?;
+    let is_right = !are_made || found.as_slice() == b",six,seven".as_slice();
+    if is_right {
+        fs::remove_dir_all(rt, path)?;
+    }
+    Ok(is_right)
+}
+
+// `tests/crash` stops these three at each of their calls on files, and lets such calls fail: so they print, and begin with what they find.
 #[test]
 fn a_log_is_changed(rt: HostRuntime) -> Result<(), Fail> {
     let path = "lsm_file_vault_changes";
-    let mut vault = open(&rt, path)?.vault;
-    let found = told_log(rt.alloc(), &mut vault)?;
-    println!(rt; "found {found:?}")?;
-    let are_made = change_all(&rt, &mut vault)?;
-    drop(vault);
-    let mut vault = open(&rt, path)?.vault;
-    let found = told_log(rt.alloc(), &mut vault)?;
-    println!(rt; "found {found:?}")?;
-    assert!(rt;
-        !are_made || found.as_slice() == b",six,seven".as_slice(),
-        "{found:?}"
-    );
-    fs::remove_dir_all(&rt, path)?;
+    assert!(rt; change_in(&rt, path, LogSync::Each, &CHANGES)?);
+    Ok(())
+}
+
+#[test]
+fn a_log_is_changed_and_synced_when_asked(rt: HostRuntime) -> Result<(), Fail> {
+    let path = "lsm_file_vault_changes_asked";
+    assert!(rt; change_in(&rt, path, LogSync::Asked, &SYNCED)?);
+    Ok(())
+}
+
+#[test]
+fn a_log_is_changed_and_gathered(rt: HostRuntime) -> Result<(), Fail> {
+    let path = "lsm_file_vault_changes_gathered";
+    assert!(rt; change_in(&rt, path, LogSync::Gathered, &SYNCED)?);
     Ok(())
 }
 
