@@ -193,6 +193,15 @@ impl<V: Vault> Coord<V> {
         self.versions.edits()
     }
 
+    /// Makes the records of the vault's log durable, where the vault did not as each was appended: once it is `Ok`, every operation up
+    /// to the last sequence is. After a refusal those since the last such call may not be, though they are read.
+    pub fn sync_log(&mut self) -> Result<(), VaultError>
+        ensures same { self.new ≡ record self.old { failures = self.new.failures } }
+        ensures counted { CountsFailures result self.old.failures self.new.failures }
+    {
+        self.versions.sync_log()
+    }
+
     /// Ends it, and hands the vault back, whose log has what was not flushed. Snapshots are lost, and all claims are stale.
     pub fn close(self) -> V
         ensures vault { V.stored result ≡ self.stored }

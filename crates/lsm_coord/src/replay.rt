@@ -112,7 +112,7 @@ impl Replayed {
         if self.active.weight() + batch.weight() > MAX_MEMTABLE_WEIGHT {
             return Err(OpenError::BadLog);
         }
-        self.active.apply(first, batch)?;
+        let _logged = self.active.apply(first, batch)?;
         self.last = Some(Seq::new(end));
         self.read += 1;
         Ok(())

@@ -105,11 +105,11 @@ abbrev pub OfCoord : (CoordError → Type 0) → StoreError → Type 0
 OfCoord reason (Coord e) = reason e
 OfCoord reason (Key e) = ⊥
 
--- why the edits of the vault are not read: memory runs out, or the device fails
-abbrev pub EditsRefuse : CoordValue → CoordValue → CoordError → Type 0
-EditsRefuse old new coord.OutOfMemory = Unit {0}
-EditsRefuse old new coord.Device = old.failures < new.failures
-EditsRefuse old new e = ⊥
+-- why the vault refuses to tell its edits, or to sync its log: memory runs out, or the device fails
+abbrev pub VaultRefuses : CoordValue → CoordValue → CoordError → Type 0
+VaultRefuses old new coord.OutOfMemory = Unit {0}
+VaultRefuses old new coord.Device = old.failures < new.failures
+VaultRefuses old new e = ⊥
 
 -- ---- flushes and compactions before a write
 

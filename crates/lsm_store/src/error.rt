@@ -5,7 +5,8 @@ use lsm_key::KeyError;
 use std::alloc::{AllocError, AllocFailed};
 use thiserror::Error;
 
-/// Why a store refuses a call. It holds what it held before, so that the call can be tried again.
+/// Why a store refuses a call. It holds what it held before, and the call can be tried again; after a refused sync a vault may refuse
+/// each further one.
 #[derive(Clone, Copy, Debug, PartialEq, Eq, Error)]
 pub enum StoreError {
     /// A key or a value is outside its limits. Never for want of memory.

@@ -4,7 +4,7 @@
 //! its flushes and compactions inside its calls. It promises what it holds by the operations that it has accepted: what is
 //! answered `Ok` is in the store, reads answer by it, and a call that is refused leaves it as it was. `compact_once` is one
 //! compaction, the pick, the merge and the install of one job: it changes no read, and leaves no claim behind, whatever is
-//! refused. It stands on the coordinator and on the merge.
+//! refused. When a write is synced is a matter of the vault, and `Store::sync` asks it to. It stands on the coordinator and on the merge.
 #![tactic(auto)]
 
 mod compact;

@@ -1,6 +1,7 @@
 //! Compactions: which version and files they make, and that reads stay.
 
 mod restarts;
+mod syncs;
 
 use bytes::Bytes;
 use lsm_claim::Claim;

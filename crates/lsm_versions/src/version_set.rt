@@ -232,6 +232,14 @@ impl<V: Vault> VersionSet<V> {
         self.vault.cut_log(count)
     }
 
+    /// Makes the records of the vault's log durable, where the vault did not as each was appended.
+    pub fn sync_log(&mut self) -> Result<(), VaultError>
+        ensures same { self.new ≡ record self.old { failures = self.new.failures } }
+        ensures counted { CountsFailures result self.old.failures self.new.failures }
+    {
+        self.vault.sync_log()
+    }
+
     /// The edit that makes the version after this one, from the floor on. It is within the grammar.
     pub fn edit_after(&self, number: VersionNumber) -> Result<Edit, AllocError>
         requires from { self.now.floor ≤ number + 1 }

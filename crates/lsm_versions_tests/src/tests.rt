@@ -155,8 +155,8 @@ fn a_vault_is_read_before_it_is_changed(rt: HostRuntime) -> Result<(), Fail> {
 
 #[test]
 fn a_log_outlives_an_opening_and_is_cut(rt: HostRuntime) -> Result<(), Fail> {
-    // Two calls of the test, five of the opening, and the record that is appended; the next one is refused.
-    let mut vault = vault_of(rt.alloc(), &[EPOCH, FLUSH], OF_A, 8)?;
+    // Two calls of the test, five of the opening, the record that is appended, and its sync; the next call is refused.
+    let mut vault = vault_of(rt.alloc(), &[EPOCH, FLUSH], OF_A, 9)?;
     for record in [b"first".as_slice(), b"second".as_slice()] {
         vault.append_log(Bytes::from_static(record))?;
     }
@@ -164,6 +164,7 @@ fn a_log_outlives_an_opening_and_is_cut(rt: HostRuntime) -> Result<(), Fail> {
         return Err("refused")?;
     };
     versions.append_log(Bytes::from_static(b"third"))?;
+    versions.sync_log()?;
     let refused = versions.append_log(Bytes::from_static(b"fourth"));
     assert!(rt; refused.is_err());
     versions.cut_log(2)?;

@@ -18,6 +18,8 @@ enum Call {
     Install,
     /// The floor rises to version 4, which lists neither input.
     Trim,
+    /// The log is synced.
+    Sync,
     Restart,
 }
 
@@ -28,12 +30,13 @@ const MOST: u64 = 64;
 const OPENING: u64 = 5;
 
 /// What is called, and how often it has to ask the vault: for each table that it puts, reads or removes, for each edit and each record
-/// that it appends, for the edits, the log and the numbers, and for each cut of the log.
-const CALLS: [(Call, u64); 5] = [
+/// that it appends, for the edits, the log and the numbers, and for each cut and each sync of the log.
+const CALLS: [(Call, u64); 6] = [
     (Call::Flush, 4),
     (Call::Flush, 4),
     (Call::Install, 2),
     (Call::Trim, 3),
+    (Call::Sync, 1),
     (Call::Restart, 6),
 ];
 
@@ -76,6 +79,7 @@ fn after(alloc: Global, mut seat: Seat<Fused>, call: Call) -> Result<Seat<Fused>
         Call::Trim => {
             let _trimmed = coord.trim(VersionNumber::new(4))?;
         }
+        Call::Sync => coord.sync_log()?,
         Call::Restart => return restart(alloc, seat),
     }
     Ok(seat)

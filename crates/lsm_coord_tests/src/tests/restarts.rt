@@ -1,5 +1,5 @@
 //! Openings over what a vault has: each write that was answered is found after a restart, and none that was refused, whichever call of
-//! the vault fails; a log without which a vault was written; and logs that are bad.
+//! the vault fails; a sync that is refused; a log without which a vault was written; and logs that are bad.
 
 use bytes::Bytes;
 use lsm_coord::{Coord, CoordError, Seat};
@@ -139,6 +139,22 @@ fn a_write_is_found_after_a_restart_exactly_if_it_was_answered(
         }
     }
     Err("a call fails each time".into())
+}
+
+// An opening asks the vault five times, and a put once.
+#[test]
+fn a_refused_sync_takes_no_write(rt: HostRuntime) -> Result<(), Fail> {
+    let vault = FusedVault::new(MemoryVault::new(rt.alloc()), 6);
+    let mut coord = open(rt.alloc(), vault)?;
+    assert!(rt; put(rt.alloc(), &mut coord)?);
+    let refused = coord.sync_log();
+    assert!(rt; refused.is_err());
+    assert!(rt; has_value(&mut coord, b"a", b"1")?);
+    coord.sync_log()?;
+    let mut vault = coord.close();
+    let log = vault.log()?;
+    assert!(rt; log.len() == 1, "{} records", log.len());
+    Ok(())
 }
 
 /// A vault with the edits of one flush, its table, and a log of these records.

@@ -5,7 +5,7 @@ ghost use Rattle.lsm_key.specs.declared.limits.TheConstants.{MAX_JOB_LEVEL};
 ghost use Rattle.lsm_pick.specs.Due.{is_due};
 ghost use Rattle.lsm_coord.specs.Contract.Calls.{GetRefuses, ScanRefuses};
 ghost use Rattle.lsm_store.specs.Stats.{IsLevelStats, WroteBytes};
-ghost use Rattle.lsm_store.specs.Store.{EditsRefuse, IsLatestSequence, Keeps, OfCoord, ReadsRange, ReadsValue, stored_count};
+ghost use Rattle.lsm_store.specs.Store.{IsLatestSequence, Keeps, OfCoord, ReadsRange, ReadsValue, VaultRefuses, stored_count};
 
 use super::Store;
 use crate::stats::stats_of;
@@ -85,7 +85,7 @@ impl<V: Vault> Store<V> {
         ensures ok { IfOk result (WroteBytes self.old.stored.edits) }
         ensures keeps { Keeps self.old self.new }
         ensures same { self.new ≡ record self.old { failures = self.new.failures } }
-        ensures refused { IfErr result (OfCoord (EditsRefuse self.old self.new)) }
+        ensures refused { IfErr result (OfCoord (VaultRefuses self.old self.new)) }
     {
         let edits = self.edits()?;
         let written = Written::by_edits(self.alloc, &edits)?;
@@ -96,7 +96,7 @@ impl<V: Vault> Store<V> {
     fn edits(&mut self) -> Result<Vec<Bytes>, CoordError>
         ensures ok { IfOk result (λ edits. edits.items ≡ self.old.stored.edits) }
         ensures same { self.new ≡ record self.old { failures = self.new.failures } }
-        ensures refused { IfErr result (EditsRefuse self.old self.new) }
+        ensures refused { IfErr result (VaultRefuses self.old self.new) }
     {
         let edits = self.coord.edits()?;
         Ok(edits)

@@ -4,7 +4,7 @@ ghost use Rattle.std.specs.Prelude.{◌≡◌, ◌∷◌, ◌≤◌, [], None, I
 ghost use Rattle.lsm_key.specs.declared.op.Op.TheVariants.{Delete, Put};
 ghost use Rattle.lsm_key.specs.Limits.{push_fault};
 ghost use Rattle.lsm_coord.specs.Contract.Calls.{AppendRefuses, write_fault};
-ghost use Rattle.lsm_store.specs.Store.{Accepts, CanWrite, CompactsIfFull, EmptiesMemtable, FlushNextRefuses, FlushesNext, IsNoneDue, Keeps, LeavesNoneDue, OfCoord, OpRefuses, RoomRefuses, StoreFlushRefuses, Stores, WriteRefuses};
+ghost use Rattle.lsm_store.specs.Store.{Accepts, CanWrite, CompactsIfFull, EmptiesMemtable, FlushNextRefuses, FlushesNext, IsNoneDue, Keeps, LeavesNoneDue, OfCoord, OpRefuses, RoomRefuses, StoreFlushRefuses, Stores, VaultRefuses, WriteRefuses};
 
 use super::Store;
 use crate::StoreError;
@@ -126,5 +126,29 @@ impl<V: Vault> Store<V> {
             return Ok(());
         }
         Err(why)
+    }
+
+    /// Has the vault sync what its log has, so that once it is `Ok` a power cut takes no operation up to the latest sequence. A vault
+    /// that syncs each record as it is appended has nothing to do. It changes nothing that the store holds. If it is refused, all
+    /// operations are read on, but what was written since the last sync may be lost with the process; a vault may then refuse writes
+    /// and flushes until the store is opened again.
+    pub fn sync(&mut self) -> Result<(), StoreError>
+        ensures same { self.new ≡ record self.old { failures = self.new.failures } }
+        ensures keeps { Keeps self.old self.new }
+        ensures counted { self.old.failures ≤ self.new.failures }
+        ensures refused { IfErr result (OfCoord (VaultRefuses self.old self.new)) }
+    {
+        self.sync_log()?;
+        Ok(())
+    }
+
+    // Has the vault sync its log.
+    fn sync_log(&mut self) -> Result<(), CoordError>
+        ensures same { self.new ≡ record self.old { failures = self.new.failures } }
+        ensures counted { self.old.failures ≤ self.new.failures }
+        ensures refused { IfErr result (VaultRefuses self.old self.new) }
+    {
+        self.coord.sync_log()?;
+        Ok(())
     }
 }
