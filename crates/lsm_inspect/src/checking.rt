@@ -5,7 +5,9 @@ ghost use Rattle.std.specs.FinMap as map;
 ghost use Rattle.lsm_versions.specs.Manifest.{Folds};
 ghost use Rattle.lsm_versions.specs.Opening.{HaveTables};
 ghost use Rattle.lsm_inspect.specs.Check.{CheckRefuses, Finds, IsFinding, IsWhole, items_of, unneeded_numbers};
+ghost use Rattle.lsm_inspect.specs.Log.{HoldsSoMany, IsLogDamage};
 
+use crate::reading::find_in_log;
 use crate::table::table_of;
 use crate::{Finding, InspectError, Report};
 use lsm_edit::{FileMeta, Version};
@@ -15,7 +17,7 @@ use lsm_versions::replay;
 use std::alloc::{AllocError, Global};
 
 /// Replays the edits of a folder, and reads each table of the version that they make to its end. Each file whose table is not as
-/// its record says is a finding. Without edits there is no file. The records of the log are counted, and not read.
+/// its record says is a finding. Without edits there is no file. Reads the log over what is flushed, up to what is wrong with it.
 pub fn check(alloc: Global, contents: &Contents) -> Result<Report, InspectError>
     ensures version { IfOk result (λ r. Folds contents.now.edits.items r.version) }
     ensures found { IfOk result (λ r. Finds contents.now.tables contents.now.damaged_tables.items r.version.files r.findings.items) }
@@ -26,12 +28,17 @@ pub fn check(alloc: Global, contents: &Contents) -> Result<Report, InspectError>
     ensures beside { IfOk result (λ r. r.damaged_unneeded.items ≡ unneeded_numbers r.version.files contents.now.damaged_tables.items) }
     ensures torn { IfOk result (λ r. r.torn_bytes ≡ contents.now.torn_bytes) }
     ensures log { IfOk result (λ r. r.log_records ≡ length contents.now.log.items) }
+    ensures log_damage { IfOk result (λ r. IfSome r.log_damage (IsLogDamage r.version.flushed contents.now.log.items)) }
+
+    // Without damage the log is not in the way of an opening.
+    ensures held { IfOk result (λ r. IfNone r.log_damage (HoldsSoMany r.version.flushed contents.now.log.items r.log_above)) }
     ensures torn_log { IfOk result (λ r. r.torn_log_bytes ≡ contents.now.torn_log_bytes) }
     ensures refused { IfErr result (CheckRefuses contents.now.edits.items) }
 {
     let lost_files = contents.lost_files.clone()?;
     let version = version_of(alloc, contents)?;
     let findings = findings_of(alloc, contents, version.files())?;
+    let in_log = find_in_log(alloc, version.flushed(), contents.log.as_slice())?;
     let unneeded = unneeded_of(&version, contents.tables.numbers(alloc)?);
     let damaged = Vec::from_slice(alloc, contents.damaged_tables.as_slice())?;
     let damaged_unneeded = unneeded_of(&version, damaged);
@@ -42,7 +49,9 @@ pub fn check(alloc: Global, contents: &Contents) -> Result<Report, InspectError>
         damaged_unneeded,
         torn_bytes: contents.torn_bytes,
         log_records: contents.log.len(),
+        log_above: in_log.above,
         log_bytes: contents.log_bytes,
+        log_damage: in_log.damage,
         torn_log_bytes: contents.torn_log_bytes,
         lost_files,
     })

@@ -1,5 +1,6 @@
-//! What may be wrong with the table of a file.
+//! What may be wrong with the table of a file, or with the log.
 
+use lsm_edit::FormatFault;
 use lsm_key::FileNumber;
 use lsm_table::TableFault;
 use std::fmt;
@@ -39,4 +40,30 @@ impl fmt::Display for Finding {
         let damage = self.damage;
         write!(f, "file {file}: {damage}")
     }
+}
+
+/// What is wrong with the log over the flushed sequence: the first that a reading of it meets.
+#[derive(Clone, Copy, Debug, PartialEq, Eq, Error)]
+pub enum LogDamage {
+    #[error("the bytes of a record are none: {0:?}")]
+    NoRecord(FormatFault),
+    /// A write that is first begins later than right after the flushed sequence, or a freeze is first.
+    #[error("it does not begin with the writes after what is flushed")]
+    BeginsLate,
+    /// The last sequence of a write, and the first one of the next.
+    #[error("a write ends at {0}, and the next one begins at {1}")]
+    LeavesGap(u64, u64),
+    /// The first sequence of a write that has some up to the flushed one, and some above it.
+    #[error("the write at {0} is flushed in part")]
+    Straddles(u64),
+    /// The last sequence of a write, and that of a freeze behind it.
+    #[error("a write ends at {0}, and the freeze behind it is at {1}")]
+    FreezesElsewhere(u64, u64),
+    #[error("two freezes are above what is flushed")]
+    FreezesTwice,
+    /// The last sequence of the last write.
+    #[error("it ends at {0}, before what is flushed does")]
+    EndsEarly(u64),
+    #[error("a memtable of it is too heavy")]
+    IsHeavy,
 }

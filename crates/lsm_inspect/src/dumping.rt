@@ -1,17 +1,19 @@
-//! The entries of a store, as text.
+//! The entries of a store, and the records of its log, as text.
 
-ghost use Rattle.std.specs.Prelude.{◌≡◌, length, IfErr, IfOk};
+ghost use Rattle.std.specs.Prelude.{◌≡◌, length, IfErr, IfNone, IfOk, IfSome};
 ghost use Rattle.std.specs.FinMap as map;
 ghost use Rattle.lsm_versions.specs.Manifest.{Folds};
 ghost use Rattle.lsm_inspect.specs.Check.{DumpRefuses, Finds, IsWriteError, unneeded_numbers};
+ghost use Rattle.lsm_inspect.specs.Log.{HoldsSoMany, IsLogDamage};
 
 use crate::checking::check;
 use crate::table::table_of;
 use crate::{InspectError, Report};
-use lsm_edit::FileMeta;
+use bytes::Bytes;
+use lsm_edit::{FileMeta, LogRecord, decode_log};
 use lsm_file_vault::Contents;
 use lsm_key::{EntryRef, Kind, NUM_LEVELS, Refused};
-use lsm_script::Word;
+use lsm_script::{Operations, Word};
 use lsm_table::Table;
 use std::alloc::Global;
 use std::fmt;
@@ -31,11 +33,36 @@ pub fn dump<W: Write + Drop>(
     ensures beside { IfOk result (λ r. r.damaged_unneeded.items ≡ unneeded_numbers r.version.files contents.now.damaged_tables.items) }
     ensures torn { IfOk result (λ r. r.torn_bytes ≡ contents.now.torn_bytes) }
     ensures log { IfOk result (λ r. r.log_records ≡ length contents.now.log.items) }
+    ensures log_damage { IfOk result (λ r. IfSome r.log_damage (IsLogDamage r.version.flushed contents.now.log.items)) }
+    ensures held { IfOk result (λ r. IfNone r.log_damage (HoldsSoMany r.version.flushed contents.now.log.items r.log_above)) }
     ensures torn_log { IfOk result (λ r. r.torn_log_bytes ≡ contents.now.torn_log_bytes) }
     ensures refused { IfErr result (DumpRefuses contents.now.edits.items) }
 {
     let report = check(alloc, contents)?;
     write_all(alloc, contents, report.version.files(), out)?;
+    Ok(report)
+}
+
+/// Writes a line for each record of the log: `write FIRST-LAST` with its operations as a script has them behind `batch`, or
+/// `freeze SEQ`. A record whose bytes are none is left out. Returns what a check finds.
+pub fn dump_log<W: Write + Drop>(
+    alloc: Global,
+    contents: &Contents,
+    out: W,
+) -> Result<Report, InspectError>
+    ensures version { IfOk result (λ r. Folds contents.now.edits.items r.version) }
+    ensures found { IfOk result (λ r. Finds contents.now.tables contents.now.damaged_tables.items r.version.files r.findings.items) }
+    ensures unneeded { IfOk result (λ r. r.unneeded.items ≡ unneeded_numbers r.version.files (map.keys contents.now.tables)) }
+    ensures beside { IfOk result (λ r. r.damaged_unneeded.items ≡ unneeded_numbers r.version.files contents.now.damaged_tables.items) }
+    ensures torn { IfOk result (λ r. r.torn_bytes ≡ contents.now.torn_bytes) }
+    ensures log { IfOk result (λ r. r.log_records ≡ length contents.now.log.items) }
+    ensures log_damage { IfOk result (λ r. IfSome r.log_damage (IsLogDamage r.version.flushed contents.now.log.items)) }
+    ensures held { IfOk result (λ r. IfNone r.log_damage (HoldsSoMany r.version.flushed contents.now.log.items r.log_above)) }
+    ensures torn_log { IfOk result (λ r. r.torn_log_bytes ≡ contents.now.torn_log_bytes) }
+    ensures refused { IfErr result (DumpRefuses contents.now.edits.items) }
+{
+    let report = check(alloc, contents)?;
+    write_records(alloc, contents.log.as_slice(), out)?;
     Ok(report)
 }
 
@@ -121,6 +148,61 @@ impl fmt::Display for EntryLine<'_> {
                 write!(f, "put {value}")
             }
             Kind::Delete => f.write_str("del"),
+        }
+    }
+}
+
+// The records of a log.
+fn write_records<W: Write + Drop>(
+    alloc: Global,
+    texts: &[Bytes],
+    out: W,
+) -> Result<(), InspectError>
+    ensures { IfErr result IsWriteError }
+{
+    let mut out = BufWriter::new(alloc, out)?;
+    for text in texts {
+        write_record(alloc, text, &mut out)?;
+    }
+    out.flush()?;
+    Ok(())
+}
+
+// A record, unless its bytes are none.
+fn write_record<W: Write>(alloc: Global, text: &Bytes, out: &mut W) -> Result<(), InspectError>
+    ensures { IfErr result IsWriteError }
+{
+    match decode_log(alloc, text.clone()?) {
+        Ok(logged) => Ok(write_logged(&logged, out)?),
+        Err(Refused::Fault(_)) => Ok(()),
+        Err(Refused::OutOfMemory) => Err(InspectError::OutOfMemory),
+    }
+}
+
+// The line of a record.
+fn write_logged<W: Write>(logged: &LogRecord, out: &mut W) -> io::Result<()> {
+    let line = RecordLine(logged);
+    writeln!(out, "{line}")
+}
+
+// A record of a log.
+#[derive(Clone, Copy)]
+struct RecordLine<'a>(&'a LogRecord);
+
+impl fmt::Display for RecordLine<'_> {
+    fn fmt<W: fmt::Write>(&self, f: &mut fmt::Formatter<W>) -> fmt::Result {
+        match self.0 {
+            LogRecord::Write(first, batch) => {
+                let ops = batch.ops();
+                let first = first.number();
+                let last = first.saturating_add((ops.len() as u64).saturating_sub(1));
+                let words = Operations(ops);
+                write!(f, "write {first}-{last}{words}")
+            }
+            LogRecord::Freeze(at) => {
+                let at = at.number();
+                write!(f, "freeze {at}")
+            }
         }
     }
 }

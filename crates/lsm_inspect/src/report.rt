@@ -1,9 +1,9 @@
 //! What a check found.
 
-ghost use Rattle.std.specs.Prelude.{◌==◌, ◌≡◌, ◌&&◌, length};
+ghost use Rattle.std.specs.Prelude.{◌==◌, ◌≡◌, ◌&&◌, is_none, length};
 ghost use Rattle.lsm_store.specs.Stats.{IsLevelStats};
 
-use crate::Finding;
+use crate::{Finding, LogDamage};
 use lsm_edit::Version;
 use lsm_key::{FileNumber, NUM_LEVELS};
 use lsm_store::{LevelStats, stats_of};
@@ -22,15 +22,19 @@ pub struct Report {
     pub unneeded: Vec<FileNumber>,
     /// The damaged tables that no file of the version needs, in no order. A folder that has one is not opened.
     pub damaged_unneeded: Vec<FileNumber>,
-    /// How many bytes behind the last whole edit are none: what a stop in the middle of an append has left, or a last edit that is
-    /// damaged. An opening goes on without them, and loses neither them nor a table.
+    /// How many bytes behind the last whole edit are none: what a stop has left of an append that was not synced, or a last edit that
+    /// is damaged. An opening goes on without them, and loses neither them nor a table.
     pub torn_bytes: u64,
     /// How many records the log has.
     pub log_records: usize,
+    /// How many operations they have above the flushed sequence, up to what is wrong with the log.
+    pub log_above: u64,
     /// How many bytes they take in its file, with their frames.
     pub log_bytes: u64,
-    /// How many bytes behind the last whole log record are none: what a stop in the middle of an append has left, or a last record that
-    /// is damaged. An opening goes on without them, and does not lose them.
+    /// What is wrong with the log over the flushed sequence. With it an opening is refused.
+    pub log_damage: Option<LogDamage>,
+    /// How many bytes behind the last whole log record are none: what a stop has left of appends that were not synced, or a last
+    /// record that is damaged. An opening goes on without them, and does not lose them.
     pub torn_log_bytes: u64,
     /// The names of the files that openings have set aside.
     pub lost_files: Vec<String>,
@@ -39,10 +43,11 @@ pub struct Report {
 impl Report {
     /// Whether nothing is damaged or torn.
     pub fn is_whole(&self) -> bool
-        ensures { result ≡ (length self.now.findings.items == 0 && length self.now.damaged_unneeded.items == 0 && self.now.torn_bytes == 0 && self.now.torn_log_bytes == 0) }
+        ensures { result ≡ (length self.now.findings.items == 0 && length self.now.damaged_unneeded.items == 0 && is_none self.now.log_damage && self.now.torn_bytes == 0 && self.now.torn_log_bytes == 0) }
     {
         self.findings.is_empty()
             && self.damaged_unneeded.is_empty()
+            && self.log_damage.is_none()
             && self.torn_bytes == 0
             && self.torn_log_bytes == 0
     }
@@ -52,6 +57,11 @@ impl Report {
         self.findings
             .len()
             .saturating_add(self.damaged_unneeded.len())
+    }
+
+    // Whether an opening is refused for what is damaged.
+    fn is_refused(&self) -> bool {
+        self.damaged_tables() > 0 || self.log_damage.is_some()
     }
 
     /// What keeps it from being whole, as text.
@@ -80,8 +90,8 @@ impl fmt::Display for Report {
     }
 }
 
-/// What keeps a store from being whole: a line for each file with a finding, for each damaged table that no file needs, for the bytes
-/// behind the last whole edit, and for those behind the last whole log record.
+/// What keeps a store from being whole: a line for each file with a finding, for each damaged table that no file needs, for what is wrong
+/// with the log, for the bytes behind the last whole edit, and for those behind the last whole log record.
 #[derive(Clone, Copy)]
 pub struct Faults<'a> {
     report: &'a Report,
@@ -100,8 +110,17 @@ fn write_faults<W: fmt::Write>(f: &mut fmt::Formatter<W>, report: &Report) -> fm
         report.damaged_unneeded.as_slice(),
         "its bytes are not those that were written, and no file needs it",
     )?;
+    write_log_damage(f, report)?;
     write_torn(f, report)?;
     write_torn_log(f, report)
+}
+
+// A line for what is wrong with the log.
+fn write_log_damage<W: fmt::Write>(f: &mut fmt::Formatter<W>, report: &Report) -> fmt::Result {
+    match report.log_damage {
+        Some(damage) => writeln!(f, "the log is bad: {damage}; an opening is refused"),
+        None => Ok(()),
+    }
 }
 
 // A line for the bytes behind the last whole edit, and for what an opening does about them.
@@ -114,7 +133,7 @@ fn write_torn<W: fmt::Write>(f: &mut fmt::Formatter<W>, report: &Report) -> fmt:
         f,
         "the last edit is torn or damaged: {torn} bytes; an opening "
     )?;
-    if report.damaged_tables() > 0 {
+    if report.is_refused() {
         return f.write_str("is refused\n");
     }
     f.write_str("sets aside ")?;
@@ -136,7 +155,7 @@ fn write_torn_log<W: fmt::Write>(f: &mut fmt::Formatter<W>, report: &Report) -> 
         f,
         "the last log record is torn or damaged: {torn} bytes; an opening "
     )?;
-    if report.damaged_tables() > 0 {
+    if report.is_refused() {
         f.write_str("is refused\n")
     } else {
         f.write_str("sets them aside\n")
@@ -171,8 +190,12 @@ fn write_log<W: fmt::Write>(f: &mut fmt::Formatter<W>, report: &Report) -> fmt::
     if report.log_records == 0 {
         return Ok(());
     }
-    let (records, bytes) = (report.log_records, report.log_bytes);
-    writeln!(f, "log {records} records {bytes} bytes")
+    let (records, above, bytes) = (report.log_records, report.log_above, report.log_bytes);
+    let flushed = report.version.flushed().number();
+    writeln!(
+        f,
+        "log {records} records, {above} operations above {flushed}, {bytes} bytes"
+    )
 }
 
 // A line for each finding.
@@ -210,6 +233,9 @@ fn write_sum<W: fmt::Write>(f: &mut fmt::Formatter<W>, report: &Report) -> fmt::
     }
     let damaged = report.damaged_tables();
     write!(f, "{damaged} damaged")?;
+    if report.log_damage.is_some() {
+        f.write_str(", the log bad")?;
+    }
     if report.torn_bytes > 0 {
         f.write_str(", the last edit not whole")?;
     }

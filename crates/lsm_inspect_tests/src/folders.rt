@@ -2,7 +2,7 @@
 
 use bytes::Bytes;
 use lsm_file_vault::{Contents, open};
-use lsm_inspect::{check, dump};
+use lsm_inspect::{check, dump, dump_log};
 use lsm_store::{Options, Store, StoreError};
 use lsm_vault::{Vault, VaultError};
 use std::alloc::Global;
@@ -61,11 +61,27 @@ pub fn make_store(rt: &HostRuntime, path: &str) -> Result<(), Fail> {
     Ok(())
 }
 
-/// Adds two records to the log of a store, of one byte and of two.
-pub fn add_log(rt: &HostRuntime, path: &str) -> Result<(), Fail> {
+/// The records of writes after the flushed ones of a store: `put c 3`, of 22 bytes, and `batch del a put d %20`, of 26.
+pub const WRITE_4: &[u8] = b"\x01\0\0\0\0\0\0\0\x04\0\0\0\x01\x01\0\x01c\0\0\0\x013";
+
+pub const WRITE_5: &[u8] = b"\x01\0\0\0\0\0\0\0\x05\0\0\0\x02\0\0\x01a\x01\0\x01d\0\0\0\x01 ";
+
+/// That of a freeze at the last of these, of 9 bytes.
+pub const FREEZE_6: &[u8] = b"\x02\0\0\0\0\0\0\0\x06";
+
+/// A write of a flushed operation, and one of two of which the first is flushed.
+pub const WRITE_1: &[u8] = b"\x01\0\0\0\0\0\0\0\x01\0\0\0\x01\0\0\x01a";
+
+pub const WRITE_3: &[u8] = b"\x01\0\0\0\0\0\0\0\x03\0\0\0\x02\0\0\x01a\0\0\x01b";
+
+/// A byte that is no record.
+pub const NONE: &[u8] = b"\x03";
+
+/// Adds records to the log of a store.
+pub fn add_log(rt: &HostRuntime, path: &str, records: &[&'static [u8]]) -> Result<(), Fail> {
     let mut vault = open(rt, path)?.vault;
-    for record in ["1", "23"] {
-        append_log(&mut vault, Bytes::from_static(record.as_bytes()))?;
+    for record in records {
+        append_log(&mut vault, Bytes::from_static(record))?;
     }
     Ok(())
 }
@@ -94,6 +110,19 @@ pub fn checked(rt: &HostRuntime, path: &str) -> Result<String, Fail> {
     Ok(format!(in rt.alloc(); "{report}")?)
 }
 
+/// Whether a check says that this is wrong with a log of these records, and nothing else.
+pub fn is_bad(rt: &HostRuntime, records: &[&'static [u8]], damage: &str) -> Result<bool, Fail> {
+    let path = "lsm_inspect_bad_log";
+    make_store(rt, path)?;
+    add_log(rt, path, records)?;
+    let text = checked(rt, path)?;
+    let line = format!(in rt.alloc();
+        "\nthe log is bad: {damage}; an opening is refused\nversion 3 flushed 3: 2 files, 0 damaged, the log bad"
+    )?;
+    fs::remove_dir_all(rt, path)?;
+    Ok(text.as_str().contains(line.as_str()))
+}
+
 /// What a dump of the folder prints, and what keeps it from being whole.
 pub fn dumped(rt: &HostRuntime, path: &str) -> Result<(Vec<u8>, String), Fail> {
     let contents = Contents::read(rt, path)?;
@@ -110,4 +139,13 @@ pub fn change_last_byte(rt: &HostRuntime, file: &str) -> Result<(), Fail> {
     let changed = with_byte_changed(rt.alloc(), bytes.as_slice(), last)?;
     fs::write(rt, file, changed.as_slice())?;
     Ok(())
+}
+
+/// What a dump of the log of the folder prints, and what keeps the folder from being whole.
+pub fn logged(rt: &HostRuntime, path: &str) -> Result<(Vec<u8>, String), Fail> {
+    let contents = Contents::read(rt, path)?;
+    let mut out = Vec::new(rt.alloc());
+    let report = dump_log(rt.alloc(), &contents, &mut out)?;
+    let faults = report.faults();
+    Ok((out, format!(in rt.alloc(); "{faults}")?))
 }

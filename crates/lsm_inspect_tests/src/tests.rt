@@ -1,8 +1,8 @@
 //! What no clause says: the lines of a check and of a dump, and that a byte that is changed in a file is found.
 
 use crate::folders::{
-    add_log, change_last_byte, checked, dumped, make_store, put_byte, remove, table_path,
-    with_byte_changed,
+    FREEZE_6, NONE, WRITE_1, WRITE_3, WRITE_4, WRITE_5, add_log, change_last_byte, checked, dumped,
+    is_bad, logged, make_store, put_byte, remove, table_path, with_byte_changed,
 };
 use std::fs;
 use std::test::Fail;
@@ -92,21 +92,66 @@ fn a_damaged_last_edit_is_reported_with_its_table(rt: HostRuntime) -> Result<(),
 
 // A frame has 16 bytes beside its record.
 #[test]
-fn a_log_is_counted_and_its_torn_record_reported(rt: HostRuntime) -> Result<(), Fail> {
+fn a_log_is_read_and_its_torn_record_reported(rt: HostRuntime) -> Result<(), Fail> {
     let path = "lsm_inspect_log";
     make_store(&rt, path)?;
-    add_log(&rt, path)?;
+    add_log(&rt, path, &[WRITE_4, WRITE_5, FREEZE_6])?;
     let text = checked(&rt, path)?;
     let wanted =
-        "L0 2 files 114 bytes 3 entries\nlog 2 records 35 bytes\nversion 3 flushed 3: 2 files, no damage";
+        "L0 2 files 114 bytes 3 entries\nlog 3 records, 3 operations above 3, 105 bytes\nversion 3 flushed 3: 2 files, no damage";
     assert!(rt; text.as_str() == wanted, "{text}");
+    let (text, faults) = logged(&rt, path)?;
+    let wanted = "write 4-4 put c 3\nwrite 5-6 del a put d %20\nfreeze 6\n";
+    assert!(rt; text.as_slice() == wanted.as_bytes(), "{text:?}");
+    assert!(rt; faults.is_empty(), "{faults}");
     put_byte(&rt, "lsm_inspect_log/log")?;
     let text = checked(&rt, path)?;
     let wanted =
-        "L0 2 files 114 bytes 3 entries\nlog 2 records 35 bytes\nthe last log record is torn or damaged: 1 bytes; an opening sets them aside\nversion 3 flushed 3: 2 files, 0 damaged, the last log record not whole";
+        "L0 2 files 114 bytes 3 entries\nlog 3 records, 3 operations above 3, 105 bytes\nthe last log record is torn or damaged: 1 bytes; an opening sets them aside\nversion 3 flushed 3: 2 files, 0 damaged, the last log record not whole";
     assert!(rt; text.as_str() == wanted, "{text}");
     let (_text, faults) = dumped(&rt, path)?;
     let wanted = "the last log record is torn or damaged: 1 bytes; an opening sets them aside\n";
+    assert!(rt; faults.as_str() == wanted, "{faults}");
+    fs::remove_dir_all(&rt, path)?;
+    Ok(())
+}
+
+#[test]
+fn a_bad_log_is_reported_by_its_reason(rt: HostRuntime) -> Result<(), Fail> {
+    let late = "it does not begin with the writes after what is flushed";
+    assert!(rt; is_bad(&rt, &[WRITE_5], late)?, "{late}");
+    assert!(rt; is_bad(&rt, &[FREEZE_6], late)?, "{late}");
+    let gap = "a write ends at 4, and the next one begins at 4";
+    assert!(rt; is_bad(&rt, &[WRITE_4, WRITE_4], gap)?, "{gap}");
+    let part = "the write at 3 is flushed in part";
+    assert!(rt; is_bad(&rt, &[WRITE_3], part)?, "{part}");
+    let elsewhere = "a write ends at 4, and the freeze behind it is at 6";
+    assert!(rt;
+        is_bad(&rt, &[WRITE_4, FREEZE_6], elsewhere)?,
+        "{elsewhere}"
+    );
+    let twice = "two freezes are above what is flushed";
+    assert!(rt;
+        is_bad(&rt, &[WRITE_4, WRITE_5, FREEZE_6, FREEZE_6], twice)?,
+        "{twice}"
+    );
+    let early = "it ends at 1, before what is flushed does";
+    assert!(rt; is_bad(&rt, &[WRITE_1], early)?, "{early}");
+    let none = "the bytes of a record are none: BadField";
+    assert!(rt; is_bad(&rt, &[WRITE_4, NONE], none)?, "{none}");
+    Ok(())
+}
+
+#[test]
+fn a_dump_of_a_log_leaves_out_what_is_no_record(rt: HostRuntime) -> Result<(), Fail> {
+    let path = "lsm_inspect_no_record";
+    make_store(&rt, path)?;
+    add_log(&rt, path, &[WRITE_4, NONE, WRITE_5])?;
+    let (text, faults) = logged(&rt, path)?;
+    let wanted = "write 4-4 put c 3\nwrite 5-6 del a put d %20\n";
+    assert!(rt; text.as_slice() == wanted.as_bytes(), "{text:?}");
+    let wanted =
+        "the log is bad: the bytes of a record are none: BadField; an opening is refused\n";
     assert!(rt; faults.as_str() == wanted, "{faults}");
     fs::remove_dir_all(&rt, path)?;
     Ok(())
