@@ -1,7 +1,13 @@
 """Redis's protocol, RESP2, as far as tools/redis-mux looks at it: where a request and a reply end, and the first word of a request."""
+import re
 
 # The limits of the program, 'lsmsim serve'.
 MAX_WORDS, MAX_WORD, MAX_REQUEST, MAX_LINE, MAX_HEADER = 2001, 131_072, 4_131_072, 65_536, 32
+
+
+# A line that announces a number of words or of bytes, as nearly all do.
+ANNOUNCES = re.compile(rb"[*$](0|[1-9][0-9]{0,6})\r\n")
+ARRAY, BULK = b"*$"
 
 
 class Fault(Exception):
@@ -14,6 +20,9 @@ class Partial(Exception):
 
 def number_at(data, at, mark, most, what):
     """The number of the line at a place, which begins with a mark, and where the next line begins."""
+    found = ANNOUNCES.match(data, at)
+    if found and data[at] == mark and (number := int(found[1])) <= most:
+        return number, found.end()
     end = data.find(b"\r\n", at, at + MAX_HEADER)
     if end < 0:
         if len(data) - at >= MAX_HEADER:
@@ -44,14 +53,14 @@ def request_at(data):
     """The first word of the request ahead, or None if it has no words, its bytes, and its end."""
     if not data:
         raise Partial(1)
-    if data[0] != ord("*"):
+    if data[0] != ARRAY:
         return inline_at(data)
-    count, here = number_at(data, 0, ord("*"), MAX_WORDS, "invalid multibulk length")
+    count, here = number_at(data, 0, ARRAY, MAX_WORDS, "invalid multibulk length")
     total, first = 0, None
     for _ in range(count):
-        if here < len(data) and data[here] != ord("$"):
+        if here < len(data) and data[here] != BULK:
             raise Fault("expected '$'")
-        size, here = number_at(data, here, ord("$"), MAX_WORD, "invalid bulk length")
+        size, here = number_at(data, here, BULK, MAX_WORD, "invalid bulk length")
         total += size
         if total > MAX_REQUEST:
             raise Fault("too big request")

@@ -31,10 +31,10 @@ SOON = 20
 class Muxed:
     """A multiplexer over a stand-in, in a folder: the port, its process, and what the stand-in got so far."""
 
-    def __init__(self, room, *options, is_gated=False, limits=""):
+    def __init__(self, room, *options, is_gated=False, limits="", program=(sys.executable, str(HERE / "stand_in.py"))):
         self.room, self.log, self.err, self.gate = room, f"{room}/log", f"{room}/err", f"{room}/gate"
         self.port = free_port()
-        program = [sys.executable, str(HERE / "stand_in.py"), self.log, *([self.gate] if is_gated else [])]
+        program = [*program, self.log, *([self.gate] if is_gated else [])]
         with open(self.err, "w") as err:
             self.process = subprocess.Popen(["bash", "-c", f'{limits} exec "$@"', "bash", MUX, *options, str(self.port), *program], stderr=err)
         assert waits_until(lambda: self.answers() and self.got()), self.said()
@@ -253,22 +253,31 @@ def in_file_system():
             alone.kill()
 
 
-@case("--save-every saves what was written, and only then")
-def saves():
-    with muxed("--save-every", "0.2") as it:
-        client = it.client()
-        same(client.ask("GET", "a"), None)
-        time.sleep(1)
-        for n in range(2):
-            same(client.ask("SET", "a", "1"), "OK")
-            assert waits_until(lambda: it.count("SAVE 1") > n, SOON), it.got()
-            time.sleep(0.7)
-        same(client.ask("SET", "a", "1"), "OK")
-        same(client.ask("SAVE"), "OK")
-        time.sleep(0.7)
-        client.close()
-        same([line for line in it.got()[1:] if line != "SAVE 1"], ["GET 2"] + ["SET 3"] * 3)
-        assert it.got()[1:6] == ["GET 2", "SET 3", "SAVE 1", "SET 3", "SAVE 1"] and it.count("SAVE 1") in (3, 4), it.got()
+# Answers each read of its input with one write, a while later, and notes how many requests it had.
+IN_TURNS = """
+import os, sys, time
+with open(sys.argv[1], "w", buffering=1) as log:
+    print("pid", os.getpid(), file=log)
+    while asked := os.read(0, 65536):
+        time.sleep(0.02)
+        os.write(1, b"+PONG\\r\\n" * asked.count(b"PING"))
+        print(asked.count(b"PING"), file=log)
+    print("end", file=log)
+"""
+
+
+@case("what waits of all clients is passed on together")
+def together():
+    with muxed(program=[sys.executable, "-c", IN_TURNS]) as it:
+        clients = [it.client() for _ in range(50)]
+        for _ in range(20):
+            for client in clients:
+                client.send(packed("PING"))
+            same([client.reply() for client in clients], ["PONG"] * 50)
+        it.ends()
+        turns = [int(line) for line in it.got()[1:-1]]
+        same(sum(turns), 1000)
+        assert len(turns) < 200, turns
 
 
 @case("what can't be started is a line, and status 1")

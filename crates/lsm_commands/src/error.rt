@@ -1,7 +1,6 @@
 //! Why a command fails.
 
 use lsm_inspect::InspectError;
-use lsm_store::StoreError;
 use std::alloc::AllocError;
 use std::io;
 use thiserror::Error;
@@ -30,9 +29,6 @@ pub enum CommandError {
     /// Standard output or standard error could not be written.
     #[error("write fault")]
     WriteFault,
-    /// The flush at the end is refused. No operation is lost: those since the last flush are in the log alone.
-    #[error("error: not flushed: {0}")]
-    NotFlushed(StoreError),
 }
 
 impl From<lsm_file_vault::OpenError> for CommandError {

@@ -3,11 +3,11 @@
 use crate::error::FAILED;
 use crate::{CommandError, Screen};
 use lsm_file_vault::read;
-use lsm_inspect::{Report, check, dump};
+use lsm_inspect::{Report, check};
 use std::io;
 use std::process::ExitCode;
 
-/// Verifies each file of a folder, and prints what was found. The exit status is 0 only if nothing is damaged.
+/// Verifies each file of a folder, the log over what is flushed too, and prints what was found. The exit status is 0 only if nothing is damaged.
 pub fn check_folder(rt: &HostRuntime, folder: &str) -> ExitCode {
     let screen = Screen::new(rt);
     match print_report(rt, folder, &screen) {
@@ -20,9 +20,28 @@ pub fn check_folder(rt: &HostRuntime, folder: &str) -> ExitCode {
 /// Prints the entries of the tables of a folder, and reports what is damaged there. The exit status is 0 only if nothing is.
 pub fn dump_folder(rt: &HostRuntime, folder: &str) -> ExitCode {
     let screen = Screen::new(rt);
-    match print_entries(rt, folder, &screen) {
-        Ok(true) => ExitCode::SUCCESS,
-        Ok(false) => ExitCode::from(FAILED),
+    let dumped = print_entries(rt, folder);
+    status_of(dumped, &screen)
+}
+
+/// Prints the records of the log of a folder, and reports what is damaged there. The exit status is 0 only if nothing is.
+pub fn dump_log(rt: &HostRuntime, folder: &str) -> ExitCode {
+    let screen = Screen::new(rt);
+    let dumped = print_records(rt, folder);
+    status_of(dumped, &screen)
+}
+
+// The exit status of a dump, of which what is damaged is reported.
+fn status_of(dumped: Result<Report, CommandError>, screen: &Screen<'_>) -> ExitCode {
+    match dumped {
+        Ok(report) => {
+            screen.report_lines(&report.faults());
+            if report.is_whole() {
+                ExitCode::SUCCESS
+            } else {
+                ExitCode::from(FAILED)
+            }
+        }
         Err(error) => screen.fail(&error),
     }
 }
@@ -47,14 +66,14 @@ fn print_report(rt: &HostRuntime, folder: &str, screen: &Screen<'_>) -> Result<b
     Ok(report.is_whole())
 }
 
-// The same, of the entries.
-fn print_entries(
-    rt: &HostRuntime,
-    folder: &str,
-    screen: &Screen<'_>,
-) -> Result<bool, CommandError> {
+// Prints the entries of the tables.
+fn print_entries(rt: &HostRuntime, folder: &str) -> Result<Report, CommandError> {
     let contents = read(rt, folder)?;
-    let report = dump(rt.alloc(), &contents, io::writer(rt))?;
-    screen.report_lines(&report.faults());
-    Ok(report.is_whole())
+    Ok(lsm_inspect::dump(rt.alloc(), &contents, io::writer(rt))?)
+}
+
+// Prints the records of the log.
+fn print_records(rt: &HostRuntime, folder: &str) -> Result<Report, CommandError> {
+    let contents = read(rt, folder)?;
+    Ok(lsm_inspect::dump_log(rt.alloc(), &contents, io::writer(rt))?)
 }

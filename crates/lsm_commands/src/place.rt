@@ -5,7 +5,7 @@ ghost use Rattle.std.specs.Prelude.{◌≡◌, [], IfOk};
 use crate::inspect::report_faults;
 use crate::{CommandError, Screen};
 use lsm_coord::Coord;
-use lsm_file_vault::{FileCall, FileVault, HostFolder, Incidents, OpenError, Opened};
+use lsm_file_vault::{FileCall, FileVault, HostFolder, Incidents, LogSync, OpenError, Opened};
 use lsm_key::Limits;
 use lsm_store::{Options, Store};
 use std::fs;
@@ -37,6 +37,8 @@ pub struct Place<'a> {
     /// The path of the folder.
     pub folder: &'a str,
     pub limits: Limits,
+    /// When its log is synced.
+    pub log_sync: LogSync,
 }
 
 impl Place<'_> {
@@ -92,7 +94,7 @@ impl Place<'_> {
         screen: &Screen<'_>,
     ) -> Result<Opened<HostRuntime>, CommandError> {
         screen.show_opening(self.folder);
-        Ok(lsm_file_vault::open(rt, self.folder)?)
+        Ok(lsm_file_vault::open_with(rt, self.folder, self.log_sync)?)
     }
 
     /// Reports why the folder is not opened, and if its store is refused, why its device failed and what is damaged there. Returns the exit
@@ -115,16 +117,4 @@ fn refused(
 ) -> CommandError {
     screen.report_set_aside(incidents);
     CommandError::Store(why, incidents.take_error())
-}
-
-/// Flushes a store at the end of a command. Returns the exit status of the command, unless the flush is refused.
-pub fn flush_at_end(opened: &mut OpenStore, screen: &Screen<'_>, status: ExitCode) -> ExitCode {
-    match opened.store.flush() {
-        Ok(()) => status,
-        Err(why) => {
-            let status = screen.fail(&CommandError::NotFlushed(why));
-            screen.report_device(&opened.incidents.take_error());
-            status
-        }
-    }
 }

@@ -1,6 +1,6 @@
 //! The command `serve`: requests of Redis clients.
 
-use crate::{CommandError, Place, Screen, check_streams, flush_at_end};
+use crate::{CommandError, Place, Screen, check_streams};
 use lsm_key::Limits;
 use lsm_serve::serve;
 use lsm_store::{Options, Store};
@@ -8,7 +8,8 @@ use lsm_vault::{MemoryVault, Vault};
 use std::io;
 use std::process::ExitCode;
 
-/// Answers the requests of standard input on standard output, to the store of a folder, until the input ends, and flushes the store.
+/// Answers the requests of standard input on standard output, to the store of a folder, until the input ends. What was answered is
+/// synced; the store is not flushed.
 pub fn serve_folder(rt: &HostRuntime, place: Place<'_>) -> ExitCode {
     let screen = Screen::new(rt);
     if let Err(error) = check_streams(rt) {
@@ -20,7 +21,7 @@ pub fn serve_folder(rt: &HostRuntime, place: Place<'_>) -> ExitCode {
     };
     let status = serve_from(rt, &mut opened.store, &screen);
     screen.report_device(&opened.incidents.take_error());
-    flush_at_end(&mut opened, &screen, status)
+    status
 }
 
 /// The same, to a new store in memory, which is lost at the end.

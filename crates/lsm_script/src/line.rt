@@ -51,17 +51,26 @@ impl fmt::Display for At {
     }
 }
 
+/// Operations as a script has them behind the word `batch`: a space and `put K V` or `del K` for each.
+#[derive(Clone, Copy)]
+pub struct Operations<'a>(pub &'a [Op]);
+
+impl fmt::Display for Operations<'_> {
+    fn fmt<W: fmt::Write>(&self, f: &mut fmt::Formatter<W>) -> fmt::Result {
+        for op in self.0 {
+            f.write_str(" ")?;
+            write_op(f, op)?;
+        }
+        Ok(())
+    }
+}
+
 // `put K V` or `del K`, or `batch` and the operations if there is not just one.
 fn write_ops<W: fmt::Write>(f: &mut fmt::Formatter<W>, ops: &[Op]) -> fmt::Result {
     if let [op] = ops {
         return write_op(f, op);
     }
-    f.write_str("batch")?;
-    for op in ops {
-        f.write_str(" ")?;
-        write_op(f, op)?;
-    }
-    Ok(())
+    write!(f, "batch{}", Operations(ops))
 }
 
 // `put K V` or `del K`

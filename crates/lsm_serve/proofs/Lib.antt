@@ -5,4 +5,5 @@ pub mod ReadsSoFar
 pub mod RequestsSoFar
 pub mod ServedReads
 pub mod ServedStreams
+pub mod Syncs
 pub mod WordsSoFar

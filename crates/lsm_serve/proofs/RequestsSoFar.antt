@@ -12,6 +12,7 @@ use Rattle.lsm_serve.specs.declared.http_word.HttpWord.{HttpWord}
 use Rattle.lsm_serve.specs.HttpWords.{BeginsHttp}
 use Rattle.lsm_serve.specs.Serving.{EndsStream, RepliesBefore, RepliesInTurn, RepliesTo, RepliesToSome}
 use Rattle.lsm_serve.specs.ServingSteps.{RepliesSoFar, AreSent, ServedBefore}
+use Rattle.lsm_serve.proofs.Syncs.{may_stay}
 
 abbrev pub Requests : Type 0
 Requests = List (List (List ℕ))
@@ -25,7 +26,7 @@ module _ (old now : CoordValue) (requests left : Requests) (bytes : List ℕ) (a
   -- those that are answered
   pub answered_first : RepliesInTurn old a.done bytes now
   answered_first =
-      let all : RepliesInTurn old (a.done ++ []) (bytes ++ []) now = a.completes [] [] now (refl, refl) in
+      let all : RepliesInTurn old (a.done ++ []) (bytes ++ []) now = a.completes [] [] now (refl, may_stay now) in
       subst (λ (ds : Requests). RepliesInTurn old ds bytes now) (append-nil a.done) (subst (λ (bs : List ℕ). RepliesInTurn old (a.done ++ []) bs now) (append-nil bytes) all)
 
   pub answered_some : (held holds : Option (List ℕ)) → AppendsPart held holds bytes → RepliesToSome old requests held holds now
@@ -44,13 +45,13 @@ module _ (old now mid : CoordValue) (requests left : Requests) (request : List (
     completes = λ more rest new r.
         subst (λ (ds : Requests). RepliesInTurn old ds ((bytes ++ first) ++ rest) new) (sym (append_assoc a.done (request ∷ []) more))
         (subst (λ (bs : List ℕ). RepliesInTurn old (a.done ++ request ∷ more) bs new) (sym (append_assoc bytes first rest))
-        (a.completes (request ∷ more) (first ++ rest) new (first, mid, replies, inr (other, rest, r, refl))));
+        (a.completes (request ∷ more) (first ++ rest) new (now, may_stay now, first, mid, replies, inr (other, rest, r, refl))));
   }
 
   pub answered_last : RepliesTo now request first mid → EndsStream request → RepliesInTurn old requests (bytes ++ first) mid
   answered_last replies ends =
       subst (λ (ds : Requests). RepliesInTurn old ds (bytes ++ first) mid) (sym a.parted)
-      (a.completes (request ∷ left) first mid (first, mid, replies, inl (ends, refl, refl)))
+      (a.completes (request ∷ left) first mid (now, may_stay now, first, mid, replies, inl (ends, refl, may_stay mid)))
 
   -- one more is answered, whose reply is not written
   pub answered_more : (held holds : Option (List ℕ)) → RepliesInTurn now (request ∷ []) first mid → AppendsPart held holds (bytes ++ first) → RepliesToSome old requests held holds mid

@@ -24,6 +24,7 @@ use Rattle.lsm_serve.specs.HttpWords.{BeginsHttp, IsNoHttp}
 use Rattle.lsm_serve.specs.Serving.{EndsStream, IsReplyTo, RepliesInTurn, RepliesTo, RepliesToSome, ServesSome, error_text}
 use Rattle.lsm_serve.specs.ServingSteps.{AnswersOne, RepliesSoFar, AreSent, IsLast, ServedAll, ServedBefore, ServedSoFar}
 use Rattle.lsm_serve.proofs.RequestsSoFar.{Requests, answered_all, answered_last, answered_more, answered_next, answered_none, answered_some, sent_all, sent_more, sent_none, sent_part, sent_part_of_out, sent_so_far}
+use Rattle.lsm_serve.proofs.Syncs.{may_stay}
 
 -- ---- bytes
 
@@ -42,9 +43,9 @@ behind rest later a b len is size within = sym (drop-append-le len rest later wi
 
 -- ---- a request
 
-pub replies_to : (old new : CoordValue) (lent : List (Bor (List ℕ))) (answer : Answer) (bytes : List ℕ) → 0 < length lent → AnswersRequest old (words_of lent) answer new → IsReplyTo answer bytes → IsNoHttp (words_of lent) → RepliesTo old (words_of lent) bytes new
-replies_to old new [] answer bytes some answers is other = absurd (omega (arith, some))
-replies_to old new (name ∷ args) answer bytes some answers is other = (answer, answers, is, other)
+pub replies_to : (synced : ℕ) (old new : CoordValue) (lent : List (Bor (List ℕ))) (answer : Answer) (bytes : List ℕ) → 0 < length lent → AnswersRequest synced old (words_of lent) answer new → IsReplyTo answer bytes → IsNoHttp (words_of lent) → RepliesTo old (words_of lent) bytes new
+replies_to synced old new [] answer bytes some answers is other = absurd (omega (arith, some))
+replies_to synced old new (name ∷ args) answer bytes some answers is other = (synced, answer, answers, is, other)
 
 -- the bytes of an answer, whatever the text of a refusal
 some_reply : (answer : Answer) → (bytes : List ℕ) × IsReplyTo answer bytes
@@ -52,14 +53,14 @@ some_reply (Reply reply) = (reply_bytes reply, refl)
 some_reply (Refused why) = (reply_bytes (reply.Error (error_text [])), ([], refl))
 
 replies_once : (old new : CoordValue) (request : List (List ℕ)) (bytes : List ℕ) (is_last : Bool) → RepliesTo old request bytes new → IsLast is_last request → RepliesInTurn old (request ∷ []) bytes new
-replies_once old new request bytes true replies ends = (bytes, new, replies, inl (ends, refl, refl))
-replies_once old new request bytes false replies other = (bytes, new, replies, inr (other, [], (refl, refl), sym (append-nil bytes)))
+replies_once old new request bytes true replies ends = (old, may_stay old, bytes, new, replies, inl (ends, refl, may_stay new))
+replies_once old new request bytes false replies other = (old, may_stay old, bytes, new, replies, inr (other, [], (refl, may_stay new), sym (append-nil bytes)))
 
 -- a request that is answered, although its reply is not written
-pub answered_only : (old new : CoordValue) (lent : List (Bor (List ℕ))) (answer : Answer) (is_last : Bool) → 0 < length lent → AnswersRequest old (words_of lent) answer new → IsNoHttp (words_of lent) → IsLast is_last (words_of lent) → (bytes : List ℕ) × RepliesInTurn old (words_of lent ∷ []) bytes new
-answered_only old new lent answer is_last some answers other last =
+pub answered_only : (synced : ℕ) (old new : CoordValue) (lent : List (Bor (List ℕ))) (answer : Answer) (is_last : Bool) → 0 < length lent → AnswersRequest synced old (words_of lent) answer new → IsNoHttp (words_of lent) → IsLast is_last (words_of lent) → (bytes : List ℕ) × RepliesInTurn old (words_of lent ∷ []) bytes new
+answered_only synced old new lent answer is_last some answers other last =
     let reply = some_reply answer in
-    (reply.0, replies_once old new (words_of lent) reply.0 is_last (replies_to old new lent answer reply.0 some answers reply.1 other) last)
+    (reply.0, replies_once old new (words_of lent) reply.0 is_last (replies_to synced old new lent answer reply.0 some answers reply.1 other) last)
 
 pub last_is : (is_last : Bool) (request : List (List ℕ)) → (IsTrue is_last ↔ EndsStream request) → IsLast is_last request
 last_is true request e = e.0 refl

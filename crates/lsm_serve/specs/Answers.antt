@@ -189,28 +189,28 @@ Saves old answer new = ⊥
 abbrev pub AnswersSave : CoordValue → List (List ℕ) → Answer → CoordValue → Type 0
 AnswersSave old args answer new = WithSome ((answer ≡ Refused (WrongCount command.Save)) × (new ≡ old)) (Saves old answer new) args
 
--- ---- any request
+-- ---- any request, to a store that was last synced up to a sequence
 
-abbrev pub AnswersCommand : CoordValue → Command → List (List ℕ) → Answer → CoordValue → Type 0
-AnswersCommand old command.Ping args answer new = IsPing args answer × (new ≡ old)
-AnswersCommand old command.Echo args answer new = IsEcho args answer × (new ≡ old)
-AnswersCommand old command.Set args answer new = AnswersSet old args answer new
-AnswersCommand old command.Get args answer new = AnswersGet old args answer new
-AnswersCommand old command.Delete args answer new = AnswersDelete old args answer new
-AnswersCommand old command.Exists args answer new = AnswersExists old args answer new
-AnswersCommand old command.MultiGet args answer new = AnswersGetAll old args answer new
-AnswersCommand old command.MultiSet args answer new = AnswersSetAll old args answer new
-AnswersCommand old command.Range args answer new = AnswersRange old args answer new
-AnswersCommand old command.Save args answer new = AnswersSave old args answer new
-AnswersCommand old command.Info args answer new = IsInfo old answer × (new ≡ old)
-AnswersCommand old command.Describe args answer new = (answer ≡ Reply (Array [])) × (new ≡ old)
-AnswersCommand old command.Config args answer new = IsConfig args answer × (new ≡ old)
-AnswersCommand old command.Select args answer new = IsSelect args answer × (new ≡ old)
-AnswersCommand old command.Quit args answer new = IsQuit args answer × (new ≡ old)
+abbrev pub AnswersCommand : ℕ → CoordValue → Command → List (List ℕ) → Answer → CoordValue → Type 0
+AnswersCommand synced old command.Ping args answer new = IsPing args answer × (new ≡ old)
+AnswersCommand synced old command.Echo args answer new = IsEcho args answer × (new ≡ old)
+AnswersCommand synced old command.Set args answer new = AnswersSet old args answer new
+AnswersCommand synced old command.Get args answer new = AnswersGet old args answer new
+AnswersCommand synced old command.Delete args answer new = AnswersDelete old args answer new
+AnswersCommand synced old command.Exists args answer new = AnswersExists old args answer new
+AnswersCommand synced old command.MultiGet args answer new = AnswersGetAll old args answer new
+AnswersCommand synced old command.MultiSet args answer new = AnswersSetAll old args answer new
+AnswersCommand synced old command.Range args answer new = AnswersRange old args answer new
+AnswersCommand synced old command.Save args answer new = AnswersSave old args answer new
+AnswersCommand synced old command.Info args answer new = IsInfo old synced answer × (new ≡ old)
+AnswersCommand synced old command.Describe args answer new = (answer ≡ Reply (Array [])) × (new ≡ old)
+AnswersCommand synced old command.Config args answer new = IsConfig args answer × (new ≡ old)
+AnswersCommand synced old command.Select args answer new = IsSelect args answer × (new ≡ old)
+AnswersCommand synced old command.Quit args answer new = IsQuit args answer × (new ≡ old)
 
 -- the first word names the command
-abbrev pub AnswersRequest : CoordValue → List (List ℕ) → Answer → CoordValue → Type 0
-AnswersRequest old [] answer new = (answer ≡ Refused UnknownCommand) × (new ≡ old)
-AnswersRequest old (name ∷ args) answer new =
-    ((which : Command) × IsCalled name which × AnswersCommand old which args answer new)
+abbrev pub AnswersRequest : ℕ → CoordValue → List (List ℕ) → Answer → CoordValue → Type 0
+AnswersRequest synced old [] answer new = (answer ≡ Refused UnknownCommand) × (new ≡ old)
+AnswersRequest synced old (name ∷ args) answer new =
+    ((which : Command) × IsCalled name which × AnswersCommand synced old which args answer new)
     ⊎ (IsNoCommand name × (answer ≡ Refused UnknownCommand) × (new ≡ old))

@@ -28,11 +28,11 @@ level_lines files level =
     ++ level_figure_line level (codes "bytes") (saturated_sum (λ f. f.bytes) (of_level level files))
     ++ level_figure_line level (codes "entries") (saturated_sum (λ f. f.entries) (of_level level files))
 
-abbrev pub info_text : ℕ → ℕ → List FileMeta → List ℕ
-info_text last flushed files =
-    codes "# Keyspace" ++ line_end ++ figure_line (codes "last_sequence") last ++ figure_line (codes "flushed_sequence") flushed
+abbrev pub info_text : ℕ → ℕ → ℕ → List FileMeta → List ℕ
+info_text last synced flushed files =
+    codes "# Keyspace" ++ line_end ++ figure_line (codes "last_sequence") last ++ figure_line (codes "synced_sequence") synced ++ figure_line (codes "flushed_sequence") flushed
     ++ flat_map (level_lines files) (0 ∷ 1 ∷ 2 ∷ 3 ∷ 4 ∷ 5 ∷ 6 ∷ [])
 
--- the figures of what the store holds, has in tables, and has on each level
-abbrev pub IsInfo : CoordValue → Answer → Type 0
-IsInfo c answer = (last : ℕ) × IsLatestSequence c last × (answer ≡ Reply (Bulk (Some (info_text last (stored_count c) c.served.version.files))))
+-- the figures of what the store holds, had at its last sync, has in tables, and has on each level
+abbrev pub IsInfo : CoordValue → ℕ → Answer → Type 0
+IsInfo c synced answer = (last : ℕ) × IsLatestSequence c last × (answer ≡ Reply (Bulk (Some (info_text last synced (stored_count c) c.served.version.files))))

@@ -2,6 +2,7 @@
 use Rattle.std.specs.Prelude.{◌≡◌, ◌⊎◌, ℕ, List, [], ◌∷◌, ◌++◌, Option, Some, Result, Ok, Err, All, codes, map, nat_eq, ◌||◌, if◌then◌else◌}
 use Rattle.std.specs.Io.KnownBytes.{Appends}
 use Rattle.std.specs.List.{flat_map}
+use Rattle.lsm_coord.specs.Contract.Calls.{MayHaveFailed}
 use Rattle.lsm_coord.specs.Contract.Value.{CoordValue}
 use Rattle.lsm_resp.specs.declared.reply.Reply.TheVariants as reply
 use Rattle.lsm_resp.specs.Requests.{AreWords}
@@ -11,7 +12,7 @@ use Rattle.lsm_serve.specs.declared.answer.Answer.{Answer}
 use Rattle.lsm_serve.specs.declared.answer.Answer.TheVariants.{Refused, Reply}
 use Rattle.lsm_serve.specs.declared.command.Command.TheVariants as command
 use Rattle.lsm_serve.specs.declared.error.ServeError.{ServeError}
-use Rattle.lsm_serve.specs.declared.error.ServeError.TheVariants.{Http, OutOfMemory, Protocol, Stream, Truncated}
+use Rattle.lsm_serve.specs.declared.error.ServeError.TheVariants.{Http, NotSynced, OutOfMemory, Protocol, Stream, Truncated}
 use Rattle.lsm_serve.specs.Answers.{AnswersRequest}
 use Rattle.lsm_serve.specs.Commands.{IsCalled}
 use Rattle.lsm_serve.specs.declared.http_word.HttpWord.{HttpWord}
@@ -31,10 +32,11 @@ abbrev pub IsReplyTo : Answer → List ℕ → Type 0
 IsReplyTo (Reply reply) bytes = bytes ≡ reply_bytes reply
 IsReplyTo (Refused why) bytes = (text : List ℕ) × (bytes ≡ reply_bytes (reply.Error (error_text text)))
 
--- the bytes that a request gets: those of its answer, and none if it has no words; a request of HTTP gets no answer
+-- the bytes that a request gets: those of its answer, and none if it has no words; a request of HTTP gets no answer. Where INFO
+-- tells up to which sequence the store was synced, that is some sequence: what outlives a device is no part of a store's value.
 abbrev pub RepliesTo : CoordValue → List (List ℕ) → List ℕ → CoordValue → Type 0
 RepliesTo old [] bytes new = (bytes ≡ []) × (new ≡ old)
-RepliesTo old (name ∷ args) bytes new = (answer : Answer) × AnswersRequest old (name ∷ args) answer new × IsReplyTo answer bytes × IsNoHttp (name ∷ args)
+RepliesTo old (name ∷ args) bytes new = (synced : ℕ) × (answer : Answer) × AnswersRequest synced old (name ∷ args) answer new × IsReplyTo answer bytes × IsNoHttp (name ∷ args)
 
 -- QUIT, which takes no argument
 abbrev pub EndsStream : List (List ℕ) → Type 0
@@ -43,12 +45,14 @@ EndsStream words = ⊥
 
 -- ---- a stream of requests
 
--- the replies to requests in turn, to each by what those before it left: a QUIT is the last that is answered
+-- The replies to requests in turn, to each by what those before it left: a QUIT is the last that is answered. Before each and behind the
+-- last one the store may be synced, by which its device may fail, and nothing else changes.
 abbrev pub RepliesInTurn : CoordValue → List (List (List ℕ)) → List ℕ → CoordValue → Type 0
-RepliesInTurn old [] bytes new = (bytes ≡ []) × (new ≡ old)
+RepliesInTurn old [] bytes new = (bytes ≡ []) × MayHaveFailed old new
 RepliesInTurn old (request ∷ requests) bytes new =
-    (first : List ℕ) × (mid : CoordValue) × RepliesTo old request first mid
-    × ((EndsStream request × (bytes ≡ first) × (new ≡ mid))
+    (from : CoordValue) × MayHaveFailed old from
+    × (first : List ℕ) × (mid : CoordValue) × RepliesTo from request first mid
+    × ((EndsStream request × (bytes ≡ first) × MayHaveFailed mid new)
     ⊎ ((EndsStream request → ⊥) × (rest : List ℕ) × RepliesInTurn mid requests rest new × (bytes ≡ first ++ rest)))
 
 -- a reader that tells its bytes has these requests left, each within the limits, and nothing else
@@ -78,12 +82,13 @@ pub record RepliesBefore (word : HttpWord) (old : CoordValue) (requests : List (
   pub replies : RepliesInTurn old done bytes new
   pub written : Appends held holds bytes
 
--- no other requests are a reason to end: only the streams and memory are
+-- no other requests are a reason to end: only the streams, a sync and memory are
 abbrev pub IsNoFault : ServeError → Type 0
 IsNoFault (Protocol fault) = ⊥
 IsNoFault Truncated = ⊥
 IsNoFault (Http word) = ⊥
 IsNoFault (Stream why) = Unit {0}
+IsNoFault (NotSynced why) = Unit {0}
 IsNoFault OutOfMemory = Unit {0}
 
 abbrev pub ServesSome : CoordValue → List (List (List ℕ)) → Option (List ℕ) → Option (List ℕ) → ServeError → CoordValue → Type 0

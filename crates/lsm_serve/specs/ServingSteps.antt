@@ -5,8 +5,10 @@ use Rattle.std.specs.List.{flat_map}
 use Rattle.lsm_coord.specs.Contract.Value.{CoordValue}
 use Rattle.lsm_resp.specs.Requests.{AreWords}
 use Rattle.lsm_resp.specs.Wire.{request_bytes}
+use Rattle.lsm_stream.specs.Streams.{AppendsPart}
 use Rattle.lsm_serve.specs.declared.answer.Answer.{Answer}
 use Rattle.lsm_serve.specs.declared.error.ServeError.{ServeError}
+use Rattle.lsm_serve.specs.declared.error.ServeError.TheVariants.{NotSynced, Stream}
 use Rattle.lsm_serve.specs.declared.serving.Reached.{Reached}
 use Rattle.lsm_serve.specs.declared.serving.Reached.TheVariants.{Http, Quit, Waits}
 use Rattle.lsm_serve.specs.declared.http_word.HttpWord.{HttpWord}
@@ -27,6 +29,14 @@ IsLast false request = EndsStream request → ⊥
 abbrev pub AnswersOne : {E : Type 0} → CoordValue → List (List ℕ) → List ℕ → List ℕ → Result Bool E → CoordValue → Type 0
 AnswersOne old request out_old out_new (Ok is_last) new = (bytes : List ℕ) × RepliesTo old request bytes new × (out_new ≡ out_old ++ bytes) × IsLast is_last request
 AnswersOne old request out_old out_new (Err e) new = (new ≡ old) ⊎ ((bytes : List ℕ) × RepliesInTurn old (request ∷ []) bytes new)
+
+-- ---- replies that were kept back
+
+-- what is written of them where they are left unsent: nothing if the store could not be synced, else a beginning
+abbrev pub LeftUnsent : Option (List ℕ) → Option (List ℕ) → List ℕ → ServeError → Type 0
+LeftUnsent held holds out (NotSynced why) = holds ≡ held
+LeftUnsent held holds out (Stream why) = AppendsPart held holds out
+LeftUnsent held holds out e = ⊥
 
 -- ---- requests so far
 

@@ -14,6 +14,7 @@ mod writes;
 
 use crate::{Command, Refusal};
 pub(crate) use arguments::one;
+use lsm_key::Seq;
 use lsm_resp::Reply;
 use lsm_store::Store;
 use lsm_vault::Vault;
@@ -26,14 +27,15 @@ pub enum Answer {
     Refused(Refusal),
 }
 
-/// Answers a request: a command's name, and its arguments. Without a name it is refused as unknown. If memory runs out before it is
-/// answered, the store is as it was.
+/// Answers a request: a command's name, and its arguments. Without a name it is refused as unknown. `INFO` tells up to which sequence
+/// the store was synced last. If memory runs out before it is answered, the store is as it was.
 pub fn answer_request<V: Vault>(
     alloc: Global,
     store: &mut Store<V>,
+    synced: Seq,
     words: &[&[u8]],
 ) -> Result<Answer, AllocError>
-    ensures ok { IfOk result (λ answer. AnswersRequest store.old (words_of words.now) answer store.new) }
+    ensures ok { IfOk result (λ answer. AnswersRequest synced store.old (words_of words.now) answer store.new) }
     ensures err { OnErr result (store.new ≡ store.old) }
 {
     let Some((name, args)) = words.split_first() else {
@@ -41,7 +43,7 @@ pub fn answer_request<V: Vault>(
     };
     match Command::of(name) {
         None => Ok(Answer::Refused(Refusal::UnknownCommand)),
-        Some(command) => answer_command(alloc, store, command, args),
+        Some(command) => answer_command(alloc, store, synced, command, args),
     }
 }
 
@@ -49,10 +51,11 @@ pub fn answer_request<V: Vault>(
 fn answer_command<V: Vault>(
     alloc: Global,
     store: &mut Store<V>,
+    synced: Seq,
     command: Command,
     args: &[&[u8]],
 ) -> Result<Answer, AllocError>
-    ensures ok { IfOk result (λ answer. AnswersCommand store.old command (words_of args.now) answer store.new) }
+    ensures ok { IfOk result (λ answer. AnswersCommand synced store.old command (words_of args.now) answer store.new) }
     ensures err { OnErr result (store.new ≡ store.old) }
 {
     match command {
@@ -66,7 +69,7 @@ fn answer_command<V: Vault>(
         Command::MultiSet => Ok(writes::set_all(alloc, store, args)),
         Command::Range => range::range(alloc, store, args),
         Command::Save => Ok(writes::save(store, args)),
-        Command::Info => figures::info(alloc, store),
+        Command::Info => figures::info(alloc, store, synced),
         Command::Describe => Ok(plain::nothing(alloc)),
         Command::Config => Ok(plain::config(alloc, args)),
         Command::Select => Ok(plain::select(args)),

@@ -2,6 +2,7 @@
 
 use crate::HttpWord;
 use lsm_resp::{ParseError, ProtocolFault};
+use lsm_store::StoreError;
 use lsm_stream::StreamError;
 use std::alloc::{AllocError, AllocFailed};
 use thiserror::Error;
@@ -21,6 +22,9 @@ pub enum ServeError {
     /// The input could not be read, or the replies could not be written.
     #[error("{0}")]
     Stream(StreamError),
+    /// The store could not be synced. No reply was written that tells of a write since the last sync.
+    #[error("not synced: {0}")]
+    NotSynced(StoreError),
     #[error("out of memory")]
     OutOfMemory,
 }

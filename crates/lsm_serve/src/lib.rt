@@ -1,10 +1,12 @@
 //! A store behind a stream of requests in Redis's protocol, RESP2.
 //!
 //! It promises, for streams that tell their bytes, that the replies to a stream of requests are those of a run of the requests: each by
-//! what the store held after those before it, in their order, up to a `QUIT`, or to one that begins as a request of HTTP does. After a fault of a stream or of memory a beginning of them
-//! is written. What is answered to a request is promised for each command, by what the store held and what it holds then, with a
-//! reason of that call for each refusal. Whatever comes is read within limits that hold before memory is taken, and serving ends safely.
-//! The texts of refusals have no clause. It stands on the store, and on the wire.
+//! what the store held after those before it, in their order, up to a `QUIT`, or to one that begins as a request of HTTP does. After a
+//! fault of a stream or of memory, or a sync that is refused, a beginning of them is written. The store is synced before each write of
+//! replies, once for all requests that have come, and if that is refused, none of these replies is written. What is answered to a request
+//! is promised for each command, by what the store held and what it holds then, with a reason of that call for each refusal. Whatever
+//! comes is read within limits that hold before memory is taken, and serving ends safely. The texts of refusals, and that a sync comes
+//! before each write of replies, have no clause. It stands on the store, and on the wire.
 #![tactic(auto)]
 
 mod answer;

@@ -1,18 +1,21 @@
-//! Serving: requests in, replies out.
+//! Serving: requests in, replies out, a sync of the store before each write of them.
 
-ghost use Rattle.std.specs.Prelude.{◌≡◌, ◌<◌, ◌≤◌, ◌++◌, ◌↔◌, [], ℕ, List, Option, IfOk, IsTrue, Ok, OnOk, drop, length, vec_len};
+ghost use Rattle.std.specs.Prelude.{◌≡◌, ◌<◌, ◌≤◌, ◌++◌, ◌↔◌, [], ℕ, List, Option, IfErr, IfOk, IsTrue, Ok, OnOk, drop, length, vec_len};
+ghost use Rattle.std.specs.Io.KnownBytes.{Appends};
 ghost use Rattle.lsm_coord.specs.Contract.Value.{CoordValue};
+ghost use Rattle.lsm_store.specs.Store.{IsLatestSequence};
 ghost use Rattle.lsm_resp.specs.Requests.{words_of};
 ghost use Rattle.lsm_resp.specs.Wire.{reply_bytes};
 ghost use Rattle.lsm_resp.specs.declared.reply.Reply.TheVariants.{Error};
 ghost use Rattle.lsm_serve.specs.declared.answer.Answer.TheVariants.{Refused};
 ghost use Rattle.lsm_serve.specs.HttpWords.{IsNoHttp};
 ghost use Rattle.lsm_serve.specs.Serving.{AreAhead, EndsStream, ServesRequests, error_text, in_line};
-ghost use Rattle.lsm_serve.specs.ServingSteps.{AnswersOne, IsReachable, ServedSoFar, ServesInput, WritesReply};
+ghost use Rattle.lsm_serve.specs.ServingSteps.{AnswersOne, IsReachable, LeftUnsent, ServedSoFar, ServesInput, WritesReply};
 
 use crate::answer::{Answer, answer_request, one};
 use crate::{Command, HttpWord, Refusal, ServeError};
 use bytes::Bytes;
+use lsm_key::Seq;
 use lsm_resp::{ParseError, Parsed, ProtocolFault, Reply, parse_request, write_reply};
 use lsm_store::Store;
 use lsm_stream::{StreamError, buffer_of, read_more, write_out};
@@ -38,8 +41,9 @@ enum Reached {
 }
 
 /// Answers the requests of the reader in order, until it ends or a `QUIT` was answered. Replies are written before more input is
-/// waited for. What is no request within the limits is answered with an error, and ends it; a request that begins as one of HTTP does
-/// ends it without an answer. The store is not flushed.
+/// waited for, and the store is synced before each write of them: once for all requests that have come. If that is refused, none of the
+/// replies that wait is written, and it ends. What is no request within the limits is answered with an error, and ends it; a request that
+/// begins as one of HTTP does ends it without an answer. The store is not flushed.
 pub fn serve<V: Vault, R: Read, W: Write>(
     alloc: Global,
     store: &mut Store<V>,
@@ -65,9 +69,10 @@ fn serve_through<V: Vault, R: Read, W: Write>(
 {
     let mut input = Vec::new(alloc);
     let mut out = Vec::new(alloc);
+    let mut synced = store.flushed_sequence();
     for _ in 0..u64::MAX {
-        let reached = answer_all(alloc, store, &input, writer, &mut out)?;
-        write_out(writer, &mut out)?;
+        let reached = answer_all(alloc, store, &input, writer, &mut out, &mut synced)?;
+        send(store, writer, &mut out, &mut synced)?;
         match reached {
             Reached::Quit => return Ok(()),
             Reached::Http(word) => return Err(ServeError::Http(word)),
@@ -98,13 +103,39 @@ fn drop_front(input: &mut Vec<u8>, len: usize)
     let _ = input.drain(..len);
 }
 
-/// Answers the requests that have come whole.
+/// Syncs the store, and then writes the replies that were kept back. If the store is not synced, none of them is written.
+fn send<V: Vault, W: Write>(
+    store: &mut Store<V>,
+    writer: &mut W,
+    out: &mut Vec<u8>,
+    synced: &mut Seq,
+) -> Result<(), ServeError>
+    ensures ok { OnOk result (Appends (W.contents writer.old) (W.contents writer.new) out.old.items) }
+    ensures empty { OnOk result (out.new.items ≡ []) }
+    ensures latest { OnOk result (IsLatestSequence store.new synced.new) }
+    ensures same { store.new ≡ record store.old { failures = store.new.failures } }
+    ensures counted { store.old.failures ≤ store.new.failures }
+    ensures refused { IfErr result (LeftUnsent (W.contents writer.old) (W.contents writer.new) out.old.items) }
+{
+    match store.sync() {
+        Ok(()) => {}
+        Err(why) => return Err(ServeError::NotSynced(why)),
+    }
+    *synced = store.latest_sequence();
+    match write_out(writer, out) {
+        Ok(()) => Ok(()),
+        Err(why) => Err(ServeError::Stream(why)),
+    }
+}
+
+/// Answers the requests that have come whole. Tells up to where the store was synced.
 fn answer_all<V: Vault, W: Write>(
     alloc: Global,
     store: &mut Store<V>,
     input: &[u8],
     writer: &mut W,
     out: &mut Vec<u8>,
+    synced: &mut Seq,
 ) -> Result<Reached, ServeError>
     ensures reach { IfOk result (IsReachable input.now) }
     ensures served { (old : CoordValue) (requests : List (List (List ℕ))) (held : Option (List ℕ)) (later : List ℕ) → ServedSoFar old requests held store.old (input.now ++ later) out.old.items (W.contents writer.old) → ServesInput old requests held store.new input.now later out.new.items (W.contents writer.new) result }
@@ -119,15 +150,17 @@ fn answer_all<V: Vault, W: Write>(
                     return Ok(Reached::Http(word));
                 }
                 at += len;
-                if answer_to(alloc, store, &words, out)? {
+                if answer_to(alloc, store, *synced, &words, out)? {
                     return Ok(Reached::Quit);
                 }
             }
             Err(ParseError::OutOfMemory) => return Err(ServeError::OutOfMemory),
-            Err(ParseError::Protocol(fault)) => return Err(fail(alloc, writer, out, fault)),
+            Err(ParseError::Protocol(fault)) => {
+                return Err(fail(alloc, store, writer, out, synced, fault));
+            }
         }
         if out.len() >= KEPT_BYTES {
-            write_out(writer, out)?;
+            send(store, writer, out, synced)?;
         }
     }
     unreachable!()
@@ -137,6 +170,7 @@ fn answer_all<V: Vault, W: Write>(
 fn answer_to<V: Vault>(
     alloc: Global,
     store: &mut Store<V>,
+    synced: Seq,
     words: &[&[u8]],
     out: &mut Vec<u8>,
 ) -> Result<bool, AllocError>
@@ -147,7 +181,7 @@ fn answer_to<V: Vault>(
         return Ok(false);
     }
     let is_last = ends_stream(words);
-    let answer = answer_request(alloc, store, words)?;
+    let answer = answer_request(alloc, store, synced, words)?;
     write_answer(alloc, out, &answer)?;
     Ok(is_last)
 }
@@ -211,26 +245,29 @@ fn in_line(byte: u8) -> u8
 }
 
 /// Answers what is no request, as far as that can be done. Returns why serving ends.
-fn fail<W: Write>(
+fn fail<V: Vault, W: Write>(
     alloc: Global,
+    store: &mut Store<V>,
     writer: &mut W,
     out: &mut Vec<u8>,
+    synced: &mut Seq,
     fault: ProtocolFault,
 ) -> ServeError {
-    match write_fault(alloc, writer, out, fault) {
+    match write_fault(alloc, store, writer, out, synced, fault) {
         Ok(()) => ServeError::Protocol(fault),
         Err(error) => error,
     }
 }
 
-fn write_fault<W: Write>(
+fn write_fault<V: Vault, W: Write>(
     alloc: Global,
+    store: &mut Store<V>,
     writer: &mut W,
     out: &mut Vec<u8>,
+    synced: &mut Seq,
     fault: ProtocolFault,
 ) -> Result<(), ServeError> {
     let text = format!(in alloc; "Protocol error: {fault}")?;
     write_error(alloc, out, text.as_bytes())?;
-    write_out(writer, out)?;
-    Ok(())
+    send(store, writer, out, synced)
 }

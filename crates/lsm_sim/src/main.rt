@@ -15,7 +15,9 @@ mod workers;
 use draw::draw_script;
 use error::{RunError, code_of};
 use explore::explore_schedules;
-use lsm_commands::{FAILED, Place, REFUSED, check_folder, dump_folder, serve_folder, serve_memory};
+use lsm_commands::{
+    FAILED, Place, REFUSED, check_folder, dump_folder, dump_log, serve_folder, serve_memory,
+};
 use options::{Subcommand, subcommand_of};
 use run::run_script;
 use session::run_session;
@@ -75,11 +77,17 @@ fn main(rt: HostRuntime) -> ExitCode {
         Subcommand::Threads => show_threads(&rt, rt.alloc(), writer).map(|()| true),
         Subcommand::Store(place) => return run_session(&rt, place),
         Subcommand::Check(folder) => return check_folder(&rt, folder),
+        Subcommand::DumpLog(folder) => return dump_log(&rt, folder),
         Subcommand::Dump(folder) => return dump_folder(&rt, folder),
-        Subcommand::Serve(Some(folder), limits) => {
-            return serve_folder(&rt, Place { folder, limits });
+        Subcommand::Serve(Some(folder), limits, log_sync) => {
+            let place = Place {
+                folder,
+                limits,
+                log_sync,
+            };
+            return serve_folder(&rt, place);
         }
-        Subcommand::Serve(None, limits) => return serve_memory(&rt, limits),
+        Subcommand::Serve(None, limits, _) => return serve_memory(&rt, limits),
         Subcommand::Work(number) => return work_as(&rt, number),
         Subcommand::Dispatch(place, number) => return dispatch_to(&rt, place, number),
     };

@@ -5,9 +5,10 @@ ghost use Rattle.lsm_key.specs.Limits.{AreLimits};
 ghost use Rattle.lsm_key.specs.declared.limits.TheConstants.{DEFAULT_L0, DEFAULT_BASE, DEFAULT_BLOCK};
 
 use crate::session::usage::STORE_COMMANDS;
+use clap::builder::ValueParser;
 use clap::error::ErrorKind;
 use clap::{Arg, ArgMatches, Command, Error, value_parser};
-use lsm_commands::Place;
+use lsm_commands::{LogSync, Place};
 use lsm_key::{DEFAULT_BASE, DEFAULT_BLOCK, DEFAULT_L0, Limits};
 use std::alloc::{AllocError, Global};
 
@@ -19,6 +20,12 @@ const BASE_HELP: &str =
 
 const BLOCK_HELP: &str =
     "A block of a table is closed once it has this many bytes, 1 to 16777216 [default: 4096]";
+
+const STORE_SYNC_HELP: &str =
+    "How writes are synced before they are answered: each by itself, asked for once for all that have come, or gathered in memory until that [default: each]";
+
+const SERVE_SYNC_HELP: &str =
+    "How writes are synced before they are answered: each by itself, asked for once for all that have come, or gathered in memory until that [default: asked]";
 
 /// What a command line asks for.
 #[derive(Drop)]
@@ -35,10 +42,12 @@ pub(crate) enum Subcommand<'a> {
     Store(Place<'a>),
     /// Verify the files of a folder.
     Check(&'a str),
+    /// Print the records of the log of a folder.
+    DumpLog(&'a str),
     /// Print the entries of the tables of a folder.
     Dump(&'a str),
-    /// Answer requests of Redis clients, to the store of a folder or to a new one in memory.
-    Serve(Option<&'a str>, Limits),
+    /// Answer requests of Redis clients, to the store of a folder, which syncs its log so, or to a new one in memory.
+    Serve(Option<&'a str>, Limits, LogSync),
     /// Merge the jobs that come, as the worker of this index.
     Work(u8),
     /// Have the compactions of a folder's store made by so many workers.
@@ -84,6 +93,16 @@ fn block<'a>(alloc: Global) -> Arg<'a> {
         .value_name("N")
         .help(BLOCK_HELP)
         .value_parser(value_parser!(u64).range(1..=16_777_216))
+}
+
+/// When writes are synced.
+fn sync<'a>(alloc: Global, help: &'a str) -> Arg<'a> {
+    let ways: &'a [&'a str] = &["each", "asked", "gathered"];
+    Arg::new(alloc, "sync")
+        .long("sync")
+        .value_name("WAY")
+        .help(help)
+        .value_parser(ValueParser::Names(ways))
 }
 
 /// `run`, with its options.
@@ -161,8 +180,19 @@ fn check<'a>(alloc: Global) -> Result<Command<'a>, AllocError> {
 /// `dump`, with its option.
 fn dump<'a>(alloc: Global) -> Result<Command<'a>, AllocError> {
     Command::new(alloc, "dump")
-        .about("Print each entry of the tables that a folder keeps, and change nothing")
-        .arg(dir(alloc, "The folder that keeps the data"))
+        .about(
+            "Print each entry of the tables that a folder keeps, or each record of its log, and change nothing",
+        )
+        .arg(dir(alloc, "The folder that keeps the data"))?
+        .arg(log(alloc))
+}
+
+/// Whether it is the log that is dumped.
+fn log<'a>(alloc: Global) -> Arg<'a> {
+    Arg::new(alloc, "log")
+        .long("log")
+        .help("Print the records of the log in place of the entries")
+        .action(clap::ArgAction::SetTrue)
 }
 
 /// `store`, with its options.
@@ -176,6 +206,7 @@ fn store<'a>(alloc: Global) -> Result<Command<'a>, AllocError> {
             alloc,
             "The folder that keeps the data; made if there is none",
         ))?
+        .arg(sync(alloc, STORE_SYNC_HELP))?
         .arg(l0(alloc))?
         .arg(base(alloc))?
         .arg(block(alloc))
@@ -190,6 +221,7 @@ fn serve<'a>(alloc: Global) -> Result<Command<'a>, AllocError> {
     Command::new(alloc, "serve")
         .about("Answer requests of Redis clients (RESP2) from standard input")
         .arg(dir.required(false))?
+        .arg(sync(alloc, SERVE_SYNC_HELP))?
         .arg(l0(alloc))?
         .arg(base(alloc))?
         .arg(block(alloc))
@@ -284,12 +316,29 @@ fn exploration_in(options: &ArgMatches<'_>) -> Option<Exploration> {
     })
 }
 
-/// The folder and the limits that the options of `store` ask for.
-fn place_in<'a>(options: &ArgMatches<'a>) -> Option<Place<'a>> {
+/// When the option `--sync` has the log of a folder synced.
+fn log_sync_in(options: &ArgMatches<'_>, default: LogSync) -> LogSync {
+    match options.get_str("sync") {
+        Some("each") => LogSync::Each,
+        Some("asked") => LogSync::Asked,
+        Some("gathered") => LogSync::Gathered,
+        _ => default,
+    }
+}
+
+/// The folder and the limits that the options of a subcommand ask for.
+fn place_in<'a>(options: &ArgMatches<'a>, log_sync: LogSync) -> Option<Place<'a>> {
     Some(Place {
         folder: options.get_str("dir")?,
         limits: limits_in(options)?,
+        log_sync,
     })
+}
+
+/// What the options of `serve` ask for. All that has come is synced at once unless they ask for another way.
+fn serving_in<'a>(options: &ArgMatches<'a>) -> Option<Subcommand<'a>> {
+    let log_sync = log_sync_in(options, LogSync::Asked);
+    Some(Subcommand::Serve(options.get_str("dir"), limits_in(options)?, log_sync))
 }
 
 /// The number of an option that tells a worker, or how many there are.
@@ -302,14 +351,20 @@ fn workers_in(options: &ArgMatches<'_>, name: &str, default: u64) -> Option<u8> 
 fn subcommand_in<'a>(matches: &ArgMatches<'a>) -> Option<Subcommand<'a>> {
     match matches.subcommand()? {
         ("explore", options) => Some(Subcommand::Explore(exploration_in(options)?)),
-        ("store", options) => Some(Subcommand::Store(place_in(options)?)),
+        ("store", options) => {
+            let log_sync = log_sync_in(options, LogSync::Each);
+            Some(Subcommand::Store(place_in(options, log_sync)?))
+        }
         ("check", options) => Some(Subcommand::Check(options.get_str("dir")?)),
+        ("dump", options) if options.get_flag("log") => {
+            Some(Subcommand::DumpLog(options.get_str("dir")?))
+        }
         ("dump", options) => Some(Subcommand::Dump(options.get_str("dir")?)),
-        ("serve", options) => Some(Subcommand::Serve(options.get_str("dir"), limits_in(options)?)),
+        ("serve", options) => serving_in(options),
         ("worker", options) => Some(Subcommand::Work(workers_in(options, "index", 1)?)),
         ("dispatch", options) => {
             let workers = workers_in(options, "workers", 2)?;
-            Some(Subcommand::Dispatch(place_in(options)?, workers))
+            Some(Subcommand::Dispatch(place_in(options, LogSync::Each)?, workers))
         }
         ("threads", _) => Some(Subcommand::Threads),
         ("draw", options) => Some(Subcommand::Draw(limits_in(options)?)),

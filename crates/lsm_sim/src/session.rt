@@ -3,21 +3,22 @@
 mod answer;
 mod compact;
 mod console;
+mod error;
 mod request;
 mod stats;
 mod talk;
 pub(crate) mod usage;
 
-use crate::error::RunError;
 use console::Console;
-use lsm_commands::{OpenStore, Place, REFUSED, Screen, check_streams, flush_at_end};
+use error::SessionError;
+use lsm_commands::{OpenStore, Place, REFUSED, Screen, check_streams};
 use std::io;
 use std::io::IsTerminal;
 use std::process::ExitCode;
 use talk::talk;
 
-/// Opens the store of a folder, answers the commands of standard input on standard output until the input ends, and flushes the
-/// store. Faults are reported on standard error.
+/// Opens the store of a folder, and answers the commands of standard input on standard output until the input ends. What was answered
+/// is synced; the store is not flushed. Faults are reported on standard error.
 pub(crate) fn run_session(rt: &HostRuntime, place: Place<'_>) -> ExitCode {
     let screen = Screen::new(rt);
     if let Err(error) = check_streams(rt) {
@@ -27,22 +28,30 @@ pub(crate) fn run_session(rt: &HostRuntime, place: Place<'_>) -> ExitCode {
         Ok(opened) => opened,
         Err(error) => return place.fail(rt, &screen, &error),
     };
-    let status = match talk_to(rt, &mut opened, &screen) {
+    match talk_to(rt, &mut opened, &screen) {
         Ok(true) => ExitCode::SUCCESS,
         Ok(false) => ExitCode::from(REFUSED),
-        Err(error) => screen.fail(&error),
-    };
-    flush_at_end(&mut opened, &screen, status)
+        Err(error) => {
+            let status = screen.fail(&error);
+            screen.report_device(&opened.incidents.take_error());
+            status
+        }
+    }
 }
 
-// Answers the commands of standard input. Returns whether all of its lines were commands.
+// Answers the commands of standard input, and syncs the store, however they end. Returns whether all of its lines were commands.
 fn talk_to(
     rt: &HostRuntime,
     opened: &mut OpenStore,
     screen: &Screen<'_>,
-) -> Result<bool, RunError> {
+) -> Result<bool, SessionError> {
     let has_prompt = rt.stdin().is_terminal();
     let mut console = Console::new(rt.alloc(), rt.reader(), io::writer(rt), has_prompt)?;
     let (store, incidents) = (&mut opened.store, &opened.incidents);
-    talk(rt.alloc(), store, incidents, &mut console, screen)
+    let talked = talk(rt.alloc(), store, incidents, &mut console, screen);
+    if let Err(SessionError::Run(_)) = talked {
+        // What was done and not answered promises nothing, but need not be lost.
+        let _ = store.sync();
+    }
+    talked
 }

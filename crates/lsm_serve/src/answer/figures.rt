@@ -6,19 +6,25 @@ ghost use Rattle.lsm_serve.specs.Figures.{IsInfo, figure_line, level_figure_line
 
 use crate::Answer;
 use bytes::Bytes;
+use lsm_key::Seq;
 use lsm_resp::Reply;
 use lsm_store::Store;
 use lsm_vault::Vault;
 use std::alloc::{AllocError, Global};
 use std::io::Write;
 
-/// A line for each figure, as `INFO` of Redis has them.
-pub(crate) fn info<V: Vault>(alloc: Global, store: &Store<V>) -> Result<Answer, AllocError>
-    ensures { IfOk result (IsInfo store.now) }
+/// A line for each figure, as `INFO` of Redis has them, of a store that was last synced up to a sequence.
+pub(crate) fn info<V: Vault>(
+    alloc: Global,
+    store: &Store<V>,
+    synced: Seq,
+) -> Result<Answer, AllocError>
+    ensures { IfOk result (IsInfo store.now synced) }
 {
     let mut text = Vec::new(alloc);
     write_text(&mut text, "# Keyspace\r\n")?;
     write_figure(&mut text, "last_sequence", store.latest_sequence().number())?;
+    write_figure(&mut text, "synced_sequence", synced.number())?;
     write_figure(
         &mut text,
         "flushed_sequence",

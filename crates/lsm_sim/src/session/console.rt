@@ -30,7 +30,7 @@ pub(crate) enum Found {
     End,
 }
 
-/// Commands in, and answers out. An answer is written before a command is waited for.
+/// Commands in, and answers out. An answer is to be written before a command is waited for.
 #[derive(Drop)]
 pub(crate) struct Console<R: Read + Drop, W: Write + Drop> {
     reader: BufReader<R>,
@@ -60,14 +60,21 @@ impl<R: Read + Drop, W: Write + Drop> Console<R, W> {
         })
     }
 
-    /// Reads the next line, without its end. If none has come yet, the answers so far are written first.
-    pub(crate) fn read_line(&mut self, line: &mut Vec<u8>) -> Result<Found, RunError> {
+    /// Asks for a line, where a person types them.
+    pub(crate) fn prompt(&mut self) -> Result<(), RunError> {
         if self.has_prompt {
             write_text(&mut self.out, "> ")?;
         }
-        if !self.reader.buffer().contains(&b'\n') || self.out.len() >= BUFFER_BYTES {
-            self.write_out()?;
-        }
+        Ok(())
+    }
+
+    /// Whether the answers so far are to be written before the next line is read: it has not come yet, or they are many.
+    pub(crate) fn is_due(&self) -> bool {
+        !self.reader.buffer().contains(&b'\n') || self.out.len() >= BUFFER_BYTES
+    }
+
+    /// Reads the next line, without its end.
+    pub(crate) fn read_line(&mut self, line: &mut Vec<u8>) -> Result<Found, RunError> {
         let found = read_line(&mut self.reader, line)?;
         if self.has_prompt && line.len() >= MAX_TYPED_BYTES {
             return Ok(Found::MaybeCut);

@@ -1,8 +1,9 @@
-//! The lines of a session, each answered before the next one is read.
+//! The lines of a session, each answered before the next one is waited for, once the store is synced.
 
 use super::answer::{Answer, answer_event};
 use super::compact::compact;
 use super::console::{Console, Found};
+use super::error::SessionError;
 use super::request::{FaultyLine, LineFault, Request, request_in};
 use super::stats::stats;
 use super::usage::{STORE_COMMANDS, quotes_of, usage_of};
@@ -23,18 +24,18 @@ enum Next {
 }
 
 /// Answers the lines of the console until they end, and reports those that are faulty, each behind the answers to the lines before it.
-/// Returns whether none was.
+/// The store is synced before answers are written, once for all lines that have come. Returns whether no line was faulty.
 pub(crate) fn talk<R: Read + Drop, W: Write + Drop, V: Vault>(
     alloc: Global,
     store: &mut Store<V>,
     incidents: &Incidents,
     console: &mut Console<R, W>,
     screen: &Screen<'_>,
-) -> Result<bool, RunError> {
+) -> Result<bool, SessionError> {
     let mut line = Vec::new(alloc);
     let mut are_right = true;
     for number in 1..u64::MAX {
-        let answered = match console.read_line(&mut line)? {
+        let answered = match next_line(store, console, &mut line)? {
             Found::End => {
                 console.end_prompt()?;
                 break;
@@ -46,28 +47,52 @@ pub(crate) fn talk<R: Read + Drop, W: Write + Drop, V: Vault>(
         match answered {
             Ok(Next::Line) => {}
             Ok(Next::End) => break,
-            Err(Refused::OutOfMemory) => return Err(RunError::OutOfMemory),
+            Err(Refused::OutOfMemory) => return Err(SessionError::Run(RunError::OutOfMemory)),
             Err(Refused::Fault(fault)) => {
                 are_right = false;
-                console.write_out()?;
+                write_answers(store, console)?;
                 report_fault(screen, &line, &FaultyLine { number, fault });
             }
         }
-        report_device(console, screen, incidents)?;
+        report_device(store, console, screen, incidents)?;
     }
-    console.write_out()?;
+    write_answers(store, console)?;
     Ok(are_right)
 }
 
+// The next line. If it has not come yet, or the answers so far are many, these are written first.
+fn next_line<R: Read + Drop, W: Write + Drop, V: Vault>(
+    store: &mut Store<V>,
+    console: &mut Console<R, W>,
+    line: &mut Vec<u8>,
+) -> Result<Found, SessionError> {
+    console.prompt()?;
+    if console.is_due() {
+        write_answers(store, console)?;
+    }
+    Ok(console.read_line(line)?)
+}
+
+// Syncs the store, and then writes the answers so far. If the store is not synced, none of them is written.
+fn write_answers<R: Read + Drop, W: Write + Drop, V: Vault>(
+    store: &mut Store<V>,
+    console: &mut Console<R, W>,
+) -> Result<(), SessionError> {
+    store.sync().map_err(SessionError::NotSynced)?;
+    console.write_out()?;
+    Ok(())
+}
+
 // Reports what the system says of a device that failed, behind the line that says that it did.
-fn report_device<R: Read + Drop, W: Write + Drop>(
+fn report_device<R: Read + Drop, W: Write + Drop, V: Vault>(
+    store: &mut Store<V>,
     console: &mut Console<R, W>,
     screen: &Screen<'_>,
     incidents: &Incidents,
-) -> Result<(), RunError> {
+) -> Result<(), SessionError> {
     let error = incidents.take_error();
     if error.is_some() {
-        console.write_out()?;
+        write_answers(store, console)?;
         screen.report_device(&error);
     }
     Ok(())

@@ -17,10 +17,10 @@ Commands, one a line:
   show c                      The files of each level
   stats                       The sequences, what each level has and whether it is due, and how much was written to tables
   help                        This list
-  quit, exit                  End the session, as the end of the input does
+  quit, exit                  End the session, as the end of the input does, on a terminal Ctrl-D
 Words stand between spaces; %41 is the byte of that hexadecimal number, %20 a space, and \"\" the empty text. A call that is refused
 prints 'refused' and why. A faulty line is reported on standard error and skipped; the exit status is then 2. An operation that was
-answered is in the folder, and Ctrl-C does not lose it. What is in no table is flushed when the input ends, on a terminal by Ctrl-D.";
+answered is synced in the folder: neither Ctrl-C nor a power cut loses it.";
 
 /// How the command of a faulty line is written, or where its name is found; nothing of a line that is too long, which was not kept.
 pub(crate) fn usage_of(line: &[u8], fault: LineFault) -> Option<&'static str> {

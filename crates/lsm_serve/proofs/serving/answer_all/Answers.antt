@@ -4,11 +4,13 @@ use Rattle.std.proofs.lemmas.Result.{err_from_is_err_and}
 use Rattle.lsm_resp.specs.declared.fault.ParseError.{ParseError}
 use Rattle.lsm_resp.specs.declared.request.Parsed.{Parsed}
 use Rattle.lsm_resp.specs.Requests.{FindsRequest, words_of}
+use Rattle.lsm_coord.specs.Contract.Calls.{MayHaveFailed}
 use Rattle.lsm_serve.specs.HttpWords.{IsNoHttp}
 use Rattle.lsm_serve.specs.ServingSteps.{ServedSoFar}
-use Rattle.lsm_serve.proofs.ServedStreams.{Leaves, WhenRequest, fault_at, http_at, leaves_at, request_is, served_part, served_some, served_written, serves_some, waits_at}
+use Rattle.lsm_serve.proofs.ServedStreams.{Leaves, WhenRequest, fault_at, http_at, leaves_at, request_is, served_part, served_some, served_written, waits_at}
+use Rattle.lsm_serve.proofs.Syncs.{part_sent, sends_some, so_far_synced, some_synced}
 use Rattle.lsm_serve.proofs.serving.answer_all.Goals as goal
-use Rattle.lsm_serve.proofs.serving.answer_all.Goals.{then-len-ge-KEPT_BYTES+in_ok-write_out, else-len-ge-KEPT_BYTES}
+use Rattle.lsm_serve.proofs.serving.answer_all.Goals.{then-len-ge-KEPT_BYTES+in_ok-send, else-len-ge-KEPT_BYTES}
 
 pub returns-in-Ok-Partial-clause-served : goal.returns-in-Ok-Partial-clause-served
 returns-in-Ok-Partial-clause-served g c old requests held later first =
@@ -52,8 +54,8 @@ returns-in-Err-Protocol-clause-served g c old requests held later first =
     absurd (fault_at old c.loop-turn.store requests held (g.W.Write.contents c.loop-turn.writer) c.args.input.now c.split_at.result.1.now later c.loop-turn.out.items c.loop-turn.at c.split_at.ensures.back s finds
     (λ e. (let wrong = c.in-Err-Protocol.ensures.nothing e in cc)))
 
-pub returns-in_err-write_out-clause-served : goal.returns-in_err-write_out-clause-served
-returns-in_err-write_out-clause-served g c old requests held later first =
+pub returns-in_err-send-clause-served : goal.returns-in_err-send-clause-served
+returns-in_err-send-clause-served g c old requests held later first =
     let s = c.loop-turn.invariant.so old requests held later first in
     let found = subst (WhenRequest c.split_at.result.1.now) c.in-Ok-Request.field-0-is (request_is c.split_at.result.1.now c.in-Ok-Request.field-0 c.in-Ok-Request.ensures.found (λ e. (let is = c.in-Ok-Request.ensures.nothing e in cc)) c.in-Ok-Request.ensures.within) in
     let ahead = drop (c.loop-turn.at + c.in-Ok-Request.len) c.args.input.now ++ later in
@@ -62,9 +64,12 @@ returns-in_err-write_out-clause-served g c old requests held later first =
     (leaves_at old c.loop-turn.store requests held (g.W.Write.contents c.loop-turn.writer) c.args.input.now c.split_at.result.1.now later c.loop-turn.out.items c.loop-turn.at c.split_at.ensures.back s {E = Unit {0}}
     c.in-Ok-Request.words.items c.deref-in-Ok-Request.result.now c.in-Ok-Request.len c.answer_to.new.out.items c.answer_to.new.store (Ok c.in_ok-answer_to-in-Ok-Request.field-0) found c.deref-in-Ok-Request.ensures.value c.in_ok-answer_to-in-Ok-Request.ensures)
     in
-    let some = served_part old c.answer_to.new.store requests held (g.W.Write.contents c.loop-turn.writer) ahead c.answer_to.new.out.items next (g.W.Write.contents c.write_out.new.writer) c.in_err-write_out.ensures.err in
-    let p = err_from_is_err_and c.from_residual-in_err-write_out.result c.from_residual-in_err-write_out.ensures.1 in
-    rw (p.1, p.2) (serves_some c.in_err-write_out.field-0.0 old c.answer_to.new.store requests held (g.W.Write.contents c.write_out.new.writer) some)
+    let failed : MayHaveFailed c.answer_to.new.store c.send.new.store = record { rest = c.in_err-send.ensures.same; counted = c.in_err-send.ensures.counted } in
+    let part = part_sent c.in_err-send.field-0.0 (g.W.Write.contents c.loop-turn.writer) (g.W.Write.contents c.send.new.writer) c.answer_to.new.out.items c.in_err-send.ensures.refused in
+    let some = served_part old c.answer_to.new.store requests held (g.W.Write.contents c.loop-turn.writer) ahead c.answer_to.new.out.items next (g.W.Write.contents c.send.new.writer) part in
+    let after = some_synced old c.answer_to.new.store c.send.new.store requests held (g.W.Write.contents c.send.new.writer) failed some in
+    let p = err_from_is_err_and c.from_residual-in_err-send.result c.from_residual-in_err-send.ensures.1 in
+    rw (p.1, p.2) (sends_some c.in_err-send.field-0.0 old c.send.new.store requests held (g.W.Write.contents c.loop-turn.writer) (g.W.Write.contents c.send.new.writer) c.answer_to.new.out.items c.in_err-send.ensures.refused after)
 
 pub loop-turn-preserved : goal.loop-turn-preserved
 loop-turn-preserved g c =
@@ -81,10 +86,12 @@ loop-turn-preserved g c =
           c.in-Ok-Request.words.items c.deref-in-Ok-Request.result.now c.in-Ok-Request.len c.answer_to.new.out.items c.answer_to.new.store (Ok c.in_ok-answer_to-in-Ok-Request.field-0) found c.deref-in-Ok-Request.ensures.value c.in_ok-answer_to-in-Ok-Request.ensures)
           in
           elim c.if-len-ge-KEPT_BYTES.branch [
-            | then-len-ge-KEPT_BYTES+in_ok-write_out w ↦
-                (let wrote = served_written old c.answer_to.new.store requests held (g.W.Write.contents c.loop-turn.writer) ahead c.answer_to.new.out.items next (g.W.Write.contents w.write_out.new.writer) w.write_out.new.out.items w.in_ok-write_out.ensures.ok w.in_ok-write_out.ensures.empty in
-                rw (w.writer-is, w.out-is) wrote)
-            | else-len-ge-KEPT_BYTES w ↦ rw (w.writer-is, w.out-is) next
+            | then-len-ge-KEPT_BYTES+in_ok-send w ↦
+                (let failed : MayHaveFailed c.answer_to.new.store w.send.new.store = record { rest = w.in_ok-send.ensures.same; counted = w.in_ok-send.ensures.counted } in
+                let wrote = served_written old c.answer_to.new.store requests held (g.W.Write.contents c.loop-turn.writer) ahead c.answer_to.new.out.items next (g.W.Write.contents w.send.new.writer) w.send.new.out.items w.in_ok-send.ensures.ok w.in_ok-send.ensures.empty in
+                let synced = so_far_synced old c.answer_to.new.store w.send.new.store requests held (g.W.Write.contents w.send.new.writer) failed ahead w.send.new.out.items wrote in
+                rw (w.store-is, w.writer-is, w.out-is) synced)
+            | else-len-ge-KEPT_BYTES w ↦ rw (w.store-is, w.writer-is, w.out-is) next
           ]);
     }
 

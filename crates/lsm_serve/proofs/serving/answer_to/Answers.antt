@@ -9,7 +9,7 @@ returns g c =
     let some : 0 < length c.args.words.now = search rules in
     let reply = c.in_ok-write_answer.ensures in (
       reply.0,
-      replies_to c.args.store.now c.answer_request.new.store c.args.words.now c.in_ok-answer.answer reply.0 some c.in_ok-answer.ensures.ok reply.1 c.requires,
+      replies_to c.args.synced c.args.store.now c.answer_request.new.store c.args.words.now c.in_ok-answer.answer reply.0 some c.in_ok-answer.ensures.ok reply.1 c.requires,
       reply.2,
       last_is c.ends_stream-is_last.result (words_of c.args.words.now) c.ends_stream-is_last.ensures,
     )
@@ -19,4 +19,4 @@ returns-in_err-write_answer g c =
     let some : 0 < length c.args.words.now = search rules in
     let last = last_is c.ends_stream-is_last.result (words_of c.args.words.now) c.ends_stream-is_last.ensures in
     let p = err_from_is_err_and c.from_residual-in_err-write_answer.result c.from_residual-in_err-write_answer.ensures.1 in
-    rw p.1 (inr (answered_only c.args.store.now c.answer_request.new.store c.args.words.now c.in_ok-answer.answer c.ends_stream-is_last.result some c.in_ok-answer.ensures.ok c.requires last))
+    rw p.1 (inr (answered_only c.args.synced c.args.store.now c.answer_request.new.store c.args.words.now c.in_ok-answer.answer c.ends_stream-is_last.result some c.in_ok-answer.ensures.ok c.requires last))
