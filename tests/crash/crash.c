@@ -11,8 +11,8 @@
 //       names           as lost, but files have what was written
 //       contents        as lost, but the folder has the names that were given
 //       mixed           of each name and of each file's bytes either, by CRASH_SEED; a file's end may be zeros; a name that was renamed may be there too
-//   CRASH_SPOILT=FILE   what the disk has of the edits, or of the file CRASH_SPOILT_OF, is written there at the stop, if a sync of it failed; a process
-//                       that finds the file begins with it, as if it saw by memory what the disk does not have
+//   CRASH_SPOILT=FILE   what the disk has of the edits, or of the file CRASH_SPOILT_OF, is written there if a sync of it fails, and at a stop after that;
+//                       a process that finds the file begins with it, as if it saw by memory what the disk does not have
 //   FAIL_AT=N           call N fails with FAIL_ERRNO; a write then takes half of its bytes if FAIL_HALF=1, and the next call fails
 //   FAIL_COUNT=C        so do the C - 1 calls after it
 //   FAIL_READ_AT=N      call N of those that only read fails with FAIL_ERRNO
@@ -359,7 +359,7 @@ static int sync_one(int fd) {
         char path[64];
         snprintf(path, sizeof path, "/proc/self/fd/%d", fd);
         struct bytes seen = content(AT_FDCWD, path);
-        if (is_failed) spoil(file_of[fd] - 1, seen);
+        if (is_failed) spoil(file_of[fd] - 1, seen), leave_spoilt();
         else files[file_of[fd] - 1].synced = brought(file_of[fd] - 1, seen);
     }
     if (is_failed) return -1;

@@ -66,6 +66,12 @@ def op_of(op):
     return bytes([len(op) - 1]) + len(key).to_bytes(2, "big") + key + value
 
 
+def last_of(frame):
+    """The sequence of the last operation of a batch, of the frame of its log record."""
+    first, count = (int.from_bytes(frame[HEAD_BYTES + at : HEAD_BYTES + end], "big") for at, end in ((1, 9), (9, 13)))
+    return first + count - 1
+
+
 def freeze_of(at):
     """The log record of a freeze."""
     return b"\2" + at.to_bytes(8, "big")

@@ -3,7 +3,8 @@
 A process that is killed leaves a record for each write since the last flush, which the next opening finds. What lsm_file_vault promises: a changed byte
 of a record is a refusal that names the file and where the record begins, with nothing changed. What a stop may leave at the very end of the log is set
 aside, a last record that is damaged too, and standard error says so: the store is that without it, a check says so before, with status 1, and its bytes
-are in a file of their own. Records that are whole and not in their place are refused too. An opening cuts off those that are flushed.
+are in a file of their own. Records that are whole and not in their place are refused too, and a check says why. An opening cuts off those that are flushed.
+A dump of a log can be replayed.
 """
 import shutil
 import subprocess
@@ -19,19 +20,21 @@ LINES = [*damage.LINES, "put e 6", "batch put f 7 del b"]
 RECORDS = [record_of(7, (b"e", b"6")), record_of(8, (b"f", b"7"), (b"b",))]
 # The two writes before these, which are flushed.
 BEFORE = [record_of(5, (b"d", b"4")), record_of(6, (b"a", b"5"))]
+LATE = "it does not begin with the writes after what is flushed"
+# Whole records that make no good log, and what a check says of them.
 BAD = {
-    "a gap": [RECORDS[0], record_of(9, (b"f", b"7"))],
-    "a record twice": [RECORDS[0], RECORDS[0]],
-    "a first write that is too late": [RECORDS[1]],
-    "a write of which a part is flushed": [record_of(6, (b"a", b"5"), (b"e", b"6"))],
-    "a freeze first": [freeze_of(6), *RECORDS],
-    "a freeze that is not at the end": [*RECORDS, freeze_of(8)],
-    "two freezes": [RECORDS[0], freeze_of(7), RECORDS[1], freeze_of(9)],
-    "an end before what is flushed": BEFORE[:1],
-    "no record": [*RECORDS, b""],
-    "a record of another code": [*RECORDS, b"\3"],
-    "a record with a byte more": [*RECORDS, record_of(10, (b"g", b"8")) + b"\0"],
-    "a record without its last byte": [*RECORDS, record_of(10, (b"g", b"8"))[:-1]],
+    "a gap": ([RECORDS[0], record_of(9, (b"f", b"7"))], "a write ends at 7, and the next one begins at 9"),
+    "a record twice": ([RECORDS[0], RECORDS[0]], "a write ends at 7, and the next one begins at 7"),
+    "a first write that is too late": ([RECORDS[1]], LATE),
+    "a write of which a part is flushed": ([record_of(6, (b"a", b"5"), (b"e", b"6"))], "the write at 6 is flushed in part"),
+    "a freeze first": ([freeze_of(6), *RECORDS], LATE),
+    "a freeze that is not at the end": ([*RECORDS, freeze_of(8)], "a write ends at 9, and the freeze behind it is at 8"),
+    "two freezes": ([RECORDS[0], freeze_of(7), RECORDS[1], freeze_of(9)], "two freezes are above what is flushed"),
+    "an end before what is flushed": (BEFORE[:1], "it ends at 5, before what is flushed does"),
+    "no record": ([*RECORDS, b""], "the bytes of a record are none: Truncated"),
+    "a record of another code": ([*RECORDS, b"\3"], "the bytes of a record are none: BadField"),
+    "a record with a byte more": ([*RECORDS, record_of(10, (b"g", b"8")) + b"\0"], "the bytes of a record are none: TrailingBytes"),
+    "a record without its last byte": ([*RECORDS, record_of(10, (b"g", b"8"))[:-1]], "the bytes of a record are none: Truncated"),
 }
 NOT_IN_PLACE = "the store is not opened: a record of the log is not valid or not in its place"
 
@@ -63,6 +66,14 @@ def check_says(folder, status, said):
     done = subprocess.run(command(folder, "check"), capture_output=True, text=True, timeout=PATIENCE)
     if done.returncode != status or said not in done.stdout:
         raise Wrong(f"a check says {done.stdout!r} {done.stderr!r}, status {done.returncode}, and not {said!r}")
+
+
+def dump_of(folder, status=0):
+    """The lines of a dump of the log."""
+    done = subprocess.run([*command(folder, "dump"), "--log"], capture_output=True, text=True, timeout=PATIENCE)
+    if done.returncode != status:
+        raise Wrong(f"a dump of the log says {done.stdout!r} {done.stderr!r}, status {done.returncode}")
+    return done.stdout.splitlines()
 
 
 def found(folder):
@@ -125,28 +136,32 @@ def as_written(good, _room, _without_last, held):
     data = (good / "log").read_bytes()
     if data != LOG:
         raise Wrong(f"the log is {data.hex()}, not {LOG.hex()}")
-    check_says(good, 0, f"log {len(RECORDS)} records {len(LOG)} bytes\n")
+    check_says(good, 0, f"log {len(RECORDS)} records, 3 operations above {FLUSHED}, {len(LOG)} bytes\n")
 
 
 def is_found(good, room, _without_last, held):
-    """A killed process loses nothing that it answered, also if the next one is killed too. The end of an input flushes all, and leaves no record."""
+    """A killed process loses nothing that it answered, also if the next one is killed too. The end of an input leaves all records, and a flush none."""
     folder = copied(good, room)
     for _ in range(3):
         if found(folder) != (held, "") or (folder / "log").read_bytes() != LOG:
             raise Wrong("what a killed process left is not found, or not kept")
-    session = Session(folder)
-    session.ask("get e")
-    end_of(session)
-    if (folder / "log").read_bytes():
-        raise Wrong("the log has records once all is flushed")
+    for line, log in (("get e", LOG), ("flush", b"")):
+        session = Session(folder)
+        session.ask(line)
+        end_of(session)
+        if (folder / "log").read_bytes() != log:
+            raise Wrong(f"after {line} and the end of the input the log is not {log.hex()}")
     opened(folder, Model(held))
 
 
 def cuts(good, room, without_last, held):
-    """The log ends inside its last record, or there and in zeros to where it ended, or in zeros."""
+    """The log ends inside a record, or there and in zeros to where it ended, or in zeros."""
     last = begins(LOG)[-1]
     ends = [(LOG[:at], without_last) for at in range(last + 1, len(LOG))]
     ends += [(LOG[:at] + bytes(len(LOG) - at), without_last) for at in range(last, len(LOG))]
+    # Neither record was synced, and the file had its length before its bytes.
+    flushed, _ = found(with_log(good, room, b""))
+    ends += [(LOG[:at] + bytes(len(LOG) - at), flushed) for at in range(1, last, 3)]
     for data, pairs in ends + [(LOG + bytes(count), held) for count in (1, 15, 17, 4096)]:
         folder = with_log(good, room, data)
         set_aside(folder, pairs)
@@ -169,8 +184,10 @@ def flushed_records(good, room, _without_last, held):
     for before in (BEFORE, BEFORE[1:], [*BEFORE, freeze_of(FLUSHED)], [BEFORE[0], freeze_of(5), BEFORE[1], freeze_of(FLUSHED)]):
         for records in (RECORDS, RECORDS[:1], []):
             pairs = found(with_log(good, room, log_of(records)))[0]
-            folder = with_log(good, room, log_of([*before, *records]))
+            data = log_of([*before, *records])
+            folder, above = with_log(good, room, data), [0, 1, 3][len(records)]
             files = bytes_of(folder)
+            check_says(folder, 0, f"log {len(before) + len(records)} records, {above} operations above {FLUSHED}, {len(data)} bytes\n")
             if found(folder) != (pairs, ""):
                 raise Wrong(f"records that are flushed change what is held: {found(folder)}")
             is_opened(files, bytes_of(folder), log_of(records))
@@ -191,12 +208,30 @@ def freezes(good, room, _without_last, held):
         opened(folder, Model({**held, "g": "8"}))
 
 
+def dumped(good, room, _without_last, held):
+    """A dump of the log has a line a record, in the words of scripts: over the folder without its log they make what it held."""
+    lines = dump_of(with_log(good, room, log_of([RECORDS[0], freeze_of(7), RECORDS[1]])))
+    if lines != ["write 7-7 put e 6", "freeze 7", "write 8-9 put f 7 del b"]:
+        raise Wrong(f"a dump of the log is {lines}")
+    folder = with_log(good, room, b"")
+    session = Session(folder)
+    answers = [session.ask("batch " + line.split(" ", 2)[2]) for line in lines if line.startswith("write ")]
+    end_of(session)
+    if answers != ["seq 7", "seq 8-9"]:
+        raise Wrong(f"the lines of a dump are answered {answers}")
+    opened(folder, Model(held))
+
+
 def bad_logs(good, room, _without_last, _held):
-    """Whole records that no store leaves so."""
-    for what, records in BAD.items():
+    """Whole records that no store leaves so. A check says why, and a dump leaves out what is no record."""
+    for what, (records, why) in BAD.items():
         folder = with_log(good, room, log_of(records))
         try:
-            refused(folder, NOT_IN_PLACE)
+            check_says(folder, 1, f"the log is bad: {why}; an opening is refused\n")
+            lines, count = dump_of(folder, 1), len(records) - why.startswith("the bytes of a record")
+            if len(lines) != count:
+                raise Wrong(f"a dump of the log is {lines}")
+            refused(folder, NOT_IN_PLACE, f"the log is bad: {why}; an opening is refused")
         except Wrong as error:
             raise Wrong(f"{what}: {error}") from None
 
@@ -206,6 +241,8 @@ def edit_below(good, room, _without_last, _held):
     folder = copied(good, room)
     edits = (good / "edits").read_bytes()
     (folder / "edits").write_bytes(edits[:-1])
+    torn = len(edits) - 1 - begins(edits)[-1]
+    check_says(folder, 1, f"the log is bad: {LATE}; an opening is refused\nthe last edit is torn or damaged: {torn} bytes; an opening is refused\n")
     refused(folder, NOT_IN_PLACE)
 
 
@@ -255,6 +292,7 @@ def tried(pool, room, _shim):
         ("names of what is set aside of a log that are taken", names_taken),
         ("a log with records that are flushed", flushed_records),
         ("a log with a freeze", freezes),
+        ("a dump of a log, and its lines once more", dumped),
         ("logs of whole records that are bad", bad_logs),
         ("a log over a last edit that is torn", edit_below),
         ("a log and a last edit that are both torn", edits_too),

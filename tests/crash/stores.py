@@ -11,6 +11,8 @@ PROGRAM = shlex.split(os.environ.get("PROGRAM", str(TOP / "crates/lsm_sim/out/ls
 LIMITS = ["--l0", "2", "--base", "1000", "--block", "256"]
 # How long an answer may take, in seconds.
 PATIENCE = 180
+# The ways of sync: of each write, or of all lines that have come, whose records are kept in memory until then in the last one.
+SYNCS = ("each", "asked", "gathered")
 SCAN = 'scan "" ~ 1000'
 
 
@@ -23,23 +25,33 @@ def command(folder, *words):
 
 
 class Session:
-    """The program over a folder. `ways` are variables of crash.c, of which the shim is preloaded if there is one."""
+    """The program over a folder. `ways` are variables of crash.c, of which the shim is preloaded if there is one. The way of sync that is told to none
+    is `each`."""
 
-    def __init__(self, folder, shim=None, **ways):
+    def __init__(self, folder, shim=None, sync="each", **ways):
         env = dict(os.environ)
         if ways:
             env |= {"LD_PRELOAD": str(shim), "CRASH_FOLDER": str(folder)} | {k: str(v) for k, v in ways.items()}
         pipe = subprocess.PIPE
-        self.process = subprocess.Popen(command(folder), stdin=pipe, stdout=pipe, stderr=pipe, env=env)
+        told = [] if sync == "each" else ["--sync", sync]
+        self.process = subprocess.Popen([*command(folder), *told], stdin=pipe, stdout=pipe, stderr=pipe, env=env)
         self.answers = b""
 
     def ask(self, line):
         """The answer to a line, or None if the process ends before it."""
+        return self.ask_all([line])[0]
+
+    def ask_all(self, lines):
+        """The answers to lines that come together, of which those are None that the process ends before."""
         try:
-            self.process.stdin.write(line.encode() + b"\n")
+            self.process.stdin.write("".join(f"{line}\n" for line in lines).encode())
             self.process.stdin.flush()
         except BrokenPipeError:
-            return None
+            return [None] * len(lines)
+        return [self.answer_to(line) for line in lines]
+
+    def answer_to(self, line):
+        """The next answer, or None if the process ends before it."""
         while b"\n" not in self.answers:
             if not select.select([self.process.stdout], [], [], PATIENCE)[0]:
                 self.process.kill()
@@ -90,9 +102,14 @@ def after(pairs, line):
     return pairs
 
 
+def is_write(line):
+    return line.split(" ")[0] in ("put", "del", "batch")
+
+
 class Model:
     """What a store held after each write that it accepted, and which of these states outlive its process: those from the last write on that was answered,
-    and those that a write leaves that its device refused, if no other was accepted since."""
+    and those that a write leaves that its device refused, if no other was accepted since. Writes that were not answered, since the process ended, may have
+    been done: each after all before it or, if its device may have refused some, without those."""
 
     def __init__(self, pairs=None, may_refuse=False):
         self.states = [pairs or {}]
@@ -101,17 +118,22 @@ class Model:
         self.may_refuse = may_refuse
 
     def note(self, line, answer):
-        """Takes what a line was answered. A line without an answer may have been done."""
-        is_write = line.split(" ")[0] in ("put", "del", "batch")
-        if answer is not None and not self.is_right(line, answer):
+        """Takes what a line was answered."""
+        if not self.is_right(line, answer):
             raise Wrong(f"{line} is answered {answer}")
-        if is_write and answer is None:
-            self.states.append(after(self.states[-1], line))
-        elif is_write and answer.startswith("seq "):
+        if is_write(line) and answer.startswith("seq "):
             self.states.append(after(self.states[-1], line))
             self.stored, self.refused = len(self.states) - 1, []
-        elif is_write:
+        elif is_write(line):
             self.refused.append(after(self.states[-1], line))
+
+    def note_end(self, lines):
+        """The process has ended before it answered these lines, which came together."""
+        may = [self.states[-1]]
+        for line in filter(is_write, lines):
+            done = [after(it, line) for it in may]
+            self.refused += done
+            may = may + done if self.may_refuse else done
 
     def is_right(self, line, answer):
         word = line.split(" ")[0]
@@ -127,19 +149,23 @@ class Model:
         return " or ".join(told(it) for it in self.states[self.stored :] + self.refused)
 
 
-def run(session, lines, model):
-    """Asks all lines, as long as they are answered, and notes the answers. Returns whether all were."""
-    for line in lines:
-        answer = session.ask(line)
-        model.note(line, answer)
-        if answer is None:
+def run(session, turns, model):
+    """Asks all lines, as long as they are answered, and notes the answers. What is a list in place of a line comes together. Returns whether all were."""
+    for turn in turns:
+        lines = [turn] if isinstance(turn, str) else turn
+        answers = session.ask_all(lines)
+        answered = [it for it in answers if it is not None]
+        for line, answer in zip(lines, answered):
+            model.note(line, answer)
+        if len(answered) < len(lines):
+            model.note_end(lines[len(answered) :])
             return False
     return True
 
 
-def opened(folder, model):
-    """Opens a folder twice: it shows what the model allows, takes writes in between, of which one is not flushed, is killed, and loses nothing of them."""
-    session = Session(folder)
+def opened(folder, model, sync="each"):
+    """Opens a folder twice: it shows what the model allows, takes writes in between, of which some are not flushed, is killed, and loses nothing of them."""
+    session = Session(folder, sync=sync)
     first = session.ask(SCAN)
     if first is None:
         raise Wrong("the folder is not opened: {1} (status {0})".format(*session.end()))
@@ -147,9 +173,9 @@ def opened(folder, model):
     if not model.allows(first):
         raise Wrong(f"it holds {told(first)} and not {model.wanted()}")
     more = Model(first)
-    run(session, ["put zz 1", "flush", "put zz 2"], more)
+    run(session, ["put zz 1", "flush", ["put zy 1", "put zz 2"], "put zz 3"], more)
     session.kill()
-    session = Session(folder)
+    session = Session(folder, sync=sync)
     second = pairs_in(session.ask(SCAN))
     end_of(session)
     if second != more.states[-1]:
