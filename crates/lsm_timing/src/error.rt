@@ -39,6 +39,10 @@ pub(crate) const USED_FOLDER: TimingError = TimingError::Plain(
     "the folder of the store is there already",
 );
 
+pub(crate) const NOT_WRITTEN: TimingError = TimingError::Plain("a write was refused");
+
+pub(crate) const NOT_SYNCED: TimingError = TimingError::Plain("a sync was refused");
+
 pub(crate) const GONE: TimingError = TimingError::Plain("a table was not served");
 
 pub(crate) const NO_JOB: TimingError = TimingError::Plain("no job was made of the tables");

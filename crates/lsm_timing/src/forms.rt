@@ -12,6 +12,7 @@ pub(crate) enum Task {
     Get,
     Scan,
     Durable,
+    Synced,
     Churn,
     Pauses,
     MemoryFill,
@@ -59,6 +60,12 @@ const BATCH: Option<Number> = Some(Number {
     default: None,
 });
 
+const TURN: Option<Number> = Some(Number {
+    name: "<K>",
+    most: 1_000,
+    default: None,
+});
+
 const GETS: Option<Number> = Some(Number {
     name: "<M>",
     most: MAX_ENTRIES,
@@ -84,7 +91,7 @@ const MEMTABLE: Option<Number> = Some(Number {
 });
 
 /// All commands.
-pub(crate) static FORMS: [Form; 17] = [
+pub(crate) static FORMS: [Form; 18] = [
     Form {
         name: "fill",
         task: Task::Fill,
@@ -116,6 +123,13 @@ pub(crate) static FORMS: [Form; 17] = [
         first: ENTRIES,
         second: GETS,
         about: "Fill a store in the new folder lsm_timing.store, open it again, and get M random keys",
+    },
+    Form {
+        name: "synced",
+        task: Task::Synced,
+        first: ENTRIES,
+        second: TURN,
+        about: "Put N entries into a store in a new folder, with a sync behind each K, as they come and gathered",
     },
     Form {
         name: "churn",

@@ -19,6 +19,7 @@ mod pauses;
 mod picks;
 mod reads;
 mod script;
+mod synced;
 mod tables;
 mod threads;
 
@@ -79,6 +80,7 @@ fn run<R: Threads + Wait + Sync>(
         Task::Get => reads::time_gets(bench, first, second),
         Task::Scan => reads::time_scans(bench, first, second),
         Task::Durable => durable::time_durable(bench, first, second),
+        Task::Synced => synced::time_synced(bench, first, second),
         Task::Churn => churn::time_churn(bench, first),
         Task::Pauses => pauses::time_pauses(bench, first, second),
         other => run_small(bench, other, first),
