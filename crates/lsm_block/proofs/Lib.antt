@@ -2,6 +2,7 @@ pub mod EntriesGrow
 pub mod BlockFields
 pub mod BlockRuns
 pub mod WiderBlocks
+pub mod ShortKeys
 pub mod FencedSpans
 pub mod IndexedSoFar
 pub mod BlockEntries

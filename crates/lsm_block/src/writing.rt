@@ -2,7 +2,7 @@
 //!
 //! An entry, its numbers big-endian:
 //!
-//!     2 bytes   length of the key, 1 to 1,024
+//!     2 bytes   length of the key, 1 to 4,096
 //!               the key
 //!     8 bytes   the trailer: sequence * 256 + kind, kind 0 for a deletion and 1 for a put
 //!     4 bytes   length of the value, 0 to 65,536, 0 for a deletion

@@ -1,5 +1,5 @@
 -- Each proper beginning of a field's spelling is too short.
-use Rattle.std.proofs.Common.{inl, inr, ◌≡◌, ℕ, ◌+◌, ◌-◌, ◌*◌, ◌^◌, ◌<◌, ◌≤◌, ◌||◌, Bool, true, false, cond, ltb, eqb, List, [], ◌++◌, length, take, Result, Ok, Err, refl, sym, ap, ◌∙◌, arith}
+use Rattle.std.proofs.Common.{inl, inr, ◌≡◌, ℕ, ◌-◌, ◌^◌, ◌<◌, ◌≤◌, ◌||◌, Bool, true, false, cond, ltb, eqb, List, ◌++◌, length, take, Result, Ok, Err, refl, ap, ◌∙◌, arith}
 use Rattle.std.specs.Int.{Width, w16, w64, byte_len, to_be_bytes}
 use Rattle.std.proofs.lemmas.Bool.{cases_lt, lt-ltb, le-ltb, ne_eqb, or_from}
 use Rattle.std.proofs.lemmas.List.{take-append-le, length-take-le, length-append}

@@ -19,6 +19,7 @@ mod prefix;
 mod range;
 mod refused;
 mod seq;
+mod versions;
 
 pub use batch::{Batch, KeyError};
 pub use entry::{Entry, EntryRef, InternalKey, Kind};
@@ -46,3 +47,4 @@ pub use prefix::prefix_of;
 pub use range::{KeyRange, KeyRangeRef};
 pub use refused::Refused;
 pub use seq::Seq;
+pub use versions::{is_long, key_limit};

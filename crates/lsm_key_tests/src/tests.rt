@@ -37,10 +37,10 @@ fn ikey_of(key: &'static [u8], seq: Seq, kind: Kind) -> InternalKey
 fn a_push_keeps_to_the_lengths(rt: HostRuntime) -> Result<(), Fail> {
     for (key, value, want) in [
         (1, 0, Ok(())),
-        (1024, 65_536, Ok(())),
-        (1025, 65_536, Err(KeyError::KeyTooLong)),
-        (1024, 65_537, Err(KeyError::ValueTooLong)),
-        (1025, 65_537, Err(KeyError::KeyTooLong)),
+        (4096, 65_536, Ok(())),
+        (4097, 65_536, Err(KeyError::KeyTooLong)),
+        (4096, 65_537, Err(KeyError::ValueTooLong)),
+        (4097, 65_537, Err(KeyError::KeyTooLong)),
         (0, 65_537, Err(KeyError::EmptyKey)),
     ] {
         let mut batch = Batch::new(rt.alloc());

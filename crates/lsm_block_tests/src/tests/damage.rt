@@ -2,10 +2,10 @@
 
 ghost use Rattle.std.specs.Prelude.{◌≤◌};
 
-use bytes::Bytes;
+use bytes::{BufMut, Bytes, BytesMut};
 use lsm_block::{BlockFault, decode_block};
-use lsm_key::{MAX_KEY_BYTES, Refused};
-use std::alloc::Global;
+use lsm_key::{MAX_KEY_BYTES, MAX_SHORT_KEY_BYTES, Refused};
+use std::alloc::{AllocError, Global};
 use std::test::Fail;
 
 // Of the key a, at sequence 2 a put of x, and at sequence 1 a deletion; of the key bc, at sequence 3 a put of nothing.
@@ -92,5 +92,35 @@ fn a_longer_key_than_the_limit_is_refused(rt: HostRuntime) -> Result<(), Fail> {
     assert!(rt; fault_of(rt.alloc(), &THREE, 1)? == Some(BlockFault::BadLength));
     assert!(rt; fault_of(rt.alloc(), &THREE[..31], 1)?.is_none());
     assert!(rt; fault_of(rt.alloc(), &THREE, 0)? == Some(BlockFault::BadLength));
+    Ok(())
+}
+
+// The block of a put of nothing at sequence 1, whose key has so many bytes.
+fn block_of_key(alloc: Global, len: usize) -> Result<Vec<u8>, AllocError> {
+    let key = vec![in alloc; 0x61u8; len]?;
+    let mut out = BytesMut::new(alloc);
+    out.put_u16(u16::try_from(len).unwrap_or(0))?;
+    out.put_slice(key.as_slice())?;
+    out.put_slice(&[0, 0, 0, 0, 0, 0, 1, 1, 0, 0, 0, 0])?;
+    Vec::from_slice(alloc, out.as_slice())
+}
+
+#[test]
+fn a_key_has_at_most_4096_bytes(rt: HostRuntime) -> Result<(), Fail> {
+    for (len, want, want_short) in [
+        (1024, None, None),
+        (1025, None, Some(BlockFault::BadLength)),
+        (4096, None, Some(BlockFault::BadLength)),
+        (
+            4097,
+            Some(BlockFault::BadLength),
+            Some(BlockFault::BadLength),
+        ),
+    ] {
+        let bytes = block_of_key(rt.alloc(), len)?;
+        let found = fault_of(rt.alloc(), &bytes, MAX_KEY_BYTES)?;
+        let found_short = fault_of(rt.alloc(), &bytes, MAX_SHORT_KEY_BYTES)?;
+        assert!(rt; (found, found_short) == (want, want_short), "{len}");
+    }
     Ok(())
 }
