@@ -3,6 +3,7 @@
 mod bases;
 mod cursors;
 mod log_records;
+mod long_keys;
 mod served;
 mod versions;
 

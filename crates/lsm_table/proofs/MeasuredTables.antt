@@ -1,10 +1,11 @@
 -- What one more entry makes of the blocks and of their measure, and what the whole measures.
-use Rattle.std.proofs.Common.{◌≡◌, ℕ, ◌+◌, ◌<◌, ◌≤◌, true, false, leb, List, [], ◌∷◌, ◌++◌, length, get_or, Option, Some, refl, sym, ap, ◌∙◌, append_assoc, arith}
+use Rattle.std.proofs.Common.{◌≡◌, ℕ, ◌+◌, ◌<◌, ◌≤◌, true, false, leb, ltb, List, [], ◌∷◌, ◌++◌, length, get_or, Option, Some, refl, sym, ap, ◌∙◌, append_assoc, arith}
 use Rattle.std.specs.List.{flat_map}
 use Rattle.std.proofs.lemmas.Bool.{le-leb, lt-leb}
 use Rattle.std.proofs.lemmas.List.{length-append, append-nil}
 use Rattle.std.proofs.lemmas.List.Concat.{flat_map-append}
 use Rattle.lsm_key.specs.declared.entry.Entry.{Entry}
+use Rattle.lsm_key.specs.declared.limits.TheConstants.{MAX_SHORT_KEY_BYTES}
 use Rattle.lsm_key.specs.Limits.{entry_weight}
 use Rattle.lsm_key.specs.Places.{all_entries}
 use Rattle.lsm_block.specs.Blocks.{entries}
@@ -12,10 +13,11 @@ use Rattle.lsm_block.specs.BlockReading.{last_of}
 use Rattle.lsm_table.specs.declared.measuring.Measure.{Measure}
 use Rattle.lsm_table.specs.Cuts.{cut_after, cut_of}
 use Rattle.lsm_table.specs.Measuring.{IsCutInto, IsMeasured}
-use Rattle.lsm_table.specs.Tables.{index, key_of_entry, table_of}
+use Rattle.lsm_table.specs.Tables.{index, key_of_entry, table_of, version_of_entries}
 use Rattle.lsm_block.proofs.EntriesGrow.{has_some, last_at, last_added}
 use Rattle.lsm_table.proofs.TableCuts.{cut_all, after_more}
 use Rattle.lsm_table.proofs.TableSizes.{weight_more, table_size}
+use Rattle.lsm_table.proofs.TableVersions.{version_grows, with_one}
 use Rattle.lsm_table.proofs.TableWeights.{index_size}
 
 -- ---- the blocks
@@ -70,7 +72,7 @@ as_some target (x ∷ es) closed last some parts = last_some last (get_or (x ∷
 
 -- ---- measures
 
-pub measured_none : (target : ℕ) → IsMeasured target [] (record { closed = 0; index = 0; last = 0; last_key = 0; weight = 0 })
+pub measured_none : (target : ℕ) → IsMeasured target [] (record { closed = 0; index = 0; last = 0; last_key = 0; weight = 0; version = 1 })
 measured_none target = record {
   closed = [];
   last = [];
@@ -80,14 +82,18 @@ measured_none target = record {
   sized = refl;
   keyed = refl;
   weighed = refl;
+  versioned = refl;
   light = record { closed = omega arith; index = omega arith; key = omega arith; some = λ lt. absurd (omega (arith, lt)) };
 }
 
 key_added : (es : List Entry) (e : Entry) (k : ℕ) → k ≡ length e.ikey.key → k ≡ length (key_of_entry (last_of (es ++ e ∷ [])))
 key_added es e k ks = ks ∙ ap (λ (o : Option Entry). length (key_of_entry o)) (sym (last_added es e))
 
-module _ (target : ℕ) (es : List Entry) (e : Entry) (m : Measure) (len k : ℕ) (lens : len ≡ entry_weight e) (ks : k ≡ length e.ikey.key) (is : IsMeasured target es m) where
-  pub measured_room : m.last < target → IsMeasured target (es ++ e ∷ []) (record { closed = m.closed; index = m.index; last = m.last + len; last_key = k; weight = m.weight + len })
+module _ (target : ℕ) (es : List Entry) (e : Entry) (m : Measure) (len k v : ℕ) (lens : len ≡ entry_weight e) (ks : k ≡ length e.ikey.key) (vs : v ≡ with_one (ltb MAX_SHORT_KEY_BYTES k) m.version) (is : IsMeasured target es m) where
+  version_added : v ≡ version_of_entries (es ++ e ∷ [])
+  version_added = vs ∙ (λ i. with_one (ltb MAX_SHORT_KEY_BYTES (ks i)) (is.versioned i)) ∙ sym (version_grows es e)
+
+  pub measured_room : m.last < target → IsMeasured target (es ++ e ∷ []) (record { closed = m.closed; index = m.index; last = m.last + len; last_key = k; weight = m.weight + len; version = v })
   measured_room room = record {
     closed = is.closed;
     last = is.last ++ e ∷ [];
@@ -97,6 +103,7 @@ module _ (target : ℕ) (es : List Entry) (e : Entry) (m : Measure) (len k : ℕ
     sized = omega (arith, lens, is.sized, weight_more is.last e);
     keyed = key_added es e k ks;
     weighed = omega (arith, lens, is.weighed, weight_more es e);
+    versioned = version_added;
     light = record {
       closed = is.light.closed;
       index = omega (arith, is.light.index);
@@ -105,7 +112,7 @@ module _ (target : ℕ) (es : List Entry) (e : Entry) (m : Measure) (len k : ℕ
     };
   }
 
-  pub measured_full : 1 ≤ target → target ≤ m.last → IsMeasured target (es ++ e ∷ []) (record { closed = m.closed + 1; index = m.index + (14 + m.last_key); last = len; last_key = k; weight = m.weight + len })
+  pub measured_full : 1 ≤ target → target ≤ m.last → IsMeasured target (es ++ e ∷ []) (record { closed = m.closed + 1; index = m.index + (14 + m.last_key); last = len; last_key = k; weight = m.weight + len; version = v })
   measured_full low full =
       let one : length (entries (e ∷ [])) ≡ 14 + length e.ikey.key + length e.value = weight_more [] e in
       let ends = is.light.some (omega (arith, low, full)) in
@@ -120,6 +127,7 @@ module _ (target : ℕ) (es : List Entry) (e : Entry) (m : Measure) (len k : ℕ
         sized = omega (arith, lens, one);
         keyed = key_added es e k ks;
         weighed = omega (arith, lens, is.weighed, weight_more es e);
+        versioned = version_added;
         light = record {
           closed = omega (arith, is.light.closed);
           index = omega (arith, is.light.index, ends);

@@ -1,18 +1,20 @@
 -- A table's index and its blocks, read one after another.
-use Rattle.std.proofs.Common.{◌≡◌, ℕ, zero, suc, ◌+◌, ◌-◌, ◌<◌, ◌≤◌, List, [], ◌∷◌, ◌++◌, length, drop, Ok, Err, refl, ap, sym, ◌∙◌, append_assoc, arith}
+use Rattle.std.proofs.Common.{◌≡◌, ℕ, zero, suc, ◌+◌, ◌-◌, ◌<◌, ◌≤◌, true, false, eqb, List, [], ◌∷◌, ◌++◌, length, drop, Ok, Err, refl, ap, sym, ◌∙◌, append_assoc, arith}
 use Rattle.std.specs.Int.{w32, to_be_bytes}
 use Rattle.std.proofs.Math.Seq.{drop-append_seam}
 use Rattle.std.proofs.lemmas.Bool.{le-ltb, eq-eqb}
 use Rattle.std.proofs.lemmas.List.{length-append}
 use Rattle.lsm_key.specs.declared.entry.Entry.{Entry}
 use Rattle.lsm_key.specs.declared.entry.InternalKey.{InternalKey}
-use Rattle.lsm_key.specs.declared.limits.TheConstants.{MAX_SHORT_KEY_BYTES}
 use Rattle.lsm_key.specs.Reading.{Fails}
+use Rattle.lsm_key.specs.Versions.{key_limit}
 use Rattle.lsm_key.specs.declared.refused.Refused.{Refused}
 use Rattle.lsm_key.specs.declared.refused.Refused.TheVariants.{OutOfMemory, Fault}
 use Rattle.lsm_key.proofs.FieldLaws.{IsBytes, bind_ok, ok_is}
 use Rattle.lsm_table.specs.declared.fault.TableFault.{TableFault}
+use Rattle.lsm_table.specs.declared.fault.TableFault.TheVariants.{NeedlessVersion}
 use Rattle.lsm_table.specs.declared.reading.Header.{Header}
+use Rattle.lsm_table.specs.Tables.{version_of_entries}
 use Rattle.lsm_table.specs.TableReading.{index_at, sum_at, block_at, blocks_at, contents_at}
 use Rattle.lsm_table.proofs.TableFields.{last_key, index_takes}
 
@@ -125,7 +127,11 @@ module _ (limit : ℕ) where
 
 -- ---- all that comes after the index
 
-pub contents_read : (h : Header) (text : List ℕ) (total : ℕ) (region : List ℕ) (es : List Entry) → length region ≡ total → blocks_at MAX_SHORT_KEY_BYTES h.target h.blocks text [] region ≡ Ok es → length es ≡ h.count → contents_at h text (total, region) ≡ Ok es
-unfolding contents_at
-contents_read h text total region es long read counted =
-    rw (le-ltb total (length region) (omega (arith, long)), le-ltb (length region) total (omega (arith, long)), read, eq-eqb (length es) h.count counted) refl
+module _ (h : Header) (text : List ℕ) (total : ℕ) (region : List ℕ) (es : List Entry) (long : length region ≡ total) (read : blocks_at (key_limit h.version) h.target h.blocks text [] region ≡ Ok es) (counted : length es ≡ h.count) where
+  pub contents_read : eqb (version_of_entries es) h.version ≡ true → contents_at h text (total, region) ≡ Ok es
+  unfolding contents_at
+  contents_read needed = rw (le-ltb total (length region) (omega (arith, long)), le-ltb (length region) total (omega (arith, long)), read, eq-eqb (length es) h.count counted, needed) refl
+
+  pub contents_needless : eqb (version_of_entries es) h.version ≡ false → contents_at h text (total, region) ≡ Err NeedlessVersion
+  unfolding contents_at
+  contents_needless needless = rw (le-ltb total (length region) (omega (arith, long)), le-ltb (length region) total (omega (arith, long)), read, eq-eqb (length es) h.count counted, needless) refl

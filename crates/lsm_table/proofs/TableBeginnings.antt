@@ -9,11 +9,13 @@ use Rattle.std.proofs.lemmas.List.Concat.{flat_map-cons}
 use Rattle.lsm_key.specs.declared.entry.Entry.{Entry}
 use Rattle.lsm_key.specs.declared.entry.InternalKey.{InternalKey}
 use Rattle.lsm_key.specs.declared.entry.Kind.{Kind}
-use Rattle.lsm_key.specs.declared.limits.TheConstants.{MAX_SHORT_KEY_BYTES, MAX_TABLE_BYTES}
+use Rattle.lsm_key.specs.declared.limits.TheConstants.{MAX_TABLE_BYTES}
 use Rattle.lsm_key.specs.Entries.{IsEntry}
 use Rattle.lsm_key.specs.Places.{all_entries}
 use Rattle.lsm_key.specs.Reading.{◌>>=◌, number_at, ranged_number_at, fixed_at, key_at, trailer_at}
 use Rattle.lsm_key.specs.Spelling.{key, trailer, IsKey}
+use Rattle.lsm_key.specs.Versions.{key_limit}
+use Rattle.lsm_key.proofs.VersionLaws.{limit_short}
 use Rattle.lsm_key.proofs.Beginnings.{cut_then, number_cut, within_cut, fixed_cut, key_cut, trailer_cut}
 use Rattle.lsm_key.proofs.FieldLaws.{IsBytes, wide8, wide32, number_again, within_again, fixed_again, key_again}
 use Rattle.lsm_block.specs.Blocks.{entries, HasSequence, HasShortKey, AreEntries}
@@ -25,42 +27,43 @@ use Rattle.lsm_table.specs.declared.fault.TableFault.{TableFault}
 use Rattle.lsm_table.specs.declared.fault.TableFault.TheVariants.{BadMagic, BadVersion, Truncated, BadIndex, BadCut}
 use Rattle.lsm_table.specs.declared.reading.Header.{Header}
 use Rattle.lsm_table.specs.Cuts.{IsCut}
-use Rattle.lsm_table.specs.Tables.{magic, end_key, index, header, IsTable, IsTarget, target_of}
+use Rattle.lsm_table.specs.Tables.{magic, end_key, index, header, version_of_entries, IsTable, IsTarget, target_of}
 use Rattle.lsm_table.specs.TableReading.{header_at, index_at, sum_at, contents_at, read_table}
 use Rattle.lsm_table.proofs.TableBlocks.{few_blocks, index_read, last_entry, last_short, size_parts, sum_again}
 use Rattle.lsm_table.proofs.TableFields.{counts_at, header_again, last_key}
-use Rattle.lsm_table.proofs.TableLaws.{keys_short, some_blocks, table_takes}
+use Rattle.lsm_table.proofs.TableLaws.{some_blocks, table_takes}
 use Rattle.lsm_table.proofs.TableSizes.{one_encoding}
+use Rattle.lsm_table.proofs.TableVersions.{version_range, keys_within}
 
 -- ---- inside the header
 
-counts_cut : (target count blocks : ℕ) → 0 < count → count < 2 ^ 32 → (n : ℕ) → n < length (to_be_bytes w32 count ++ to_be_bytes w32 blocks) → counts_at (target, take n (to_be_bytes w32 count ++ to_be_bytes w32 blocks)) ≡ Err Truncated
-counts_cut target count blocks some lt n short =
+counts_cut : (version target count blocks : ℕ) → 0 < count → count < 2 ^ 32 → (n : ℕ) → n < length (to_be_bytes w32 count ++ to_be_bytes w32 blocks) → counts_at version (target, take n (to_be_bytes w32 count ++ to_be_bytes w32 blocks)) ≡ Err Truncated
+counts_cut version target count blocks some lt n short =
     let f = to_be_bytes w32 blocks in
-    let last : ℕ × List ℕ → Result (Header × List ℕ) TableFault = λ (m : ℕ × List ℕ). cond (eqb m.0 0) (Err BadIndex) (Ok (record { target = target; count = count; blocks = m.0 }, m.1)) in
-    cut_then Truncated (number_at Truncated w32) (λ n. cond (eqb n.0 0) (Err BadIndex) (number_at Truncated w32 n.1 >>= λ m. cond (eqb m.0 0) (Err BadIndex) (Ok (record { target = target; count = n.0; blocks = m.0 }, m.1)))) (to_be_bytes w32 count) f (λ rest. (count, rest))
+    let last : ℕ × List ℕ → Result (Header × List ℕ) TableFault = λ (m : ℕ × List ℕ). cond (eqb m.0 0) (Err BadIndex) (Ok (record { version = version; target = target; count = count; blocks = m.0 }, m.1)) in
+    cut_then Truncated (number_at Truncated w32) (λ n. cond (eqb n.0 0) (Err BadIndex) (number_at Truncated w32 n.1 >>= λ m. cond (eqb m.0 0) (Err BadIndex) (Ok (record { version = version; target = target; count = n.0; blocks = m.0 }, m.1)))) (to_be_bytes w32 count) f (λ rest. (count, rest))
     (number_cut Truncated w32 (2 ^ 32) wide32 count) (λ rest. number_again Truncated w32 (2 ^ 32) wide32 count rest lt)
     (λ m left. ap (λ (b : Bool). cond b (Err BadIndex) (number_at Truncated w32 (take m f) >>= last)) (ne_eqb count 0 (λ z. omega (arith, z, some))) ∙ ap (λ (r : Result (ℕ × List ℕ) TableFault). r >>= last) (number_cut Truncated w32 (2 ^ 32) wide32 blocks m left)) n short
 
-header_cut : (target count blocks : ℕ) → IsTarget target → 0 < count → count < 2 ^ 32 → (n : ℕ) → n < length (header target count blocks) → header_at (take n (header target count blocks)) ≡ Err Truncated
+header_cut : (version target count blocks : ℕ) → (1 ≤ version) × (version ≤ 2) → IsTarget target → 0 < count → count < 2 ^ 32 → (n : ℕ) → n < length (header version target count blocks) → header_at (take n (header version target count blocks)) ≡ Err Truncated
 unfolding header_at
-header_cut target count blocks ranged some lt n short =
+header_cut version target count blocks versioned ranged some lt n short =
     let a = to_be_bytes w32 magic in
-    let b = to_be_bytes w8 1 in
+    let b = to_be_bytes w8 version in
     let c = to_be_bytes w32 target in
     let d = to_be_bytes w32 count in
     let f = to_be_bytes w32 blocks in
-    let after_magic : List ℕ → Result (Header × List ℕ) TableFault = λ (r : List ℕ). fixed_at Truncated BadVersion w8 1 r >>= λ s. ranged_number_at Truncated BadCut w32 1 MAX_TABLE_BYTES s >>= counts_at in
-    let after_version : List ℕ → Result (Header × List ℕ) TableFault = λ (s : List ℕ). ranged_number_at Truncated BadCut w32 1 MAX_TABLE_BYTES s >>= counts_at in
-    let regrouped : header target count blocks ≡ a ++ (b ++ (c ++ (d ++ f))) = append_assoc (a ++ b ++ c) d f ∙ append_assoc (a ++ b) c (d ++ f) ∙ append_assoc a b (c ++ (d ++ f)) in
+    let after_version : ℕ × List ℕ → Result (Header × List ℕ) TableFault = λ (v : ℕ × List ℕ). ranged_number_at Truncated BadCut w32 1 MAX_TABLE_BYTES v.1 >>= counts_at v.0 in
+    let after_magic : List ℕ → Result (Header × List ℕ) TableFault = λ (r : List ℕ). ranged_number_at Truncated BadVersion w8 1 2 r >>= after_version in
+    let regrouped : header version target count blocks ≡ a ++ (b ++ (c ++ (d ++ f))) = append_assoc (a ++ b ++ c) d f ∙ append_assoc (a ++ b) c (d ++ f) ∙ append_assoc a b (c ++ (d ++ f)) in
     ap (λ (t : List ℕ). header_at (take n t)) regrouped
     ∙ cut_then Truncated (fixed_at Truncated BadMagic w32 magic) after_magic a (b ++ (c ++ (d ++ f))) (λ rest. rest)
     (fixed_cut Truncated BadMagic w32 (2 ^ 32) wide32 magic) (λ rest. fixed_again Truncated BadMagic w32 (2 ^ 32) wide32 magic rest (omega arith))
-    (cut_then Truncated (fixed_at Truncated BadVersion w8 1) after_version b (c ++ (d ++ f)) (λ rest. rest)
-    (fixed_cut Truncated BadVersion w8 (2 ^ 8) wide8 1) (λ rest. fixed_again Truncated BadVersion w8 (2 ^ 8) wide8 1 rest (omega arith))
-    (cut_then Truncated (ranged_number_at Truncated BadCut w32 1 MAX_TABLE_BYTES) counts_at c (d ++ f) (λ rest. (target, rest))
+    (cut_then Truncated (ranged_number_at Truncated BadVersion w8 1 2) after_version b (c ++ (d ++ f)) (λ rest. (version, rest))
+    (within_cut Truncated BadVersion w8 (2 ^ 8) wide8 1 2 version versioned) (λ rest. within_again Truncated BadVersion w8 (2 ^ 8) wide8 1 2 version rest (omega (arith, versioned.1)) versioned.0 versioned.1)
+    (cut_then Truncated (ranged_number_at Truncated BadCut w32 1 MAX_TABLE_BYTES) (counts_at version) c (d ++ f) (λ rest. (target, rest))
     (within_cut Truncated BadCut w32 (2 ^ 32) wide32 1 MAX_TABLE_BYTES target ranged) (λ rest. within_again Truncated BadCut w32 (2 ^ 32) wide32 1 MAX_TABLE_BYTES target rest (omega (arith, ranged.1)) ranged.0 ranged.1)
-    (counts_cut target count blocks some lt)))
+    (counts_cut version target count blocks some lt)))
     n (subst (λ (t : List ℕ). n < length t) regrouped short)
 
 -- ---- inside the index
@@ -127,7 +130,9 @@ unfolding read_table
 table_cut bytes es n is lt =
     let all : List Entry = all_entries is.blocks in
     let len : ℕ = length (entries all) in
-    let front : List ℕ = header is.target (length all) (length is.blocks) in
+    let version : ℕ = version_of_entries all in
+    let limit : ℕ = key_limit version in
+    let front : List ℕ = header version is.target (length all) (length is.blocks) in
     let first : List ℕ = flat_map index is.blocks in
     let whole : bytes ≡ front ++ (first ++ entries all) = is.spelled ∙ append_assoc front first (entries all) in
     let size : length bytes ≡ length front + (length first + len) = ap length whole ∙ length-append front (first ++ entries all) ∙ ap (λ (n : ℕ). length front + n) (length-append first (entries all)) in
@@ -135,16 +140,16 @@ table_cut bytes es n is lt =
     let some : 0 < length all = omega (arith, ap length is.whole, is.some) in
     let few : length is.blocks ≤ length all = few_blocks is.target is.blocks is.cut in
     let sound : AreEntries all = subst AreEntries is.whole is.sound in
-    let keys = keys_short all sound.each in
-    let h : Header = record { target = is.target; count = length all; blocks = length is.blocks } in
+    let keys = keys_within all sound.each in
+    let h : Header = record { version = version; target = is.target; count = length all; blocks = length is.blocks } in
     let counted : length all < 2 ^ 32 = omega (arith, small, as_long all) in
     let limited : ltb MAX_TABLE_BYTES (length (take n bytes)) ≡ false = le-ltb MAX_TABLE_BYTES (length (take n bytes)) (omega (arith, is.small, lt, length-take-le n bytes (omega (arith, lt)))) in
-    let read : List ℕ → Result (List Entry) TableFault = λ (b : List ℕ). header_at b >>= λ x. sum_at MAX_SHORT_KEY_BYTES x.0.blocks 0 x.1 >>= λ sized. contents_at x.0 x.1 sized in
-    let parted = cut_then Truncated header_at (λ x. sum_at MAX_SHORT_KEY_BYTES x.0.blocks 0 x.1 >>= λ sized. contents_at x.0 x.1 sized) front (first ++ entries all) (λ rest. (h, rest))
-    (header_cut is.target (length all) (length is.blocks) is.ranged some counted)
-    (λ rest. header_again is.target (length all) (length is.blocks) rest is.ranged some counted (some_blocks is.blocks some) (omega (arith, small, few, as_long all)))
-    (λ m left. cut_then Truncated (sum_at MAX_SHORT_KEY_BYTES (length is.blocks) 0) (contents_at h (take m (first ++ entries all))) first (entries all) (λ rest. (0 + len, rest))
-    (sum_cut MAX_SHORT_KEY_BYTES (omega arith) is.target is.blocks 0 is.cut sound.each sound.sequences keys small) (λ rest. sum_again MAX_SHORT_KEY_BYTES is.target is.blocks 0 rest is.cut sound.each sound.sequences keys small)
+    let read : List ℕ → Result (List Entry) TableFault = λ (b : List ℕ). header_at b >>= λ x. sum_at (key_limit x.0.version) x.0.blocks 0 x.1 >>= λ sized. contents_at x.0 x.1 sized in
+    let parted = cut_then Truncated header_at (λ x. sum_at (key_limit x.0.version) x.0.blocks 0 x.1 >>= λ sized. contents_at x.0 x.1 sized) front (first ++ entries all) (λ rest. (h, rest))
+    (header_cut version is.target (length all) (length is.blocks) (version_range all) is.ranged some counted)
+    (λ rest. header_again version is.target (length all) (length is.blocks) rest (version_range all) is.ranged some counted (some_blocks is.blocks some) (omega (arith, small, few, as_long all)))
+    (λ m left. cut_then Truncated (sum_at limit (length is.blocks) 0) (contents_at h (take m (first ++ entries all))) first (entries all) (λ rest. (0 + len, rest))
+    (sum_cut limit (limit_short version) is.target is.blocks 0 is.cut sound.each sound.sequences keys small) (λ rest. sum_again limit is.target is.blocks 0 rest is.cut sound.each sound.sequences keys small)
     (λ j less. contents_cut h (take m (first ++ entries all)) (0 + len) (take j (entries all)) (omega (arith, less, length-take-le j (entries all) (omega (arith, less))))) m left)
     n (subst (λ (t : List ℕ). n < length t) whole lt) in
     rw limited (ap (λ (t : List ℕ). read (take n t)) whole ∙ parted)

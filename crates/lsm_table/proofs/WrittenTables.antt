@@ -134,16 +134,16 @@ module _ (target : ℕ) (es : List Entry) (count : ℕ) (lines blocks : List ℕ
 
   -- ---- the table of all
 
-  pub written_all : (some : 0 < length es) (out : List ℕ) → out ≡ ((header target count (m.closed + 1) ++ lines) ++ (to_be_bytes w32 m.last ++ end_key (last_of es))) ++ blocks → out ≡ table_of target es
+  pub written_all : (some : 0 < length es) (out : List ℕ) → out ≡ ((header m.version target count (m.closed + 1) ++ lines) ++ (to_be_bytes w32 m.last ++ end_key (last_of es))) ++ blocks → out ≡ table_of target es
   written_all some out spelled =
       let end = written_end some in
       let x : Entry = end.begins.last in
       let ends : last_of es ≡ Some x = last_is es blocks last m.last_key end in
       let line : List ℕ = to_be_bytes w32 m.last ++ end_key (last_of es) in
-      let front : List ℕ = header target count (m.closed + 1) in
+      let front : List ℕ = header m.version target count (m.closed + 1) in
       let lined : lines ++ line ≡ flat_map index (cut_of target es) = so_far_all target es [] lines m.last is.indexed x (lines ++ line) is.draft.ranged.0 some ends (ap (λ (o : Option Entry). lines ++ (to_be_bytes w32 m.last ++ end_key o)) ends) in
       let blocks_are = measured_blocks target es m is.draft.ranged.0 some is.draft.measured in
       spelled
       ∙ ap (λ (b : List ℕ). b ++ blocks) (append_assoc front lines line)
-      ∙ (λ i. (header target (is.counted i) (blocks_are i) ++ lined i) ++ is.spelled i)
+      ∙ (λ i. (header (is.draft.measured.versioned i) target (is.counted i) (blocks_are i) ++ lined i) ++ is.spelled i)
       ∙ table_spelled target es

@@ -6,7 +6,7 @@ use Rattle.lsm_block.specs.Blocks.{entries}
 use Rattle.lsm_block.specs.BlockReading.{last_of}
 use Rattle.lsm_table.specs.declared.measuring.Measure.{Measure}
 use Rattle.lsm_table.specs.Cuts.{cut_after}
-use Rattle.lsm_table.specs.Tables.{index, key_of_entry}
+use Rattle.lsm_table.specs.Tables.{index, key_of_entry, version_of_entries}
 
 -- the entries are cut into these blocks and a last one, which may take more
 pub record IsCutInto (target : ℕ) (es : List Entry) (closed : List (List Entry)) (last : List Entry) : Type 0 where
@@ -30,6 +30,7 @@ pub record IsMeasured (target : ℕ) (es : List Entry) (m : Measure) : Type 0 wh
   pub sized : m.last ≡ length (entries last)
   pub keyed : m.last_key ≡ length (key_of_entry (last_of es))
   pub weighed : m.weight ≡ length (entries es)
+  pub versioned : m.version ≡ version_of_entries es
   pub light : IsWithinWeight m
 
 -- the blocks before the last one are written after a front, and the last one has so many bytes

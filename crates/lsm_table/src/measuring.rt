@@ -1,6 +1,6 @@
-//! Measuring the table of entries that come one at a time: how many blocks and how many bytes it has.
+//! Measuring the table of entries that come one at a time: how many blocks and how many bytes it has, and its version.
 
-ghost use Rattle.std.specs.Prelude.{◌≡◌, ◌+◌, ◌*◌, ◌<◌, ◌≤◌, ◌++◌, [], ◌∷◌, ℕ, List, length};
+ghost use Rattle.std.specs.Prelude.{◌≡◌, ◌+◌, ◌*◌, ◌<◌, ◌≤◌, ◌++◌, [], ◌∷◌, ℕ, List, length, nat_lt, if◌then◌else◌};
 ghost use Rattle.std.specs.List.{AllByRecursion};
 ghost use Rattle.lsm_key.specs.declared.entry.Entry.{Entry};
 ghost use Rattle.lsm_key.specs.Entries.{IsEntry};
@@ -9,7 +9,7 @@ ghost use Rattle.lsm_block.specs.Blocks.{entries};
 ghost use Rattle.lsm_table.specs.Measuring.{IsWithinWeight, IsMeasured};
 ghost use Rattle.lsm_table.specs.Tables.{table_of};
 
-use lsm_key::{ENTRY_OVERHEAD, Entry, MAX_TABLE_BYTES};
+use lsm_key::{ENTRY_OVERHEAD, Entry, MAX_SHORT_KEY_BYTES, MAX_TABLE_BYTES};
 
 // The bytes of a header.
 const HEADER_BYTES: usize = 17;
@@ -30,6 +30,8 @@ pub(crate) struct Measure {
     pub(crate) last_key: usize,
     /// The bytes of all entries.
     pub(crate) weight: usize,
+    /// The version that their keys need.
+    pub(crate) version: u8,
 }
 
 impl Measure {
@@ -43,6 +45,7 @@ impl Measure {
             last: 0,
             last_key: 0,
             weight: 0,
+            version: 1,
         }
     }
 
@@ -59,6 +62,7 @@ impl Measure {
         ensures full { target ≤ self.now.last → result.last ≡ len }
     {
         let weight = self.weight + len;
+        let version = version_with(self.version, key);
         if self.last < target as usize {
             Measure {
                 closed: self.closed,
@@ -66,6 +70,7 @@ impl Measure {
                 last: self.last + len,
                 last_key: key,
                 weight,
+                version,
             }
         } else {
             Measure {
@@ -74,6 +79,7 @@ impl Measure {
                 last: len,
                 last_key: key,
                 weight,
+                version,
             }
         }
     }
@@ -85,6 +91,17 @@ impl Measure {
         ensures { (target : ℕ) (es : List Entry) → 1 ≤ target → 0 < length es → IsMeasured target es self.now → result ≡ length (table_of target es) }
     {
         HEADER_BYTES + self.index + (INDEX_OVERHEAD + self.last_key) + self.weight
+    }
+}
+
+// The version of some entries and of one more, whose key has so many bytes.
+fn version_with(version: u8, key: usize) -> u8
+    ensures { result ≡ (if nat_lt MAX_SHORT_KEY_BYTES key then 2 else version) }
+{
+    if key > MAX_SHORT_KEY_BYTES {
+        2
+    } else {
+        version
     }
 }
 

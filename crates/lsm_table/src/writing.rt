@@ -9,7 +9,7 @@ ghost use Rattle.lsm_table.specs.Cuts.{cut_of};
 ghost use Rattle.lsm_table.specs.Tables.{end_key, header, index};
 
 use crate::measuring::entry_len;
-use crate::reading::{MAGIC, VERSION};
+use crate::reading::MAGIC;
 use bytes::{BufMut, BytesMut};
 use lsm_key::{Entry, MAX_TABLE_BYTES, write_key, write_trailer};
 use std::alloc::AllocError;
@@ -17,14 +17,15 @@ use std::alloc::AllocError;
 /// Appends the header.
 pub(crate) fn write_header(
     out: &mut BytesMut,
+    version: u8,
     target: u32,
     count: u32,
     blocks: u32,
 ) -> Result<(), AllocError>
-    ensures { OnOk result (out.new.items ≡ out.old.items ++ header target count blocks) }
+    ensures { OnOk result (out.new.items ≡ out.old.items ++ header version target count blocks) }
 {
     out.put_u32(MAGIC)?;
-    out.put_u8(VERSION)?;
+    out.put_u8(version)?;
     out.put_u32(target)?;
     out.put_u32(count)?;
     out.put_u32(blocks)?;

@@ -157,7 +157,8 @@ impl Written {
     {
         let measure = &self.measure;
         let mut out = BytesMut::with_capacity(alloc, measure.table_len())?;
-        write_header(&mut out, self.target, self.count, measure.closed + 1)?;
+        let blocks = measure.closed + 1;
+        write_header(&mut out, measure.version, self.target, self.count, blocks)?;
         out.put_slice(self.index.as_slice())?;
         let end = end_in(self.blocks.as_slice(), self.last, measure.last_key);
         write_line(&mut out, measure.last as u32, end)?;

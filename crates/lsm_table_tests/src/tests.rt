@@ -2,6 +2,7 @@
 
 mod copying;
 mod cursors;
+mod long_keys;
 
 ghost use Rattle.lsm_key.specs.Entries.{IsEntry};
 ghost use Rattle.lsm_table.specs.Tables.{IsTarget};

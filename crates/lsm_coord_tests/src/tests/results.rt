@@ -34,6 +34,10 @@ const CUT: &[u8] =
 const OTHER_TARGET: &[u8] =
     b"LSMT\x01\x01\0\0\0\0\0\0\x02\0\0\0\x01\0\0\0\x1f\0\x01a\0\0\0\0\0\0\x01\x01\0\x01a\0\0\0\0\0\0\x02\0\0\0\0\0\0\x01a\0\0\0\0\0\0\x01\x01\0\0\0\x011";
 
+/// The same in version 2, which no key of it needs.
+const NEEDLESS: &[u8] =
+    b"LSMT\x02\0\0\x10\0\0\0\0\x02\0\0\0\x01\0\0\0\x1f\0\x01a\0\0\0\0\0\0\x01\x01\0\x01a\0\0\0\0\0\0\x02\0\0\0\0\0\0\x01a\0\0\0\0\0\0\x01\x01\0\0\0\x011";
+
 /// A put of b at sequence 1.
 const OF_B: &[u8] =
     b"LSMT\x01\0\0\x10\0\0\0\0\x01\0\0\0\x01\0\0\0\x10\0\x01b\0\0\0\0\0\0\x01\x01\0\x01b\0\0\0\0\0\0\x01\x01\0\0\0\x011";
@@ -45,11 +49,12 @@ const DONE: Became = Became::Installed(4, 0);
 
 /// Results of the job of both files: the job's number, the tables, and what becomes of them. The right one is that of a merge without
 /// snapshots, which keeps nothing.
-const RESULTS: [(u64, &[&[u8]], Became); 6] = [
+const RESULTS: [(u64, &[&[u8]], Became); 7] = [
     (1, &[OF_B], BAD),
     (1, &[CUT], BAD),
     (1, &[MERGED, MERGED], BAD),
     (1, &[OTHER_TARGET], BAD),
+    (1, &[NEEDLESS], BAD),
     (2, &[], Became::Kept(InstallError::WrongJob)),
     (1, &[], DONE),
 ];

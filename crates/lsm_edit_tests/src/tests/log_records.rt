@@ -41,9 +41,9 @@ const BROKEN: [(&[u8], &[(usize, u8)]); 13] = [
     (&PUT, &[(11, 3), (12, 0xe9)]),
     // The kind.
     (&PUT, &[(13, 2)]),
-    // A key of 0 bytes and of 1,025, and a value of 65,537.
+    // A key of 0 bytes and of 4,097, and a value of 65,537.
     (&PUT, &[(15, 0)]),
-    (&PUT, &[(14, 4)]),
+    (&PUT, &[(14, 16)]),
     (&PUT, &[(18, 1)]),
     // Freezes at 0 and at 2^56.
     (&FIRST_FREEZE, &[(8, 0)]),

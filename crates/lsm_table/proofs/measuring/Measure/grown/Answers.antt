@@ -4,8 +4,8 @@ use Rattle.lsm_table.proofs.measuring.Measure.grown.Goals as goal
 
 pub returns-then-self-target-clause-measured : goal.returns-then-self-target-clause-measured
 returns-then-self-target-clause-measured c = λ es e keyed weighed is.
-    measured_room c.args.target es e c.args.self.now c.args.len c.args.key weighed keyed is c.if-self-target.true
+    measured_room c.args.target es e c.args.self.now c.args.len c.args.key c.version_with-version.result weighed keyed c.version_with-version.ensures is c.if-self-target.true
 
 pub returns-else-self-target-clause-measured : goal.returns-else-self-target-clause-measured
 returns-else-self-target-clause-measured c = λ es e keyed weighed is.
-    measured_full c.args.target es e c.args.self.now c.args.len c.args.key weighed keyed is c.requires.target (omega (arith, c.if-self-target.false))
+    measured_full c.args.target es e c.args.self.now c.args.len c.args.key c.version_with-version.result weighed keyed c.version_with-version.ensures is c.requires.target (omega (arith, c.if-self-target.false))

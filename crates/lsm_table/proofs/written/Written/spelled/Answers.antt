@@ -16,8 +16,8 @@ table_len-requires-clause-small c =
     let small = draft_small w.target (block_entries w.blocks.items) w.measure c.self.invariant.draft.measured c.self.invariant.draft.small in
     omega (arith, small)
 
-pub overflow_add-measure : goal.overflow_add-measure
-overflow_add-measure c =
+pub overflow_add-blocks : goal.overflow_add-blocks
+overflow_add-blocks c =
     let w = c.self.inside in
     let small = draft_small w.target (block_entries w.blocks.items) w.measure c.self.invariant.draft.measured c.self.invariant.draft.small in
     omega (arith, small, c.self.invariant.draft.measured.light.closed, c.self.invariant.draft.measured.light.index)
@@ -41,7 +41,7 @@ returns c =
     let es : List Entry = block_entries w.blocks.items in
     let some : 0 < length es = subst (λ (d : Draft). 0 < length d.entries) (sym c.self.view_is) c.requires in
     let lent : IsLastEnd es c.as_slice-2.result.now w.last w.measure.last_key = subst (λ (b : List ℕ). IsLastEnd es b w.last w.measure.last_key) (sym c.as_slice-2.ensures) (written_end w.target es w.count w.index.items w.blocks.items w.last w.measure c.self.invariant some) in
-    let front : List ℕ = header w.target w.count (w.measure.closed + 1) in
+    let front : List ℕ = header w.measure.version w.target w.count (w.measure.closed + 1) in
     let line : List ℕ → List ℕ = λ end. to_be_bytes w32 w.measure.last ++ end in
     let begun : c.write_header.new.out.items ≡ front = c.in_ok-write_header.ensures ∙ ap (λ (b : List ℕ). b ++ front) c.in_ok-out.ensures.items in
     let indexed : c.put_slice.new.self.items ≡ front ++ w.index.items = c.in_ok-put_slice.ensures.ok ∙ (λ i. begun i ++ c.as_slice.ensures i) in
