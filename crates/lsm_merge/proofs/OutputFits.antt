@@ -28,7 +28,7 @@ longest_most Delete = omega arith
 longest_most Put = omega arith
 
 -- the most that an entry weighs
-pub entry_most : (e : Entry) → IsEntry e → entry_weight e ≤ 66574
+pub entry_most : (e : Entry) → IsEntry e → entry_weight e ≤ 69646
 entry_most e is = let v = is.value in let l = longest_most e.ikey.kind in let k = is.key.1 in omega (arith, v, l, k)
 
 pub each_from : (P : Entry → Type 0) (es : List Entry) → ((e : Entry) → IsIn e es → P e) → AllByRecursion P es
@@ -61,8 +61,8 @@ pub output_fits : (target : ℕ) (es : List Entry) → 0 < length es → AreEntr
 output_fits target es some sound few late =
     let k : List ℕ = largest_key es in
     let both : weight_of (filter (has_key k) es) + weight_of (before_last_key es) ≡ weight_of es = sum_by-filter_both (has_key k) (λ e. not (has_key k e)) (λ e. refl) entry_weight es in
-    let light : All (λ e. entry_weight e ≤ 66574) (filter (has_key k) es) = λ i d lt. entry_most (get_or (filter (has_key k) es) i d) (each_in IsEntry es (get_or (filter (has_key k) es) i d) sound.each (IsIn-filter (has_key k) (get_or (filter (has_key k) es) i d) es (IsIn-at (filter (has_key k) es) i d lt)).0) in
-    let own : weight_of (filter (has_key k) es) ≤ length (filter (has_key k) es) * 66574 = sum_by-le entry_weight 66574 (filter (has_key k) es) light in
+    let light : All (λ e. entry_weight e ≤ 69646) (filter (has_key k) es) = λ i d lt. entry_most (get_or (filter (has_key k) es) i d) (each_in IsEntry es (get_or (filter (has_key k) es) i d) sound.each (IsIn-filter (has_key k) (get_or (filter (has_key k) es) i d) es (IsIn-at (filter (has_key k) es) i d lt)).0) in
+    let own : weight_of (filter (has_key k) es) ≤ length (filter (has_key k) es) * 69646 = sum_by-le entry_weight 69646 (filter (has_key k) es) light in
     let most = few k in
     let size = table_weighs target es some in
     omega (arith, both, own, most, late, size)

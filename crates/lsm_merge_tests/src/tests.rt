@@ -1,6 +1,7 @@
 //! Merges of tables whose keys and values have one letter.
 
 mod refusals;
+mod versions;
 mod walks;
 
 ghost use Rattle.std.specs.Prelude.{IfOk};

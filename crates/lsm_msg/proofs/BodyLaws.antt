@@ -8,8 +8,8 @@ use Rattle.lsm_key.specs.Reading.{◌>>=◌, ranged_number_at, piece_at}
 use Rattle.lsm_key.proofs.Beginnings.{cut_then, piece_cut}
 use Rattle.lsm_key.proofs.FieldLaws.{IsBytes, Takes, Takes-then, bind_ok, ok_is, piece_takes, piece_again, wide32, wide64}
 use Rattle.lsm_key.proofs.ReaderLaws.{Reads, field, done, whole, within_reads, reads_as}
-use Rattle.lsm_edit.proofs.BaseLaws.{base_reads, base_within}
-use Rattle.lsm_edit.proofs.EditLaws.{edit_reads, edit_within}
+use Rattle.lsm_edit.proofs.BaseLaws.{base_reads}
+use Rattle.lsm_edit.proofs.EditLaws.{edit_reads}
 use Rattle.lsm_edit.proofs.FileLaws.{HasKeysWithin}
 use Rattle.lsm_msg.specs.declared.fault.MsgFault.{MsgFault}
 use Rattle.lsm_msg.specs.declared.fault.MsgFault.TheVariants.{Truncated, BadField}
@@ -22,7 +22,7 @@ use Rattle.lsm_msg.specs.Messages.{AreTableBytes, IsBody, body_text, job_id, kin
 use Rattle.lsm_msg.specs.MessageReading.{as_body, body_at, file_number_at, result_at, sized_at, table_body_at, result_tables_at}
 use Rattle.lsm_msg.specs.Rules.{IsJobId}
 use Rattle.lsm_msg.proofs.EachInTurn.{counted_each}
-use Rattle.lsm_msg.proofs.JobLaws.{JobHasKeysWithin, job_reads, job_id_reads, job_within}
+use Rattle.lsm_msg.proofs.JobLaws.{JobHasKeysWithin, job_reads, job_id_reads}
 
 -- ---- tables and results
 
@@ -93,18 +93,6 @@ BodyHasKeysWithin limit (body.Ask n) = Unit {0}
 BodyHasKeysWithin limit (body.Edit e) = All (HasKeysWithin limit) e.added
 BodyHasKeysWithin limit (body.Base v) = All (HasKeysWithin limit) v.files
 BodyHasKeysWithin limit (body.Current n) = Unit {0}
-
--- the keys of any body are within the greatest limit
-pub body_within : (b : Body) → IsBody b → IsCounted b → BodyHasKeysWithin MAX_KEY_BYTES b
-body_within (body.Job j) is few = job_within j is.0
-body_within (body.Fetch n) is few = tt
-body_within (body.Table n bytes) is few = tt
-body_within (body.Gone n) is few = tt
-body_within (body.Result r) is few = tt
-body_within (body.Ask n) is few = tt
-body_within (body.Edit e) is few = (edit_within e is).1
-body_within (body.Base v) is few = (base_within v (is, few)).1
-body_within (body.Current n) is few = tt
 
 -- a body of the kind, with keys within a limit
 abbrev pub IsOfKind : ℕ → MessageKind → Body → Type 0

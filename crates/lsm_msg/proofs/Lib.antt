@@ -3,6 +3,7 @@ pub mod InputsInTurn
 pub mod JobLaws
 pub mod BodyLaws
 pub mod MessageSizes
+pub mod MessageVersions
 pub mod MessageLaws
 pub mod KeptEntries
 pub mod VisibleAfterMerge

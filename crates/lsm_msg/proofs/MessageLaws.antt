@@ -1,27 +1,30 @@
 -- A decoded message encodes to the bytes, and what encodes to the bytes is decoded.
-use Rattle.std.proofs.Common.{◌≡◌, ℕ, zero, suc, ◌^◌, ◌<◌, ◌≤◌, ◌||◌, Bool, false, cond, ltb, eqb, List, [], ◌++◌, length, take, Result, Ok, Err, refl, sym, ap, subst, ◌∙◌, append_assoc, arith}
+use Rattle.std.proofs.Common.{◌≡◌, ℕ, zero, suc, ◌^◌, ◌<◌, ◌≤◌, ◌||◌, Bool, false, not, cond, ltb, eqb, List, [], ◌++◌, length, take, Result, Ok, Err, refl, sym, ap, subst, ◌∙◌, append_assoc, arith}
 use Rattle.std.specs.Prelude.{IfOk}
 use Rattle.std.specs.Int.{Width, w8, w32, to_be_bytes}
 use Rattle.std.proofs.lemmas.List.{append-nil, length-take-le, nil_from_length}
-use Rattle.std.proofs.lemmas.Bool.{eqb-true, eqb-false, le-ltb, ltb-false, ne_eqb, or_from, or_parts}
-use Rattle.lsm_key.specs.declared.limits.TheConstants.{MAX_NODES, MAX_SHORT_KEY_BYTES}
+use Rattle.std.proofs.lemmas.Bool.{eq-eqb, eqb-true, eqb-false, le-ltb, ltb-false, ne_eqb, not-false, or_from, or_parts}
+use Rattle.lsm_key.specs.declared.limits.TheConstants.{MAX_NODES}
 use Rattle.lsm_key.specs.declared.refused.Refused.{Refused}
 use Rattle.lsm_key.specs.Reading.{◌>>=◌, number_at, ranged_number_at, fixed_at, Gives}
+use Rattle.lsm_key.specs.Versions.{key_limit, version_of}
 use Rattle.lsm_key.proofs.Beginnings.{cut_then, fixed_cut, number_cut}
 use Rattle.lsm_key.proofs.FieldLaws.{IsBytes, IsWide, Takes, Takes-then, bind_ok, guard_ok, guard_held, ok_is, fixed_takes, fixed_again, number_takes, number_again, wide8, wide32}
-use Rattle.lsm_key.proofs.ReaderLaws.{Reads, Goes, field, field_as, done, whole, within_reads}
+use Rattle.lsm_key.proofs.ReaderLaws.{Reads, Goes, field, field_as, unless_so, done, whole, within_reads}
+use Rattle.lsm_key.proofs.VersionLaws.{limit_low, version_is}
 use Rattle.lsm_msg.specs.declared.fault.MsgFault.{MsgFault}
-use Rattle.lsm_msg.specs.declared.fault.MsgFault.TheVariants.{Truncated, BadMagic, BadVersion, BadKind, BadField, TrailingBytes, TooLarge}
+use Rattle.lsm_msg.specs.declared.fault.MsgFault.TheVariants.{Truncated, BadMagic, BadVersion, BadKind, BadField, TrailingBytes, TooLarge, NeedlessVersion}
 use Rattle.lsm_msg.specs.declared.kind.MessageKind.{MessageKind}
 use Rattle.lsm_msg.specs.declared.kind.MessageKind.TheVariants as kind
 use Rattle.lsm_msg.specs.declared.message.Message.{Message}
 use Rattle.lsm_msg.specs.declared.message.TheConstants.{MAX_MESSAGE_BYTES}
 use Rattle.lsm_msg.specs.declared.node.Node.{Node}
 use Rattle.lsm_msg.specs.declared.node.Node.TheVariants.{Coordinator, Worker, Follower}
-use Rattle.lsm_msg.specs.Messages.{IsBody, IsMessage, IsNode, IsSpelled, body_text, message_kind_code, kind_of, message, message_magic, node}
+use Rattle.lsm_msg.specs.Messages.{IsBody, IsMessage, IsNode, IsSpelled, body_text, message_kind_code, kind_of, message, message_magic, node, own_keys}
 use Rattle.lsm_msg.specs.MessageReading.{message_kind_at, message_kind_from, message_at, node_at, node_from, read_message}
-use Rattle.lsm_msg.proofs.BodyLaws.{BodyHasKeysWithin, IsCounted, body_reads, body_within}
+use Rattle.lsm_msg.proofs.BodyLaws.{BodyHasKeysWithin, IsCounted, body_reads}
 use Rattle.lsm_msg.proofs.MessageSizes.{body_short, counted_of}
+use Rattle.lsm_msg.proofs.MessageVersions.{body_fits}
 
 -- ---- kinds
 
@@ -177,32 +180,44 @@ constant {Z} {Known} {tail} {IsZ} k bad w limit wide n small then = record {
       (fixed_cut Truncated bad w limit wide n) (λ rest. fixed_again Truncated bad w limit wide n rest small) (then.cuts z known is) m lt;
 }
 
+-- the version that the message's own keys need
+abbrev version : Message → ℕ
+version m = version_of (own_keys m.body)
+
+abbrev needless : Message → Bool
+needless m = not (eqb (version m) (version m))
+
 abbrev fields_spelled : Message → List ℕ
-fields_spelled m = to_be_bytes w32 message_magic ++ (to_be_bytes w8 1 ++ (to_be_bytes w8 (message_kind_code (kind_of m.body)) ++ (node m.src ++ (node m.dst ++ (body_text m.body ++ [])))))
+fields_spelled m = to_be_bytes w32 message_magic ++ (to_be_bytes w8 (version m) ++ (to_be_bytes w8 (message_kind_code (kind_of m.body)) ++ (node m.src ++ (node m.dst ++ (body_text m.body ++ [])))))
 
 abbrev FieldRules : Message → Type 0
-FieldRules m = Unit {0} × (IsNode m.src × (IsNode m.dst × ((IsBody m.body × IsCounted m.body × BodyHasKeysWithin MAX_SHORT_KEY_BYTES m.body) × Unit {0})))
+FieldRules m =
+    ((1 ≤ version m) × (version m ≤ 2)) × (Unit {0} × (IsNode m.src × (IsNode m.dst × ((IsBody m.body × IsCounted m.body × BodyHasKeysWithin (key_limit (version m)) m.body) × ((needless m ≡ false) × Unit {0})))))
 
 message_goes : Goes Truncated (λ m. Unit {0}) message_at fields_spelled FieldRules
 unfolding message_at
 message_goes =
     constant _ BadMagic w32 (2 ^ 32) wide32 message_magic (omega arith) (
-    constant _ BadVersion w8 (2 ^ 8) wide8 1 (omega arith) (
+    field _ version (within_reads Truncated BadVersion w8 (2 ^ 8) wide8 1 2 (omega arith)) (λ v _.
     field _ (λ (m : Message). kind_of m.body) kind_reads (λ k _.
     field _ (λ (m : Message). m.src) node_reads (λ src _.
     field _ (λ (m : Message). m.dst) node_reads (λ dst _.
-    field_as _ (λ (m : Message). m.body) (λ m. IsBody m.body × IsCounted m.body × BodyHasKeysWithin MAX_SHORT_KEY_BYTES m.body) (λ m known is. (is.0, is.1, is.2)) (λ m known is. (is.0, is.1, is.2, known.0.0.1)) (body_reads MAX_SHORT_KEY_BYTES (omega arith) k) (λ body is.
+    field_as _ (λ (m : Message). m.body) (λ m. IsBody m.body × IsCounted m.body × BodyHasKeysWithin (key_limit (version m)) m.body)
+    (λ m known is. (is.0, is.1, subst (λ (n : ℕ). BodyHasKeysWithin (key_limit n) m.body) (sym known.0.0.0.1) is.2))
+    (λ m known is. (is.0, is.1, subst (λ (n : ℕ). BodyHasKeysWithin (key_limit n) m.body) known.0.0.0.1 is.2, known.0.0.1))
+    (body_reads (key_limit v) (limit_low v) k) (λ body is.
+    unless_so _ NeedlessVersion (not (eqb (version_of (own_keys body)) v)) needless (λ m known i. not (eqb (version_of (own_keys (known.1 i))) (known.0.0.0.0.1 i))) (λ so.
     done (λ m. Unit {0}) (record { src = src; dst = dst; body = body })
-    ((((tt, is.3), refl), refl), refl) tt
-    (λ m known is i. record { src = known.0.0.1 i; dst = known.0.1 i; body = known.1 i })))))))
+    (((((tt, eqb-true (version_of (own_keys body)) v (not-false (eqb (version_of (own_keys body)) v) so)), is.3), refl), refl), refl) tt
+    (λ m known is i. record { src = known.0.0.1 i; dst = known.0.1 i; body = known.1 i }))))))))
 
 abbrev IsCountedMessage : Message → Type 0
 IsCountedMessage m = IsMessage m × IsCounted m.body
 
 message_reads : Reads Truncated message_at message IsCountedMessage
 message_reads = whole message IsCountedMessage (λ m is. simp (append_assoc, append-nil) refl)
-    (λ m r. (record { src = r.1.0; dst = r.1.1.0; body = r.1.1.1.0.0 }, r.1.1.1.0.1))
-    (λ m is. (tt, (is.0.src, (is.0.dst, ((is.0.body, is.1, body_within m.body is.0.body is.1), tt)))))
+    (λ m r. (record { src = r.1.1.0; dst = r.1.1.1.0; body = r.1.1.1.1.0.0 }, r.1.1.1.1.0.1))
+    (λ m is. (version_is (own_keys m.body), (tt, (is.0.src, (is.0.dst, ((is.0.body, is.1, body_fits m.body is.0.body is.1), (ap not (eq-eqb (version m) (version m) refl), tt)))))))
     message_goes
 
 pub message_takes : (bytes : List ℕ) (m : Message) → IsBytes bytes → read_message bytes ≡ Ok m → IsSpelled bytes m

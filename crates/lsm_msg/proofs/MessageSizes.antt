@@ -4,6 +4,7 @@ use Rattle.std.specs.Int.{w8, w16, w32, to_be_bytes}
 use Rattle.std.specs.List.{flat_map}
 use Rattle.std.proofs.lemmas.List.{length-append}
 use Rattle.lsm_key.specs.declared.range.KeyRange.{KeyRange}
+use Rattle.lsm_key.specs.Versions.{version_of}
 use Rattle.lsm_edit.specs.File.{file}
 use Rattle.lsm_edit.proofs.TextSizes.{base_long, files_long, numbers_long}
 use Rattle.lsm_msg.specs.declared.job.JobParts.{JobParts}
@@ -13,7 +14,7 @@ use Rattle.lsm_msg.specs.declared.message.Message.{Message}
 use Rattle.lsm_msg.specs.declared.message.TheConstants.{MAX_MESSAGE_BYTES}
 use Rattle.lsm_msg.specs.declared.node.Node.{Node}
 use Rattle.lsm_msg.specs.declared.node.Node.TheVariants.{Coordinator, Worker, Follower}
-use Rattle.lsm_msg.specs.Messages.{body_text, job, job_id, message_kind_code, kind_of, message, message_magic, node, points, range, ranges, sized}
+use Rattle.lsm_msg.specs.Messages.{body_text, job, job_id, message_kind_code, kind_of, message, message_magic, node, own_keys, points, range, ranges, sized}
 use Rattle.lsm_msg.proofs.BodyLaws.{IsCounted}
 
 tables_long : (ts : List (List ℕ)) → length ts ≤ length (flat_map sized ts)
@@ -40,9 +41,9 @@ job_long j =
 
 pub message_long : (m : Message) → length (message m) ≡ 10 + length (body_text m.body)
 message_long m =
-    let a = length-append (to_be_bytes w32 message_magic ++ to_be_bytes w8 1 ++ to_be_bytes w8 (message_kind_code (kind_of m.body)) ++ node m.src ++ node m.dst) (body_text m.body) in
-    let b = length-append (to_be_bytes w32 message_magic ++ to_be_bytes w8 1 ++ to_be_bytes w8 (message_kind_code (kind_of m.body)) ++ node m.src) (node m.dst) in
-    let d = length-append (to_be_bytes w32 message_magic ++ to_be_bytes w8 1 ++ to_be_bytes w8 (message_kind_code (kind_of m.body))) (node m.src) in
+    let a = length-append (to_be_bytes w32 message_magic ++ to_be_bytes w8 (version_of (own_keys m.body)) ++ to_be_bytes w8 (message_kind_code (kind_of m.body)) ++ node m.src ++ node m.dst) (body_text m.body) in
+    let b = length-append (to_be_bytes w32 message_magic ++ to_be_bytes w8 (version_of (own_keys m.body)) ++ to_be_bytes w8 (message_kind_code (kind_of m.body)) ++ node m.src) (node m.dst) in
+    let d = length-append (to_be_bytes w32 message_magic ++ to_be_bytes w8 (version_of (own_keys m.body)) ++ to_be_bytes w8 (message_kind_code (kind_of m.body))) (node m.src) in
     let src = node_long m.src in
     let dst = node_long m.dst in
     omega (arith, a, b, d, src, dst)

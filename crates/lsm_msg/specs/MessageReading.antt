@@ -1,10 +1,11 @@
 -- How a message is read, with the first fault from left to right. A rule over several fields is tested at the last of them.
 use Rattle.std.specs.Prelude.{ℕ, ◌+◌, ◌-◌, ◌^◌, false, not, ◌&&◌, ◌||◌, List, [], length, Result, Ok, Err, ◌==◌, nat_eq, nat_lt, if◌then◌else◌}
 use Rattle.std.specs.Int.{w8, w16, w32, w64}
-use Rattle.lsm_key.specs.declared.limits.TheConstants.{MAX_DEEPER, MAX_INPUTS, MAX_JOB_LEVEL, MAX_NODES, MAX_NUMBER, MAX_POINTS, MAX_SHORT_KEY_BYTES, MAX_TABLE_BYTES}
+use Rattle.lsm_key.specs.declared.limits.TheConstants.{MAX_DEEPER, MAX_INPUTS, MAX_JOB_LEVEL, MAX_NODES, MAX_NUMBER, MAX_POINTS, MAX_TABLE_BYTES}
 use Rattle.lsm_key.specs.declared.range.KeyRange.{KeyRange}
 use Rattle.lsm_key.specs.Order.{key_le}
 use Rattle.lsm_key.specs.Reading.{◌>>=◌, number_at, ranged_number_at, piece_at, fixed_at, key_at}
+use Rattle.lsm_key.specs.Versions.{key_limit, version_of}
 use Rattle.lsm_claim.specs.declared.job.JobId.{JobId}
 use Rattle.lsm_edit.specs.declared.file.FileBounds.{FileBounds}
 use Rattle.lsm_edit.specs.declared.file.FileMeta.{FileMeta}
@@ -12,7 +13,7 @@ use Rattle.lsm_edit.specs.File.{file_at}
 use Rattle.lsm_edit.specs.Edit.{items_at, numbers_at, edit_at}
 use Rattle.lsm_edit.specs.Base.{base_at}
 use Rattle.lsm_msg.specs.declared.fault.MsgFault.{MsgFault}
-use Rattle.lsm_msg.specs.declared.fault.MsgFault.TheVariants.{Truncated, BadMagic, BadVersion, BadKind, BadField, TrailingBytes, TooLarge}
+use Rattle.lsm_msg.specs.declared.fault.MsgFault.TheVariants.{Truncated, BadMagic, BadVersion, BadKind, BadField, TrailingBytes, TooLarge, NeedlessVersion}
 use Rattle.lsm_msg.specs.declared.job.JobParts.{JobParts}
 use Rattle.lsm_msg.specs.declared.job.JobResult.{JobResult}
 use Rattle.lsm_msg.specs.declared.kind.MessageKind.{MessageKind}
@@ -24,7 +25,7 @@ use Rattle.lsm_msg.specs.declared.message.TheConstants.{MAX_MESSAGE_BYTES}
 use Rattle.lsm_msg.specs.declared.node.Node.{Node}
 use Rattle.lsm_msg.specs.declared.node.Node.TheVariants.{Coordinator, Worker, Follower}
 use Rattle.lsm_msg.specs.declared.reading.inputs.InputsLeft.{InputsLeft}
-use Rattle.lsm_msg.specs.Messages.{message_magic}
+use Rattle.lsm_msg.specs.Messages.{message_magic, own_keys}
 
 -- ---- kinds and nodes
 
@@ -167,16 +168,16 @@ body_at limit kind.Edit bytes = as_body (λ e. body.Edit e) (edit_at limit Trunc
 body_at limit kind.Base bytes = as_body (λ v. body.Base v) (base_at limit Truncated BadField bytes)
 body_at limit kind.Current bytes = as_body (λ n. body.Current n) (version_number_at bytes)
 
--- a message from the front
+-- a message from the front, with keys of at most what its version allows; a version that no key needs is told after the last field
 unfoldable pub message_at : List ℕ → Result (Message × List ℕ) MsgFault
 message_at bytes = do
   a ← fixed_at Truncated BadMagic w32 message_magic bytes
-  b ← fixed_at Truncated BadVersion w8 1 a
-  kind ← message_kind_at b
+  version ← ranged_number_at Truncated BadVersion w8 1 2 a
+  kind ← message_kind_at version.1
   src ← node_at kind.1
   dst ← node_at src.1
-  body ← body_at MAX_SHORT_KEY_BYTES kind.0 dst.1
-  Ok (record { src = src.0; dst = dst.0; body = body.0 }, body.1)
+  body ← body_at (key_limit version.0) kind.0 dst.1
+  if not (version_of (own_keys body.0) == version.0) then Err NeedlessVersion else Ok (record { src = src.0; dst = dst.0; body = body.0 }, body.1)
 
 -- a message, all of the bytes
 unfoldable pub read_message : List ℕ → Result Message MsgFault

@@ -1,10 +1,11 @@
 -- Messages: what they may say, and how they are encoded (RocksDB wiki: remote compaction, secondary instances; the layout is the store's own).
-use Rattle.std.specs.Prelude.{◌≡◌, ℕ, ◌<◌, ◌≤◌, ◌^◌, List, ◌++◌, length, map, All, Result, Ok, Err, nat_lt, if◌then◌else◌}
+use Rattle.std.specs.Prelude.{◌≡◌, ℕ, ◌<◌, ◌≤◌, ◌^◌, List, [], ◌∷◌, ◌++◌, length, map, All, Result, Ok, Err, nat_lt, if◌then◌else◌}
 use Rattle.std.specs.Int.{w8, w16, w32, w64, to_be_bytes}
 use Rattle.std.specs.List.{flat_map}
 use Rattle.lsm_key.specs.declared.limits.TheConstants.{MAX_NODES, MAX_NUMBER, MAX_TABLE_BYTES}
 use Rattle.lsm_key.specs.declared.range.KeyRange.{KeyRange}
 use Rattle.lsm_key.specs.Spelling.{key}
+use Rattle.lsm_key.specs.Versions.{version_of}
 use Rattle.lsm_claim.specs.declared.job.JobId.{JobId}
 use Rattle.lsm_edit.specs.declared.file.FileMeta.{FileMeta}
 use Rattle.lsm_edit.specs.File.{file}
@@ -137,9 +138,29 @@ body_text (body.Edit e) = edit e
 body_text (body.Base v) = base v
 body_text (body.Current n) = to_be_bytes w64 n
 
--- magic, version 1, the kind, sender, receiver, body
+-- the two keys of each file
+abbrev pub keys_of_files : List FileMeta → List (List ℕ)
+keys_of_files files = flat_map (λ f. f.smallest ∷ f.largest ∷ []) files
+
+-- the two keys of each range
+abbrev pub keys_of_ranges : List KeyRange → List (List ℕ)
+keys_of_ranges rs = flat_map (λ r. r.lo ∷ r.hi ∷ []) rs
+
+-- the keys in a body's own fields: those inside the bytes of a table do not count
+abbrev pub own_keys : Body → List (List ℕ)
+own_keys (body.Job j) = keys_of_files j.inputs ++ keys_of_ranges j.deeper
+own_keys (body.Fetch n) = []
+own_keys (body.Table n bytes) = []
+own_keys (body.Gone n) = []
+own_keys (body.Result r) = []
+own_keys (body.Ask n) = []
+own_keys (body.Edit e) = keys_of_files e.added
+own_keys (body.Base v) = keys_of_files v.files
+own_keys (body.Current n) = []
+
+-- magic, the version that the body's own keys need, the kind, sender, receiver, body
 abbrev pub message : Message → List ℕ
-message m = to_be_bytes w32 message_magic ++ to_be_bytes w8 1 ++ to_be_bytes w8 (message_kind_code (kind_of m.body)) ++ node m.src ++ node m.dst ++ body_text m.body
+message m = to_be_bytes w32 message_magic ++ to_be_bytes w8 (version_of (own_keys m.body)) ++ to_be_bytes w8 (message_kind_code (kind_of m.body)) ++ node m.src ++ node m.dst ++ body_text m.body
 
 -- the bytes are those of this message, and not too many
 pub record IsSpelled (bytes : List ℕ) (m : Message) : Type 0 where

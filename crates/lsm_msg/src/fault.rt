@@ -12,7 +12,7 @@ pub enum MsgFault {
     Truncated,
     /// The bytes do not begin with the letters `LSMM`.
     BadMagic,
-    /// The version is not 1.
+    /// The version is neither 1 nor 2.
     BadVersion,
     /// There is no message of this kind.
     BadKind,
@@ -22,4 +22,6 @@ pub enum MsgFault {
     TrailingBytes,
     /// There are more bytes than `MAX_MESSAGE_BYTES`. This comes before all other faults.
     TooLarge,
+    /// The version is 2, and no key in the message's own fields is longer than `MAX_SHORT_KEY_BYTES`.
+    NeedlessVersion,
 }

@@ -17,6 +17,7 @@ mod message;
 mod node;
 mod reading;
 mod rules;
+mod version;
 mod writing;
 
 pub use fault::{MsgError, MsgFault};

@@ -1,8 +1,9 @@
 //! Reading a message's bytes.
 //!
-//! A message is encoded as: the letters `LSMM`, u8 version (1), u8 kind (1 job, 2 fetch, 3 table, 4 gone, 5 result, 6 ask,
+//! A message is encoded as: the letters `LSMM`, u8 version, u8 kind (1 job, 2 fetch, 3 table, 4 gone, 5 result, 6 ask,
 //! 7 edit, 8 base, 9 current), its sender and its receiver (each u8 role: 0 coordinator, 1 worker, 2 follower; and u8
-//! number), and its body. All numbers are big-endian.
+//! number), and its body. All numbers are big-endian. The version is 2 where a key in the message's own fields is longer
+//! than `MAX_SHORT_KEY_BYTES`, and else 1; table bytes inside it do not count.
 
 mod inputs;
 mod job;
@@ -19,21 +20,19 @@ use crate::fault::{MsgError, MsgFault};
 use crate::kind::{MessageKind, read_kind};
 use crate::message::{Body, MAX_MESSAGE_BYTES, Message};
 use crate::node::{Node, NodeIndex};
+use crate::version::version_of;
 use bytes::Bytes;
 use job::read_job;
 use lsm_edit::{read_base, read_edit};
 use lsm_key::{
-    FileNumber, MAX_NUMBER, MAX_SHORT_KEY_BYTES, Refused, VersionNumber, know_bytes,
-    read_ranged_u8, read_ranged_u64, read_u8, read_u32,
+    FileNumber, MAX_NUMBER, Refused, VersionNumber, key_limit, know_bytes, read_ranged_u8,
+    read_ranged_u64, read_u8, read_u32,
 };
 use result::{read_result, read_sized};
 use std::alloc::Global;
 
 /// The letters `LSMM`, with which a message begins.
 pub(crate) const MAGIC: u32 = 0x4c53_4d4d;
-
-/// The version of the format.
-pub(crate) const VERSION: u8 = 1;
 
 pub(crate) const SHORT: MsgFault = MsgFault::Truncated;
 
@@ -76,13 +75,14 @@ fn read_front(alloc: Global, rest: &mut Bytes) -> Result<Message, MsgError>
     if read_u32(rest, SHORT)? != MAGIC {
         return Err(Refused::Fault(MsgFault::BadMagic));
     }
-    if read_u8(rest, SHORT)? != VERSION {
-        return Err(Refused::Fault(MsgFault::BadVersion));
-    }
+    let version = read_ranged_u8(rest, 1, 2, SHORT, MsgFault::BadVersion)?;
     let kind = read_kind(rest)?;
     let src = read_node(rest)?;
     let dst = read_node(rest)?;
-    let body = read_body(alloc, kind, rest, MAX_SHORT_KEY_BYTES)?;
+    let body = read_body(alloc, kind, rest, key_limit(version))?;
+    if version_of(&body) != version {
+        return Err(Refused::Fault(MsgFault::NeedlessVersion));
+    }
     Ok(Message { src, dst, body })
 }
 

@@ -14,7 +14,8 @@ use crate::fault::{MsgError, MsgFault};
 use crate::kind::MessageKind;
 use crate::message::{Body, MAX_MESSAGE_BYTES, Message};
 use crate::node::Node;
-use crate::reading::{MAGIC, VERSION};
+use crate::reading::MAGIC;
+use crate::version::version_of;
 use bytes::{BufMut, Bytes, BytesMut};
 use job::{job_bytes, write_job};
 use lsm_edit::{base_bytes, edit_bytes, write_base, write_edit};
@@ -47,7 +48,7 @@ fn write_message(out: &mut BytesMut, m: &Message) -> Result<(), AllocError>
     ensures { OnOk result (out.new.items ≡ out.old.items ++ message m.now) }
 {
     out.put_u32(MAGIC)?;
-    out.put_u8(VERSION)?;
+    out.put_u8(version_of(&m.body))?;
     out.put_u8(MessageKind::of(&m.body).code())?;
     write_node(out, m.src)?;
     write_node(out, m.dst)?;
