@@ -44,7 +44,7 @@ enum luddimpa_fault {
     LUDDIMPA_NO_FAULT = 0,
     LUDDIMPA_TRUNCATED = 1,       /* they end inside a field */
     LUDDIMPA_BAD_MAGIC = 2,       /* table, message: they do not begin with the letters LSMT, LSMM */
-    LUDDIMPA_BAD_VERSION = 3,     /* table, message: the version of the format is not 1 */
+    LUDDIMPA_BAD_VERSION = 3,     /* table, message: the version of the format is neither 1 nor 2 */
     LUDDIMPA_BAD_KIND = 4,        /* message: there is no message of this kind */
     LUDDIMPA_BAD_FIELD = 5,       /* edit, message: a field breaks its rule */
     LUDDIMPA_BAD_INDEX = 6,       /* table: the index breaks a rule, or is not what the blocks have */
@@ -57,7 +57,8 @@ enum luddimpa_fault {
     LUDDIMPA_FILE_EXISTS = 13,    /* an edit that adds a file under a number that was given before */
     LUDDIMPA_OVERLAP = 14,        /* an edit after which two files of a level below level 0 overlap */
     LUDDIMPA_FLUSHED_BACK = 15,   /* an edit whose flushed sequence goes back, or moves without a flush */
-    LUDDIMPA_BAD_COUNTER = 16     /* an edit whose next file number or epoch is wrong */
+    LUDDIMPA_BAD_COUNTER = 16,    /* an edit whose next file number or epoch is wrong */
+    LUDDIMPA_NEEDLESS_VERSION = 17 /* table, message: the version is 2, and no key in its own fields has more than 1,024 bytes */
 };
 
 /* The greatest sequence: a read at it sees the newest entry of each key. */
@@ -69,7 +70,7 @@ struct luddimpa_found {
 };
 
 /* Reads the value of a key in a table, at a sequence: that of its entry of the greatest sequence up to there.
- * OK, DELETED, ABSENT, NOT_A_TABLE, NO_SEQUENCE, OUT_OF_MEMORY. A key that is empty or has more than 1,024 bytes is absent. */
+ * OK, DELETED, ABSENT, NOT_A_TABLE, NO_SEQUENCE, OUT_OF_MEMORY. A key that is empty or has more than 4,096 bytes is absent. */
 struct luddimpa_found luddimpa_table_get(const uint8_t *table, size_t table_length, const uint8_t *key, size_t key_length, uint64_t at,
                                          uint8_t *out, size_t out_length);
 

@@ -2,8 +2,10 @@
 
 table, edit, base and message take bytes and return the value, or raise Fault with the first fault's name. A table is its target and its entries; an edit,
 a base and a message are their fields in turn."""
+import contextlib
 
-LEAST_KEY, MOST_KEY, MOST_VALUE = 1, 1024, 65_536
+# The longest key of a table or a message of version 1, and the longest of all.
+LEAST_KEY, MOST_SHORT_KEY, MOST_KEY, MOST_VALUE = 1, 1024, 4096, 65_536
 MOST_NUMBER, MOST_SEQUENCE, MOST_COUNT = 2**63 - 1, 2**56 - 1, 2**32 - 1
 MOST_TABLE, MOST_MESSAGE = 16_777_216, 1_073_741_824
 NODES, LEVELS = 4, 7
@@ -14,10 +16,11 @@ class Fault(Exception):
 
 
 class Fields:
-    """Bytes that are read from the front, each field with the fault of its rule."""
+    """Bytes that are read from the front, each field with the fault of its rule. No key may be longer than `most_key`."""
 
-    def __init__(self, data):
+    def __init__(self, data, most_key=MOST_KEY):
         self.data, self.at, self.read = data, 0, []
+        self.most_key, self.has_long_key = most_key, False
 
     def left(self):
         return len(self.data) - self.at
@@ -41,7 +44,10 @@ class Fields:
         return self.read[-1]
 
     def key(self, fault):
-        return self.text(2, LEAST_KEY, MOST_KEY, fault)
+        length = self.number(2, LEAST_KEY, self.most_key, fault)
+        self.has_long_key = self.has_long_key or length > MOST_SHORT_KEY
+        self.read.append(self.piece(length))
+        return self.read[-1]
 
     def trailer(self, fault):
         """The sequence, and whether it is a put."""
@@ -50,10 +56,23 @@ class Fields:
             raise Fault(fault)
         return value // 256, value % 256 == 1
 
+    def version(self, magic):
+        """The version of the format, behind its magic: in version 1 no key is long."""
+        self.number(4, magic, magic, "BadMagic")
+        version = self.number(1, 1, 2, "BadVersion")
+        self.most_key = MOST_SHORT_KEY if version == 1 else MOST_KEY
+        return version
+
     def end(self):
         if self.left():
             raise Fault("TrailingBytes")
         return self.read
+
+
+def need(version, has_long_key):
+    """A value without a long key is spelled in version 1."""
+    if version == 2 and not has_long_key:
+        raise Fault("NeedlessVersion")
 
 
 # ---- tables
@@ -64,9 +83,9 @@ def place(entry):
     return entry[0], -entry[1][0]
 
 
-def entries_of(block):
+def entries_of(block, most_key):
     """Of each entry of a block its key, its trailer, its value and where it begins."""
-    fields, entries = Fields(block), []
+    fields, entries = Fields(block, most_key), []
     while fields.left() or not entries:
         at, key, trailer = fields.at, fields.key("BadLength"), fields.trailer("BadKind")
         entries.append((key, trailer, fields.text(4, 0, MOST_VALUE if trailer[1] else 0, "BadLength"), at))
@@ -77,8 +96,6 @@ def entries_of(block):
 
 def index_of(fields):
     """The target, the count of entries, and of each block its length, last key and last trailer."""
-    for width, value, fault in ((4, 0x4C534D54, "BadMagic"), (1, 1, "BadVersion")):
-        fields.number(width, value, value, fault)
     target = fields.number(4, 1, MOST_TABLE, "BadCut")
     count, blocks = (fields.number(4, 1, MOST_COUNT, "BadIndex") for _ in range(2))
     index = [(fields.number(4, 1, MOST_COUNT, "BadIndex"), fields.key("BadIndex"), fields.trailer("BadIndex")) for _ in range(blocks)]
@@ -89,13 +106,14 @@ def table(data):
     if len(data) > MOST_TABLE:
         raise Fault("TooLarge")
     fields, found = Fields(data), []
+    version = fields.version(0x4C534D54)
     target, count, index = index_of(fields)
     lengths = sum(it[0] for it in index)
     if fields.left() != lengths:
         raise Fault("Truncated" if fields.left() < lengths else "TrailingBytes")
     for at, (length, key, trailer) in enumerate(index):
         try:
-            entries = entries_of(fields.piece(length))
+            entries = entries_of(fields.piece(length), fields.most_key)
         except Fault:
             raise Fault("BadBlock") from None
         last = entries[-1]
@@ -108,6 +126,7 @@ def table(data):
         found += entries
     if len(found) != count:
         raise Fault("BadIndex")
+    need(version, any(len(it[0]) > MOST_SHORT_KEY for it in found))
     return target, [it[:3] for it in found]
 
 
@@ -169,6 +188,14 @@ def base(data):
     fields = Fields(data)
     base_fields(fields)
     return fields.end()
+
+
+def has_long_key(kind, data):
+    """Whether an edit or a base has a long key, or its bytes have one before their first fault."""
+    fields = Fields(data)
+    with contextlib.suppress(Fault):
+        {"edit": edit_fields, "base": base_fields}[kind](fields)
+    return fields.has_long_key
 
 
 # ---- messages
@@ -233,10 +260,10 @@ def message(data):
     if len(data) > MOST_MESSAGE:
         raise Fault("TooLarge")
     fields = Fields(data)
-    for width, value, fault in ((4, 0x4C534D4D, "BadMagic"), (1, 1, "BadVersion")):
-        fields.number(width, value, value, fault)
+    version = fields.version(0x4C534D4D)
     kind = fields.number(1, 1, len(BODIES), "BadKind")
     for _ in ("sender", "receiver"):
         node(fields)
     BODIES[kind - 1](fields)
+    need(version, fields.has_long_key)
     return fields.end()

@@ -10,7 +10,7 @@
 #include <sys/mman.h>
 #include <unistd.h>
 
-enum { MOST = 1024, ROOM = 512, CANARY = 0xc5, FILL = 0x5a };
+enum { MOST = 16384, ROOM = 512, CANARY = 0xc5, FILL = 0x5a };
 
 /* ---- memory that is counted, and fails when it is told to */
 
@@ -206,6 +206,41 @@ static const char *const job_hex = JOB("0001", PUT("0000000000000001"));
 static const char *const two_hex = JOB("0002", PUT("0000000000000001") "0000000000000002 00 000161 000161 0000002f 00000001");
 static const char *const twice_hex = JOB("0002", PUT("0000000000000001") PUT("0000000000000002"));
 
+static void add(struct bytes *bytes, const void *more, size_t length) {
+    memcpy(bytes->at + bytes->length, more, length);
+    bytes->length += length;
+}
+
+static void add_key(struct bytes *bytes, size_t length) {
+    add(bytes, (uint8_t[]){(uint8_t)(length >> 8), (uint8_t)length}, 2);
+    memset(bytes->at + bytes->length, 'a', length);
+    bytes->length += length;
+}
+
+/* The table of one key of so many bytes, whose value is 1, as of this version. */
+static struct bytes table_of_key(size_t length, uint8_t version) {
+    struct bytes made = of("4c534d54 00 00001000 00000001 00000001");
+    size_t block = length + 15;
+    made.at[4] = version;
+    add(&made, (uint8_t[]){0, 0, (uint8_t)(block >> 8), (uint8_t)block}, 4);
+    for (int i = 0; i < 2; i++) {
+        add_key(&made, length);
+        add(&made, (uint8_t[]){0, 0, 0, 0, 0, 0, 1, 1}, 8);
+    }
+    add(&made, (uint8_t[]){0, 0, 0, 1, '1'}, 5);
+    return made;
+}
+
+/* A message of this version that takes the job of such a table to worker 1. */
+static struct bytes job_of_key(size_t length, uint8_t version) {
+    struct bytes made = of("4c534d4d 00 01 0000 0101 0000000000000001 0000000000000001 00 00001000 00 0001 0000000000000001 00");
+    size_t table = table_of_key(length, version).length;
+    made.at[4] = version;
+    add_key(&made, length), add_key(&made, length);
+    add(&made, (uint8_t[]){0, 0, (uint8_t)(table >> 8), (uint8_t)table, 0, 0, 0, 1, 0, 0, 0, 0}, 12);
+    return made;
+}
+
 static struct bytes listed(const char *table, const char *other) {
     struct bytes list = {0};
     for (int i = 0; i < 2; i++) {
@@ -243,6 +278,11 @@ static void try_tables(void) {
     table.length += 2;
     expect(check_table(&table, NULL) == LUDDIMPA_NOT_A_TABLE && checked_table.fault == LUDDIMPA_TRAILING_BYTES, "with a byte more");
     table = of(put_hex);
+    table.at[4] = 2;
+    expect(check_table(&table, NULL) == LUDDIMPA_NOT_A_TABLE && checked_table.fault == LUDDIMPA_NEEDLESS_VERSION, "version 2 without a long key");
+    table.at[4] = 3;
+    expect(check_table(&table, NULL) == LUDDIMPA_NOT_A_TABLE && checked_table.fault == LUDDIMPA_BAD_VERSION, "version 3");
+    table = of(put_hex);
     table.at[7] = 0; /* the block target 0 */
     expect(check_table(&table, NULL) == LUDDIMPA_NOT_A_TABLE && checked_table.fault == LUDDIMPA_BAD_CUT, "the block target 0");
     expect(check_table(&none, NULL) == LUDDIMPA_NOT_A_TABLE && checked_table.fault == LUDDIMPA_TRUNCATED, "no bytes");
@@ -278,7 +318,7 @@ static void try_messages(void) {
     changed.length += 2;
     expect(is_fault(&changed, LUDDIMPA_TRAILING_BYTES), "with a byte more");
     static const struct { size_t at; uint8_t byte; uint32_t fault; } changes[] = {
-        {0, 0, LUDDIMPA_BAD_MAGIC}, {4, 2, LUDDIMPA_BAD_VERSION}, {5, 10, LUDDIMPA_BAD_KIND}, {6, 3, LUDDIMPA_BAD_FIELD}};
+        {0, 0, LUDDIMPA_BAD_MAGIC}, {4, 2, LUDDIMPA_NEEDLESS_VERSION}, {4, 3, LUDDIMPA_BAD_VERSION}, {5, 10, LUDDIMPA_BAD_KIND}, {6, 3, LUDDIMPA_BAD_FIELD}};
     for (size_t i = 0; i < sizeof changes / sizeof *changes; i++) {
         changed = ask;
         changed.at[changes[i].at] = changes[i].byte;
@@ -328,10 +368,38 @@ static void try_merges(void) {
     struct bytes ask = of(ask_hex);
     expect(merge(&ask, &table) == LUDDIMPA_NOT_A_JOB && merged_job.fault == LUDDIMPA_NO_FAULT, "another message");
     ask.at[4] = 2;
+    expect(merge(&ask, &table) == LUDDIMPA_NOT_A_JOB && merged_job.fault == LUDDIMPA_NEEDLESS_VERSION, "a version that no key needs");
+    ask.at[4] = 3;
     expect(merge(&ask, &table) == LUDDIMPA_NOT_A_JOB && merged_job.fault == LUDDIMPA_BAD_VERSION, "another version");
     job.at[8] = 2; /* the receiver is a follower */
     expect(merge(&job, &table) == LUDDIMPA_NOT_A_JOB && merged_job.fault == LUDDIMPA_NO_FAULT, "a job to a follower");
     tell("a merge and its refusals");
+}
+
+/* Keys of more than 1,024 bytes: what has them is of version 2. */
+static void try_long_keys(void) {
+    static const struct { size_t length; uint8_t version; uint32_t table, message; } keys[] = {
+        {1024, 1, LUDDIMPA_NO_FAULT, LUDDIMPA_NO_FAULT}, {1024, 2, LUDDIMPA_NEEDLESS_VERSION, LUDDIMPA_NEEDLESS_VERSION},
+        {1025, 1, LUDDIMPA_BAD_INDEX, LUDDIMPA_BAD_FIELD}, {1025, 2, LUDDIMPA_NO_FAULT, LUDDIMPA_NO_FAULT}, {1025, 3, LUDDIMPA_BAD_VERSION, LUDDIMPA_BAD_VERSION},
+        {4096, 2, LUDDIMPA_NO_FAULT, LUDDIMPA_NO_FAULT}, {4097, 2, LUDDIMPA_BAD_INDEX, LUDDIMPA_BAD_FIELD}};
+    for (size_t i = 0; i < sizeof keys / sizeof *keys; i++) {
+        struct bytes table = table_of_key(keys[i].length, keys[i].version), job = job_of_key(keys[i].length, keys[i].version);
+        expect(check_table(&table, NULL) == (keys[i].table ? LUDDIMPA_NOT_A_TABLE : LUDDIMPA_OK) && checked_table.fault == keys[i].table, "a table");
+        expect(check_message(&job, NULL) == (keys[i].message ? LUDDIMPA_NOT_A_MESSAGE : LUDDIMPA_OK) && checked_message.fault == keys[i].message, "a job");
+    }
+    struct bytes table = table_of_key(1025, 2), job = job_of_key(1025, 2), list = of("00000830"), key = {0}, longer = {0};
+    struct bytes wanted = of("4c534d4d 01 05 0101 0000 0000000000000001 0000000000000001 00000001");
+    memset(key.at, 'a', 1025), key.length = 1025;
+    memset(longer.at, 'a', 4097), longer.length = 4097;
+    room = 16;
+    expect(table.length == 2096 && get(&table, &key) == LUDDIMPA_OK && third.at[third.length - room] == '1', "no value");
+    expect(get(&table, &longer) == LUDDIMPA_ABSENT, "a key that is too long");
+    add(&list, table.at, table.length);
+    add(&wanted, list.at, list.length);
+    room = wanted.length;
+    /* The result is of version 1: the key in its table does not count. */
+    expect(merge(&job, &list) == LUDDIMPA_OK && merged_job.length == wanted.length && is_out(&wanted), "a merge");
+    tell("keys of up to 4,096 bytes");
 }
 
 /* ---- what is not right */
@@ -386,21 +454,22 @@ int main(void) {
     setvbuf(stdout, NULL, _IOLBF, 0);
     first = pages_of(), second = pages_of(), third = pages_of();
     held = 0;
-    try_gets(), try_tables(), try_edits(), try_messages(), try_counts(), try_merges();
+    try_gets(), try_tables(), try_edits(), try_messages(), try_counts(), try_merges(), try_long_keys();
 
     struct bytes table = of(put_hex), deletion = of(deletion_hex), key = of("61"), edits = of(edits_hex), none = {0};
     struct bytes job = of(job_hex), list = listed(put_hex, NULL), two = of(two_hex), both = listed(put_hex, deletion_hex);
     spoil(get, &table, &key, true), spoil(get, &deletion, &key, true), spoil(get, &key, &table, false);
     starve(get, &table, &key, LUDDIMPA_OK);
     say("luddimpa_table_get");
-    spoil(check_table, &table, &none, true), spoil(check_table, &deletion, &none, true);
+    struct bytes of_long = table_of_key(1025, 2), job_of_long = job_of_key(1025, 2);
+    spoil(check_table, &table, &none, true), spoil(check_table, &deletion, &none, true), spoil(check_table, &of_long, &none, true);
     starve(check_table, &table, &none, LUDDIMPA_OK);
     say("luddimpa_table_check");
     spoil(check_edits, &edits, &none, true);
     starve(check_edits, &edits, &none, LUDDIMPA_OK);
     say("luddimpa_edits_check");
     struct bytes ask = of(ask_hex), result = of(result_hex);
-    spoil(check_message, &ask, &none, true), spoil(check_message, &job, &none, true), spoil(check_message, &result, &none, true);
+    spoil(check_message, &ask, &none, true), spoil(check_message, &job, &none, true), spoil(check_message, &result, &none, true), spoil(check_message, &job_of_long, &none, true);
     starve(check_message, &ask, &none, LUDDIMPA_OK), starve(check_message, &job, &none, LUDDIMPA_OK), starve(check_message, &result, &none, LUDDIMPA_OK);
     say("luddimpa_message_check");
     spoil(merge, &job, &list, true), spoil(merge, &list, &job, false), spoil(merge, &two, &both, true), spoil(merge, &both, &two, false);

@@ -38,6 +38,7 @@ table_fault_code table.BadBlock = 7
 table_fault_code table.BadCut = 8
 table_fault_code table.TrailingBytes = 9
 table_fault_code table.TooLarge = 10
+table_fault_code table.NeedlessVersion = 17
 
 abbrev pub format_fault_code : FormatFault → ℕ
 format_fault_code format.Truncated = 1
@@ -61,3 +62,4 @@ message_fault_code message.BadKind = 4
 message_fault_code message.BadField = 5
 message_fault_code message.TrailingBytes = 9
 message_fault_code message.TooLarge = 10
+message_fault_code message.NeedlessVersion = 17

@@ -17,5 +17,6 @@ pub(crate) fn message_fault_code(fault: MsgFault) -> u32
         MsgFault::BadField => 5,
         MsgFault::TrailingBytes => 9,
         MsgFault::TooLarge => 10,
+        MsgFault::NeedlessVersion => 17,
     }
 }

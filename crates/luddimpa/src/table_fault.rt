@@ -18,5 +18,6 @@ pub(crate) fn table_fault_code(fault: TableFault) -> u32
         TableFault::BadCut => 8,
         TableFault::TrailingBytes => 9,
         TableFault::TooLarge => 10,
+        TableFault::NeedlessVersion => 17,
     }
 }
