@@ -22,22 +22,27 @@ ENTRY = "4c534d54 01 00001000 00000001 00000001 00000010 0001 61 000000000000010
 FILES = {"edits": [OPENING, FLUSH], TABLE: [ENTRY], "lock": []}
 
 
-def copied(room, name):
+def copied(kept, room, name):
     folder = room / name
-    shutil.copytree(FOLDER, folder)
+    shutil.copytree(kept, folder)
     return folder
 
 
-def as_documented(room):
-    """The files hold what the documents say, and no other is there."""
-    wanted = {name: b"".join(frame_of(bytes.fromhex(it)) for it in frames) for name, frames in FILES.items()}
-    if {it.name: it.read_bytes() for it in FOLDER.iterdir()} != wanted:
+def has_frames(kept, files):
+    """The files of a folder are frames of these bytes, and no other is there."""
+    wanted = {name: b"".join(frame_of(bytes.fromhex(it)) for it in frames) for name, frames in files.items()}
+    if {it.name: it.read_bytes() for it in kept.iterdir()} != wanted:
         raise Wrong("the files are others than the documents say")
+
+
+def as_documented(_room):
+    """The files hold what the documents say, and no other is there."""
+    has_frames(FOLDER, FILES)
 
 
 def is_checked(room):
     """A check finds no damage, and makes no log."""
-    folder = copied(room, "before_log.checked")
+    folder = copied(FOLDER, room, "before_log.checked")
     done = subprocess.run(command(folder, "check"), capture_output=True, text=True, timeout=PATIENCE)
     if (done.returncode, done.stdout) != (0, "L0 1 files 48 bytes 1 entries\nversion 2 flushed 1: 1 files, no damage\n") or (folder / "log").exists():
         raise Wrong(f"a check says {done.stdout!r} {done.stderr!r}, status {done.returncode}")
@@ -45,7 +50,7 @@ def is_checked(room):
 
 def is_opened(room):
     """It opens at version 3 with what it holds, and has a log."""
-    folder = copied(room, "before_log.opened")
+    folder = copied(FOLDER, room, "before_log.opened")
     session = Session(folder)
     answers = [session.ask(line) for line in ("get a", "show c", "snap", "put b 2", "get b")]
     if answers != ["value 1", "show 3 flushed 1 L0 1", "snapshot 2.1 at 1", "seq 2", "value 2"]:
@@ -63,12 +68,19 @@ def is_opened(room):
 
 def tried(_pool, room, _shim):
     """Tries all of this, and gives of each whether it was right, what it is, and why not."""
+    return tried_of(
+        room,
+        [
+            ("a folder from before there was a log, as documented", as_documented),
+            ("a check of a folder from before there was a log", is_checked),
+            ("a folder from before there was a log, opened and written to", is_opened),
+        ],
+    )
+
+
+def tried_of(room, cases):
     results = []
-    for what, it in [
-        ("a folder from before there was a log, as documented", as_documented),
-        ("a check of a folder from before there was a log", is_checked),
-        ("a folder from before there was a log, opened and written to", is_opened),
-    ]:
+    for what, it in cases:
         try:
             it(room)
             results.append((True, what, ""))

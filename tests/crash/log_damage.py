@@ -33,6 +33,7 @@ BAD = {
     "an end before what is flushed": (BEFORE[:1], "it ends at 5, before what is flushed does"),
     "no record": ([*RECORDS, b""], "the bytes of a record are none: Truncated"),
     "a record of another code": ([*RECORDS, b"\3"], "the bytes of a record are none: BadField"),
+    "a record of a key that is too long": ([*RECORDS, record_of(10, (b"k" * 4_097, b"8"))], "the bytes of a record are none: BadField"),
     "a record with a byte more": ([*RECORDS, record_of(10, (b"g", b"8")) + b"\0"], "the bytes of a record are none: TrailingBytes"),
     "a record without its last byte": ([*RECORDS, record_of(10, (b"g", b"8"))[:-1]], "the bytes of a record are none: Truncated"),
 }

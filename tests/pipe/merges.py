@@ -4,9 +4,10 @@
 Usage: tests/pipe/merges.py PROGRAM ..
 
 PROGRAM .. is called with 'worker --index 1'. It is handed the jobs in turn, each with the tables of its inputs, and has to fetch these and
-to answer each job with the one right result. The bytes are as docs/FORMATS.md has them. First come worked cases, whose tables are
-written down here; then 600 jobs by chance, 200 lists of entries at three block targets each, and three lists whose merge has several outputs,
-at three targets too. Prints what is wrong, or 'ok' and how many jobs there were.
+to answer each job with the one right result. The bytes are as docs/FORMATS.md has them: tables and messages of version 2 if a key needs it.
+First come worked cases, whose tables are written down here; then 600 jobs by chance, 200 lists of entries at three block targets each, some
+with keys of up to 4,096 bytes, and three lists whose merge has several outputs, at three targets too. Prints what is wrong, or 'ok' and how
+many jobs there were.
 """
 import random
 import subprocess
@@ -15,6 +16,8 @@ from typing import NamedTuple
 
 DELETE, PUT = 0, 1
 OVERHEAD, OUTPUT_TARGET = 14, 2_000_000
+# The longest key of version 1, and the longest of all.
+SHORT_KEY, LONG_KEY = 1_024, 4_096
 JOB, FETCH, TABLE, RESULT = 1, 2, 3, 5
 COORDINATOR, WORKER = b"\0\0", b"\1\1"
 TARGETS = (1, 40, 4096)
@@ -43,6 +46,11 @@ def text(key):
     return number(len(key), 2) + key
 
 
+def version_of(keys):
+    """The version of a table or a message with these keys."""
+    return 2 if any(len(key) > SHORT_KEY for key in keys) else 1
+
+
 def place(entry):
     return entry.key, -entry.seq
 
@@ -64,11 +72,13 @@ def table_of(entries, target):
             blocks.append(block)
             index.append(number(len(block), 4) + text(entry.key) + trailer(entry))
             block = b""
-    return b"".join([b"LSMT\1", number(target, 4), number(len(entries), 4), number(len(blocks), 4), *index, *blocks])
+    head = b"LSMT" + number(version_of(it.key for it in entries), 1)
+    return b"".join([head, number(target, 4), number(len(entries), 4), number(len(blocks), 4), *index, *blocks])
 
 
-def message(kind, sender, receiver, body):
-    whole = b"LSMM\1" + number(kind, 1) + sender + receiver + body
+def message(kind, sender, receiver, body, keys=()):
+    """A message with these keys in its own fields: those inside of tables do not count."""
+    whole = b"LSMM" + number(version_of(keys), 1) + number(kind, 1) + sender + receiver + body
     return number(len(whole), 4) + whole
 
 
@@ -80,7 +90,8 @@ def job_message(number_of_job, case, target, tables):
     for at, (entries, table) in enumerate(zip(case.lists, tables), 1):
         files += number(at, 8) + b"\0" + text(entries[0].key) + text(entries[-1].key) + number(len(table), 4) + number(len(entries), 4)
     deeper = number(len(case.deeper), 4) + b"".join(text(lo) + text(hi) for lo, hi in case.deeper)
-    return message(JOB, COORDINATOR, WORKER, head + points + files + deeper)
+    keys = [each[at].key for each in case.lists for at in (0, -1)] + [key for ends in case.deeper for key in ends]
+    return message(JOB, COORDINATOR, WORKER, head + points + files + deeper, keys)
 
 
 def table_message(at, table):
@@ -123,6 +134,11 @@ def cut(entries):
     return outputs
 
 
+def versions(case):
+    """The versions of a merge's inputs, and that of a table of all that it keeps."""
+    return tuple(sorted({version_of(it.key for it in each) for each in case.lists})), version_of(it.key for it in kept_of(case))
+
+
 def put(key, seq, value):
     return Entry(key, seq, PUT, value)
 
@@ -139,22 +155,32 @@ def worked():
     heavy = lambda key, seq: put(key, seq, b"v" * 64_501)
     entries = [heavy(bytes([key]), 1) for key in range(ord("A"), ord("`"))] + [heavy(b"a", seq) for seq in (3, 2, 1)] + [heavy(b"b", 1)]
     yield Case([entries], [1, 2], []), [entries[:34], entries[34:]]
+    # A long key that is deleted and left out leaves a table of version 1, of one of each version; but a point keeps it, and then its deletion alone.
+    long = b"b" * (SHORT_KEY + 1)
+    ends, older, newer = [put(b"a", 1, b"1"), put(b"c", 2, b"2")], put(long, 3, b"3"), Entry(long, 4, DELETE, b"")
+    for points, deeper, seen in [([], [], ends), ([3], [], [ends[0], newer, older, ends[1]]), ([], [(long, long)], [ends[0], newer, ends[1]])]:
+        yield Case([ends, [newer, older]], points, deeper), [seen]
+    # The longest keys, and one of which the other is a beginning.
+    last, longest = put(b"z" * SHORT_KEY, 5, b"5"), put(b"z" * LONG_KEY, 6, b"6")
+    yield Case([[last], [longest]], [], []), [[last, longest]]
 
 
-def some_key(chance):
-    """One to four of three letters: keys repeat, and begin others."""
-    return bytes(chance.choice((0, ord("a"), 255)) for _ in range(chance.randint(1, 4)))
+def some_key(chance, one_in):
+    """One to four of three letters: keys repeat, and begin others. One in so many, or none for 0, goes on to a length at which versions begin or end."""
+    key = bytes(chance.choice((0, ord("a"), 255)) for _ in range(chance.randint(1, 4)))
+    return key if not one_in or chance.randrange(one_in) else key.ljust(chance.choice((SHORT_KEY, SHORT_KEY + 1, LONG_KEY)), b"a")
 
 
-def some_case(chance, inputs, more, least):
-    """Entries at sequences from 1 on, each in one of the inputs, of which none is empty."""
+def some_case(chance, inputs, more, least, one_in):
+    """Entries at sequences from 1 on, each in one of the inputs, of which none is empty. One key in so many is long, or as long as one of version 1."""
     lists = [[] for _ in range(inputs)]
     for seq in range(1, inputs + more + 1):
         value = bytes([chance.randrange(255)]) * (least + chance.randrange(41))
-        entry = put(some_key(chance), seq, value) if chance.randrange(3) else Entry(some_key(chance), seq, DELETE, b"")
+        key = some_key(chance, one_in)
+        entry = put(key, seq, value) if chance.randrange(3) else Entry(key, seq, DELETE, b"")
         lists[seq - 1 if seq <= inputs else chance.randrange(inputs)].append(entry)
     points = sorted(chance.sample(range(inputs + more + 1), chance.randrange(min(5, inputs + more + 1))))
-    deeper = [tuple(sorted((some_key(chance), some_key(chance)))) for _ in range(chance.randrange(4))]
+    deeper = [tuple(sorted((some_key(chance, one_in), some_key(chance, one_in)))) for _ in range(chance.randrange(4))]
     return Case([sorted(each, key=place) for each in lists], points, deeper)
 
 
@@ -163,13 +189,15 @@ def jobs():
     for case, outputs in worked():
         yield case, 4096, outputs
     chance = random.Random(1996)
-    cases = [some_case(chance, chance.randint(1, 20), chance.randrange(60), 0) for _ in range(200)]
-    heavy = [some_case(chance, inputs, 180, 60_000) for inputs in (1, 7, 20)]
+    cases = [some_case(chance, chance.randint(1, 20), chance.randrange(60), 0, chance.choice((0, 40, 8))) for _ in range(200)]
+    heavy = [some_case(chance, inputs, 180, 60_000, 0) for inputs in (1, 7, 20)]
     for case in cases + heavy:
         outputs = cut(kept_of(case))
         yield from ((case, target, outputs) for target in TARGETS)
     if not all(len(cut(kept_of(it))) > 1 for it in heavy):
         raise ValueError("a heavy case has one output")
+    if not {((1,), 1), ((1, 2), 1), ((1, 2), 2), ((2,), 2)} <= {versions(it) for it in cases}:
+        raise ValueError("some versions of inputs and of their output are in no case")
 
 
 def tried(program):

@@ -26,6 +26,8 @@ from store.world import World
 # With few files and bytes to a level, merges go deep within a short schedule.
 LIMITS = [(1, 1), (1, 1), (1, 48), (1, 100), (1, 10_485_760), (2, 1), (2, 60), (2, 10_485_760), (3, 200), (4, 10_485_760)]
 KEYS = ["a", "b", "c", "d", "m", "n", "z", "aa", "a%00", "%00", "%FF", "x%25", "~"]
+# The longest key of version 1 of tables and messages, the shortest that needs version 2, and the longest of all.
+LONG_KEYS = ["a" * 1_024, "a" * 1_025, "m" * 4_096]
 # How often each command is tried, of those that a script has in common with a store without jobs, of those that it has in common with a
 # store without followers, and of all.
 WRITES = {"put": 12, "del": 6, "batch": 3, "freeze": 2, "flush": 11, "snap": 2, "release": 2, "get": 6, "scan": 3, "show": 2}
@@ -39,6 +41,8 @@ GOOD = {"oldest": 10, "several": 20, "newest": 0.5, "any": 0.5, "again": 0.5, "u
 ONE_IN_LARGE = 60
 # Of so many one is four times as long, so that files go through several levels.
 ONE_IN_LONG = 4
+# Of so many one has long keys beside others.
+ONE_IN_LONG_KEYS = 4
 # Words that mostly make a faulty line of a sound one.
 JUNK = ["x", "0", "1", "4", "5", "04", "-1", "1-", "-", "1-3", "3-1", "1-1001", "18446744073709551615", "18446744073709551616", "0" * 21]
 JUNK += ["1.1", "1.", "1.x", "@1.1", "@", "%", "%zz", "%41", '""', '"', "\x0b", "\x7f", "\xff"]
@@ -54,6 +58,8 @@ class Schedule:
         self.limits = Limits(*self.random.choice(LIMITS))
         self.is_large = self.random.randrange(ONE_IN_LARGE) == 0
         self.keys = [f"k{it:02d}" for it in range(40)] if self.is_large else self.random.sample(KEYS, self.random.randint(1, 6))
+        if not self.is_large and self.random.randrange(ONE_IN_LONG_KEYS) == 0:
+            self.keys += self.random.sample(LONG_KEYS, self.random.randint(1, 2))
         self.near = self.random.choice(self.keys)
         self.weights = {it: weight * self.random.choice((0.5, 1, 1, 2)) for it, weight in COMMANDS[commands].items()}
         self.weights.update({"put": 1, "del": 1, "batch": 6, "get": 2, "scan": 1} if self.is_large else {})
@@ -135,7 +141,7 @@ class Schedule:
     def key(self):
         """A key: mostly near the last ones, so that several jobs with no key in common can run."""
         if self.random.random() < 0.005:
-            return self.random.choice(['""', "k" * 1025])
+            return self.random.choice(['""', "k" * 4_096, "k" * 4_097])
         return self.near if self.random.random() < 0.6 and not self.is_large else self.random.choice(self.keys)
 
     def value(self):

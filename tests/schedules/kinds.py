@@ -1,7 +1,7 @@
 """The names under which the replies of random scripts are counted."""
 from store import events
 from store.follower import WAITING
-from store.messages import Ask, Base, Fetch, Job
+from store.messages import Ask, Base, Fetch, FetchedTable, Job, Result
 from store.versions import Edit
 from store.worker import COLLECTING
 
@@ -33,7 +33,14 @@ def what_it_meets(world, event):
     if not 1 <= event.message <= len(world.messages):
         return ""
     message = world.messages[event.message - 1]
-    return AT[message.dst.role](world, message)
+    return AT[message.dst.role](world, message) + of_format(message)
+
+
+def of_format(message):
+    """Of a message with a long key that it is of version 2, or that a table in it is."""
+    body = message.body
+    tables = body.tables if isinstance(body, Result) else [body.table] if isinstance(body, FetchedTable) else []
+    return ", of version 2" if message.format == 2 else ", with a table of version 2" if any(it.format == 2 for it in tables) else ""
 
 
 def at_coordinator(world, message):

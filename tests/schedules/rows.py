@@ -168,6 +168,74 @@ def moved_twice(pick):
     ]
 
 
+def longest_keys():
+    """Keys of 4,096 bytes and of one more."""
+    key, other = "k" * 4_096, "k" * 4_097
+    return [
+        (f"put {key} 1", "seq 1"),
+        (f"put {other} 1", "refused KeyTooLong"),
+        (f"batch put a 1 del {other}", "refused KeyTooLong"),
+        (f"put {other} {'v' * 65_537}", "refused KeyTooLong"),
+        (f"put {key} {'v' * 65_537}", "refused ValueTooLong"),
+        (f"get {key}", "value 1"),
+        (f"get {other}", "none"),
+        ("restart c", "epoch 2 version 2 last 1"),
+        (f"get {key}", "value 1"),
+        ("flush", "version 3 flushed 1 file 1"),
+        ("restart c", "epoch 3 version 4 last 1"),
+        (f"scan {'k' * 4_095} {other} 5", f"range 1 {key}=1"),
+        (f"del {key}", "seq 2"),
+        (f"get {key}", "none"),
+    ]
+
+
+def left_out():
+    """A long key that is deleted is left out of a merge with a file that has none, and a follower goes by a job's edit from the one to the other."""
+    key = "k" * 1_025
+    return [
+        ("batch put a 1 put z 1", "seq 1-2"),
+        ("flush", "version 2 flushed 2 file 1"),
+        (f"batch put {key} 1 del {key}", "seq 3-4"),
+        ("flush", "version 3 flushed 4 file 2"),
+        ("ask 1", "message 1"),
+        ("deliver 1", "served message 2"),
+        ("deliver 2", "version 1"),
+        ("ask 1", "message 3"),
+        ("deliver 3", "served message 4"),
+        ("deliver 4", "waiting 1 message 5"),
+        ("deliver 5", "served message 6"),
+        ("deliver 6", "version 2"),
+        ("ask 1", "message 7"),
+        ("deliver 7", "served message 8"),
+        ("deliver 8", "waiting 1 message 9"),
+        ("deliver 9", "served message 10"),
+        ("deliver 10", "version 3"),
+        (f"read 1 {key}", "at 3 none"),
+        ("pick 1", "job 1.1 level 0 inputs 1,2 message 11"),
+        ("deliver 11", "collecting 2 messages 12-13"),
+        ("deliver 12-13", "served message 14\nserved message 15"),
+        ("deliver 14-15", "collecting 1\nmerged message 16"),
+        ("deliver 16", "installed version 4 files 3"),
+        (f"scan a {'z' * 1_025} 5", "range 2 a=1 z=1"),
+        ("show c", "show 4 flushed 4 L1 3"),
+    ]
+
+
+def long_moved_down(pick):
+    """A file of 2,096 bytes, which is one put of a key of 1,025, merged into level 1; and then a pick."""
+    return [
+        (f"put {'k' * 1_025} 1", "seq 1"),
+        ("flush", "version 2 flushed 1 file 1"),
+        ("pick 1", "job 1.1 level 0 inputs 1 message 1"),
+        ("deliver 1", "collecting 1 message 2"),
+        ("deliver 2", "served message 3"),
+        ("deliver 3", "merged message 4"),
+        ("deliver 4", "installed version 3 files 2"),
+        (f"get {'k' * 1_025}", "value 1"),
+        ("pick 1", pick),
+    ]
+
+
 def made():
     backlog = [pair for number in range(1, 1_026) for pair in flushed(number)]
     inputs = ",".join(map(str, range(1, 1_025)))
@@ -178,6 +246,10 @@ def made():
     yield row("a file over 1,024 deeper ones", "--l0 1", over_all(1_024) + [("pick 1", "refused TooWide")])
     yield row("a level of as many bytes as its base", "--l0 1 --base 66", moved_twice("idle"))
     yield row("a level of a byte more than its base", "--l0 1 --base 65", moved_twice("job 1.2 level 1 inputs 2 message 5"))
+    yield row("a level of as many bytes as its base, of a long key", "--l0 1 --base 2096", long_moved_down("idle"))
+    yield row("a level of a byte more than its base, of a long key", "--l0 1 --base 2095", long_moved_down("job 1.2 level 1 inputs 2 message 5"))
+    yield row("keys of 4,096 and of 4,097 bytes", "", longest_keys())
+    yield row("a long key that is left out of a merge", "--l0 2", left_out())
     yield row("full batches and memtables", "", full_memtables())
     yield row("a restart with a full memtable and all snapshots", "", restart(*of_weight(4_000_000)))
     yield row("the table of a full memtable", "--l0 1", full_table())
@@ -190,4 +262,4 @@ def rows():
         yield from stored(folder)
         yield from faults(folder)
     yield from made()
-    yield row("a follower reads a key that is too long", "", [(f"read 1 {'k' * 1_025}", "at 0 none")])
+    yield row("a follower reads a key that is too long", "", [(f"read 1 {'k' * 4_097}", "at 0 none")])

@@ -46,6 +46,8 @@ LOGS = [
     ("a write past the last sequence", [Written(LAST, (ONE, TWO))], LAST - 1, BAD),
     ("a freeze at sequence 0", [Written(1, (ONE,)), Frozen(0)], 0, BAD),
     ("too many operations", [Written(1, (ONE,) * 1_001)], 0, BAD),
+    ("the longest key", [Written(1, (Operation(PUT, b"k" * 4_096, b"1"),))], 0, (1, None)),
+    ("a key that is too long", [Written(1, (Operation(PUT, b"k" * 4_097, b"1"),))], 0, BAD),
     ("operations that are too heavy", [Written(1, HALF + (Operation(DELETE, b"k" * 1_024, b""),) * 40)], 0, BAD),
 ]
 

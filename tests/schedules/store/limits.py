@@ -1,7 +1,8 @@
 """Limits of the store, and the names of what is refused."""
 from typing import NamedTuple
 
-KEY, VALUE = 1_024, 65_536
+# The longest key of a table or a message of version 1, and the longest of all.
+SHORT_KEY, KEY, VALUE = 1_024, 4_096, 65_536
 BATCH_OPERATIONS, BATCH_WEIGHT = 1_000, 4_000_000
 MEMTABLE_WEIGHT = 8_000_000
 SEQUENCE = 2**56 - 1

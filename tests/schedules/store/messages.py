@@ -2,8 +2,8 @@
 from typing import NamedTuple
 
 from .claims import Name
-from .tables import Table
-from .versions import Version
+from .tables import Table, format_of
+from .versions import Edit, Version, range_of
 
 
 class Node(NamedTuple):
@@ -56,7 +56,19 @@ class Current(NamedTuple):
     number: int
 
 
+def own_keys(body):
+    """The keys in a message's own fields: those inside of its tables are none of them."""
+    if isinstance(body, Job):
+        return [key for ends in [*map(range_of, body.inputs), *body.deeper] for key in ends]
+    files = body.added if isinstance(body, Edit) else body.version.files if isinstance(body, Base) else ()
+    return [key for it in files for key in range_of(it)]
+
+
 class Message(NamedTuple):
     src: Node
     dst: Node
     body: NamedTuple
+
+    @property
+    def format(self):
+        return format_of(own_keys(self.body))
