@@ -9,7 +9,7 @@ use Rattle.lsm_coord.specs.Model.Event as say
 use Rattle.lsm_world.specs.declared.reply.PickedJob.{PickedJob}
 use Rattle.lsm_world.specs.declared.reply.Sent.{Sent}
 use Rattle.lsm_world.specs.declared.reply.Sent.TheVariants as sent
-use Rattle.lsm_text.specs.Tokens.{is_between}
+use Rattle.lsm_text.specs.Tokens.{byte_between}
 
 -- a hexadecimal digit, in lower case
 abbrev pub hex_digit : ℕ → ℕ
@@ -17,7 +17,7 @@ hex_digit n = if nat_lt n 10 then 48 + n else 87 + n
 
 -- a printable byte other than the percent sign, the quote and the equals sign prints as itself
 abbrev pub prints_as_itself : ℕ → Bool
-prints_as_itself byte = is_between 33 126 byte && not (byte == 37 || byte == 34 || byte == 61)
+prints_as_itself byte = byte_between 33 126 byte && not (byte == 37 || byte == 34 || byte == 61)
 
 abbrev pub byte_text : ℕ → List ℕ
 byte_text byte = if prints_as_itself byte then byte ∷ [] else 37 ∷ hex_digit (byte / 16) ∷ hex_digit (byte % 16) ∷ []

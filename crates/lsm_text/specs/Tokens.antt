@@ -3,15 +3,15 @@ use Rattle.std.specs.Prelude.{ℕ, ◌+◌, ◌-◌, ◌*◌, ◌==◌, ◌&&◌
 use Rattle.std.specs.Option.{option_and_then, option_map}
 use Rattle.std.specs.Str.{bytes_eq}
 
-abbrev pub is_between : ℕ → ℕ → ℕ → Bool
-is_between low high byte = nat_le low byte && nat_le byte high
+abbrev pub byte_between : ℕ → ℕ → ℕ → Bool
+byte_between low high byte = nat_le low byte && nat_le byte high
 
 -- the value of a hexadecimal digit, in either case
 abbrev pub hex : ℕ → Option ℕ
 hex byte =
-    if is_between 48 57 byte then Some (byte - 48)
-    else if is_between 97 102 byte then Some (byte - 87)
-    else if is_between 65 70 byte then Some (byte - 55)
+    if byte_between 48 57 byte then Some (byte - 48)
+    else if byte_between 97 102 byte then Some (byte - 87)
+    else if byte_between 65 70 byte then Some (byte - 55)
     else None
 
 -- the byte of two hexadecimal digits
@@ -20,7 +20,7 @@ escape high low = option_and_then (λ h. option_map (λ l. 16 * h + l) (hex low)
 
 -- a printable byte other than the percent sign is itself
 abbrev pub literal : ℕ → Option ℕ
-literal byte = if is_between 33 126 byte && not (byte == 37) then Some byte else None
+literal byte = if byte_between 33 126 byte && not (byte == 37) then Some byte else None
 
 abbrev pub onto : Option ℕ → Option (List ℕ) → Option (List ℕ)
 onto byte rest = option_and_then (λ b. option_map (λ bs. b ∷ bs) rest) byte
