@@ -14,16 +14,16 @@ use Rattle.lsm_world.specs.Replies.{reply_of}
 use Rattle.lsm_world.specs.Schedules.{WorldValue, IsNew, replies_in}
 use Rattle.lsm_world.specs.Shown.{FollowsStore}
 use Rattle.lsm_world.proofs.RunningSchedules.{asked_none, asked_more, runs_none, runs_more}
-use Rattle.lsm_text.specs.Replies.{line, lines}
+use Rattle.lsm_text.specs.Replies.{line, reply_lines}
 use Rattle.lsm_sim.specs.Runs.{Happens, Prints, PrintsScript}
 use Rattle.lsm_text.specs.Script.{script}
 
 pub happens_none : (n : StoreValue) → Happens n [] [] n
 happens_none n = record { events_are = refl; asked = asked_none n; runs = runs_none n }
 
-pub lines-push : (rs : List Reply) (r : Reply) → lines (rs ++ r ∷ []) ≡ lines rs ++ line r
+pub lines-push : (rs : List Reply) (r : Reply) → reply_lines (rs ++ r ∷ []) ≡ reply_lines rs ++ line r
 lines-push [] r = append-nil (line r)
-lines-push (x ∷ rs) r = ap (λ (t : List ℕ). line x ++ t) (lines-push rs r) ∙ sym (append_assoc (line x) (lines rs) (line r))
+lines-push (x ∷ rs) r = ap (λ (t : List ℕ). line x ++ t) (lines-push rs r) ∙ sym (append_assoc (line x) (reply_lines rs) (line r))
 
 -- what happened and was written so far
 pub record IsSoFar (old now : StoreValue) (events : List Event) (was held : Option (List ℕ)) (out : List ℕ) : Type 0 where
@@ -31,7 +31,7 @@ pub record IsSoFar (old now : StoreValue) (events : List Event) (was held : Opti
   pub happens : Happens old events steps now
   pub done : List ℕ
   pub wrote : Appends was held done
-  pub text : lines (replies_in steps) ≡ done ++ out
+  pub text : reply_lines (replies_in steps) ≡ done ++ out
 
 pub IsSoFar-step : (old mid new : StoreValue) (events : List Event) (e : Event) (r : Reply) (was held : Option (List ℕ)) (out more : List ℕ) → IsSoFar old mid events was held out → AsksIfTaken mid e r new → FollowsStore mid (event_of e) (reply_of r) new → more ≡ out ++ line r → IsSoFar old new (events ++ e ∷ []) was held more
 IsSoFar-step old mid new events e r was held out more so asks step added = record {
@@ -44,7 +44,7 @@ IsSoFar-step old mid new events e r was held out more so asks step added = recor
   done = so.done;
   wrote = so.wrote;
   text =
-      ap lines (map-append (λ (x : Event × Reply). x.1) so.steps ((e, r) ∷ [])) ∙ lines-push (replies_in so.steps) r ∙ ap (λ (t : List ℕ). t ++ line r) so.text
+      ap reply_lines (map-append (λ (x : Event × Reply). x.1) so.steps ((e, r) ∷ [])) ∙ lines-push (replies_in so.steps) r ∙ ap (λ (t : List ℕ). t ++ line r) so.text
       ∙ append_assoc so.done out (line r)
       ∙ ap (λ (t : List ℕ). so.done ++ t) (sym added);
 }
@@ -65,9 +65,9 @@ IsSoFar-written old now events was held after held2 out bytes out2 so whole wrot
   text = so.text ∙ sym (append-nil (so.done ++ out));
 })
 
-pub IsSoFar-end : (old now : StoreValue) (events rest all : List Event) (was held last : Option (List ℕ)) (out : List ℕ) → events ++ rest ≡ all → rest ≡ [] → IsSoFar old now events was held out → out ≡ [] → Keeps held last → (x : List (Event × Reply)) × Happens old all x now × Appends was last (lines (replies_in x))
+pub IsSoFar-end : (old now : StoreValue) (events rest all : List Event) (was held last : Option (List ℕ)) (out : List ℕ) → events ++ rest ≡ all → rest ≡ [] → IsSoFar old now events was held out → out ≡ [] → Keeps held last → (x : List (Event × Reply)) × Happens old all x now × Appends was last (reply_lines (replies_in x))
 IsSoFar-end old now events rest all was held last out parts end so none keeps =
-    let text : lines (replies_in so.steps) ≡ so.done = so.text ∙ ap (λ (t : List ℕ). so.done ++ t) none ∙ append-nil so.done in
+    let text : reply_lines (replies_in so.steps) ≡ so.done = so.text ∙ ap (λ (t : List ℕ). so.done ++ t) none ∙ append-nil so.done in
     let whole : events ≡ all = sym (append-nil events) ∙ ap (λ (es : List Event). events ++ es) (sym end) ∙ parts in
     (so.steps, subst (λ (es : List Event). Happens old es so.steps now) whole so.happens, rw text (Appends-kept was held last so.done so.wrote keeps))
 
@@ -76,13 +76,13 @@ on_ok (Ok x) P p = p
 on_ok (Err e) P p = tt
 
 -- what happens to a new store prints its replies' lines
-pub happens_prints : (limits : Limits) (first : WorldValue) (last : StoreValue) (events : List Event) (steps : List (Event × Reply)) → IsNew limits first → Happens first.nodes events steps last → Prints limits events (lines (replies_in steps))
+pub happens_prints : (limits : Limits) (first : WorldValue) (last : StoreValue) (events : List Event) (steps : List (Event × Reply)) → IsNew limits first → Happens first.nodes events steps last → Prints limits events (reply_lines (replies_in steps))
 happens_prints limits first last events steps new happens =
     let end = happens.runs first_state new.4 in
     record { first = first; is_new = new; steps = steps; events_are = happens.events_are; last = last; asked = happens.asked; runs = (end.0, end.1); prints = refl }
 
 -- what happens to a new store prints what its script says
-pub prints_script : (limits : Limits) (first : WorldValue) (last : StoreValue) (events : List Event) (bytes : List ℕ) (known was held : Option (List ℕ)) → IsNew limits first → script bytes ≡ Ok (map event_of events) → IfSome known (λ xs. bytes ≡ xs) → (x : List (Event × Reply)) × Happens first.nodes events x last × Appends was held (lines (replies_in x)) → IfSome known (λ xs. PrintsScript limits xs was held)
+pub prints_script : (limits : Limits) (first : WorldValue) (last : StoreValue) (events : List Event) (bytes : List ℕ) (known was held : Option (List ℕ)) → IsNew limits first → script bytes ≡ Ok (map event_of events) → IfSome known (λ xs. bytes ≡ xs) → (x : List (Event × Reply)) × Happens first.nodes events x last × Appends was held (reply_lines (replies_in x)) → IfSome known (λ xs. PrintsScript limits xs was held)
 prints_script limits first last events bytes None was held new says read ran = tt
 prints_script limits first last events bytes (Some xs) was held new says read ran =
-    (events, ap script (sym read) ∙ says, lines (replies_in ran.0), happens_prints limits first last events ran.0 new ran.1, ran.2)
+    (events, ap script (sym read) ∙ says, reply_lines (replies_in ran.0), happens_prints limits first last events ran.0 new ran.1, ran.2)

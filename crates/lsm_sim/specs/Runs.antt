@@ -8,7 +8,7 @@ use Rattle.lsm_key.specs.declared.refused.Refused.TheVariants as refused
 use Rattle.lsm_text.specs.declared.fault.Fault.{Fault}
 use Rattle.lsm_sim.specs.declared.error.RunError.{RunError}
 use Rattle.lsm_sim.specs.declared.error.RunError.TheVariants.{Script, ReadFault, WriteFault, OutOfMemory}
-use Rattle.lsm_text.specs.Replies.{lines}
+use Rattle.lsm_text.specs.Replies.{reply_lines}
 use Rattle.lsm_text.specs.Script.{script}
 use Rattle.lsm_stream.specs.declared.error.StreamError.{StreamError}
 use Rattle.lsm_stream.specs.declared.error.StreamError.TheVariants as stream
@@ -52,7 +52,7 @@ pub record Prints (limits : Limits) (events : List Event) (text : List ℕ) : Ty
   pub last : StoreValue
   pub asked : AskedAll first.nodes steps last
   pub runs : RunOfNew (model_steps steps)
-  pub prints : text ≡ lines (replies_in steps)
+  pub prints : text ≡ reply_lines (replies_in steps)
 
 -- what was written after what a writer held is what the events of the script print
 abbrev pub PrintsScript : Limits → List ℕ → Option (List ℕ) → Option (List ℕ) → Type 0
@@ -62,7 +62,7 @@ PrintsScript limits script_text old new =
 -- a first part of the events happened, and what was written is a prefix of the lines of its replies
 abbrev pub HappensInPart : StoreValue → List Event → StoreValue → Option (List ℕ) → Option (List ℕ) → Type 0
 HappensInPart old events new was held =
-    (n : ℕ) × (steps : List (Event × Reply)) × (k : ℕ) × Happens old (take n events) steps new × Appends was held (take k (lines (replies_in steps)))
+    (n : ℕ) × (steps : List (Event × Reply)) × (k : ℕ) × Happens old (take n events) steps new × Appends was held (take k (reply_lines (replies_in steps)))
 
 -- what was written after what a writer held is a prefix of what a first part of the events of the script prints
 abbrev pub PrintsAPart : Limits → List ℕ → Option (List ℕ) → Option (List ℕ) → Type 0

@@ -5,7 +5,7 @@ ghost use Rattle.std.specs.Io.KnownBytes.{Appends};
 ghost use Rattle.lsm_world.specs.declared.event.Event.{Event};
 ghost use Rattle.lsm_world.specs.declared.reply.Reply.{Reply};
 ghost use Rattle.lsm_world.specs.Schedules.{IsNew, replies_in};
-ghost use Rattle.lsm_text.specs.Replies.{lines};
+ghost use Rattle.lsm_text.specs.Replies.{reply_lines};
 ghost use Rattle.lsm_sim.specs.Runs.{Happens, HappensInPart, PrintsScript, StopsFor};
 
 use crate::error::RunError;
@@ -56,7 +56,7 @@ fn run<W: Write>(
     events: Vec<Event>,
     writer: &mut W,
 ) -> Result<(), RunError>
-    ensures ok { OnOk result ((steps : List (Event × Reply)) × Happens world.old.nodes events.items steps world.new.nodes × Appends (W.contents writer.old) (W.contents writer.new) (lines (replies_in steps))) }
+    ensures ok { OnOk result ((steps : List (Event × Reply)) × Happens world.old.nodes events.items steps world.new.nodes × Appends (W.contents writer.old) (W.contents writer.new) (reply_lines (replies_in steps))) }
     ensures err { OnErr result (HappensInPart world.old.nodes events.items world.new.nodes (W.contents writer.old) (W.contents writer.new)) }
     ensures errors { IfErr result (λ e. (e ≡ RunError.WriteFault) ⊎ (e ≡ RunError.OutOfMemory)) }
 {

@@ -42,5 +42,5 @@ abbrev pub line : Reply → List ℕ
 line reply = as_line (text_of reply)
 
 -- a line for each reply
-abbrev pub lines : List Reply → List ℕ
-lines replies = flat_map line replies
+abbrev pub reply_lines : List Reply → List ℕ
+reply_lines replies = flat_map line replies
