@@ -10,14 +10,14 @@ abbrev pub is_dash : ℕ → Bool
 is_dash byte = byte == 45
 
 -- the numbers from the first to the last, not too many: the first, and how many follow it
-abbrev pub range_of : Option ℕ → Option ℕ → Option (ℕ × ℕ)
-range_of (Some first) (Some last) = if nat_le first last && nat_lt (last - first) MAX_DELIVERIES then Some (first, last - first) else None
-range_of first last = None
+abbrev pub range_between : Option ℕ → Option ℕ → Option (ℕ × ℕ)
+range_between (Some first) (Some last) = if nat_le first last && nat_lt (last - first) MAX_DELIVERIES then Some (first, last - first) else None
+range_between first last = None
 
 -- a number, or the numbers before and after the index of a dash
 abbrev pub range_around : List ℕ → Option ℕ → Option (ℕ × ℕ)
-range_around word None = range_of (number word) (number word)
-range_around word (Some dash) = range_of (number (take dash word)) (number (drop (dash + 1) word))
+range_around word None = range_between (number word) (number word)
+range_around word (Some dash) = range_between (number (take dash word)) (number (drop (dash + 1) word))
 
 abbrev pub read_range : List ℕ → Option (ℕ × ℕ)
 read_range word = range_around word (position is_dash word)

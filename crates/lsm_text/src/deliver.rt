@@ -4,7 +4,7 @@ ghost use Rattle.std.specs.Prelude.{◌≡◌, ◌+◌, ◌≤◌, IfOk, IfSome,
 ghost use Rattle.lsm_key.specs.Reading.{Gives};
 ghost use Rattle.lsm_world.specs.Events.{event_of};
 ghost use Rattle.lsm_text.specs.Text.{words};
-ghost use Rattle.lsm_text.specs.Deliveries.{is_dash, range_of, read_range, deliveries, deliver};
+ghost use Rattle.lsm_text.specs.Deliveries.{is_dash, range_between, read_range, deliveries, deliver};
 
 use crate::fault::Reason;
 use crate::number::read_number;
@@ -35,8 +35,8 @@ fn read_range(word: &[u8]) -> Option<(u64, u64)>
     ensures fits { IfSome result (λ range. range.0 + range.1 ≤ u64.MAX) }
 {
     match dash_in(word) {
-        None => range_of(read_number(word), read_number(word)),
-        Some(dash) => range_of(read_number(&word[..dash]), read_number(&word[dash + 1..])),
+        None => range_between(read_number(word), read_number(word)),
+        Some(dash) => range_between(read_number(&word[..dash]), read_number(&word[dash + 1..])),
     }
 }
 
@@ -48,8 +48,8 @@ fn dash_in(word: &[u8]) -> Option<usize>
 }
 
 // The first of a range of numbers, and how many follow it.
-fn range_of(first: Option<u64>, last: Option<u64>) -> Option<(u64, u64)>
-    ensures value { result ≡ range_of first last }
+fn range_between(first: Option<u64>, last: Option<u64>) -> Option<(u64, u64)>
+    ensures value { result ≡ range_between first last }
     ensures fits { IfSome result (λ range. range.0 + range.1 ≤ u64.MAX) }
 {
     let (first, last) = (first?, last?);
