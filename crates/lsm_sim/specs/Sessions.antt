@@ -20,9 +20,9 @@ use Rattle.lsm_sim.specs.declared.session.answer.Answer.{Answer}
 use Rattle.lsm_sim.specs.declared.session.answer.Answer.TheVariants.{Reply, Stored}
 
 -- a refusal as scripts show it
-abbrev pub refusal_of : StoreError → Refusal
-refusal_of (store.Key e) = why.Key e
-refusal_of (store.Coord e) = why.Coord e
+abbrev pub store_refusal : StoreError → Refusal
+store_refusal (store.Key e) = why.Key e
+store_refusal (store.Coord e) = why.Coord e
 
 -- a store has the events of one process; the others are of nodes
 abbrev pub is_of_store : Event → Bool

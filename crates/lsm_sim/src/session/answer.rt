@@ -3,7 +3,7 @@
 ghost use Rattle.std.specs.Prelude.{◌≡◌, IfNone, IfSome, is_some};
 ghost use Rattle.lsm_world.specs.declared.event.Event.TheVariants.{Flush, Get, Release, Scan, Show, Snap, Write};
 ghost use Rattle.lsm_sim.specs.declared.session.answer.Answer.TheVariants.{Reply as InReply};
-ghost use Rattle.lsm_sim.specs.Sessions.{AnswersEvent, is_of_store, refusal_of};
+ghost use Rattle.lsm_sim.specs.Sessions.{AnswersEvent, is_of_store, store_refusal};
 
 use bytes::Bytes;
 use lsm_coord::{ScanRange, ShownVersion, SnapId};
@@ -45,8 +45,8 @@ pub(crate) fn answer_event<V: Vault>(
 }
 
 /// Why a call is refused, as scripts show it.
-pub(crate) fn refusal_of(why: StoreError) -> Refusal
-    ensures { result ≡ refusal_of why }
+pub(crate) fn store_refusal(why: StoreError) -> Refusal
+    ensures { result ≡ store_refusal why }
 {
     match why {
         StoreError::Key(why) => Refusal::Key(why),
@@ -69,7 +69,7 @@ fn write_batch<V: Vault>(store: &mut Store<V>, batch: &Batch) -> Reply
 {
     let before = store.latest_sequence();
     match store.write(batch) {
-        Err(why) => Reply::Refused(refusal_of(why)),
+        Err(why) => Reply::Refused(store_refusal(why)),
         Ok(()) => {
             let last = store.latest_sequence();
             // A batch has an operation, so the last one is not before the first.
@@ -83,7 +83,7 @@ fn flush<V: Vault>(store: &mut Store<V>) -> Answer
     ensures { AnswersEvent store.old Flush result store.new }
 {
     match store.flush() {
-        Err(why) => Answer::Reply(Reply::Refused(refusal_of(why))),
+        Err(why) => Answer::Reply(Reply::Refused(store_refusal(why))),
         Ok(()) => Answer::Stored(store.flushed_sequence()),
     }
 }
@@ -92,7 +92,7 @@ fn snapshot<V: Vault>(store: &mut Store<V>) -> Reply
     ensures { AnswersEvent store.old Snap (InReply result) store.new }
 {
     match store.snapshot() {
-        Err(why) => Reply::Refused(refusal_of(why)),
+        Err(why) => Reply::Refused(store_refusal(why)),
         Ok(id) => Reply::Snapped(id, store.latest_sequence()),
     }
 }
@@ -101,7 +101,7 @@ fn release<V: Vault>(store: &mut Store<V>, id: SnapId) -> Reply
     ensures { AnswersEvent store.old (Release id) (InReply result) store.new }
 {
     match store.release(id) {
-        Err(why) => Reply::Refused(refusal_of(why)),
+        Err(why) => Reply::Refused(store_refusal(why)),
         Ok(()) => Reply::Released(id),
     }
 }
@@ -110,7 +110,7 @@ fn get<V: Vault>(store: &mut Store<V>, key: &Bytes, at: Option<SnapId>) -> Reply
     ensures { AnswersEvent store.old (Get key.now at) (InReply result) store.new }
 {
     match store.get(key.as_slice(), at) {
-        Err(why) => Reply::Refused(refusal_of(why)),
+        Err(why) => Reply::Refused(store_refusal(why)),
         Ok(value) => Reply::Got(value),
     }
 }
@@ -119,7 +119,7 @@ fn scan<V: Vault>(store: &mut Store<V>, range: &ScanRange) -> Reply
     ensures { AnswersEvent store.old (Scan range.now) (InReply result) store.new }
 {
     match store.scan(&range.lo, &range.hi, range.at, range.limit) {
-        Err(why) => Reply::Refused(refusal_of(why)),
+        Err(why) => Reply::Refused(store_refusal(why)),
         Ok(pairs) => Reply::Scanned(Items::from_vec(pairs)),
     }
 }

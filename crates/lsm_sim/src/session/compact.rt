@@ -1,6 +1,6 @@
 //! The command `compact`.
 
-use super::answer::refusal_of;
+use super::answer::store_refusal;
 use lsm_commands::Screen;
 use lsm_store::{Due, Store, StoreError};
 use lsm_text::{write_refused, write_text};
@@ -27,7 +27,7 @@ pub(crate) fn compact<V: Vault>(
     match compact_all(store, screen) {
         Ok(Due::TooLarge) => write_text(out, "compacted but for what exceeds the job limits"),
         Ok(_) => write_text(out, "compacted"),
-        Err(why) => write_refused(out, refusal_of(why)),
+        Err(why) => write_refused(out, store_refusal(why)),
     }
 }
 

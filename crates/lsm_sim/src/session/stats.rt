@@ -1,6 +1,6 @@
 //! The command `stats`.
 
-use super::answer::refusal_of;
+use super::answer::store_refusal;
 use lsm_key::NUM_LEVELS;
 use lsm_store::{LevelStats, Store, Written};
 use lsm_text::{write_number, write_refused, write_text};
@@ -12,7 +12,7 @@ use std::io::Write;
 /// compaction, and what was written to tables, as `write_written` has it; or why the vault's edits are not read.
 pub(crate) fn stats<V: Vault>(store: &mut Store<V>, out: &mut Vec<u8>) -> Result<(), AllocError> {
     match store.written() {
-        Err(why) => write_refused(out, refusal_of(why)),
+        Err(why) => write_refused(out, store_refusal(why)),
         Ok(written) => {
             write_levels(out, store)?;
             write_written(out, written)
