@@ -25,7 +25,7 @@ use Rattle.lsm_dispatch.specs.declared.letter.Letter.{Letter}
 use Rattle.lsm_dispatch.specs.Crews.{after_all_leave, has_busy, state_of}
 use Rattle.lsm_dispatch.specs.Dispatching.{ActRefuses, HandsOut, IsDue, JobRefuses}
 use Rattle.lsm_dispatch.specs.Letters.{IsLetter, NoLetter}
-use Rattle.lsm_dispatch.specs.Turns.{Asks, AsksBefore, ComesNext, DispatchRefuses, Hands, IsNextSent, IsNoLetter, IsTurn, NoneWaits, OneRefuses, ReadStops, RunEnds, RunStops, RunsOver, Takes, TakesLetter, Turn, TurnStops, TurnsThrough, bytes_read, one_or_none, sent_in}
+use Rattle.lsm_dispatch.specs.Turns.{AsksWorker, AsksBefore, ComesNext, DispatchRefuses, Hands, IsNextSent, IsNoLetter, IsTurn, NoneWaits, OneRefuses, ReadStops, RunEnds, RunStops, RunsOver, Takes, TakesLetter, Turn, TurnStops, TurnsThrough, bytes_read, one_or_none, sent_in}
 use Rattle.lsm_dispatch.proofs.KeptSteps.{none_leaves}
 
 -- ---- one after another
@@ -111,12 +111,12 @@ module _ (crew crew_new : List WorkerState) (old new : CoordValue) (index : ℕ)
 pub pick_fails : (crew : List WorkerState) (c : CoordValue) (index : ℕ) (held : Option (List ℕ)) (e : CoordError) → state_of crew index ≡ Idle → JobRefuses c e → (input : Option (List ℕ)) → RunStops crew c input held held (error.Coord e)
 pick_fails crew c index held e idle h input = stops_now crew c input held held (error.Coord e) (inl (index, idle, h), refl)
 
-pub hand_asks : (crew crew_new : List WorkerState) (old new : CoordValue) (index number : ℕ) (sent : Option Message) → index ≡ number → HandsOut crew old index crew_new new sent → IfSome sent (λ m. has_busy crew_new ≡ true) → Asks number crew old crew_new new
+pub hand_asks : (crew crew_new : List WorkerState) (old new : CoordValue) (index number : ℕ) (sent : Option Message) → index ≡ number → HandsOut crew old index crew_new new sent → IfSome sent (λ m. has_busy crew_new ≡ true) → AsksWorker number crew old crew_new new
 hand_asks crew crew_new old new index number None same hands busy =
     inr (hands.0, hands.1, λ idle. elim hands.2 [ inl other ↦ absurd (other (ap (state_of crew) same ∙ idle)) | inr none ↦ none ])
 hand_asks crew crew_new old new index number (Some m) same hands busy = inl busy
 
-pub hand_asked : (crew crew_new : List WorkerState) (old new : CoordValue) (index number : ℕ) (sent : Option Message) (r : Result (Unit {0}) DispatchError) → index ≡ number → HandsOut crew old index crew_new new sent → IfSome sent (λ m. has_busy crew_new ≡ true) → OnOk r (Asks number crew old crew_new new)
+pub hand_asked : (crew crew_new : List WorkerState) (old new : CoordValue) (index number : ℕ) (sent : Option Message) (r : Result (Unit {0}) DispatchError) → index ≡ number → HandsOut crew old index crew_new new sent → IfSome sent (λ m. has_busy crew_new ≡ true) → OnOk r (AsksWorker number crew old crew_new new)
 hand_asked crew crew_new old new index number sent (Ok x) same hands busy = hand_asks crew crew_new old new index number sent same hands busy
 hand_asked crew crew_new old new index number sent (Err e) same hands busy = tt
 
@@ -125,7 +125,7 @@ hand_asked crew crew_new old new index number sent (Err e) same hands busy = tt
 pub asks_none : (crew : List WorkerState) (c : CoordValue) → AsksBefore 1 crew c crew c
 asks_none crew c = inr (refl, refl, λ index one below idle. absurd (none_between index one below))
 
-pub asks_more : (n : ℕ) (a b d : List WorkerState) (x y z : CoordValue) → AsksBefore n a x b y → Asks n b y d z → AsksBefore (n + 1) a x d z
+pub asks_more : (n : ℕ) (a b d : List WorkerState) (x y z : CoordValue) → AsksBefore n a x b y → AsksWorker n b y d z → AsksBefore (n + 1) a x d z
 asks_more n a b d x y z (inl busy) (inl more) = inl more
 asks_more n a b d x y z (inl busy) (inr q) = inl (ap has_busy q.0 ∙ busy)
 asks_more n a b d x y z (inr p) (inl more) = inl more

@@ -73,8 +73,8 @@ abbrev pub NoneWaits : List WorkerState → CoordValue → Type 0
 NoneWaits crew c = (index : ℕ) → 1 ≤ index → index ≤ MAX_NODES → state_of crew index ≡ Idle → IsNoneDue c
 
 -- a worker has a job; or nothing has changed, and the worker of this number was not idle, or no compaction is due
-abbrev pub Asks : ℕ → List WorkerState → CoordValue → List WorkerState → CoordValue → Type 0
-Asks number crew old crew_new new = (has_busy crew_new ≡ true) ⊎ ((crew_new ≡ crew) × (new ≡ old) × (state_of crew number ≡ Idle → IsNoneDue old))
+abbrev pub AsksWorker : ℕ → List WorkerState → CoordValue → List WorkerState → CoordValue → Type 0
+AsksWorker number crew old crew_new new = (has_busy crew_new ≡ true) ⊎ ((crew_new ≡ crew) × (new ≡ old) × (state_of crew number ≡ Idle → IsNoneDue old))
 
 -- the same of all workers before this number
 abbrev pub AsksBefore : ℕ → List WorkerState → CoordValue → List WorkerState → CoordValue → Type 0

@@ -7,7 +7,7 @@ ghost use Rattle.lsm_msg.specs.Messages.{IsMessage};
 ghost use Rattle.lsm_frame.specs.Frames.{framed};
 ghost use Rattle.lsm_dispatch.specs.Crews.{has_busy, new_crew};
 ghost use Rattle.lsm_dispatch.specs.Dispatching.{IsLeftDue, KeepsIfMerged, RunKeeps};
-ghost use Rattle.lsm_dispatch.specs.Turns.{Asks, AsksBefore, DispatchRefuses, NoneWaits, OneRefuses, RunEnds, RunStops, RunsOver, one_or_none};
+ghost use Rattle.lsm_dispatch.specs.Turns.{AsksWorker, AsksBefore, DispatchRefuses, NoneWaits, OneRefuses, RunEnds, RunStops, RunsOver, one_or_none};
 
 use crate::crew::Crew;
 use crate::error::DispatchError;
@@ -108,7 +108,7 @@ fn hand_out_to<V: Vault, W: Write>(
     requires { (1 ≤ number) × (number ≤ MAX_NODES) }
     ensures ok { OnOk result ((input : Option (List ℕ)) → RunsOver crew.old coord.old input input (W.contents writer.old) (W.contents writer.new) crew.new coord.new) }
     ensures refused { IfErr result (λ e. (input : Option (List ℕ)) → RunStops crew.old coord.old input (W.contents writer.old) (W.contents writer.new) e) }
-    ensures asks { OnOk result (Asks number crew.old coord.old crew.new coord.new) }
+    ensures asks { OnOk result (AsksWorker number crew.old coord.old crew.new coord.new) }
     ensures keeps { RunKeeps crew.old coord.old crew.new coord.new }
 {
     let Some(index) = NodeIndex::new(number) else {
