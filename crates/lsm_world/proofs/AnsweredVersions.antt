@@ -22,7 +22,7 @@ use Rattle.lsm_coord.proofs.RunInvariants.{ascends_of, sound_of}
 use Rattle.lsm_coord.proofs.StepEffects.{effect}
 use Rattle.lsm_coord.proofs.VersionsStay.{step_sound, step_writes}
 use Rattle.lsm_world.specs.History.{AreFilesOf, History, IsVersionOf, versions_in}
-use Rattle.lsm_world.specs.Shown.{Answers, AreAnswered}
+use Rattle.lsm_world.specs.Shown.{AnswersAsWrites, AreAnswered}
 use Rattle.lsm_world.proofs.FourPlaces.{in_place}
 use Rattle.lsm_world.proofs.GrowingHistory.{Grows}
 
@@ -61,7 +61,7 @@ pub record HasNewest (h more : History) (t : State) : Type 0 where
   pub version : IsVersion now.version
   pub tables : (p : Placed) → IsIn p now.places → IsIn p more.files
   pub grown : versions_in more ≡ versions_in h ++ now.version ∷ []
-  pub answers : Answers now t
+  pub answers : AnswersAsWrites now t
 
 module _ (h more : History) (grows : Grows h more) (had : AreFilesOf h) (has : AreFilesOf more) (s t : State) (e : Event) (r : Reply) (step : Step s e r t) (rising : FlushedAscends s) (listed : s.versions ≡ map listing_of (versions_in h)) (answered : AreAnswered h s) where
   -- a table of an earlier version was of the history before
@@ -73,7 +73,7 @@ module _ (h more : History) (grows : Grows h more) (had : AreFilesOf h) (has : A
       subst (λ (q : Placed). IsIn q h.files) (sym same) file.1
 
   -- a version that was there answers as it did
-  earlier : (x : ServedValue) → IsServed x → IsVersionOf h x.version → ((p : Placed) → IsIn p x.places → IsIn p more.files) → Answers x t
+  earlier : (x : ServedValue) → IsServed x → IsVersionOf h x.version → ((p : Placed) → IsIn p x.places → IsIn p more.files) → AnswersAsWrites x t
   earlier x is at tables =
       let was = answered x is at (was_there x is at tables) in
       let shown : slice_get s.versions x.version.number ≡ Some (listing_of x.version) =
@@ -87,5 +87,5 @@ module _ (h more : History) (grows : Grows h more) (had : AreFilesOf h) (has : A
   answered_after (inr newest) x is at tables =
       elim (at_grown (versions_in h) newest.now.version x.version.number x.version (subst (λ (vs : List VersionValue). slice_get vs x.version.number ≡ Some x.version) newest.grown at)) [
         | inl before ↦ earlier x is before tables
-        | inr last ↦ subst (λ (y : ServedValue). Answers y t) (one_served more has newest.now x newest.served is newest.version (sym last.1) newest.tables tables) newest.answers
+        | inr last ↦ subst (λ (y : ServedValue). AnswersAsWrites y t) (one_served more has newest.now x newest.served is newest.version (sym last.1) newest.tables tables) newest.answers
       ]

@@ -12,7 +12,7 @@ use Rattle.lsm_coord.specs.Model.Step.{Step}
 use Rattle.lsm_coord.proofs.ShownVersions.{flushed_is}
 use Rattle.lsm_world.specs.History.{AreFilesOf, AreJobsOf, History, IsHistory, IsHistoryBy, IsNetwork, IsStoreHistory, versions_in}
 use Rattle.lsm_world.specs.Nodes.{NetworkValue, NodesValue, StoreValue, nodes_with, number_of, up_store}
-use Rattle.lsm_world.specs.Shown.{Answers, FollowsStore, ShowsStore}
+use Rattle.lsm_world.specs.Shown.{AnswersAsWrites, FollowsStore, ShowsStore}
 use Rattle.lsm_world.proofs.AnsweredVersions.{HasNewest, answered_after, rising_after}
 use Rattle.lsm_world.proofs.GrowingHistory.{Grows, Keeps, keeps_same}
 use Rattle.lsm_world.proofs.LoggedHistories.{versions_are}
@@ -53,7 +53,7 @@ module _ (h : History) (s : StoreValue) where
 -- ---- one step
 
 -- the current version answers as the writes do
-pub current_answers : (edits : List (List ℕ)) (served : ServedValue) (t : State) → ShowsStored edits served t → Answers served t
+pub current_answers : (edits : List (List ℕ)) (served : ServedValue) (t : State) → ShowsStored edits served t → AnswersAsWrites served t
 current_answers edits served t is =
     let flushed = flushed_is edits served t is in
     record { ordered = is.ordered; answers = λ key. subst (λ (n : ℕ). value_at (stored_entries served) key n ≡ answer t.writes n key) flushed (is.answers key) }

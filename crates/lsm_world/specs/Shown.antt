@@ -18,13 +18,13 @@ use Rattle.lsm_world.specs.Nodes.{StoreValue, number_of}
 -- ---- versions that answer as the writes do
 
 -- at the version's flushed sequence
-pub record Answers (served : ServedValue) (s : State) : Type 0 where
+pub record AnswersAsWrites (served : ServedValue) (s : State) : Type 0 where
   pub ordered : AreOrdered (tables_of served.places)
   pub answers : (key : List ℕ) → value_at (stored_entries served) key served.version.flushed ≡ answer s.writes served.version.flushed key
 
 -- each version of the history, with tables of the history
 abbrev pub AreAnswered : History → State → Type 0
-AreAnswered h s = (served : ServedValue) → IsServed served → IsVersionOf h served.version → ((p : Placed) → IsIn p served.places → IsIn p h.files) → Answers served s
+AreAnswered h s = (served : ServedValue) → IsServed served → IsVersionOf h served.version → ((p : Placed) → IsIn p served.places → IsIn p h.files) → AnswersAsWrites served s
 
 -- ---- the store
 
