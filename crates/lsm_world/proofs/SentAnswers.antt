@@ -19,7 +19,7 @@ use Rattle.lsm_coord.specs.Contract.Value.{CoordValue}
 use Rattle.lsm_work.proofs.ResultTables.{tables_may_be_sent}
 use Rattle.lsm_world.specs.declared.reply.Sent.{Sent}
 use Rattle.lsm_world.specs.declared.reply.Reply.{Reply}
-use Rattle.lsm_world.specs.Asks.{IsServed, Receives, Sends}
+use Rattle.lsm_world.specs.Asks.{ServesMessage, Receives, Sends}
 use Rattle.lsm_world.specs.History.{History, IsHistory, IsKnown}
 use Rattle.lsm_world.specs.Inner.Handing.{IsQuestion, IsStored}
 use Rattle.lsm_world.specs.Nodes.{NodesValue}
@@ -90,7 +90,7 @@ question_answered c m (body.Ask number) fit question none = by (after_version c 
 question_answered c m said fit question none = absurd question
 
 -- and the coordinator is asked it
-pub question_asks : (old : NodesValue) (m : Message) (src : Node) (said : Body) (r : Reply) (new : NodesValue) → IsQuestion said → IsServed old m r new → Receives old m src said r new
+pub question_asks : (old : NodesValue) (m : Message) (src : Node) (said : Body) (r : Reply) (new : NodesValue) → IsQuestion said → ServesMessage old m r new → Receives old m src said r new
 question_asks old m src (body.Fetch file) r new question is = is
 question_asks old m src (body.Ask number) r new question is = is
 question_asks old m src said r new question is = absurd question

@@ -165,16 +165,16 @@ abbrev pub Ignores : NodesValue → Reply → NodesValue → Type 0
 Ignores old r new = (r ≡ reply.Ignored) × (new ≡ old)
 
 -- the coordinator answers
-abbrev pub IsServed : NodesValue → Message → Reply → NodesValue → Type 0
-IsServed old m r new =
+abbrev pub ServesMessage : NodesValue → Message → Reply → NodesValue → Type 0
+ServesMessage old m r new =
     (answer : Message) × (answer_message old.core m m.body ≡ Some answer)
     × (told : Sent) × (r ≡ reply.Served told) × Sends old.network.messages (answer ∷ []) told new.network.messages
     × (new ≡ record old { network = record old.network { messages = new.network.messages } })
 
 -- The coordinator serves a fetch and an ask. It takes a result from a worker, and nothing else.
 abbrev pub Receives : NodesValue → Message → Node → Body → Reply → NodesValue → Type 0
-Receives old m src (body.Fetch file) r new = IsServed old m r new
-Receives old m src (body.Ask number) r new = IsServed old m r new
+Receives old m src (body.Fetch file) r new = ServesMessage old m r new
+Receives old m src (body.Ask number) r new = ServesMessage old m r new
 Receives old m (Worker d) (body.Result made) r new = TakesResult old d made r new
 Receives old m src said r new = Ignores old r new
 
