@@ -33,7 +33,7 @@ use Rattle.lsm_world.specs.declared.refusal.Refusal.TheVariants as why
 use Rattle.lsm_world.specs.declared.reply.Reply.{Reply}
 use Rattle.lsm_world.specs.declared.reply.Reply.TheVariants as reply
 use Rattle.lsm_world.specs.declared.reply.Sent.{Sent}
-use Rattle.lsm_world.specs.Asks.{Asks, AsksNetwork, AsksNode, AsksOther, Calls, Delivers, DeliversAt, DeliversOn, Dispatches, GivesUp, Receives, TakesResult, follower_reply, install_answer, looked_up, worker_reply}
+use Rattle.lsm_world.specs.Asks.{Asks, AsksNetwork, AsksNode, AsksOther, Calls, Delivers, DeliversAt, DeliversOn, Dispatches, GivesUp, Receives, TakesResult, follower_reply, dispatcher_reply, looked_up, worker_reply}
 use Rattle.lsm_world.specs.Nodes.{NetworkValue, NodesValue}
 use Rattle.lsm_world.specs.Schedules.{device_failures}
 use Rattle.lsm_world.proofs.PlainReplies.{one_reason, two_reasons}
@@ -126,7 +126,7 @@ rejected_counted made old new kept.NumbersExhausted is = still old.failures new.
 rejected_counted made old new kept.OutOfMemory is = let counted = is.counted in omega (arith, counted)
 rejected_counted made old new kept.Device is = let failed = is.1 in omega (arith, failed)
 
-installed_counted : (old new : CoordValue) (claim : LiveJob) (made : JobResult) (what : Install) → Became old claim made what new → Counts old.failures (install_answer what) new.failures
+installed_counted : (old new : CoordValue) (claim : LiveJob) (made : JobResult) (what : Install) → Became old claim made what new → Counts old.failures (dispatcher_reply what) new.failures
 installed_counted old new claim made (became.Done number files) is = let counted = is.4.counted in omega (arith, counted)
 installed_counted old new claim made (became.Stale job epoch) is = still old.failures new.failures (ap (λ (c : CoordValue). c.failures) is.3)
 installed_counted old new claim made (became.Kept back e) is = rejected_counted made old new e is.4
@@ -192,7 +192,7 @@ module _ (old new : NodesValue) where
 
   took : (d : ℕ) (made : JobResult) (r : Reply) → TakesResult old d made r new → Counts before r after
   took d made (reply.Refused why.NoClaim) is = still before after (kept_core old is.1 refl)
-  took d made r is = told r (install_answer is.3) is.5 (installed_counted old.core new.core is.0 made is.3 is.4)
+  took d made r is = told r (dispatcher_reply is.3) is.5 (installed_counted old.core new.core is.0 made is.3 is.4)
 
   received : (m : Message) (src : Node) (said : Body) (r : Reply) → Receives old m src said r new → Counts before r after
   received m src (body.Fetch file) r is = told r (reply.Served is.2) is.3 (still before after (ap (λ (x : NodesValue). x.core.failures) is.5))

@@ -17,7 +17,7 @@ use Rattle.lsm_world.specs.declared.refusal.Refusal.TheVariants as why
 use Rattle.lsm_world.specs.declared.reply.Reply.{Reply}
 use Rattle.lsm_world.specs.declared.reply.Reply.TheVariants as reply
 use Rattle.lsm_world.specs.declared.reply.Sent.{Sent}
-use Rattle.lsm_world.specs.Asks.{Delivers, DeliversAt, DeliversOn, Receives, follower_reply, install_answer, stored_message, worker_reply}
+use Rattle.lsm_world.specs.Asks.{Delivers, DeliversAt, DeliversOn, Receives, follower_reply, dispatcher_reply, stored_message, worker_reply}
 use Rattle.lsm_world.specs.Inner.Handing.{IsStored}
 use Rattle.lsm_world.specs.Inner.Working.{IsMessageAt}
 use Rattle.lsm_world.specs.Nodes.{NetworkValue, NodesValue, at_index}
@@ -38,7 +38,7 @@ stored_at messages number m at = (at.0, text_stored messages number at.0 at.1, a
 
 -- ---- replies
 
-installs_by_number : (what : Install) → reply.Refused why.NoMessage ≡ install_answer what → ⊥
+installs_by_number : (what : Install) → reply.Refused why.NoMessage ≡ dispatcher_reply what → ⊥
 installs_by_number (became.Done number files) e = cc
 installs_by_number (became.Stale job epoch) e = cc
 installs_by_number (became.Kept claim error) e = cc

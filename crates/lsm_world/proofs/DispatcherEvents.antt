@@ -29,7 +29,7 @@ use Rattle.lsm_coord.specs.Model.Event as say
 use Rattle.lsm_coord.proofs.InstallOutcomes.{held_by}
 use Rattle.lsm_coord.proofs.VaultRefusals.{stored_keeps}
 use Rattle.lsm_world.specs.declared.reply.Reply.{Reply}
-use Rattle.lsm_world.specs.Asks.{Dispatches, GivesUp, TakesResult, install_answer, job_message}
+use Rattle.lsm_world.specs.Asks.{Dispatches, GivesUp, TakesResult, dispatcher_reply, job_message}
 use Rattle.lsm_world.specs.History.{History, IsHistory, IsKnown, IsResultOf}
 use Rattle.lsm_world.specs.Inner.Handing.{TellsPicked, desk_settled, settled_reply}
 use Rattle.lsm_world.specs.Nodes.{NodesValue, nodes_of}
@@ -116,7 +116,7 @@ settled_told id Stale = refl
 
 -- ---- a result
 
-pub install_told : (what : Install) → reply_of (install_answer what) ≡ install_reply what
+pub install_told : (what : Install) → reply_of (dispatcher_reply what) ≡ install_reply what
 install_told (became.Done number files) = refl
 install_told (became.Stale job epoch) = refl
 install_told (became.Kept claim e) = refl
@@ -133,10 +133,10 @@ module _ (old : NodesValue) (new : CoordValue) (claim : LiveJob) (made : JobResu
     held_again : (back : LiveJob) → back ≡ claim → with_dispatcher taken d (Busy back) ≡ old.desk
     held_again back e = set_again old.desk (d - 1) Idle (Busy back) ∙ ap (λ (j : LiveJob). with_dispatcher old.desk d (Busy j)) e ∙ set_back old.desk (d - 1) (Busy claim) at
 
-    pub install_asks : (r : Reply) → r ≡ install_answer what → TakesResult old d made r (nodes_of new (desk_settled taken d what) old.network)
+    pub install_asks : (r : Reply) → r ≡ dispatcher_reply what → TakesResult old d made r (nodes_of new (desk_settled taken d what) old.network)
     install_asks r told = subst (λ (q : Reply). TakesResult old d made q (nodes_of new (desk_settled taken d what) old.network)) (sym told) (by what outcome)
       where
-        by : (w : Install) → Became old.core claim made w new → TakesResult old d made (install_answer w) (nodes_of new (desk_settled taken d w) old.network)
+        by : (w : Install) → Became old.core claim made w new → TakesResult old d made (dispatcher_reply w) (nodes_of new (desk_settled taken d w) old.network)
         by (became.Done number files) o = (claim, busy, same, became.Done number files, o, refl, refl)
         by (became.Stale job epoch) o = (claim, busy, same, became.Stale job epoch, o, refl, refl)
         by (became.Kept back e) o = (claim, busy, same, became.Kept back e, o, refl, ap (λ (desk : List Dispatcher). nodes_of new desk old.network) (held_again back o.2))
@@ -152,10 +152,10 @@ module _ (old : NodesValue) (new : CoordValue) (claim : LiveJob) (made : JobResu
           by (became.Stale job epoch) never o = absurd never
           by (became.Kept back e) never o = absurd never
 
-      pub install_plain : IsPlain (install_answer what)
+      pub install_plain : IsPlain (dispatcher_reply what)
       install_plain = by what outcome
         where
-          by : (w : Install) → Became old.core claim made w new → IsPlain (install_answer w)
+          by : (w : Install) → Became old.core claim made w new → IsPlain (dispatcher_reply w)
           by (became.Done number files) o = tt
           by (became.Stale job epoch) o = tt
           by (became.Kept back e) o =

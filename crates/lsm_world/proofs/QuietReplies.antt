@@ -7,7 +7,7 @@ use Rattle.lsm_coord.specs.Model.State.{State}
 use Rattle.lsm_coord.specs.Model.Step.{Leaves, Step}
 use Rattle.lsm_world.specs.declared.event.Event.{Event}
 use Rattle.lsm_world.specs.declared.event.Event.TheVariants as event
-use Rattle.lsm_world.specs.Asks.{install_answer}
+use Rattle.lsm_world.specs.Asks.{dispatcher_reply}
 use Rattle.lsm_world.specs.Events.{event_of}
 use Rattle.lsm_world.specs.Inner.Handing.{IsOfCoordinator}
 use Rattle.lsm_world.specs.Replies.{reply_of}
@@ -75,7 +75,7 @@ own_quiet (event.ShowFollower index) r own = absurd own
 own_quiet e r own = tt
 
 -- an install moves none
-pub install_quiet : (number : ℕ) (what : Install) → IsQuiet (say.Deliver number) (reply_of (install_answer what))
+pub install_quiet : (number : ℕ) (what : Install) → IsQuiet (say.Deliver number) (reply_of (dispatcher_reply what))
 install_quiet number (became.Done version files) = tt
 install_quiet number (became.Stale job epoch) = tt
 install_quiet number (became.Kept claim e) = tt

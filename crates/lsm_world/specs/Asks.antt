@@ -141,10 +141,10 @@ GivesUp old d r new = ⊥
 abbrev pub HoldsJob : List Dispatcher → ℕ → JobId → Type 0
 HoldsJob desk d id = (claim : LiveJob) × (dispatcher_of desk d ≡ Busy claim) × (claim.id ≡ id)
 
-abbrev pub install_answer : Install → Reply
-install_answer (became.Done number files) = reply.Installed number files
-install_answer (became.Stale job epoch) = reply.Refused why.OldEpoch
-install_answer (became.Kept claim e) = reply.Refused (why.Coord (error_of e))
+abbrev pub dispatcher_reply : Install → Reply
+dispatcher_reply (became.Done number files) = reply.Installed number files
+dispatcher_reply (became.Stale job epoch) = reply.Refused why.OldEpoch
+dispatcher_reply (became.Kept claim e) = reply.Refused (why.Coord (error_of e))
 
 -- a claim that is handed back is held again
 abbrev pub desk_after : List Dispatcher → ℕ → Install → List Dispatcher
@@ -157,7 +157,7 @@ abbrev pub TakesResult : NodesValue → ℕ → JobResult → Reply → NodesVal
 TakesResult old d made (reply.Refused why.NoClaim) new = (HoldsJob old.desk d made.job → ⊥) × (new ≡ old)
 TakesResult old d made r new =
     (claim : LiveJob) × (dispatcher_of old.desk d ≡ Busy claim) × (claim.id ≡ made.job)
-    × (what : Install) × Became old.core claim made what new.core × (r ≡ install_answer what)
+    × (what : Install) × Became old.core claim made what new.core × (r ≡ dispatcher_reply what)
     × (new ≡ record old { core = new.core; desk = desk_after old.desk d what })
 
 -- nothing is done

@@ -4,7 +4,7 @@ ghost use Rattle.std.specs.Prelude.{◌≡◌, ◌⊎◌, ℕ};
 ghost use Rattle.lsm_coord.specs.declared.dispatcher.Dispatcher.TheVariants.{Idle};
 ghost use Rattle.lsm_coord.specs.Contract.Desks.{dispatcher_of};
 ghost use Rattle.lsm_coord.specs.Model.Event as say;
-ghost use Rattle.lsm_world.specs.Asks.{LacksMemory, TakesResult, install_answer};
+ghost use Rattle.lsm_world.specs.Asks.{LacksMemory, TakesResult, dispatcher_reply};
 ghost use Rattle.lsm_world.specs.History.{History, IsHistory, IsResultOf};
 ghost use Rattle.lsm_world.specs.Inner.Handing.{desk_settled};
 ghost use Rattle.lsm_world.specs.Replies.{reply_of};
@@ -44,7 +44,7 @@ impl<V: Vault> Nodes<V> {
 // What is told of an install. A claim that is handed back is held again.
 fn settle(desk: &mut Desk, dispatcher: NodeIndex, became: Install) -> Reply
     requires { dispatcher_of desk.old dispatcher ≡ Idle }
-    ensures reply { result ≡ install_answer became }
+    ensures reply { result ≡ dispatcher_reply became }
     ensures desk { desk.new ≡ desk_settled desk.old dispatcher became }
 {
     match became {
