@@ -16,14 +16,14 @@ use Rattle.lsm_coord.specs.Contract.Sound.{IsSound, KeepsSound}
 use Rattle.lsm_coord.specs.Contract.Value.{CoordValue}
 use Rattle.lsm_coord.proofs.RunInvariants.{run_then}
 use Rattle.lsm_nodes.specs.Answers.{answer_of}
-use Rattle.lsm_nodes.specs.Histories.{AreGiven, AreSoundJobs, HoldsMerge, HoldsMerges, IsPickedIn, IsShared, SharedValue, WitnessedValue, event_of, installed_by, installed_in, installs_in, reply_of, step_of, steps_of}
+use Rattle.lsm_nodes.specs.Histories.{AreGiven, AreSoundJobs, HoldsMerge, HoldsMerges, IsPickedIn, IsShared, SharedValue, WitnessedValue, event_of_call, installed_by, installed_in, installs_in, reply_of_answer, step_of, steps_of}
 
 -- what a call owes to the history that it ends
 pub record Extends (past : List WitnessedValue) (a : CoordValue) (w : WitnessedValue) (b : CoordValue) : Type 0 where
   pub installs : installs_in b.stored.edits ≡ installs_in a.stored.edits ++ installed_by w.exchange.answer
   pub made : a.book.made ≤ b.book.made
   pub given : (job : JobParts) → w.exchange.answer ≡ answer.Picked job → job.id.number ≤ b.book.made
-  pub step : HoldsMerge past w.before w.exchange.call w.exchange.answer → AreSoundJobs past a → Follows a (event_of w.exchange.call) (reply_of w.exchange.call w.exchange.answer) b
+  pub step : HoldsMerge past w.before w.exchange.call w.exchange.answer → AreSoundJobs past a → Follows a (event_of_call w.exchange.call) (reply_of_answer w.exchange.call w.exchange.answer) b
   pub sound :
       HoldsMerge past w.before w.exchange.call w.exchange.answer → AreGiven past a → AreSoundJobs past a → (s : State) → Shows a s
       → (job : JobParts) → IsPickedIn past job ⊎ (w.exchange.answer ≡ answer.Picked job) → holds b.book job.id ≡ true → IsSound b job
@@ -88,7 +88,7 @@ plain_picks : (a : Answer) (job : JobParts) → IsPlain a → a ≡ answer.Picke
 plain_picks a job h e = subst IsPlain e h
 
 pub extends_plain : (past : List WitnessedValue) (a : CoordValue) (w : WitnessedValue) (b : CoordValue) → IsPlain w.exchange.answer → installs_in b.stored.edits ≡ installs_in a.stored.edits → b.book ≡ a.book
-    → Follows a (event_of w.exchange.call) (reply_of w.exchange.call w.exchange.answer) b → ((s : State) → Shows a s → KeepsSound a b) → Extends past a w b
+    → Follows a (event_of_call w.exchange.call) (reply_of_answer w.exchange.call w.exchange.answer) b → ((s : State) → Shows a s → KeepsSound a b) → Extends past a w b
 extends_plain past a w b plain edits book goes keeps = record {
   installs = edits ∙ sym (ap (λ (l : List (ℕ × List ℕ)). installs_in a.stored.edits ++ l) (plain_installs w.exchange.answer plain) ∙ append-nil (installs_in a.stored.edits));
   made = omega (arith, ap (λ (k : BookValue). k.made) book);

@@ -32,20 +32,20 @@ use Rattle.lsm_coord.specs.Contract.Value.{CoordValue, version_set}
 use Rattle.lsm_coord.proofs.JobsStaySound.{nothing_keeps}
 use Rattle.lsm_nodes.specs.Answers.{answer_of, flush_answer, freeze_answer, get_answer, release_answer, scan_answer, show_answer, snapshot_answer, trim_answer, write_answer}
 use Rattle.lsm_nodes.specs.Calls.{Flushes, Freezes, Gets, ReleasesSnapshot, ScansKeys, ShowsVersion, TakesSnapshot, Trims, Writes}
-use Rattle.lsm_nodes.specs.Histories.{WitnessedValue, event_of, installs_in, installs_of, is_install, reply_of}
+use Rattle.lsm_nodes.specs.Histories.{WitnessedValue, event_of_call, installs_in, installs_of, is_install, reply_of_answer}
 use Rattle.lsm_nodes.proofs.LongerHistories.{Extends, IsPlain, extends_plain, plain_answer}
 
 -- a plain call by its exchange, that leaves the installs and the book
 pub plainly : (past : List WitnessedValue) (a : CoordValue) (w : WitnessedValue) (b : CoordValue) (asked : Call) (answered : Answer) → w.exchange.call ≡ asked → w.exchange.answer ≡ answered → IsPlain answered
-    → installs_in b.stored.edits ≡ installs_in a.stored.edits → b.book ≡ a.book → Follows a (event_of asked) (reply_of asked answered) b → ((s : State) → Shows a s → KeepsSound a b) → Extends past a w b
+    → installs_in b.stored.edits ≡ installs_in a.stored.edits → b.book ≡ a.book → Follows a (event_of_call asked) (reply_of_answer asked answered) b → ((s : State) → Shows a s → KeepsSound a b) → Extends past a w b
 plainly past a w b asked answered call answer plain edits book goes keeps =
     extends_plain past a w b (subst IsPlain (sym answer) plain) edits book
-    (subst (λ (r : Reply). Follows a (event_of w.exchange.call) r b) (λ i. reply_of (sym call i) (sym answer i)) (subst (λ (e : Event). Follows a e (reply_of asked answered) b) (ap event_of (sym call)) goes))
+    (subst (λ (r : Reply). Follows a (event_of_call w.exchange.call) r b) (λ i. reply_of_answer (sym call i) (sym answer i)) (subst (λ (e : Event). Follows a e (reply_of_answer asked answered) b) (ap event_of_call (sym call)) goes))
     keeps
 
 -- the same of a call that changes nothing
 pub same_after : (past : List WitnessedValue) (a : CoordValue) (w : WitnessedValue) (b : CoordValue) (asked : Call) (answered : Answer) → w.exchange.call ≡ asked → w.exchange.answer ≡ answered → IsPlain answered → b ≡ a
-    → Follows a (event_of asked) (reply_of asked answered) b → Extends past a w b
+    → Follows a (event_of_call asked) (reply_of_answer asked answered) b → Extends past a w b
 same_after past a w b asked answered call answer plain same goes =
     plainly past a w b asked answered call answer plain (ap (λ (c : CoordValue). installs_in c.stored.edits) same) (ap (λ (c : CoordValue). c.book) same) goes (λ s shown. nothing_keeps a b same)
 

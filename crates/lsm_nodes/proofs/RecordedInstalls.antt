@@ -30,7 +30,7 @@ use Rattle.lsm_coord.proofs.JobsStaySound.{nothing_keeps}
 use Rattle.lsm_coord.proofs.OpenedOutputs.{tables_length}
 use Rattle.lsm_nodes.specs.Answers.{HasFewFiles, install_answer}
 use Rattle.lsm_nodes.specs.Calls.{InstallsResult}
-use Rattle.lsm_nodes.specs.Histories.{AreSoundJobs, HoldsMerge, IsPickedIn, WitnessedValue, event_of, installed_by, installs_in, installs_of, reply_of}
+use Rattle.lsm_nodes.specs.Histories.{AreSoundJobs, HoldsMerge, IsPickedIn, WitnessedValue, event_of_call, installed_by, installs_in, installs_of, reply_of_answer}
 use Rattle.lsm_nodes.proofs.LongerHistories.{Extends}
 use Rattle.lsm_nodes.proofs.RecordedCalls.{installs_push, plainly}
 
@@ -73,8 +73,8 @@ module _ (past : List WitnessedValue) (a : CoordValue) (w : WitnessedValue) (b :
     made = omega (arith, ap (λ (k : BookValue). k.made) book, made_after a.book h.became.0.id Installed);
     given = λ job e. absurd (no job e);
     step = λ x sound.
-        subst (λ (e : Event). Follows a e (reply_of w.exchange.call w.exchange.answer) b) (ap event_of (sym asked))
-        (subst (λ (r : Reply). Follows a (say.Deliver 1) r b) (λ i. reply_of (sym asked i) (sym told i)) (h.step 1 (λ is. merged x sound)));
+        subst (λ (e : Event). Follows a e (reply_of_answer w.exchange.call w.exchange.answer) b) (ap event_of_call (sym asked))
+        (subst (λ (r : Reply). Follows a (say.Deliver 1) r b) (λ i. reply_of_answer (sym asked i) (sym told i)) (h.step 1 (λ is. merged x sound)));
     sound = λ x given sound s shown job from live.
         elim from [
           | inl p ↦ h.sound (λ is. merged x sound) job (sound job p (held_before a.book h.became.0.id job.id Installed (subst (λ (k : BookValue). holds k job.id ≡ true) book live))) live

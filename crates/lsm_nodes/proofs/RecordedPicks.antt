@@ -26,7 +26,7 @@ use Rattle.lsm_coord.specs.Contract.Value.{CoordValue}
 use Rattle.lsm_coord.proofs.GiveBackSteps.{held_before, made_after, same_name}
 use Rattle.lsm_nodes.specs.Answers.{pick_answer}
 use Rattle.lsm_nodes.specs.Calls.{PicksInVain, PicksJob}
-use Rattle.lsm_nodes.specs.Histories.{WitnessedValue, event_of, installed_by, installs_in, reply_of}
+use Rattle.lsm_nodes.specs.Histories.{WitnessedValue, event_of_call, installed_by, installs_in, reply_of_answer}
 use Rattle.lsm_nodes.specs.Tallies.{installs_by}
 use Rattle.lsm_nodes.proofs.LongerHistories.{Extends}
 use Rattle.lsm_nodes.proofs.RecordedCalls.{same_after}
@@ -85,10 +85,10 @@ no_installs : (a b : CoordValue) (answered told : Answer) → answered ≡ told 
 no_installs a b answered told is none edits = ap installs_in edits ∙ sym (ap (λ (l : List (ℕ × List ℕ)). installs_in a.stored.edits ++ l) (ap installed_by is ∙ none) ∙ append-nil (installs_in a.stored.edits))
 
 -- the step, by the exchange
-step_of : (a : CoordValue) (w : WitnessedValue) (b : CoordValue) (answered : Answer) → w.exchange.call ≡ call.Pick → w.exchange.answer ≡ answered → Follows a (say.Pick 1) (reply_of call.Pick answered) b
-    → Follows a (event_of w.exchange.call) (reply_of w.exchange.call w.exchange.answer) b
+step_of : (a : CoordValue) (w : WitnessedValue) (b : CoordValue) (answered : Answer) → w.exchange.call ≡ call.Pick → w.exchange.answer ≡ answered → Follows a (say.Pick 1) (reply_of_answer call.Pick answered) b
+    → Follows a (event_of_call w.exchange.call) (reply_of_answer w.exchange.call w.exchange.answer) b
 step_of a w b answered asked told goes =
-    subst (λ (r : Reply). Follows a (event_of w.exchange.call) r b) (λ i. reply_of (sym asked i) (sym told i)) (subst (λ (e : Event). Follows a e (reply_of call.Pick answered) b) (ap event_of (sym asked)) goes)
+    subst (λ (r : Reply). Follows a (event_of_call w.exchange.call) r b) (λ i. reply_of_answer (sym asked i) (sym told i)) (subst (λ (e : Event). Follows a e (reply_of_answer call.Pick answered) b) (ap event_of_call (sym asked)) goes)
 
 extends_picked : (past : List WitnessedValue) (a : CoordValue) (w : WitnessedValue) (b : CoordValue) (picked : LiveJob × JobParts) → w.exchange.call ≡ call.Pick → w.exchange.answer ≡ answer.Picked picked.1 → PicksJob a (Ok (Some picked)) b → Extends past a w b
 extends_picked past a w b picked asked told h =

@@ -35,18 +35,18 @@ pub record WitnessedValue : Type 0 where
 -- ---- exchanges as events
 
 -- what a call asks of a store: whichever dispatcher picks, and whichever message brings a result
-abbrev pub event_of : Call → Event
-event_of (call.Write ops) = say.Write ops
-event_of call.Freeze = say.Freeze
-event_of call.Flush = say.Flush
-event_of call.Snap = say.Snap
-event_of (call.Release id) = say.Release id
-event_of (call.Get key at) = say.Get key at
-event_of (call.Scan r) = say.Scan r.lo r.hi r.at r.limit
-event_of call.Show = say.Show say.Coordinator
-event_of call.Pick = say.Pick 1
-event_of (call.Install id made) = say.Deliver 1
-event_of (call.Trim to) = say.Trim to
+abbrev pub event_of_call : Call → Event
+event_of_call (call.Write ops) = say.Write ops
+event_of_call call.Freeze = say.Freeze
+event_of_call call.Flush = say.Flush
+event_of_call call.Snap = say.Snap
+event_of_call (call.Release id) = say.Release id
+event_of_call (call.Get key at) = say.Get key at
+event_of_call (call.Scan r) = say.Scan r.lo r.hi r.at r.limit
+event_of_call call.Show = say.Show say.Coordinator
+event_of_call call.Pick = say.Pick 1
+event_of_call (call.Install id made) = say.Deliver 1
+event_of_call (call.Trim to) = say.Trim to
 
 -- the answer to a release does not say of what
 abbrev pub release_of : Call → Reply
@@ -54,25 +54,25 @@ release_of (call.Release id) = say.Released id
 release_of asked = say.Other
 
 -- what an answer says of a store
-abbrev pub reply_of : Call → Answer → Reply
-reply_of asked (answer.Refused why) = say.Refused (refusal_of why)
-reply_of asked (answer.Wrote first last) = say.Wrote first last
-reply_of asked (answer.Froze seq) = say.Froze seq
-reply_of asked (answer.Flushed f) = say.Flushed f.number f.seq f.file
-reply_of asked (answer.Snapped id at) = say.Snapped id at
-reply_of asked answer.Released = release_of asked
-reply_of asked (answer.Got value) = say.Got value
-reply_of asked (answer.Scanned pairs) = say.Scanned pairs
-reply_of asked (answer.Shown v) = say.Shown v.number v.flushed (map place_of v.files)
-reply_of asked (answer.Picked job) = say.Other
-reply_of asked answer.Idle = say.Other
-reply_of asked (answer.Installed number files) = say.Installed number files
-reply_of asked (answer.Stale id epoch) = say.Refused say.OldEpoch
-reply_of asked (answer.Trimmed floor files) = say.Trimmed floor
+abbrev pub reply_of_answer : Call → Answer → Reply
+reply_of_answer asked (answer.Refused why) = say.Refused (refusal_of why)
+reply_of_answer asked (answer.Wrote first last) = say.Wrote first last
+reply_of_answer asked (answer.Froze seq) = say.Froze seq
+reply_of_answer asked (answer.Flushed f) = say.Flushed f.number f.seq f.file
+reply_of_answer asked (answer.Snapped id at) = say.Snapped id at
+reply_of_answer asked answer.Released = release_of asked
+reply_of_answer asked (answer.Got value) = say.Got value
+reply_of_answer asked (answer.Scanned pairs) = say.Scanned pairs
+reply_of_answer asked (answer.Shown v) = say.Shown v.number v.flushed (map place_of v.files)
+reply_of_answer asked (answer.Picked job) = say.Other
+reply_of_answer asked answer.Idle = say.Other
+reply_of_answer asked (answer.Installed number files) = say.Installed number files
+reply_of_answer asked (answer.Stale id epoch) = say.Refused say.OldEpoch
+reply_of_answer asked (answer.Trimmed floor files) = say.Trimmed floor
 
 -- a recorded call with its answer, and those of a history
 abbrev pub step_of : WitnessedValue → Event × Reply
-step_of w = (event_of w.exchange.call, reply_of w.exchange.call w.exchange.answer)
+step_of w = (event_of_call w.exchange.call, reply_of_answer w.exchange.call w.exchange.answer)
 
 abbrev pub steps_of : List WitnessedValue → List (Event × Reply)
 steps_of history = map step_of history
