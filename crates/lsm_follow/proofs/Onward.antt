@@ -3,7 +3,7 @@ use Rattle.std.proofs.Common.{◌≡◌, ℕ, ◌<◌, List, [], ◌∷◌, Opti
 use Rattle.lsm_edit.specs.declared.file.FileMeta.{FileMeta}
 use Rattle.lsm_follow.specs.declared.change.FollowChange.{FollowChange}
 use Rattle.lsm_msg.specs.declared.message.Message.{Message}
-use Rattle.lsm_follow.specs.Followers.{FollowerValue, Outcome, PendingValue, TakesMissing, goes_on, stays, with_table}
+use Rattle.lsm_follow.specs.Followers.{FollowerValue, Outcome, PendingValue, TakesMissing, goes_on, ignores_message, with_table}
 use Rattle.lsm_follow.specs.Onward.{IsOnward}
 use Rattle.lsm_follow.specs.Pending.{IsFollower}
 use Rattle.lsm_follow.proofs.ReceivedTables.{is_of}
@@ -16,9 +16,9 @@ becomes : (f : FollowerValue) (o p : Outcome) → o ≡ p → IsOnward f.served 
 becomes f o p is on = subst (λ (x : Outcome). IsOnward f.served x.follower.served) (sym is) on
 
 pub table_onward : (f : FollowerValue) (n : ℕ) (bytes : List ℕ) (o : Outcome) → IsFollower f → (pending : Option PendingValue) → f.pending ≡ pending → TakesMissing f n bytes pending o → IsOnward f.served o.follower.served
-table_onward f n bytes o is None seen h = becomes f o (stays f) h (inl refl)
+table_onward f n bytes o is None seen h = becomes f o (ignores_message f) h (inl refl)
 table_onward f n bytes o is (Some to) seen (inl h) = becomes f o (goes_on f (with_table h.0 to) (with_table h.0 to).missing) h.2 (goes_on_onward f (with_table h.0 to) (with_table h.0 to).missing (is_of f is to seen).later)
-table_onward f n bytes o is (Some to) seen (inr h) = becomes f o (stays f) h.1 (inl refl)
+table_onward f n bytes o is (Some to) seen (inr h) = becomes f o (ignores_message f) h.1 (inl refl)
 
 -- so of a call that answers, or changes nothing
 pub answers_onward : {S E : Type 0} (f g : FollowerValue) (P : Outcome → Type 0) → ((o : Outcome) → P o → IsOnward f.served o.follower.served)

@@ -66,8 +66,8 @@ with_table p was = record was { missing = filter (λ f. not (same_file f p.meta)
 
 -- ---- what comes of a message
 
-abbrev pub stays : FollowerValue → Outcome
-stays f = record { change = Ignored; sent = []; follower = f }
+abbrev pub ignores_message : FollowerValue → Outcome
+ignores_message f = record { change = Ignored; sent = []; follower = f }
 
 -- it serves the version that it was to move to
 abbrev pub moves : FollowerValue → PendingValue → Outcome
@@ -94,23 +94,23 @@ goes_on f to (g ∷ gs) = waits f to []
 abbrev pub TakesEdit : FollowerValue → Edit → Outcome → Type 0
 TakesEdit f e o =
     (IsEdit e × (apply_fault f.served.version e ≡ None) × (o ≡ turns_to f (after_apply f.served.version e)))
-    ⊎ ((IsEdit e → apply_fault f.served.version e ≡ None → ⊥) × (o ≡ stays f))
+    ⊎ ((IsEdit e → apply_fault f.served.version e ≡ None → ⊥) × (o ≡ ignores_message f))
 
 -- a full version: it counts only if it is later than the served one
 abbrev pub after_base : FollowerValue → VersionValue → Outcome
-after_base f target = if nat_lt f.served.version.number target.number then turns_to f target else stays f
+after_base f target = if nat_lt f.served.version.number target.number then turns_to f target else ignores_message f
 
 -- a table: it counts only if it is awaited
 abbrev pub TakesMissing : FollowerValue → ℕ → List ℕ → Option PendingValue → Outcome → Type 0
-TakesMissing f number bytes None o = o ≡ stays f
+TakesMissing f number bytes None o = o ≡ ignores_message f
 TakesMissing f number bytes (Some to) o =
     ((p : Placed) × IsAwaited to.missing number bytes p × (o ≡ goes_on f (with_table p to) (with_table p to).missing))
-    ⊎ (((p : Placed) → IsAwaited to.missing number bytes p → ⊥) × (o ≡ stays f))
+    ⊎ (((p : Placed) → IsAwaited to.missing number bytes p → ⊥) × (o ≡ ignores_message f))
 
 -- a file that is no longer served: where it is missing, the version is given up
 abbrev pub after_gone_file : FollowerValue → ℕ → Option PendingValue → Outcome
-after_gone_file f number None = stays f
-after_gone_file f number (Some to) = if list_any (has_number number) to.missing then record { change = Dropped; sent = []; follower = record f { pending = None } } else stays f
+after_gone_file f number None = ignores_message f
+after_gone_file f number (Some to) = if list_any (has_number number) to.missing then record { change = Dropped; sent = []; follower = record f { pending = None } } else ignores_message f
 
 -- what comes of a message to a follower
 abbrev pub Follows : FollowerValue → Body → Outcome → Type 0
@@ -119,7 +119,7 @@ Follows f (body.Base version) o = o ≡ after_base f version
 Follows f (body.Table number bytes) o = TakesMissing f number bytes f.pending o
 Follows f (body.Gone number) o = o ≡ after_gone_file f number f.pending
 Follows f (body.Current number) o = o ≡ record { change = Current; sent = []; follower = f }
-Follows f (body.Job job) o = o ≡ stays f
-Follows f (body.Fetch number) o = o ≡ stays f
-Follows f (body.Result made) o = o ≡ stays f
-Follows f (body.Ask number) o = o ≡ stays f
+Follows f (body.Job job) o = o ≡ ignores_message f
+Follows f (body.Fetch number) o = o ≡ ignores_message f
+Follows f (body.Result made) o = o ≡ ignores_message f
+Follows f (body.Ask number) o = o ≡ ignores_message f

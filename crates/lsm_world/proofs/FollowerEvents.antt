@@ -21,7 +21,7 @@ use Rattle.lsm_versions.proofs.EditsInTurn.{edit_number, first_at, next_version}
 use Rattle.lsm_versions.proofs.ManifestReplay.{length-versions_from, next_number}
 use Rattle.lsm_follow.specs.declared.change.FollowChange.{FollowChange}
 use Rattle.lsm_follow.specs.declared.change.FollowChange.TheVariants as follow
-use Rattle.lsm_follow.specs.Followers.{FollowerValue, Follows, Outcome, PendingValue, TakesEdit, TakesMissing, after_base, after_gone_file, begins, files_in, goes_on, kept_for, moves, new_follower, pending_for, received_of, stays, turns_to, waits, with_table}
+use Rattle.lsm_follow.specs.Followers.{FollowerValue, Follows, Outcome, PendingValue, TakesEdit, TakesMissing, after_base, after_gone_file, begins, files_in, goes_on, kept_for, moves, new_follower, pending_for, received_of, ignores_message, turns_to, waits, with_table}
 use Rattle.lsm_world.specs.History.{AreFilesOf, History, IsEditOf, IsFileOf, IsFollowerOf, IsKnown, IsNetwork, IsTableAt, IsTargetOf, IsVersionNumber, IsVersionOf, versions_in}
 use Rattle.lsm_world.specs.Nodes.{NetworkValue, number_of}
 use Rattle.lsm_world.proofs.AwaitedTables.{awaited_is, fetched, file_numbered}
@@ -78,7 +78,7 @@ module _ (h : History) (files : AreFilesOf h) where
   module _ (f : FollowerValue) (own : IsFollowerOf h f) where
     -- ---- nothing is done
 
-    stays_keeps : IsKept h f (stays f)
+    stays_keeps : IsKept h f (ignores_message f)
     stays_keeps = record { follower = own; sent = λ m sent. absurd sent; moves = refl }
 
     -- ---- a version to move to
@@ -138,7 +138,7 @@ module _ (h : History) (files : AreFilesOf h) where
 
     base_keeps : (target : VersionValue) → IsVersionOf h target → IsKept h f (after_base f target)
     base_keeps target is =
-        by_test (IsKept h f) (nat_lt f.served.version.number target.number) (turns_to f target) (stays f) (λ later. turns_keeps target is (ltb-true f.served.version.number target.number later)) stays_keeps
+        by_test (IsKept h f) (nat_lt f.served.version.number target.number) (turns_to f target) (ignores_message f) (λ later. turns_keeps target is (ltb-true f.served.version.number target.number later)) stays_keeps
 
     -- ---- tables
 
@@ -164,7 +164,7 @@ module _ (h : History) (files : AreFilesOf h) where
     gone_keeps : (number : ℕ) (was : Option PendingValue) → IsKept h f (after_gone_file f number was)
     gone_keeps number None = stays_keeps
     gone_keeps number (Some to) =
-        by_test (IsKept h f) (list_any (has_number number) to.missing) (record { change = follow.Dropped; sent = []; follower = record f { pending = None } }) (stays f)
+        by_test (IsKept h f) (list_any (has_number number) to.missing) (record { change = follow.Dropped; sent = []; follower = record f { pending = None } }) (ignores_message f)
         (λ one. record { follower = record { version = own.version; tables = own.tables; pending = tt }; sent = λ m sent. absurd sent; moves = refl })
         stays_keeps
 
@@ -206,7 +206,7 @@ edit_index f e o (inl takes) = ap (λ (x : Outcome). x.follower.index) takes.2 �
 edit_index f e o (inr other) = ap (λ (x : Outcome). x.follower.index) other.1
 
 base_index : (f : FollowerValue) (target : VersionValue) → (after_base f target).follower.index ≡ f.index
-base_index f target = by_test (λ o. o.follower.index ≡ f.index) (nat_lt f.served.version.number target.number) (turns_to f target) (stays f) (λ later. turns_index f target) refl
+base_index f target = by_test (λ o. o.follower.index ≡ f.index) (nat_lt f.served.version.number target.number) (turns_to f target) (ignores_message f) (λ later. turns_index f target) refl
 
 table_index : (f : FollowerValue) (number : ℕ) (bytes : List ℕ) (was : Option PendingValue) (o : Outcome) → TakesMissing f number bytes was o → o.follower.index ≡ f.index
 table_index f number bytes None o takes = ap (λ (x : Outcome). x.follower.index) takes
@@ -216,7 +216,7 @@ table_index f number bytes (Some to) o (inr other) = ap (λ (x : Outcome). x.fol
 gone_index : (f : FollowerValue) (number : ℕ) (was : Option PendingValue) → (after_gone_file f number was).follower.index ≡ f.index
 gone_index f number None = refl
 gone_index f number (Some to) =
-    by_test (λ o. o.follower.index ≡ f.index) (list_any (has_number number) to.missing) (record { change = follow.Dropped; sent = []; follower = record f { pending = None } }) (stays f) (λ one. refl) refl
+    by_test (λ o. o.follower.index ≡ f.index) (list_any (has_number number) to.missing) (record { change = follow.Dropped; sent = []; follower = record f { pending = None } }) (ignores_message f) (λ one. refl) refl
 
 pub follows_index : (f : FollowerValue) (said : Body) (o : Outcome) → Follows f said o → o.follower.index ≡ f.index
 follows_index f (body.Edit e) o follows = edit_index f e o follows
