@@ -32,9 +32,9 @@ op_bytes (Put k value) = to_be_bytes w8 1 ++ (key k ++ (to_be_bytes w32 (length 
 op_bytes (Delete k) = to_be_bytes w8 0 ++ key k
 
 -- the value of an operation, empty for a deletion
-abbrev pub value_in : Op → List ℕ
-value_in (Put k value) = value
-value_in (Delete k) = []
+abbrev pub op_value : Op → List ℕ
+op_value (Put k value) = value
+op_value (Delete k) = []
 
 abbrev pub record_bytes : LogRecord → List ℕ
 record_bytes (Write first ops) = to_be_bytes w8 1 ++ (to_be_bytes w64 first ++ (to_be_bytes w32 (length ops) ++ flat_map op_bytes ops))

@@ -2,7 +2,7 @@
 
 ghost use Rattle.std.specs.Prelude.{◌≡◌, ◌+◌, length, take, drop, IfOk};
 ghost use Rattle.lsm_key.specs.Writes.{key_of};
-ghost use Rattle.lsm_edit.specs.LogRecord.{op_bytes, value_in};
+ghost use Rattle.lsm_edit.specs.LogRecord.{op_bytes, op_value};
 
 use bytes::Bytes;
 use lsm_key::Op;
@@ -28,7 +28,7 @@ pub struct LoggedOp {
 pub fn find_logged(logged: &Bytes, at: usize, op: &Op) -> Result<LoggedOp, AllocError>
     requires { take (length (op_bytes op.now)) (drop at logged.now) ≡ op_bytes op.now }
     ensures key { IfOk result (λ found. found.key ≡ key_of op.now) }
-    ensures value { IfOk result (λ found. found.value ≡ value_in op.now) }
+    ensures value { IfOk result (λ found. found.value ≡ op_value op.now) }
     ensures end { IfOk result (λ found. found.end ≡ at + length (op_bytes op.now)) }
 {
     let _len = logged.len();

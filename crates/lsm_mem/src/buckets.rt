@@ -4,7 +4,7 @@ ghost use Rattle.std.specs.Prelude.{◌≡◌, ◌+◌, length, take, drop, IfOk
 ghost use Rattle.lsm_key.specs.Places.{entry_of};
 ghost use Rattle.lsm_key.specs.Writes.{key_of};
 ghost use Rattle.lsm_edit.specs.declared.log_record.LogRecord.TheVariants.{Write};
-ghost use Rattle.lsm_edit.specs.LogRecord.{op_bytes, record_bytes, value_in};
+ghost use Rattle.lsm_edit.specs.LogRecord.{op_bytes, record_bytes, op_value};
 
 use crate::bucket::Bucket;
 use crate::bucket_cursor::BucketCursor;
@@ -243,7 +243,7 @@ impl Buckets {
 // The entry of an operation as it lies in a record.
 fn entry_from(found: LoggedOp, op: &Op, seq: Seq) -> Entry
     requires key { found.key ≡ key_of op.now }
-    requires value { found.value ≡ value_in op.now }
+    requires value { found.value ≡ op_value op.now }
     ensures { result ≡ entry_of seq op.now }
 {
     let LoggedOp { key, value, end: _ } = found;

@@ -2,7 +2,7 @@ use Rattle.std.proofs.Common.{◌≡◌, ◌+◌, length, take, drop, refl, sym,
 use Rattle.lsm_key.specs.declared.op.Op.{Op}
 use Rattle.lsm_key.specs.declared.op.Op.TheVariants.{Put}
 use Rattle.lsm_key.specs.Writes.{key_of}
-use Rattle.lsm_edit.specs.LogRecord.{op_bytes, value_in}
+use Rattle.lsm_edit.specs.LogRecord.{op_bytes, op_value}
 use Rattle.lsm_edit.proofs.LoggedOps.{key_part, value_part}
 use Rattle.lsm_edit.proofs.logged_op.find_logged.Goals as goal
 
@@ -21,7 +21,7 @@ returns-in_ok-value-in-Put-clause-value c =
     let from = c.args.at + 3 + c.len.result + 4 in
     c.in_ok-value-in-Put.ensures.ok
     ∙ value_part c.args.logged.now c.args.at k v lies from (from + c.len-in-Put.result) (omega (arith, size)) (omega (arith, c.len-in-Put.ensures.value))
-    ∙ sym (ap value_in is)
+    ∙ sym (ap op_value is)
 
 pub returns-in-Delete-clause-key : goal.returns-in-Delete-clause-key
 returns-in-Delete-clause-key c =

@@ -6,7 +6,7 @@ use Rattle.lsm_key.specs.declared.op.Op.{Op}
 use Rattle.lsm_key.specs.declared.op.Op.TheVariants.{Put, Delete}
 use Rattle.lsm_key.specs.Places.{entry_of}
 use Rattle.lsm_key.specs.Writes.{key_of}
-use Rattle.lsm_edit.specs.LogRecord.{value_in}
+use Rattle.lsm_edit.specs.LogRecord.{op_value}
 use Rattle.lsm_mem.proofs.buckets.entry_from.Goals as goal
 use Rattle.lsm_mem.proofs.buckets.entry_from.Goals.{in-Put, in-Delete}
 
@@ -17,7 +17,7 @@ kind_of (Delete key) = kind.Delete
 abbrev entry_with : List ℕ → ℕ → Kind → List ℕ → Entry
 entry_with key seq kind value = record { ikey = record { key = key; seq = seq; kind = kind }; value = value }
 
-entry_is : (seq : ℕ) (op : Op) → entry_with (key_of op) seq (kind_of op) (value_in op) ≡ entry_of seq op
+entry_is : (seq : ℕ) (op : Op) → entry_with (key_of op) seq (kind_of op) (op_value op) ≡ entry_of seq op
 entry_is seq (Put key value) = refl
 entry_is seq (Delete key) = refl
 
