@@ -28,7 +28,7 @@ pub record FollowerValue : Type 0 where
   pub pending : Option PendingValue
 
 -- what comes of a message
-pub record Outcome : Type 0 where
+pub record FollowOutcome : Type 0 where
   pub change : FollowChange
   pub sent : List Message
   pub follower : FollowerValue
@@ -66,54 +66,54 @@ with_table p was = record was { missing = filter (λ f. not (same_file f p.meta)
 
 -- ---- what comes of a message
 
-abbrev pub ignores_message : FollowerValue → Outcome
+abbrev pub ignores_message : FollowerValue → FollowOutcome
 ignores_message f = record { change = Ignored; sent = []; follower = f }
 
 -- it serves the version that it was to move to
-abbrev pub moves : FollowerValue → PendingValue → Outcome
+abbrev pub moves : FollowerValue → PendingValue → FollowOutcome
 moves f to = record { change = Version to.target.number; sent = []; follower = record f { served = after_rebase f.served to.target to.received; pending = None } }
 
 -- it waits for tables, as many as a count of four bytes tells, and sends messages
-abbrev pub waits : FollowerValue → PendingValue → List Message → Outcome
+abbrev pub waits : FollowerValue → PendingValue → List Message → FollowOutcome
 waits f to sent = record { change = Waiting (min (length to.missing) 4294967295); sent = sent; follower = record f { pending = Some to } }
 
 -- it moves if no table is missing, else it asks for each
-abbrev pub begins : FollowerValue → PendingValue → List FileMeta → Outcome
+abbrev pub begins : FollowerValue → PendingValue → List FileMeta → FollowOutcome
 begins f to [] = moves f to
 begins f to (g ∷ gs) = waits f to (fetches (Follower f.index) (g ∷ gs))
 
-abbrev pub turns_to : FollowerValue → VersionValue → Outcome
+abbrev pub turns_to : FollowerValue → VersionValue → FollowOutcome
 turns_to f target = begins f (pending_for f target) (pending_for f target).missing
 
 -- it moves if no table is missing, else it waits on
-abbrev pub goes_on : FollowerValue → PendingValue → List FileMeta → Outcome
+abbrev pub goes_on : FollowerValue → PendingValue → List FileMeta → FollowOutcome
 goes_on f to [] = moves f to
 goes_on f to (g ∷ gs) = waits f to []
 
 -- an edit: it counts only if it is one, and applies to the served version
-abbrev pub TakesEdit : FollowerValue → Edit → Outcome → Type 0
+abbrev pub TakesEdit : FollowerValue → Edit → FollowOutcome → Type 0
 TakesEdit f e o =
     (IsEdit e × (apply_fault f.served.version e ≡ None) × (o ≡ turns_to f (after_apply f.served.version e)))
     ⊎ ((IsEdit e → apply_fault f.served.version e ≡ None → ⊥) × (o ≡ ignores_message f))
 
 -- a full version: it counts only if it is later than the served one
-abbrev pub after_base : FollowerValue → VersionValue → Outcome
+abbrev pub after_base : FollowerValue → VersionValue → FollowOutcome
 after_base f target = if nat_lt f.served.version.number target.number then turns_to f target else ignores_message f
 
 -- a table: it counts only if it is awaited
-abbrev pub TakesMissing : FollowerValue → ℕ → List ℕ → Option PendingValue → Outcome → Type 0
+abbrev pub TakesMissing : FollowerValue → ℕ → List ℕ → Option PendingValue → FollowOutcome → Type 0
 TakesMissing f number bytes None o = o ≡ ignores_message f
 TakesMissing f number bytes (Some to) o =
     ((p : Placed) × IsAwaited to.missing number bytes p × (o ≡ goes_on f (with_table p to) (with_table p to).missing))
     ⊎ (((p : Placed) → IsAwaited to.missing number bytes p → ⊥) × (o ≡ ignores_message f))
 
 -- a file that is no longer served: where it is missing, the version is given up
-abbrev pub after_gone_file : FollowerValue → ℕ → Option PendingValue → Outcome
+abbrev pub after_gone_file : FollowerValue → ℕ → Option PendingValue → FollowOutcome
 after_gone_file f number None = ignores_message f
 after_gone_file f number (Some to) = if list_any (has_number number) to.missing then record { change = Dropped; sent = []; follower = record f { pending = None } } else ignores_message f
 
 -- what comes of a message to a follower
-abbrev pub Follows : FollowerValue → Body → Outcome → Type 0
+abbrev pub Follows : FollowerValue → Body → FollowOutcome → Type 0
 Follows f (body.Edit edit) o = TakesEdit f edit o
 Follows f (body.Base version) o = o ≡ after_base f version
 Follows f (body.Table number bytes) o = TakesMissing f number bytes f.pending o

@@ -7,7 +7,7 @@ use Rattle.lsm_msg.specs.declared.node.Node.TheVariants.{Worker}
 use Rattle.lsm_msg.specs.Messages.{IsMessage, message, sized}
 use Rattle.lsm_work.specs.declared.change.WorkChange.{WorkChange}
 use Rattle.lsm_work.specs.declared.change.WorkChange.TheVariants.{Dropped}
-use Rattle.lsm_work.specs.Workers.{Outcome, WorkerValue, Works, ignores}
+use Rattle.lsm_work.specs.Workers.{WorkOutcome, WorkerValue, Works, ignores}
 use Rattle.lsm_frame.specs.declared.error.PipeError.{PipeError}
 use Rattle.lsm_frame.specs.declared.error.PipeError.TheVariants as error
 use Rattle.lsm_frame.specs.Frames.{SendRefuses, SendStops, framed}
@@ -70,7 +70,7 @@ framed_then : (xs ys : List Message) → framed (xs ++ ys) ≡ framed xs ++ fram
 framed_then [] ys = refl
 framed_then (x ∷ xs) ys = ap (λ (r : List ℕ). sized (message x) ++ r) (framed_then xs ys) ∙ sym (append_assoc (sized (message x)) (framed xs) (framed ys))
 
-works_then : (index : ℕ) (a w : WorkerValue) (ms sent : List Message) (m : Message) (o : Outcome) → WorksThrough index a ms sent w → TakesNext index w m o → WorksThrough index a (ms ++ m ∷ []) (sent ++ o.sent) o.worker
+works_then : (index : ℕ) (a w : WorkerValue) (ms sent : List Message) (m : Message) (o : WorkOutcome) → WorksThrough index a ms sent w → TakesNext index w m o → WorksThrough index a (ms ++ m ∷ []) (sent ++ o.sent) o.worker
 works_then index a w [] sent m o p next =
     (o, subst (λ (v : WorkerValue). TakesNext index v m o) p.1 next, [], (refl, refl), ap (λ (s : List Message). s ++ o.sent) p.0 ∙ sym (append-nil o.sent))
 works_then index a w (n ∷ ns) sent m o p next =

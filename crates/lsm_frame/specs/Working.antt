@@ -5,17 +5,17 @@ use Rattle.lsm_msg.specs.declared.message.Message.{Message}
 use Rattle.lsm_msg.specs.declared.node.Node.TheVariants.{Worker}
 use Rattle.lsm_msg.specs.Messages.{IsMessage, message, sized}
 use Rattle.lsm_work.specs.declared.change.WorkChange.TheVariants.{Dropped}
-use Rattle.lsm_work.specs.Workers.{Outcome, WorkerValue, Works, ignores}
+use Rattle.lsm_work.specs.Workers.{WorkOutcome, WorkerValue, Works, ignores}
 use Rattle.lsm_frame.specs.declared.error.PipeError.{PipeError}
 use Rattle.lsm_frame.specs.declared.error.PipeError.TheVariants.{GaveUp, TooLarge, WriteFault}
 use Rattle.lsm_frame.specs.Frames.{MessageRefuses, SendStops, framed}
 
 -- what comes of a message at the worker of this index: one that is for another node is ignored
-abbrev pub WorksOnMessage : ℕ → WorkerValue → Message → Outcome → Type 0
+abbrev pub WorksOnMessage : ℕ → WorkerValue → Message → WorkOutcome → Type 0
 WorksOnMessage index w m o = ((m.dst ≡ Worker index) × Works w m.body o) ⊎ ((m.dst ≡ Worker index → ⊥) × (o ≡ ignores w))
 
 -- a message that is taken, after which the worker goes on: it did not give its job up
-pub record TakesNext (index : ℕ) (w : WorkerValue) (m : Message) (o : Outcome) : Type 0 where
+pub record TakesNext (index : ℕ) (w : WorkerValue) (m : Message) (o : WorkOutcome) : Type 0 where
   pub sound : IsMessage m
   pub takes : WorksOnMessage index w m o
   pub stays : o.change ≡ Dropped → ⊥
@@ -24,7 +24,7 @@ pub record TakesNext (index : ℕ) (w : WorkerValue) (m : Message) (o : Outcome)
 abbrev pub WorksThrough : ℕ → WorkerValue → List Message → List Message → WorkerValue → Type 0
 WorksThrough index w [] sent new = (sent ≡ []) × (new ≡ w)
 WorksThrough index w (m ∷ ms) sent new =
-    (o : Outcome) × TakesNext index w m o × (later : List Message) × WorksThrough index o.worker ms later new × (sent ≡ o.sent ++ later)
+    (o : WorkOutcome) × TakesNext index w m o × (later : List Message) × WorksThrough index o.worker ms later new × (sent ≡ o.sent ++ later)
 
 -- what a reader loses is the frames of the messages that the worker takes, and what a writer gets is the frames of those that it sends
 pub record WorksOver (index : ℕ) (old : WorkerValue) (was left : Option (List ℕ)) (held holds : Option (List ℕ)) (new : WorkerValue) : Type 0 where
@@ -45,7 +45,7 @@ pub record WorksAll (index : ℕ) (old : WorkerValue) (input : Option (List ℕ)
 
 -- what comes of a message at the worker is sent
 pub record TakesOver (index : ℕ) (old : WorkerValue) (m : Message) (held holds : Option (List ℕ)) (new : WorkerValue) : Type 0 where
-  pub outcome : Outcome
+  pub outcome : WorkOutcome
   pub next : TakesNext index old m outcome
   pub after : new ≡ outcome.worker
   pub written : Appends held holds (framed outcome.sent)
@@ -57,13 +57,13 @@ WorksOnce index old was left held holds new false = IsAtEnd was × Consumes was 
 
 -- why a message that came is not taken, or what comes of it not sent
 abbrev pub TakeStops : ℕ → WorkerValue → Message → PipeError → Type 0
-TakeStops index w m GaveUp = (o : Outcome) × WorksOnMessage index w m o × (o.change ≡ Dropped)
+TakeStops index w m GaveUp = (o : WorkOutcome) × WorksOnMessage index w m o × (o.change ≡ Dropped)
 TakeStops index w m e = SendStops e
 
 -- the next message makes the worker give its job up
 pub record EndsWork (index : ℕ) (w : WorkerValue) (known : Option (List ℕ)) : Type 0 where
   pub next : Message
-  pub outcome : Outcome
+  pub outcome : WorkOutcome
   pub comes : IfSome known (λ bytes. (rest : List ℕ) × (bytes ≡ sized (message next) ++ rest))
   pub taken : WorksOnMessage index w next outcome
   pub dropped : outcome.change ≡ Dropped

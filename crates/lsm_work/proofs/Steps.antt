@@ -14,16 +14,16 @@ use Rattle.lsm_msg.specs.declared.message.Body.TheVariants as body
 use Rattle.lsm_msg.specs.declared.message.Message.{Message}
 use Rattle.lsm_msg.specs.Messages.{fetches, to_coordinator}
 use Rattle.lsm_msg.specs.declared.node.Node.TheVariants.{Worker}
-use Rattle.lsm_work.specs.Workers.{WorkerValue, TaskValue, Outcome, IsComplete, MergesInputs, Proceeds, collects, is_among}
+use Rattle.lsm_work.specs.Workers.{WorkerValue, TaskValue, WorkOutcome, IsComplete, MergesInputs, Proceeds, collects, is_among}
 
 pub All-one : {X : Type 0} (P : X → Type 0) (x : X) → P x → All P (x ∷ [])
 All-one P x h = All-cons P x [] h (λ k d lt. absurd (omega (arith, lt)))
 
-pub proceeds_more : (w : WorkerValue) (t : TaskValue) (fs : List FileMeta) (o : Outcome) → 1 ≤ length fs → o ≡ collects w t [] → Proceeds w t fs o
+pub proceeds_more : (w : WorkerValue) (t : TaskValue) (fs : List FileMeta) (o : WorkOutcome) → 1 ≤ length fs → o ≡ collects w t [] → Proceeds w t fs o
 proceeds_more w t [] o some e = absurd (omega (arith, some))
 proceeds_more w t (f ∷ fs) o some e = e
 
-pub proceeds_last : (w : WorkerValue) (t : TaskValue) (fs : List FileMeta) (o : Outcome) → length fs ≡ 0 → IsComplete t → MergesInputs w t o → Proceeds w t fs o
+pub proceeds_last : (w : WorkerValue) (t : TaskValue) (fs : List FileMeta) (o : WorkOutcome) → length fs ≡ 0 → IsComplete t → MergesInputs w t o → Proceeds w t fs o
 proceeds_last w t [] o none all merged = (all, merged)
 proceeds_last w t (f ∷ fs) o none all merged = absurd (omega (arith, none))
 

@@ -28,7 +28,7 @@ pub record WorkerValue : Type 0 where
   pub task : Option TaskValue  -- none while it is idle
 
 -- what comes of a message
-pub record Outcome : Type 0 where
+pub record WorkOutcome : Type 0 where
   pub change : WorkChange
   pub sent : List Message
   pub worker : WorkerValue
@@ -66,26 +66,26 @@ is_later a b = nat_lt b.epoch a.epoch || (nat_eq a.epoch b.epoch && nat_lt b.num
 
 -- ---- what comes of a message
 
-abbrev pub ignores : WorkerValue → Outcome
+abbrev pub ignores : WorkerValue → WorkOutcome
 ignores w = record { change = Ignored; sent = []; worker = w }
 
 -- it has this task, and sends messages
-abbrev pub collects : WorkerValue → TaskValue → List Message → Outcome
+abbrev pub collects : WorkerValue → TaskValue → List Message → WorkOutcome
 collects w t sent = record { change = Collecting (length (missing t)); sent = sent; worker = record w { task = Some t } }
 
 -- it has this task, and asks for each missing input
-abbrev pub fetching : WorkerValue → TaskValue → Outcome
+abbrev pub fetching : WorkerValue → TaskValue → WorkOutcome
 fetching w t = collects w t (fetches (Worker w.index) (missing t))
 
-abbrev pub drops : WorkerValue → Outcome
+abbrev pub drops : WorkerValue → WorkOutcome
 drops w = record { change = Dropped; sent = []; worker = record w { task = None } }
 
-abbrev pub sends_result : WorkerValue → JobId → List (List ℕ) → Outcome
+abbrev pub sends_result : WorkerValue → JobId → List (List ℕ) → WorkOutcome
 sends_result w id outputs =
     record { change = Merged; sent = to_coordinator (Worker w.index) (body.Result (record { job = id; tables = outputs })) ∷ []; worker = record w { task = None } }
 
 -- a job: an idle worker takes each; another asks again for what it lacks, takes a later one in place of its own, and ignores the rest
-abbrev pub after_job : WorkerValue → JobParts → Option TaskValue → Outcome
+abbrev pub after_job : WorkerValue → JobParts → Option TaskValue → WorkOutcome
 after_job w job None = fetching w (new_task job)
 after_job w job (Some t) =
     if same_job_id job.id t.job.id then fetching w t
@@ -93,30 +93,30 @@ after_job w job (Some t) =
     else ignores w
 
 -- a file that is no longer served
-abbrev pub after_gone : WorkerValue → ℕ → Option TaskValue → Outcome
+abbrev pub after_gone : WorkerValue → ℕ → Option TaskValue → WorkOutcome
 after_gone w number None = ignores w
 after_gone w number (Some t) = if is_among (map (λ f. f.number) (missing t)) number then drops w else ignores w
 
 -- the tables of a job are merged
-abbrev pub MergesInputs : WorkerValue → TaskValue → Outcome → Type 0
+abbrev pub MergesInputs : WorkerValue → TaskValue → WorkOutcome → Type 0
 MergesInputs w t o =
     ((outputs : List (List ℕ)) × CanMerge (received_tables t) t.job × IsMerge (received_tables t) t.job outputs × (o ≡ sends_result w t.job.id outputs))
     ⊎ (HaveSameEntry (lists_of (received_tables t)) × (o ≡ drops w))
 
 -- one input more has come: it waits for those that are still missing, or merges
-abbrev pub Proceeds : WorkerValue → TaskValue → List FileMeta → Outcome → Type 0
+abbrev pub Proceeds : WorkerValue → TaskValue → List FileMeta → WorkOutcome → Type 0
 Proceeds w t (f ∷ fs) o = o ≡ collects w t []
 Proceeds w t [] o = IsComplete t × MergesInputs w t o
 
 -- a table: it counts only if it is awaited
-abbrev pub TakesTable : WorkerValue → ℕ → List ℕ → Option TaskValue → Outcome → Type 0
+abbrev pub TakesTable : WorkerValue → ℕ → List ℕ → Option TaskValue → WorkOutcome → Type 0
 TakesTable w number bytes None o = o ≡ ignores w
 TakesTable w number bytes (Some t) o =
     ((p : Placed) × IsAwaited (missing t) number bytes p × Proceeds w (with_input p t) (missing (with_input p t)) o)
     ⊎ (((p : Placed) → IsAwaited (missing t) number bytes p → ⊥) × (o ≡ ignores w))
 
 -- what comes of a message to a worker
-abbrev pub Works : WorkerValue → Body → Outcome → Type 0
+abbrev pub Works : WorkerValue → Body → WorkOutcome → Type 0
 Works w (body.Job job) o = o ≡ after_job w job w.task
 Works w (body.Table number bytes) o = TakesTable w number bytes w.task o
 Works w (body.Gone number) o = o ≡ after_gone w number w.task

@@ -21,7 +21,7 @@ use Rattle.lsm_versions.proofs.EditsInTurn.{edit_number, first_at, next_version}
 use Rattle.lsm_versions.proofs.ManifestReplay.{length-versions_from, next_number}
 use Rattle.lsm_follow.specs.declared.change.FollowChange.{FollowChange}
 use Rattle.lsm_follow.specs.declared.change.FollowChange.TheVariants as follow
-use Rattle.lsm_follow.specs.Followers.{FollowerValue, Follows, Outcome, PendingValue, TakesEdit, TakesMissing, after_base, after_gone_file, begins, files_in, goes_on, kept_for, moves, new_follower, pending_for, received_of, ignores_message, turns_to, waits, with_table}
+use Rattle.lsm_follow.specs.Followers.{FollowerValue, Follows, FollowOutcome, PendingValue, TakesEdit, TakesMissing, after_base, after_gone_file, begins, files_in, goes_on, kept_for, moves, new_follower, pending_for, received_of, ignores_message, turns_to, waits, with_table}
 use Rattle.lsm_world.specs.History.{AreFilesOf, History, IsEditOf, IsFileOf, IsFollowerOf, IsKnown, IsNetwork, IsTableAt, IsTargetOf, IsVersionNumber, IsVersionOf, versions_in}
 use Rattle.lsm_world.specs.Nodes.{NetworkValue, number_of}
 use Rattle.lsm_world.proofs.AwaitedTables.{awaited_is, fetched, file_numbered}
@@ -37,17 +37,17 @@ MovesBy h old new follow.Dropped = number_of new ≡ number_of old
 MovesBy h old new follow.Current = number_of new ≡ number_of old
 MovesBy h old new follow.Ignored = number_of new ≡ number_of old
 
-abbrev pub Moves : History → FollowerValue → Outcome → Type 0
+abbrev pub Moves : History → FollowerValue → FollowOutcome → Type 0
 Moves h f o = MovesBy h f o.follower o.change
 
 -- what comes of a message that is known
-pub record IsKept (h : History) (f : FollowerValue) (o : Outcome) : Type 0 where
+pub record IsKept (h : History) (f : FollowerValue) (o : FollowOutcome) : Type 0 where
   pub follower : IsFollowerOf h o.follower
   pub sent : (m : Message) → IsIn m o.sent → IsKnown h m.body
   pub moves : Moves h f o
 
 -- one of two outcomes
-by_test : (P : Outcome → Type 0) (b : Bool) (x y : Outcome) → (b ≡ true → P x) → P y → P (cond b x y)
+by_test : (P : FollowOutcome → Type 0) (b : Bool) (x y : FollowOutcome) → (b ≡ true → P x) → P y → P (cond b x y)
 by_test P true x y px py = px refl
 by_test P false x y px py = py
 
@@ -129,7 +129,7 @@ module _ (h : History) (files : AreFilesOf h) where
 
     -- ---- edits and full versions
 
-    edit_keeps : (e : Edit) (o : Outcome) → IsEditOf h e → TakesEdit f e o → IsKept h f o
+    edit_keeps : (e : Edit) (o : FollowOutcome) → IsEditOf h e → TakesEdit f e o → IsKept h f o
     edit_keeps e o known (inl takes) =
         let next = next_of f.served.version e own.version known takes.1 in
         let number = next.1 in
@@ -153,7 +153,7 @@ module _ (h : History) (files : AreFilesOf h) where
       missing = λ g m. is.missing g (IsIn-filter (λ (x : FileMeta). not (same_file x p.meta)) g to.missing m).0;
     }
 
-    table_keeps : (number : ℕ) (bytes : List ℕ) (was : Option PendingValue) (o : Outcome) → IfSome was (IsTargetOf h f.served.version) → IsTableAt h number bytes → TakesMissing f number bytes was o → IsKept h f o
+    table_keeps : (number : ℕ) (bytes : List ℕ) (was : Option PendingValue) (o : FollowOutcome) → IfSome was (IsTargetOf h f.served.version) → IsTableAt h number bytes → TakesMissing f number bytes was o → IsKept h f o
     table_keeps number bytes None o is known takes = subst (IsKept h f) (sym takes) stays_keeps
     table_keeps number bytes (Some to) o is known (inl takes) =
         let p = takes.0 in
@@ -171,7 +171,7 @@ module _ (h : History) (files : AreFilesOf h) where
     -- ---- any message
 
     -- A FOLLOWER KEEPS THE HISTORY.
-    pub is_kept : (said : Body) (o : Outcome) → IsKnown h said → Follows f said o → IsKept h f o
+    pub is_kept : (said : Body) (o : FollowOutcome) → IsKnown h said → Follows f said o → IsKept h f o
     is_kept (body.Edit e) o known follows = edit_keeps e o known follows
     is_kept (body.Base v) o known follows = subst (IsKept h f) (sym follows) (base_keeps v known)
     is_kept (body.Table number bytes) o known follows = table_keeps number bytes f.pending o own.pending known follows
@@ -182,10 +182,10 @@ module _ (h : History) (files : AreFilesOf h) where
     is_kept (body.Result made) o known follows = subst (IsKept h f) (sym follows) stays_keeps
     is_kept (body.Ask number) o known follows = subst (IsKept h f) (sym follows) stays_keeps
 
-  pub follows_known : (f : FollowerValue) (said : Body) (o : Outcome) → IsFollowerOf h f → IsKnown h said → Follows f said o → IsFollowerOf h o.follower × ((m : Message) → IsIn m o.sent → IsKnown h m.body)
+  pub follows_known : (f : FollowerValue) (said : Body) (o : FollowOutcome) → IsFollowerOf h f → IsKnown h said → Follows f said o → IsFollowerOf h o.follower × ((m : Message) → IsIn m o.sent → IsKnown h m.body)
   follows_known f said o own known follows = let kept = is_kept f own said o known follows in (kept.follower, kept.sent)
 
-  pub follows_number : (f : FollowerValue) (said : Body) (o : Outcome) → IsFollowerOf h f → IsKnown h said → Follows f said o → Moves h f o
+  pub follows_number : (f : FollowerValue) (said : Body) (o : FollowOutcome) → IsFollowerOf h f → IsKnown h said → Follows f said o → Moves h f o
   follows_number f said o own known follows = (is_kept f own said o known follows).moves
 
 -- ---- the follower that is left
@@ -201,33 +201,33 @@ goes_on_index f to (g ∷ gs) = refl
 turns_index : (f : FollowerValue) (target : VersionValue) → (turns_to f target).follower.index ≡ f.index
 turns_index f target = begins_index f (pending_for f target) (pending_for f target).missing
 
-edit_index : (f : FollowerValue) (e : Edit) (o : Outcome) → TakesEdit f e o → o.follower.index ≡ f.index
-edit_index f e o (inl takes) = ap (λ (x : Outcome). x.follower.index) takes.2 ∙ turns_index f (after_apply f.served.version e)
-edit_index f e o (inr other) = ap (λ (x : Outcome). x.follower.index) other.1
+edit_index : (f : FollowerValue) (e : Edit) (o : FollowOutcome) → TakesEdit f e o → o.follower.index ≡ f.index
+edit_index f e o (inl takes) = ap (λ (x : FollowOutcome). x.follower.index) takes.2 ∙ turns_index f (after_apply f.served.version e)
+edit_index f e o (inr other) = ap (λ (x : FollowOutcome). x.follower.index) other.1
 
 base_index : (f : FollowerValue) (target : VersionValue) → (after_base f target).follower.index ≡ f.index
 base_index f target = by_test (λ o. o.follower.index ≡ f.index) (nat_lt f.served.version.number target.number) (turns_to f target) (ignores_message f) (λ later. turns_index f target) refl
 
-table_index : (f : FollowerValue) (number : ℕ) (bytes : List ℕ) (was : Option PendingValue) (o : Outcome) → TakesMissing f number bytes was o → o.follower.index ≡ f.index
-table_index f number bytes None o takes = ap (λ (x : Outcome). x.follower.index) takes
-table_index f number bytes (Some to) o (inl takes) = ap (λ (x : Outcome). x.follower.index) takes.2 ∙ goes_on_index f (with_table takes.0 to) (with_table takes.0 to).missing
-table_index f number bytes (Some to) o (inr other) = ap (λ (x : Outcome). x.follower.index) other.1
+table_index : (f : FollowerValue) (number : ℕ) (bytes : List ℕ) (was : Option PendingValue) (o : FollowOutcome) → TakesMissing f number bytes was o → o.follower.index ≡ f.index
+table_index f number bytes None o takes = ap (λ (x : FollowOutcome). x.follower.index) takes
+table_index f number bytes (Some to) o (inl takes) = ap (λ (x : FollowOutcome). x.follower.index) takes.2 ∙ goes_on_index f (with_table takes.0 to) (with_table takes.0 to).missing
+table_index f number bytes (Some to) o (inr other) = ap (λ (x : FollowOutcome). x.follower.index) other.1
 
 gone_index : (f : FollowerValue) (number : ℕ) (was : Option PendingValue) → (after_gone_file f number was).follower.index ≡ f.index
 gone_index f number None = refl
 gone_index f number (Some to) =
     by_test (λ o. o.follower.index ≡ f.index) (list_any (has_number number) to.missing) (record { change = follow.Dropped; sent = []; follower = record f { pending = None } }) (ignores_message f) (λ one. refl) refl
 
-pub follows_index : (f : FollowerValue) (said : Body) (o : Outcome) → Follows f said o → o.follower.index ≡ f.index
+pub follows_index : (f : FollowerValue) (said : Body) (o : FollowOutcome) → Follows f said o → o.follower.index ≡ f.index
 follows_index f (body.Edit e) o follows = edit_index f e o follows
-follows_index f (body.Base v) o follows = ap (λ (x : Outcome). x.follower.index) follows ∙ base_index f v
+follows_index f (body.Base v) o follows = ap (λ (x : FollowOutcome). x.follower.index) follows ∙ base_index f v
 follows_index f (body.Table number bytes) o follows = table_index f number bytes f.pending o follows
-follows_index f (body.Gone number) o follows = ap (λ (x : Outcome). x.follower.index) follows ∙ gone_index f number f.pending
-follows_index f (body.Current number) o follows = ap (λ (x : Outcome). x.follower.index) follows
-follows_index f (body.Job job) o follows = ap (λ (x : Outcome). x.follower.index) follows
-follows_index f (body.Fetch number) o follows = ap (λ (x : Outcome). x.follower.index) follows
-follows_index f (body.Result made) o follows = ap (λ (x : Outcome). x.follower.index) follows
-follows_index f (body.Ask number) o follows = ap (λ (x : Outcome). x.follower.index) follows
+follows_index f (body.Gone number) o follows = ap (λ (x : FollowOutcome). x.follower.index) follows ∙ gone_index f number f.pending
+follows_index f (body.Current number) o follows = ap (λ (x : FollowOutcome). x.follower.index) follows
+follows_index f (body.Job job) o follows = ap (λ (x : FollowOutcome). x.follower.index) follows
+follows_index f (body.Fetch number) o follows = ap (λ (x : FollowOutcome). x.follower.index) follows
+follows_index f (body.Result made) o follows = ap (λ (x : FollowOutcome). x.follower.index) follows
+follows_index f (body.Ask number) o follows = ap (λ (x : FollowOutcome). x.follower.index) follows
 
 -- ---- one follower in the place of another
 

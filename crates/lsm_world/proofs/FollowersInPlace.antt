@@ -3,7 +3,7 @@ use Rattle.std.proofs.Common.{◌≡◌, ℕ, ◌-◌, List, [], ◌∷◌, Some
 use Rattle.lsm_key.proofs.Membership.{IsIn-one}
 use Rattle.lsm_msg.specs.declared.message.Message.{Message}
 use Rattle.lsm_follow.specs.declared.change.FollowChange.{FollowChange}
-use Rattle.lsm_follow.specs.Followers.{FollowerValue, Outcome, new_follower}
+use Rattle.lsm_follow.specs.Followers.{FollowerValue, FollowOutcome, new_follower}
 use Rattle.lsm_world.specs.declared.reply.Sent.{Sent}
 use Rattle.lsm_world.specs.Asks.{Sends, ask_message}
 use Rattle.lsm_world.specs.History.{IsKnown, IsNetwork}
@@ -29,7 +29,7 @@ module _ (old : NetworkValue) (index : ℕ) (f other after : FollowerValue) (mid
 -- ---- a follower that gets a message that was sent
 
 module _ (old : NetworkValue) (index : ℕ) (m : Message) (change : FollowChange) (sent : List Message) (told : Sent) (new : List FollowerValue) (stored : List (List ℕ)) (was_sent : IsStored old.messages m) (followed : HasFollowed old.followers index m.body change sent new) (sends : Sends old.messages sent told stored) where
-  abbrev outcome : Outcome
+  abbrev outcome : FollowOutcome
   outcome = record { change = change; sent = sent; follower = followed.after }
 
   -- A FOLLOWER THAT GETS A MESSAGE THAT WAS SENT KEEPS THE HISTORY.

@@ -11,7 +11,7 @@ use Rattle.lsm_edit.specs.Served.{IsServed, tables_of}
 use Rattle.lsm_edit.specs.Version.{VersionValue, first_version}
 use Rattle.lsm_follow.specs.declared.change.FollowChange.{FollowChange}
 use Rattle.lsm_follow.specs.declared.change.FollowChange.TheVariants as follow
-use Rattle.lsm_follow.specs.Followers.{FollowerValue, Outcome, new_follower}
+use Rattle.lsm_follow.specs.Followers.{FollowerValue, FollowOutcome, new_follower}
 use Rattle.lsm_msg.specs.declared.message.Message.{Message}
 use Rattle.lsm_msg.specs.declared.node.Node.{Node}
 use Rattle.lsm_msg.specs.declared.node.Node.TheVariants.{Coordinator, Worker, Follower}
@@ -206,7 +206,7 @@ module _ (old : StoreValue) (s : State) (x : ShowsStore old s) where
     -- ---- messages
 
     -- what a follower tells of a move
-    followed_step : (number index : ℕ) (f : FollowerValue) (o : Outcome) → IsIndex index → at_index old.network.followers index ≡ Some f → new.followers ≡ with_index old.network.followers index o.follower → Moves x.history f o → (told : Sent)
+    followed_step : (number index : ℕ) (f : FollowerValue) (o : FollowOutcome) → IsIndex index → at_index old.network.followers index ≡ Some f → new.followers ≡ with_index old.network.followers index o.follower → Moves x.history f o → (told : Sent)
         → (t : State) × Step s (say.Deliver number) (reply_of (follower_reply o.change told)) t × ShowsStore (record old { network = new }) t
     followed_step number index f o within at is moves told = by o.change moves
       where

@@ -16,18 +16,18 @@ use Rattle.lsm_msg.specs.declared.node.Node.TheVariants.{Worker}
 use Rattle.lsm_merge.specs.Outputs.{IsMerge}
 use Rattle.lsm_store.specs.Compacting.{tables_at}
 use Rattle.lsm_store.proofs.ServedTables.{tables_found}
-use Rattle.lsm_work.specs.Workers.{IsComplete, MergesInputs, Outcome, Proceeds, TakesTable, TaskValue, WorkerValue, Works, after_gone, after_job, drops, fetching, ignores, is_among, is_later, missing, new_task, numbers_of, received_tables, with_input}
+use Rattle.lsm_work.specs.Workers.{IsComplete, MergesInputs, WorkOutcome, Proceeds, TakesTable, TaskValue, WorkerValue, Works, after_gone, after_job, drops, fetching, ignores, is_among, is_later, missing, new_task, numbers_of, received_tables, with_input}
 use Rattle.lsm_world.specs.History.{AreFilesOf, AreJobsOf, History, IsFileOf, IsKnown, IsNetwork, IsTableAt, IsTaskOf}
 use Rattle.lsm_world.specs.Nodes.{NetworkValue}
 use Rattle.lsm_world.proofs.AwaitedTables.{awaited_is, fetched, file_numbered}
 use Rattle.lsm_world.proofs.FourPlaces.{same_indices, set_cases}
 
 -- the task that is left is of the history, and each message that is sent is known
-abbrev pub Keeps : History → Outcome → Type 0
+abbrev pub Keeps : History → WorkOutcome → Type 0
 Keeps h o = IsTaskOf h o.worker.task × ((m : Message) → IsIn m o.sent → IsKnown h m.body)
 
 -- one of two outcomes
-by_test : (P : Outcome → Type 0) (b : Bool) (x y : Outcome) → P x → P y → P (cond b x y)
+by_test : (P : WorkOutcome → Type 0) (b : Bool) (x y : WorkOutcome) → P x → P y → P (cond b x y)
 by_test P true x y px py = px
 by_test P false x y px py = py
 
@@ -80,7 +80,7 @@ module _ (h : History) (files : AreFilesOf h) (jobs : AreJobsOf h) where
     tables_are : IsComplete t → received_tables t ≡ tables_at h.files t.job.inputs
     tables_are whole = sym (tables_found h.files files.one t.received (λ p m. (own.1 p m).0)) ∙ ap (tables_at h.files) whole
 
-    merges_keeps : (w : WorkerValue) (o : Outcome) → IsComplete t → MergesInputs w t o → Keeps h o
+    merges_keeps : (w : WorkerValue) (o : WorkOutcome) → IsComplete t → MergesInputs w t o → Keeps h o
     merges_keeps w o whole (inl made) = subst (Keeps h) (sym made.3) (
       tt,
       λ m sent. elim sent [
@@ -90,11 +90,11 @@ module _ (h : History) (files : AreFilesOf h) (jobs : AreJobsOf h) where
     )
     merges_keeps w o whole (inr same) = subst (Keeps h) (sym same.1) (drops_keeps w)
 
-    proceeds_keeps : (w : WorkerValue) (fs : List FileMeta) (o : Outcome) → Proceeds w t fs o → Keeps h o
+    proceeds_keeps : (w : WorkerValue) (fs : List FileMeta) (o : WorkOutcome) → Proceeds w t fs o → Keeps h o
     proceeds_keeps w [] o goes = merges_keeps w o goes.0 goes.1
     proceeds_keeps w (f ∷ fs) o goes = subst (Keeps h) (sym goes) (own, λ m sent. absurd sent)
 
-  table_keeps : (w : WorkerValue) (number : ℕ) (bytes : List ℕ) (t : Option TaskValue) (o : Outcome) → IsTaskOf h w.task → IsTaskOf h t → IsTableAt h number bytes → TakesTable w number bytes t o → Keeps h o
+  table_keeps : (w : WorkerValue) (number : ℕ) (bytes : List ℕ) (t : Option TaskValue) (o : WorkOutcome) → IsTaskOf h w.task → IsTaskOf h t → IsTableAt h number bytes → TakesTable w number bytes t o → Keeps h o
   table_keeps w number bytes None o own has known goes = subst (Keeps h) (sym goes) (ignores_keeps w own)
   table_keeps w number bytes (Some t) o own has known (inl taken) =
       let p = taken.0 in
@@ -105,7 +105,7 @@ module _ (h : History) (files : AreFilesOf h) (jobs : AreJobsOf h) where
   -- ---- any message
 
   -- A WORKER KEEPS THE HISTORY.
-  pub works_known : (w : WorkerValue) (said : Body) (o : Outcome) → IsTaskOf h w.task → IsKnown h said → Works w said o → Keeps h o
+  pub works_known : (w : WorkerValue) (said : Body) (o : WorkOutcome) → IsTaskOf h w.task → IsKnown h said → Works w said o → Keeps h o
   works_known w (body.Job j) o own known works = subst (Keeps h) (sym works) (job_keeps w j w.task own own known)
   works_known w (body.Table number bytes) o own known works = table_keeps w number bytes w.task o own own known works
   works_known w (body.Gone number) o own known works = subst (Keeps h) (sym works) (gone_keeps w number w.task own)
@@ -128,29 +128,29 @@ gone_index : (w : WorkerValue) (number : ℕ) (t : Option TaskValue) → (after_
 gone_index w number None = refl
 gone_index w number (Some t) = by_test (λ o. o.worker.index ≡ w.index) (is_among (map (λ f. f.number) (missing t)) number) (drops w) (ignores w) refl refl
 
-merges_index : (w : WorkerValue) (t : TaskValue) (o : Outcome) → MergesInputs w t o → o.worker.index ≡ w.index
-merges_index w t o (inl made) = ap (λ (x : Outcome). x.worker.index) made.3
-merges_index w t o (inr same) = ap (λ (x : Outcome). x.worker.index) same.1
+merges_index : (w : WorkerValue) (t : TaskValue) (o : WorkOutcome) → MergesInputs w t o → o.worker.index ≡ w.index
+merges_index w t o (inl made) = ap (λ (x : WorkOutcome). x.worker.index) made.3
+merges_index w t o (inr same) = ap (λ (x : WorkOutcome). x.worker.index) same.1
 
-proceeds_index : (w : WorkerValue) (t : TaskValue) (fs : List FileMeta) (o : Outcome) → Proceeds w t fs o → o.worker.index ≡ w.index
+proceeds_index : (w : WorkerValue) (t : TaskValue) (fs : List FileMeta) (o : WorkOutcome) → Proceeds w t fs o → o.worker.index ≡ w.index
 proceeds_index w t [] o goes = merges_index w t o goes.1
-proceeds_index w t (f ∷ fs) o goes = ap (λ (x : Outcome). x.worker.index) goes
+proceeds_index w t (f ∷ fs) o goes = ap (λ (x : WorkOutcome). x.worker.index) goes
 
-table_index : (w : WorkerValue) (number : ℕ) (bytes : List ℕ) (t : Option TaskValue) (o : Outcome) → TakesTable w number bytes t o → o.worker.index ≡ w.index
-table_index w number bytes None o goes = ap (λ (x : Outcome). x.worker.index) goes
+table_index : (w : WorkerValue) (number : ℕ) (bytes : List ℕ) (t : Option TaskValue) (o : WorkOutcome) → TakesTable w number bytes t o → o.worker.index ≡ w.index
+table_index w number bytes None o goes = ap (λ (x : WorkOutcome). x.worker.index) goes
 table_index w number bytes (Some t) o (inl taken) = proceeds_index w (with_input taken.0 t) (missing (with_input taken.0 t)) o taken.2
-table_index w number bytes (Some t) o (inr other) = ap (λ (x : Outcome). x.worker.index) other.1
+table_index w number bytes (Some t) o (inr other) = ap (λ (x : WorkOutcome). x.worker.index) other.1
 
-pub works_index : (w : WorkerValue) (said : Body) (o : Outcome) → Works w said o → o.worker.index ≡ w.index
-works_index w (body.Job j) o works = ap (λ (x : Outcome). x.worker.index) works ∙ job_index w j w.task
+pub works_index : (w : WorkerValue) (said : Body) (o : WorkOutcome) → Works w said o → o.worker.index ≡ w.index
+works_index w (body.Job j) o works = ap (λ (x : WorkOutcome). x.worker.index) works ∙ job_index w j w.task
 works_index w (body.Table number bytes) o works = table_index w number bytes w.task o works
-works_index w (body.Gone number) o works = ap (λ (x : Outcome). x.worker.index) works ∙ gone_index w number w.task
-works_index w (body.Fetch number) o works = ap (λ (x : Outcome). x.worker.index) works
-works_index w (body.Result made) o works = ap (λ (x : Outcome). x.worker.index) works
-works_index w (body.Ask number) o works = ap (λ (x : Outcome). x.worker.index) works
-works_index w (body.Edit edit) o works = ap (λ (x : Outcome). x.worker.index) works
-works_index w (body.Base version) o works = ap (λ (x : Outcome). x.worker.index) works
-works_index w (body.Current number) o works = ap (λ (x : Outcome). x.worker.index) works
+works_index w (body.Gone number) o works = ap (λ (x : WorkOutcome). x.worker.index) works ∙ gone_index w number w.task
+works_index w (body.Fetch number) o works = ap (λ (x : WorkOutcome). x.worker.index) works
+works_index w (body.Result made) o works = ap (λ (x : WorkOutcome). x.worker.index) works
+works_index w (body.Ask number) o works = ap (λ (x : WorkOutcome). x.worker.index) works
+works_index w (body.Edit edit) o works = ap (λ (x : WorkOutcome). x.worker.index) works
+works_index w (body.Base version) o works = ap (λ (x : WorkOutcome). x.worker.index) works
+works_index w (body.Current number) o works = ap (λ (x : WorkOutcome). x.worker.index) works
 
 -- ---- one worker in the place of another
 

@@ -2,7 +2,7 @@
 use Rattle.std.proofs.Common.{◌≡◌, ℕ, ◌-◌, List, None, Some, refl, sym, ap, subst, ◌∙◌}
 use Rattle.lsm_msg.specs.declared.message.Message.{Message}
 use Rattle.lsm_work.specs.declared.change.WorkChange.{WorkChange}
-use Rattle.lsm_work.specs.Workers.{Outcome, WorkerValue}
+use Rattle.lsm_work.specs.Workers.{WorkOutcome, WorkerValue}
 use Rattle.lsm_world.specs.declared.reply.Sent.{Sent}
 use Rattle.lsm_world.specs.Asks.{Sends}
 use Rattle.lsm_world.specs.History.{IsNetwork}
@@ -28,7 +28,7 @@ module _ (old : NetworkValue) (index : ℕ) (w other after : WorkerValue) (mid n
 -- ---- a worker that gets a message that was sent
 
 module _ (old : NetworkValue) (index : ℕ) (m : Message) (change : WorkChange) (sent : List Message) (told : Sent) (new : List WorkerValue) (stored : List (List ℕ)) (was_sent : IsStored old.messages m) (worked : HasWorked old.workers index m.body change sent new) (sends : Sends old.messages sent told stored) where
-  abbrev outcome : Outcome
+  abbrev outcome : WorkOutcome
   outcome = record { change = change; sent = sent; worker = worked.after }
 
   -- A WORKER THAT GETS A MESSAGE THAT WAS SENT KEEPS THE HISTORY.

@@ -14,7 +14,7 @@ use Rattle.lsm_edit.specs.Served.{tables_of}
 use Rattle.lsm_edit.specs.Version.{VersionValue}
 use Rattle.lsm_follow.specs.declared.change.FollowChange.{FollowChange}
 use Rattle.lsm_follow.specs.declared.change.FollowChange.TheVariants as follow
-use Rattle.lsm_follow.specs.Followers.{FollowerValue, Follows, Outcome, new_follower}
+use Rattle.lsm_follow.specs.Followers.{FollowerValue, Follows, FollowOutcome, new_follower}
 use Rattle.lsm_msg.specs.declared.job.JobParts.{JobParts}
 use Rattle.lsm_msg.specs.declared.job.JobResult.{JobResult}
 use Rattle.lsm_msg.specs.declared.message.Body.{Body}
@@ -195,7 +195,7 @@ follower_reply follow.Ignored told = reply.Ignored
 pub record IsWork (old : NetworkValue) (index : ℕ) (said : Body) (r : Reply) (new : NetworkValue) : Type 0 where
   pub worker : WorkerValue
   pub is_there : at_index old.workers index ≡ Some worker
-  pub outcome : work.Outcome
+  pub outcome : work.WorkOutcome
   pub works : Works worker said outcome
   pub told : Sent
   pub reply_is : r ≡ worker_reply outcome.change told
@@ -206,7 +206,7 @@ pub record IsWork (old : NetworkValue) (index : ℕ) (said : Body) (r : Reply) (
 pub record IsFollowed (old : NetworkValue) (index : ℕ) (said : Body) (r : Reply) (new : NetworkValue) : Type 0 where
   pub follower : FollowerValue
   pub is_there : at_index old.followers index ≡ Some follower
-  pub outcome : Outcome
+  pub outcome : FollowOutcome
   pub follows : Follows follower said outcome
   pub told : Sent
   pub reply_is : r ≡ follower_reply outcome.change told

@@ -4,7 +4,7 @@ use Rattle.lsm_table.specs.Tables.{Opened}
 use Rattle.lsm_edit.specs.declared.file.FileMeta.{FileMeta}
 use Rattle.lsm_edit.specs.declared.served.Placed.{Placed}
 use Rattle.lsm_edit.specs.Served.{IsAsRecorded}
-use Rattle.lsm_follow.specs.Followers.{FollowerValue, Outcome, PendingValue, TakesMissing}
+use Rattle.lsm_follow.specs.Followers.{FollowerValue, FollowOutcome, PendingValue, TakesMissing}
 use Rattle.lsm_follow.specs.Pending.{IsFollower, IsPending}
 use Rattle.lsm_follow.proofs.ReceivedTables.{is_of, missing_rises}
 use Rattle.lsm_follow.proofs.TableSteps.{same_there, takes_last, takes_more}
@@ -24,7 +24,7 @@ returns-in_default-find-clause-ok c =
     let to : PendingValue = c.in-Some.pending in
     let seen : s.pending ≡ Some to = ap (λ (x : FollowerValue). x.pending) (sym c.self.view_is) ∙ c.in-Some.is in
     let is = subst IsFollower c.self.view_is c.self.invariant in
-    let out : Outcome = record { change = c.stay-in_default-find.result.0; sent = c.stay-in_default-find.result.1.items; follower = s } in
+    let out : FollowOutcome = record { change = c.stay-in_default-find.result.0; sent = c.stay-in_default-find.result.1.items; follower = s } in
     subst (λ (o : Option PendingValue). TakesMissing s c.args.file c.args.bytes.now o out) (sym seen)
     (inr (λ p wanted. c.in_default-find.ensures.none p.meta wanted.file (wanted.number ∙ sym c.number.ensures), λ i. record { change = c.stay-in_default-find.ensures.change i; sent = c.stay-in_default-find.ensures.sent i; follower = s }))
 
@@ -40,7 +40,7 @@ returns-in_default-2-clause-ok c =
     let pending : IsPending s.served.version to = is_of s is to seen in
     let rises = missing_rises s.served.version to pending.has pending.version in
     let none = subst (λ (o : Option Opened). IfNone o ((t : Opened) → t.bytes ≡ c.args.bytes.now → IsAsRecorded file t → ⊥)) c.in_default-2.is c.in_ok-table.ensures.none in
-    let out : Outcome = record { change = c.stay-in_default-2.result.0; sent = c.stay-in_default-2.result.1.items; follower = s } in
+    let out : FollowOutcome = record { change = c.stay-in_default-2.result.0; sent = c.stay-in_default-2.result.1.items; follower = s } in
     subst (λ (o : Option PendingValue). TakesMissing s c.args.file c.args.bytes.now o out) (sym seen)
     (inr (
       λ p wanted.

@@ -10,14 +10,14 @@ use Rattle.lsm_merge.specs.Inputs.{IsRefused}
 use Rattle.lsm_work.specs.declared.change.WorkChange.{WorkChange}
 use Rattle.lsm_work.specs.declared.change.WorkChange.TheVariants.{Collecting, Merged, Dropped, Ignored}
 use Rattle.lsm_msg.specs.declared.node.Node.TheVariants.{Worker}
-use Rattle.lsm_work.specs.Workers.{Outcome, TaskValue, WorkerValue, missing, received_tables, with_input}
+use Rattle.lsm_work.specs.Workers.{WorkOutcome, TaskValue, WorkerValue, missing, received_tables, with_input}
 use Rattle.lsm_work.proofs.LastInput.{found, some_left, none_left, all_come, all_recorded}
 use Rattle.lsm_work.proofs.ResultTables.{tables_may_be_sent}
 use Rattle.lsm_work.proofs.Steps.{All-one, proceeds_more, proceeds_last}
 use Rattle.lsm_work.proofs.task.Task.receive.Goals as goal
 
 -- what comes of a message, by what is sent
-abbrev told : WorkChange → ℕ → Option TaskValue → List Message → Outcome
+abbrev told : WorkChange → ℕ → Option TaskValue → List Message → WorkOutcome
 told change index task sent = record { change = change; sent = sent; worker = record { index = index; task = task } }
 
 abbrev busy : ℕ → TaskValue → WorkerValue

@@ -1,14 +1,14 @@
 use Rattle.std.proofs.Common.{◌≡◌, ◌∙◌, ℕ, Bool, List, Option, Some, None, cond, map, refl, ap, sym, subst}
 use Rattle.lsm_msg.specs.declared.message.Message.{Message}
 use Rattle.lsm_work.specs.declared.change.WorkChange.TheVariants.{Dropped}
-use Rattle.lsm_work.specs.Workers.{TaskValue, WorkerValue, Outcome, drops, ignores, is_among, missing, after_gone}
+use Rattle.lsm_work.specs.Workers.{TaskValue, WorkerValue, WorkOutcome, drops, ignores, is_among, missing, after_gone}
 use Rattle.lsm_work.proofs.worker.Worker.on_gone.Goals as goal
 use Rattle.lsm_work.proofs.worker.Worker.on_gone.Goals.{in_default-via-in-Some+else-lacks, in_default-via-in_default}
 
 abbrev worker : ℕ → Option TaskValue → WorkerValue
 worker index task = record { index = index; task = task }
 
-abbrev dropped : ℕ → List Message → Outcome
+abbrev dropped : ℕ → List Message → WorkOutcome
 dropped index sent = record { change = Dropped; sent = sent; worker = worker index None }
 
 pub returns-in-Some-clause-ok : goal.returns-in-Some-clause-ok

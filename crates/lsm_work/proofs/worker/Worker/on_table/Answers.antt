@@ -1,7 +1,7 @@
 use Rattle.std.proofs.Common.{◌≡◌, ◌∙◌, ℕ, Bool, List, Option, Some, None, cond, ap, sym, subst}
 use Rattle.lsm_msg.specs.declared.message.Message.{Message}
 use Rattle.lsm_work.specs.declared.change.WorkChange.{WorkChange}
-use Rattle.lsm_work.specs.Workers.{TaskValue, WorkerValue, Outcome, TakesTable}
+use Rattle.lsm_work.specs.Workers.{TaskValue, WorkerValue, WorkOutcome, TakesTable}
 use Rattle.lsm_work.specs.Held.{left_after}
 use Rattle.lsm_work.proofs.worker.Worker.on_table.Goals as goal
 use Rattle.lsm_work.proofs.worker.Worker.on_table.Goals.{then-ends_task+in-Some-1, then-ends_task+in-None-1, else-ends_task}
@@ -9,7 +9,7 @@ use Rattle.lsm_work.proofs.worker.Worker.on_table.Goals.{then-ends_task+in-Some-
 abbrev worker : ℕ → Option TaskValue → WorkerValue
 worker index task = record { index = index; task = task }
 
-abbrev told : WorkChange → List Message → WorkerValue → Outcome
+abbrev told : WorkChange → List Message → WorkerValue → WorkOutcome
 told change sent v = record { change = change; sent = sent; worker = v }
 
 pub returns-clause-ok : goal.returns-clause-ok
