@@ -113,13 +113,13 @@ after_gone_file f number None = ignores_message f
 after_gone_file f number (Some to) = if list_any (has_number number) to.missing then record { change = Dropped; sent = []; follower = record f { pending = None } } else ignores_message f
 
 -- what comes of a message to a follower
-abbrev pub Follows : FollowerValue → Body → FollowOutcome → Type 0
-Follows f (body.Edit edit) o = TakesEdit f edit o
-Follows f (body.Base version) o = o ≡ after_base f version
-Follows f (body.Table number bytes) o = TakesMissing f number bytes f.pending o
-Follows f (body.Gone number) o = o ≡ after_gone_file f number f.pending
-Follows f (body.Current number) o = o ≡ record { change = Current; sent = []; follower = f }
-Follows f (body.Job job) o = o ≡ ignores_message f
-Follows f (body.Fetch number) o = o ≡ ignores_message f
-Follows f (body.Result made) o = o ≡ ignores_message f
-Follows f (body.Ask number) o = o ≡ ignores_message f
+abbrev pub TakesBody : FollowerValue → Body → FollowOutcome → Type 0
+TakesBody f (body.Edit edit) o = TakesEdit f edit o
+TakesBody f (body.Base version) o = o ≡ after_base f version
+TakesBody f (body.Table number bytes) o = TakesMissing f number bytes f.pending o
+TakesBody f (body.Gone number) o = o ≡ after_gone_file f number f.pending
+TakesBody f (body.Current number) o = o ≡ record { change = Current; sent = []; follower = f }
+TakesBody f (body.Job job) o = o ≡ ignores_message f
+TakesBody f (body.Fetch number) o = o ≡ ignores_message f
+TakesBody f (body.Result made) o = o ≡ ignores_message f
+TakesBody f (body.Ask number) o = o ≡ ignores_message f

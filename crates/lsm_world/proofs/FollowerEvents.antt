@@ -21,7 +21,7 @@ use Rattle.lsm_versions.proofs.EditsInTurn.{edit_number, first_at, next_version}
 use Rattle.lsm_versions.proofs.ManifestReplay.{length-versions_from, next_number}
 use Rattle.lsm_follow.specs.declared.change.FollowChange.{FollowChange}
 use Rattle.lsm_follow.specs.declared.change.FollowChange.TheVariants as follow
-use Rattle.lsm_follow.specs.Followers.{FollowerValue, Follows, FollowOutcome, PendingValue, TakesEdit, TakesMissing, after_base, after_gone_file, begins, files_in, goes_on, kept_for, moves, new_follower, pending_for, received_of, ignores_message, turns_to, waits, with_table}
+use Rattle.lsm_follow.specs.Followers.{FollowerValue, TakesBody, FollowOutcome, PendingValue, TakesEdit, TakesMissing, after_base, after_gone_file, begins, files_in, goes_on, kept_for, moves, new_follower, pending_for, received_of, ignores_message, turns_to, waits, with_table}
 use Rattle.lsm_world.specs.History.{AreFilesOf, History, IsEditOf, IsFileOf, IsFollowerOf, IsKnown, IsNetwork, IsTableAt, IsTargetOf, IsVersionNumber, IsVersionOf, versions_in}
 use Rattle.lsm_world.specs.Nodes.{NetworkValue, number_of}
 use Rattle.lsm_world.proofs.AwaitedTables.{awaited_is, fetched, file_numbered}
@@ -171,7 +171,7 @@ module _ (h : History) (files : AreFilesOf h) where
     -- ---- any message
 
     -- A FOLLOWER KEEPS THE HISTORY.
-    pub is_kept : (said : Body) (o : FollowOutcome) → IsKnown h said → Follows f said o → IsKept h f o
+    pub is_kept : (said : Body) (o : FollowOutcome) → IsKnown h said → TakesBody f said o → IsKept h f o
     is_kept (body.Edit e) o known follows = edit_keeps e o known follows
     is_kept (body.Base v) o known follows = subst (IsKept h f) (sym follows) (base_keeps v known)
     is_kept (body.Table number bytes) o known follows = table_keeps number bytes f.pending o own.pending known follows
@@ -182,10 +182,10 @@ module _ (h : History) (files : AreFilesOf h) where
     is_kept (body.Result made) o known follows = subst (IsKept h f) (sym follows) stays_keeps
     is_kept (body.Ask number) o known follows = subst (IsKept h f) (sym follows) stays_keeps
 
-  pub follows_known : (f : FollowerValue) (said : Body) (o : FollowOutcome) → IsFollowerOf h f → IsKnown h said → Follows f said o → IsFollowerOf h o.follower × ((m : Message) → IsIn m o.sent → IsKnown h m.body)
+  pub follows_known : (f : FollowerValue) (said : Body) (o : FollowOutcome) → IsFollowerOf h f → IsKnown h said → TakesBody f said o → IsFollowerOf h o.follower × ((m : Message) → IsIn m o.sent → IsKnown h m.body)
   follows_known f said o own known follows = let kept = is_kept f own said o known follows in (kept.follower, kept.sent)
 
-  pub follows_number : (f : FollowerValue) (said : Body) (o : FollowOutcome) → IsFollowerOf h f → IsKnown h said → Follows f said o → Moves h f o
+  pub follows_number : (f : FollowerValue) (said : Body) (o : FollowOutcome) → IsFollowerOf h f → IsKnown h said → TakesBody f said o → Moves h f o
   follows_number f said o own known follows = (is_kept f own said o known follows).moves
 
 -- ---- the follower that is left
@@ -218,7 +218,7 @@ gone_index f number None = refl
 gone_index f number (Some to) =
     by_test (λ o. o.follower.index ≡ f.index) (list_any (has_number number) to.missing) (record { change = follow.Dropped; sent = []; follower = record f { pending = None } }) (ignores_message f) (λ one. refl) refl
 
-pub follows_index : (f : FollowerValue) (said : Body) (o : FollowOutcome) → Follows f said o → o.follower.index ≡ f.index
+pub follows_index : (f : FollowerValue) (said : Body) (o : FollowOutcome) → TakesBody f said o → o.follower.index ≡ f.index
 follows_index f (body.Edit e) o follows = edit_index f e o follows
 follows_index f (body.Base v) o follows = ap (λ (x : FollowOutcome). x.follower.index) follows ∙ base_index f v
 follows_index f (body.Table number bytes) o follows = table_index f number bytes f.pending o follows

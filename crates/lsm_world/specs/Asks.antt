@@ -14,7 +14,7 @@ use Rattle.lsm_edit.specs.Served.{tables_of}
 use Rattle.lsm_edit.specs.Version.{VersionValue}
 use Rattle.lsm_follow.specs.declared.change.FollowChange.{FollowChange}
 use Rattle.lsm_follow.specs.declared.change.FollowChange.TheVariants as follow
-use Rattle.lsm_follow.specs.Followers.{FollowerValue, Follows, FollowOutcome, new_follower}
+use Rattle.lsm_follow.specs.Followers.{FollowerValue, TakesBody, FollowOutcome, new_follower}
 use Rattle.lsm_msg.specs.declared.job.JobParts.{JobParts}
 use Rattle.lsm_msg.specs.declared.job.JobResult.{JobResult}
 use Rattle.lsm_msg.specs.declared.message.Body.{Body}
@@ -207,7 +207,7 @@ pub record IsFollowed (old : NetworkValue) (index : ℕ) (said : Body) (r : Repl
   pub follower : FollowerValue
   pub is_there : at_index old.followers index ≡ Some follower
   pub outcome : FollowOutcome
-  pub follows : Follows follower said outcome
+  pub follows : TakesBody follower said outcome
   pub told : Sent
   pub reply_is : r ≡ follower_reply outcome.change told
   pub sends : Sends old.messages outcome.sent told new.messages

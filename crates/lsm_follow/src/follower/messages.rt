@@ -6,7 +6,7 @@ ghost use Rattle.lsm_edit.specs.Version.{is_listed};
 ghost use Rattle.lsm_edit.specs.Served.{IsAsRecorded};
 ghost use Rattle.lsm_msg.specs.declared.node.Node.TheVariants as node;
 ghost use Rattle.lsm_msg.specs.Messages.{IsMessage, fetches};
-ghost use Rattle.lsm_follow.specs.Followers.{Follows, TakesEdit, TakesMissing, after_base, after_gone_file, goes_on, kept_for, missing_of, moves, pending_for, received_of, turns_to, waits, with_table};
+ghost use Rattle.lsm_follow.specs.Followers.{TakesBody, TakesEdit, TakesMissing, after_base, after_gone_file, goes_on, kept_for, missing_of, moves, pending_for, received_of, turns_to, waits, with_table};
 ghost use Rattle.lsm_follow.specs.Onward.{IsOnward};
 ghost use Rattle.lsm_follow.specs.Pending.{StandsAt, has_come};
 
@@ -33,7 +33,7 @@ impl Follower {
         &mut self,
         message: &Message,
     ) -> Result<(FollowChange, Vec<Message>), AllocError>
-        ensures ok { IfOk result (λ r. Follows self.old message.now.body (record { change = r.0; sent = r.1.items; follower = self.new })) }
+        ensures ok { IfOk result (λ r. TakesBody self.old message.now.body (record { change = r.0; sent = r.1.items; follower = self.new })) }
         ensures err { OnErr result (self.new ≡ self.old) }
         ensures onward { IsOnward self.old.served self.new.served }
         ensures sound { IfOk result (λ r. All IsMessage r.1.items) }

@@ -1,7 +1,7 @@
 -- What a worker or a follower in its place does with a message, and what they keep (the store's own).
 use Rattle.std.specs.Prelude.{◌≡◌, ℕ, List, Some}
 use Rattle.lsm_follow.specs.declared.change.FollowChange.{FollowChange}
-use Rattle.lsm_follow.specs.Followers.{FollowerValue, Follows}
+use Rattle.lsm_follow.specs.Followers.{FollowerValue, TakesBody}
 use Rattle.lsm_edit.specs.Served.{IsServed}
 use Rattle.lsm_msg.specs.declared.message.Body.{Body}
 use Rattle.lsm_msg.specs.declared.message.Message.{Message}
@@ -28,7 +28,7 @@ pub record HasFollowed (old : List FollowerValue) (index : ℕ) (said : Body) (c
   pub before : FollowerValue
   pub after : FollowerValue
   pub is_there : at_index old index ≡ Some before
-  pub follows : Follows before said (record { change = change; sent = sent; follower = after })
+  pub follows : TakesBody before said (record { change = change; sent = sent; follower = after })
   pub new_is : new ≡ with_index old index after
 
 -- the message was sent under this number

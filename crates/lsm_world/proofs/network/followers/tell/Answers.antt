@@ -1,6 +1,6 @@
 -- The follower is taken from its place, and put back as it became.
 use Rattle.std.proofs.lemmas.Result.{IfOk-weaker, on_err_weaker}
-use Rattle.lsm_follow.specs.Followers.{Follows}
+use Rattle.lsm_follow.specs.Followers.{TakesBody}
 use Rattle.lsm_world.specs.Inner.Working.{HasFollowed}
 use Rattle.lsm_world.proofs.FourPlaces.{put_back, put_back_same}
 use Rattle.lsm_world.proofs.network.followers.tell.Goals as goal
@@ -8,7 +8,7 @@ use Rattle.lsm_world.proofs.network.followers.tell.Goals as goal
 pub returns-clause-ok : goal.returns-clause-ok
 returns-clause-ok c =
     IfOk-weaker c.on_message-done.result
-    (λ r. Follows c.replace-follower.result c.args.message.now.body (record { change = r.0; sent = r.1.items; follower = c.on_message-done.new.self }))
+    (λ r. TakesBody c.replace-follower.result c.args.message.now.body (record { change = r.0; sent = r.1.items; follower = c.on_message-done.new.self }))
     (λ r. HasFollowed c.args.followers.now c.args.index c.args.message.now.body r.0 r.1.items c.replace.new.self)
     (λ r follows. record {
       before = c.replace-follower.result;
