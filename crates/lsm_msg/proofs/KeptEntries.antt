@@ -7,7 +7,7 @@ use Rattle.lsm_key.specs.Visible.{Latest, IsLatest, has_key, newest}
 use Rattle.lsm_key.proofs.LatestOfList.{latest-is, at_visible, has_key-at, is_seen-from, is_seen-low}
 use Rattle.lsm_key.specs.declared.range.KeyRange.{KeyRange}
 use Rattle.lsm_msg.specs.Merge.{IsKept}
-use Rattle.lsm_msg.specs.Laws.{KeptAreInputs, HiddenEntriesGo, ASnapshotKeepsBoth, BothGo, ADeeperFileKeepsTheDeletion, put, deletion, over_a}
+use Rattle.lsm_msg.specs.Laws.{KeptAreInputs, HiddenEntriesGo, ASnapshotKeepsBoth, BothGo, ADeeperFileKeepsTheDeletion, put_of_a, deletion, over_a}
 
 -- the newest is the latest of its key
 pub at_newest : (es : List Entry) (key : List ℕ) (e : Entry) → newest es key ≡ Some e → IsLatest (has_key key) es e
@@ -35,42 +35,42 @@ hidden_goes inputs points deeper older later m same lt apart k = elim k.needed [
 -- ---- the worked cases
 
 -- a fact of each of the two
-of_both : (P : Entry → Type 0) → P deletion → P put → (e : Entry) → IsIn e (deletion ∷ put ∷ []) → P e
+of_both : (P : Entry → Type 0) → P deletion → P put_of_a → (e : Entry) → IsIn e (deletion ∷ put_of_a ∷ []) → P e
 of_both P d p e m = elim m [
   | inl q ↦ subst P (sym q) d
   | inr r ↦ elim r [ inl q ↦ subst P (sym q) p | inr none ↦ absurd none ]
 ]
 
 -- the put is hidden where no point sees it alone
-put_goes : (deeper : List KeyRange) → IsKept (deletion ∷ put ∷ []) [] deeper put → ⊥
-put_goes deeper k = hidden_goes (deletion ∷ put ∷ []) [] deeper put deletion (inl refl) refl (omega arith) (λ p m. absurd m) k
+put_goes : (deeper : List KeyRange) → IsKept (deletion ∷ put_of_a ∷ []) [] deeper put_of_a → ⊥
+put_goes deeper k = hidden_goes (deletion ∷ put_of_a ∷ []) [] deeper put_of_a deletion (inl refl) refl (omega arith) (λ p m. absurd m) k
 
 pub snapshot_keeps : ASnapshotKeepsBoth
 snapshot_keeps e = (
-  of_both (IsKept (deletion ∷ put ∷ []) (1 ∷ []) [])
+  of_both (IsKept (deletion ∷ put_of_a ∷ []) (1 ∷ []) [])
       (record { needed = inl refl; stays = refl })
       (record { needed = inr (1, inl refl, refl); stays = refl })
       e,
-  kept_input (deletion ∷ put ∷ []) (1 ∷ []) [] e,
+  kept_input (deletion ∷ put_of_a ∷ []) (1 ∷ []) [] e,
 )
 
 pub both_go : BothGo
 both_go e = (
   λ m. absurd m,
-  λ k. of_both (λ f. IsKept (deletion ∷ put ∷ []) [] [] f → ⊥)
+  λ k. of_both (λ f. IsKept (deletion ∷ put_of_a ∷ []) [] [] f → ⊥)
       (λ d. true≢false d.stays)
       (put_goes [])
-      e (kept_input (deletion ∷ put ∷ []) [] [] e k) k,
+      e (kept_input (deletion ∷ put_of_a ∷ []) [] [] e k) k,
 )
 
 pub deletion_stays : ADeeperFileKeepsTheDeletion
 deletion_stays e = (
   λ m. elim m [
-    | inl q ↦ subst (IsKept (deletion ∷ put ∷ []) [] (over_a ∷ [])) (sym q) (record { needed = inl refl; stays = refl })
+    | inl q ↦ subst (IsKept (deletion ∷ put_of_a ∷ []) [] (over_a ∷ [])) (sym q) (record { needed = inl refl; stays = refl })
     | inr none ↦ absurd none
   ],
-  λ k. of_both (λ f. IsKept (deletion ∷ put ∷ []) [] (over_a ∷ []) f → IsIn f (deletion ∷ []))
+  λ k. of_both (λ f. IsKept (deletion ∷ put_of_a ∷ []) [] (over_a ∷ []) f → IsIn f (deletion ∷ []))
       (λ d. inl refl)
       (λ p. absurd (put_goes (over_a ∷ []) p))
-      e (kept_input (deletion ∷ put ∷ []) [] (over_a ∷ []) e k) k,
+      e (kept_input (deletion ∷ put_of_a ∷ []) [] (over_a ∷ []) e k) k,
 )

@@ -34,27 +34,27 @@ ReadsStay =
     → ReadAlike points inputs outputs inputs
 
 -- the text a, by its byte
-abbrev pub a : List ℕ
-a = 97 ∷ []
+abbrev pub key_a : List ℕ
+key_a = 97 ∷ []
 
 abbrev pub over_a : KeyRange
-over_a = record { lo = a; hi = a }
+over_a = record { lo = key_a; hi = key_a }
 
 -- the key a is put at sequence 1, and deleted at sequence 2
-abbrev pub put : Entry
-put = record { ikey = record { key = a; seq = 1; kind = Put }; value = 49 ∷ [] }
+abbrev pub put_of_a : Entry
+put_of_a = record { ikey = record { key = key_a; seq = 1; kind = Put }; value = 49 ∷ [] }
 
 abbrev pub deletion : Entry
-deletion = record { ikey = record { key = a; seq = 2; kind = Delete }; value = [] }
+deletion = record { ikey = record { key = key_a; seq = 2; kind = Delete }; value = [] }
 
 -- a snapshot at sequence 1 keeps both
 abbrev pub ASnapshotKeepsBoth : Type 0
-ASnapshotKeepsBoth = HoldsKept (deletion ∷ put ∷ []) (1 ∷ []) [] (deletion ∷ put ∷ [])
+ASnapshotKeepsBoth = HoldsKept (deletion ∷ put_of_a ∷ []) (1 ∷ []) [] (deletion ∷ put_of_a ∷ [])
 
 -- with no snapshot and no deeper file both go
 abbrev pub BothGo : Type 0
-BothGo = HoldsKept (deletion ∷ put ∷ []) [] [] []
+BothGo = HoldsKept (deletion ∷ put_of_a ∷ []) [] [] []
 
 -- a deeper file that may have the key keeps the deletion
 abbrev pub ADeeperFileKeepsTheDeletion : Type 0
-ADeeperFileKeepsTheDeletion = HoldsKept (deletion ∷ put ∷ []) [] (over_a ∷ []) (deletion ∷ [])
+ADeeperFileKeepsTheDeletion = HoldsKept (deletion ∷ put_of_a ∷ []) [] (over_a ∷ []) (deletion ∷ [])
