@@ -1,5 +1,5 @@
 -- What a refused flush or install may have put into the vault.
-use Rattle.std.proofs.Common.{◌≡◌, ℕ, zero, suc, ◌+◌, List, [], ◌∷◌, Some, Result, Ok, Err, IfErr, OnErr, inl, inr, sym, ap, subst, ◌∙◌, arith}
+use Rattle.std.proofs.Common.{◌≡◌, ℕ, zero, suc, ◌+◌, List, [], ◌∷◌, Some, Result, Ok, Err, IfErr, inl, inr, sym, ap, subst, ◌∙◌, arith}
 use Rattle.std.specs.List.{slice_get}
 use Rattle.std.specs.Result.{IsErrAnd}
 use Rattle.lsm_claim.specs.declared.job.Want.{Want}
@@ -20,10 +20,6 @@ use Rattle.lsm_coord.specs.Contract.Installing.{DecodeTo, IsOutput, install_edit
 use Rattle.lsm_coord.specs.Contract.Replies.{install_error}
 use Rattle.lsm_coord.specs.Contract.Value.{CoordValue}
 use Rattle.lsm_coord.specs.Inner.Putting.{IsTableOfFile, PutLeaves}
-
-pub on_err : {T E : Type 0} (r : Result T E) (P : Type 0) → P → OnErr r P
-on_err (Ok x) P h = tt
-on_err (Err e) P h = h
 
 -- other words for what may be put
 put_as : (MayPut Puts : ℕ → List ℕ → Type 0) (old new : VersionSetValue) → ((n : ℕ) (bytes : List ℕ) → MayPut n bytes → Puts n bytes) → MayHavePut MayPut old new → MayHavePut Puts old new

@@ -1,7 +1,8 @@
 -- A file whose table is damaged lacks it.
-use Rattle.std.proofs.Common.{◌≡◌, ◌∙◌, ℕ, List, Ok, Err, false, sym, subst}
+use Rattle.std.proofs.Common.{◌≡◌, ◌∙◌, ℕ, List, false, sym, subst}
 use Rattle.std.proofs.lemmas.Bool.{true≢false}
 use Rattle.std.proofs.lemmas.Option.{none-some, same_Some}
+use Rattle.lsm_key.proofs.Results.{ok_not_err}
 use Rattle.lsm_table.specs.Tables.{IsTable, Opened}
 use Rattle.lsm_table.proofs.TableContents.{table_one}
 use Rattle.lsm_table.proofs.TableLaws.{table_again}
@@ -12,9 +13,6 @@ use Rattle.lsm_versions.specs.Opening.{LacksTable}
 use Rattle.lsm_inspect.specs.declared.damage.Damage.{Damage}
 use Rattle.lsm_inspect.specs.declared.damage.Damage.TheVariants.{NotWhole, Missing, WrongLength, NotATable, WrongCount, WrongKeys}
 use Rattle.lsm_inspect.specs.Check.{HasMismatch, IsDamage, IsMismatch, is_among}
-
-not_both : {A E : Type 0} (x : A) (e : E) → Ok x ≡ Err e → ⊥
-not_both x e h = cc
 
 -- a table that is not as the file's record says is a damage
 pub mismatch_damage : (kept : TableMap) (damaged : List ℕ) (f : FileMeta) (d : Damage) → HasMismatch kept f d → IsDamage kept damaged f d
@@ -48,7 +46,7 @@ module _ (f : FileMeta) where
   damage_lacks kept damaged (NotATable fault) not is = λ t there recorded.
       let bytes : t.bytes ≡ is.0 = same_Some t.bytes is.0 (sym there ∙ is.1) in
       let table : IsTable is.0 t.entries = subst (λ (b : List ℕ). IsTable b t.entries) bytes recorded.table in
-      not_both t.entries fault (sym (table_again is.0 t.entries table) ∙ is.2)
+      ok_not_err t.entries fault (sym (table_again is.0 t.entries table) ∙ is.2)
   damage_lacks kept damaged (WrongLength recorded found) not is = mismatch_lacks kept (WrongLength recorded found) is
   damage_lacks kept damaged (WrongCount recorded found) not is = mismatch_lacks kept (WrongCount recorded found) is
   damage_lacks kept damaged WrongKeys not is = mismatch_lacks kept WrongKeys is

@@ -15,10 +15,6 @@ use Rattle.lsm_sim.specs.Runs.{Happens, HappensInPart, PrintsAPart, StopsFor}
 use Rattle.lsm_text.specs.Script.{script}
 use Rattle.lsm_sim.proofs.RunSteps.{IsSoFar, happens_prints}
 
-pub on_err : {A E : Type 0} (r : Result A E) (P : Type 0) → P → OnErr r P
-on_err (Ok x) P p = tt
-on_err (Err e) P p = p
-
 -- a beginning of what waits was written
 pub IsSoFar-stops : (old now : StoreValue) (events rest all : List Event) (was held last : Option (List ℕ)) (out bytes : List ℕ) → events ++ rest ≡ all → IsSoFar old now events was held out → bytes ≡ out → (k : ℕ) × Appends held last (take k bytes) → HappensInPart old all now was last
 IsSoFar-stops old now events rest all was held last out bytes parts so whole wrote =

@@ -1,20 +1,18 @@
-use Rattle.std.proofs.Common.{◌≡◌, ◌∙◌, ℕ, List, Ok, Err, sym, subst}
+use Rattle.std.proofs.Common.{◌≡◌, ◌∙◌, ℕ, List, Ok, sym, subst}
 use Rattle.std.proofs.lemmas.Bool.{true≢false}
 use Rattle.lsm_key.specs.declared.refused.Refused.{Refused}
 use Rattle.lsm_key.specs.Reading.{Fails}
+use Rattle.lsm_key.proofs.Results.{ok_not_err}
 use Rattle.lsm_table.specs.declared.fault.TableFault.{TableFault}
 use Rattle.lsm_table.specs.Tables.{IsTable}
 use Rattle.lsm_table.proofs.TableContents.{table_one}
 use Rattle.lsm_edit.specs.Served.{IsAsRecorded}
 use Rattle.lsm_edit.proofs.recorded.open_as_recorded.Goals as goal
 
-not_both : {A E : Type 0} (x : A) (e : E) → Ok x ≡ Err e → ⊥
-not_both x e h = cc
-
 pub returns-in-Err-Fault-clause-none : goal.returns-in-Err-Fault-clause-none
 returns-in-Err-Fault-clause-none c = λ t same recorded.
     let is = subst (λ (bytes : List ℕ). IsTable bytes t.entries) (same ∙ sym c.in_ok-clone.ensures.cases) recorded.table in
-    not_both t.entries c.in-Err-Fault.field-0-0 (subst (λ (e : Refused TableFault). Fails e (Ok t.entries)) c.in-Err-Fault.field-0-is (c.in-Err-Fault.ensures.only t.entries is))
+    ok_not_err t.entries c.in-Err-Fault.field-0-0 (subst (λ (e : Refused TableFault). Fails e (Ok t.entries)) c.in-Err-Fault.field-0-is (c.in-Err-Fault.ensures.only t.entries is))
 
 pub returns-then-not-is_as_recorded-clause-none : goal.returns-then-not-is_as_recorded-clause-none
 returns-then-not-is_as_recorded-clause-none c = λ t same recorded.

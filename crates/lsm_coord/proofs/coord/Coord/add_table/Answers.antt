@@ -1,6 +1,7 @@
 use Rattle.std.proofs.Common.{◌≡◌, ◌≤◌, ◌⊎◌, ◌∙◌, ◌++◌, ℕ, List, ◌∷◌, [], Option, None, Some, IfSome, drop, refl, ap, sym, subst, arith}
 use Rattle.std.specs.FinMap as fin
 use Rattle.lsm_key.specs.declared.entry.Entry.{Entry}
+use Rattle.lsm_key.proofs.Results.{on_err}
 use Rattle.lsm_edit.specs.Edit.{edit as spelling}
 use Rattle.lsm_edit.specs.Log.{read_records}
 use Rattle.lsm_edit.specs.Next.{flush_edit}
@@ -20,7 +21,7 @@ use Rattle.lsm_coord.proofs.VaultRefusals.{with_versions}
 use Rattle.lsm_coord.proofs.JobsStaySound.{flush_keeps}
 use Rattle.lsm_coord.proofs.LogCounts.{may_cut_by}
 use Rattle.lsm_coord.proofs.LoggedCalls.{flush_logged}
-use Rattle.lsm_coord.proofs.PutOutputs.{flush_put, on_err}
+use Rattle.lsm_coord.proofs.PutOutputs.{flush_put}
 use Rattle.lsm_coord.proofs.coord.Coord.add_table.Goals as goal
 
 pub invariant_of-self-then-is_some : goal.invariant_of-self-then-is_some

@@ -1,4 +1,5 @@
 use Rattle.std.proofs.Common.{◌≡◌, ◌∙◌, ◌∷◌, ◌++◌, [], List, None, ap, subst}
+use Rattle.lsm_key.proofs.Results.{on_err}
 use Rattle.lsm_table.specs.Tables.{Opened}
 use Rattle.lsm_edit.specs.declared.edit.Edit.{Edit}
 use Rattle.lsm_edit.specs.Next.{flush_edit}
@@ -7,7 +8,7 @@ use Rattle.lsm_edit.specs.Version.{VersionValue, IsVersion, apply_fault}
 use Rattle.lsm_versions.specs.Manifest.{MayHavePut, VersionSetValue}
 use Rattle.lsm_coord.specs.Inner.Putting.{IsTableOfFile}
 use Rattle.lsm_coord.proofs.FlushSteps.{logged_is}
-use Rattle.lsm_coord.proofs.PutOutputs.{file_put, on_err}
+use Rattle.lsm_coord.proofs.PutOutputs.{file_put}
 use Rattle.lsm_coord.proofs.coord.flush.put_table.Goals as goal
 
 pub log_and_apply-requires-clause-recorded : goal.log_and_apply-requires-clause-recorded

@@ -1,4 +1,5 @@
-use Rattle.std.proofs.Common.{◌≡◌, ◌∙◌, Result, Ok, Err, OnErr, ◌∷◌, [], ◌++◌, None, sym, ap, subst, rules}
+use Rattle.std.proofs.Common.{◌≡◌, ◌∙◌, ◌∷◌, [], ◌++◌, None, sym, ap, subst, rules}
+use Rattle.lsm_key.proofs.Results.{on_err}
 use Rattle.lsm_edit.specs.Edit.{edit as spelling}
 use Rattle.lsm_edit.specs.Prepared.{PreparedValue, after_taking_up}
 use Rattle.lsm_edit.specs.Served.{IsServed, ServedValue, after_advance, placed_of}
@@ -15,10 +16,6 @@ use Rattle.lsm_versions.proofs.PutTables.{files_put, put_apart, put_numbered_is}
 use Rattle.lsm_versions.proofs.RecentEdits.{pushed}
 use Rattle.lsm_versions.proofs.version_set.VersionSet.log_and_apply.Given.{Over}
 use Rattle.lsm_versions.proofs.version_set.VersionSet.log_and_apply.Goals as goal
-
-on_err : {A E : Type 0} (r : Result A E) (P : Type 0) → P → OnErr r P
-on_err (Ok x) P h = tt
-on_err (Err e) P h = h
 
 pub invariant_of-self-in_err-store : goal.invariant_of-self-in_err-store
 invariant_of-self-in_err-store g c =
