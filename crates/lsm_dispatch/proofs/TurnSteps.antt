@@ -8,10 +8,11 @@ use Rattle.std.proofs.lemmas.Bool.{cases_lt, true≢false}
 use Rattle.std.proofs.lemmas.Grind.{flat_map-append}
 use Rattle.lsm_key.specs.declared.limits.TheConstants.{MAX_NODES}
 use Rattle.lsm_msg.specs.declared.message.Message.{Message}
-use Rattle.lsm_msg.specs.Messages.{IsSpelled, message, sized}
+use Rattle.lsm_msg.specs.Messages.{IsSpelled, sized}
 use Rattle.lsm_frame.specs.declared.error.PipeError.{PipeError}
 use Rattle.lsm_frame.specs.declared.error.PipeError.TheVariants as pipe
 use Rattle.lsm_frame.specs.Frames.{FrameRefuses, framed}
+use Rattle.lsm_frame.proofs.WorkSteps.{framed_then}
 use Rattle.lsm_coord.specs.declared.error.CoordError.{CoordError}
 use Rattle.lsm_coord.specs.Contract.Value.{CoordValue}
 use Rattle.lsm_store.specs.declared.due.Due.{Due}
@@ -45,9 +46,6 @@ runs_one crew crew_new old new was left held holds t is read written = record {
 through_then : (a b d : List WorkerState) (x y z : CoordValue) (ts us : List Turn) → TurnsThrough a x ts b y → TurnsThrough b y us d z → TurnsThrough a x (ts ++ us) d z
 through_then a b d x y z [] us p q = subst (λ (crew : List WorkerState). TurnsThrough crew x us d z) p.0 (subst (λ (c : CoordValue). TurnsThrough b c us d z) p.1 q)
 through_then a b d x y z (t ∷ ts) us p q = (p.0, p.1, p.2, through_then p.0 b d p.1 y z ts us p.3 q)
-
-framed_then : (xs ys : List Message) → framed (xs ++ ys) ≡ framed xs ++ framed ys
-framed_then xs ys = flat_map-append (λ (m : Message). sized (message m)) xs ys
 
 pub runs_then : (a b d : List WorkerState) (x y z : CoordValue) (was mid left held half holds : Option (List ℕ)) → RunsOver a x was mid held half b y → RunsOver b y mid left half holds d z → RunsOver a x was left held holds d z
 runs_then a b d x y z was mid left held half holds p q = record {

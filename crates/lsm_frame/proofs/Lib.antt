@@ -1,2 +1,2 @@
 mod FrameReading
-mod WorkSteps
+pub mod WorkSteps

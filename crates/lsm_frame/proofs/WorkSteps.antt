@@ -66,7 +66,7 @@ stops_at index w m was left e read h = absurd h
 
 -- ---- one after another
 
-framed_then : (xs ys : List Message) → framed (xs ++ ys) ≡ framed xs ++ framed ys
+pub framed_then : (xs ys : List Message) → framed (xs ++ ys) ≡ framed xs ++ framed ys
 framed_then [] ys = refl
 framed_then (x ∷ xs) ys = ap (λ (r : List ℕ). sized (message x) ++ r) (framed_then xs ys) ∙ sym (append_assoc (sized (message x)) (framed xs) (framed ys))
 
