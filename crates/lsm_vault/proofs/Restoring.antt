@@ -9,7 +9,7 @@ use Rattle.std.proofs.lemmas.Bool.{cases_eq}
 use Rattle.lsm_vault.specs.Restored.{restored}
 
 -- two numbers that differ are told apart
-tied-not : (q k : ℕ) → (q ≡ k → ⊥) → eq_by_cmp nat_cmp q k ≡ false
+pub tied-not : (q k : ℕ) → (q ≡ k → ⊥) → eq_by_cmp nat_cmp q k ≡ false
 tied-not q k ne = grind (arith, nat_tests)
 
 -- and a number is itself

@@ -1,9 +1,7 @@
 -- The tables of a vault after some are put or removed.
-use Rattle.std.proofs.Common.{◌≡◌, ℕ, ◌≤◌, Bool, false, cond, List, [], ◌∷◌, None, Some, Result, Ok, Err, OnOk, OnErr, refl, sym, ap, subst, ◌∙◌, inl, inr, arith}
-use Rattle.std.specs.Ordering.{nat_cmp, eq_by_cmp}
+use Rattle.std.proofs.Common.{◌≡◌, ℕ, ◌≤◌, Bool, cond, List, [], ◌∷◌, None, Some, Result, Ok, Err, OnOk, OnErr, refl, sym, ap, subst, ◌∙◌, inl, inr, arith}
 use Rattle.std.specs.FinMap.{get, get-insert, get-remove, insert, remove}
 use Rattle.std.specs.Cmp.{nat_cmp_total, eq_by_cmp_equiv}
-use Rattle.std.proofs.lemmas.Bool.Decides.{nat_tests}
 use Rattle.std.proofs.lemmas.Bool.{cases_eq}
 use Rattle.lsm_key.specs.Sets.{IsIn}
 use Rattle.lsm_edit.specs.declared.file.FileMeta.{FileMeta}
@@ -16,12 +14,10 @@ use Rattle.lsm_vault.specs.Failures.{CountsFailures}
 use Rattle.lsm_vault.specs.declared.error.VaultError.{VaultError}
 use Rattle.lsm_vault.specs.declared.error.VaultError.TheVariants.{Device, OutOfMemory}
 use Rattle.lsm_vault.specs.Stored.{TableMap, VaultValue}
+use Rattle.lsm_vault.proofs.Restoring.{tied-not}
 use Rattle.lsm_versions.specs.declared.putting.NumberedTable.{NumberedTable}
 use Rattle.lsm_versions.specs.Kept.{IsTableOf, MayHavePutSome, MayHaveRemoved, StaysApart, put_tables}
 use Rattle.lsm_versions.specs.Putting.{IsTableToPut, numbered_tables, put_numbered}
-
-tied-not : (q k : ℕ) → (q ≡ k → ⊥) → eq_by_cmp nat_cmp q k ≡ false
-tied-not q k ne = grind (arith, nat_tests)
 
 -- another number keeps its table
 pub put_other : (kept : TableMap) (k : ℕ) (bytes : List ℕ) (q : ℕ) → (q ≡ k → ⊥) → get (insert kept k bytes) q ≡ get kept q
