@@ -13,3 +13,4 @@ pub mod TakenHeads
 pub mod WalkSteps
 pub mod WalkChains
 pub mod MergedWalks
+pub mod ResultTables

@@ -1,4 +1,3 @@
 pub mod HeldInputs
-pub mod ResultTables
 pub mod Steps
 pub mod LastInput

@@ -16,7 +16,7 @@ use Rattle.lsm_coord.specs.Contract.Memory.{IsFit}
 use Rattle.lsm_coord.specs.Contract.Serving.{after_version, answer_message, table_body}
 use Rattle.lsm_coord.proofs.ServedFiles.{was_mapped}
 use Rattle.lsm_coord.specs.Contract.Value.{CoordValue}
-use Rattle.lsm_work.proofs.ResultTables.{tables_may_be_sent}
+use Rattle.lsm_merge.proofs.ResultTables.{tables_may_be_sent}
 use Rattle.lsm_world.specs.declared.reply.Sent.{Sent}
 use Rattle.lsm_world.specs.declared.reply.Reply.{Reply}
 use Rattle.lsm_world.specs.Asks.{ServesMessage, Receives, Sends}

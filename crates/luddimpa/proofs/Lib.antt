@@ -3,4 +3,3 @@ mod ElementReading
 mod JobOutcomes
 mod JobTables
 mod NoTable
-mod ResultTables

@@ -1,4 +1,4 @@
-use Rattle.luddimpa.proofs.ResultTables.{tables_may_be_sent}
+use Rattle.lsm_merge.proofs.ResultTables.{tables_may_be_sent}
 use Rattle.luddimpa.proofs.merging.merge_tables.Goals as goal
 
 pub send-requires : goal.send-requires

@@ -12,7 +12,7 @@ use Rattle.lsm_work.specs.declared.change.WorkChange.TheVariants.{Collecting, Me
 use Rattle.lsm_msg.specs.declared.node.Node.TheVariants.{Worker}
 use Rattle.lsm_work.specs.Workers.{WorkOutcome, TaskValue, WorkerValue, missing, received_tables, with_input}
 use Rattle.lsm_work.proofs.LastInput.{found, some_left, none_left, all_come, all_recorded}
-use Rattle.lsm_work.proofs.ResultTables.{tables_may_be_sent}
+use Rattle.lsm_merge.proofs.ResultTables.{tables_may_be_sent}
 use Rattle.lsm_work.proofs.Steps.{All-one, proceeds_more, proceeds_last}
 use Rattle.lsm_work.proofs.task.Task.receive.Goals as goal
 
