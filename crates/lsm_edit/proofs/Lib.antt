@@ -9,6 +9,7 @@ pub mod JoinedBytes
 pub mod TextSizes
 pub mod VersionLaws
 pub mod NumbersNeverReturn
+pub mod PushedEdits
 pub mod KeysOutOfRange
 pub mod AdvancedPlaces
 pub mod NextLaws

@@ -10,6 +10,7 @@ use Rattle.lsm_edit.specs.Edit.{IsSpelledEdit, read_edit}
 use Rattle.lsm_edit.specs.Version.{IsVersion, VersionValue, first_version, apply_fault, after_apply}
 use Rattle.lsm_edit.proofs.EditLaws.{edit_again}
 use Rattle.lsm_edit.proofs.NumbersNeverReturn.{removed_once}
+use Rattle.lsm_edit.proofs.PushedEdits.{Apply-push, folded-push}
 use Rattle.lsm_edit.proofs.VersionLaws.{none_passed}
 use Rattle.lsm_edit.specs.Edits.{Apply, RemovedOnce, after_edits, versions_from}
 use Rattle.lsm_versions.specs.Manifest.{ok_items, read_edits, versions_of, Folds}
@@ -24,14 +25,6 @@ pub read_edits-push : (texts : List (List ℕ)) (text : List ℕ) (e : Edit) →
 read_edits-push texts text e one =
     flat_map-append (λ (t : List ℕ). ok_items (read_edit t)) texts (text ∷ [])
     ∙ ap (λ (es : List Edit). read_edits texts ++ (es ++ [])) (spells_one text e one)
-
-pub Apply-push : (v : VersionValue) (edits : List Edit) (e : Edit) → Apply v edits → apply_fault (after_edits v edits) e ≡ None → Apply v (edits ++ e ∷ [])
-Apply-push v [] e h one = (one, tt)
-Apply-push v (x ∷ edits) e h one = (h.0, Apply-push (after_apply v x) edits e h.1 one)
-
-pub folded-push : (v : VersionValue) (edits : List Edit) (e : Edit) → after_edits v (edits ++ e ∷ []) ≡ after_apply (after_edits v edits) e
-folded-push v [] e = refl
-folded-push v (x ∷ edits) e = folded-push (after_apply v x) edits e
 
 versions_from-push : (v : VersionValue) (edits : List Edit) (e : Edit) → versions_from v (edits ++ e ∷ []) ≡ versions_from v edits ++ after_apply (after_edits v edits) e ∷ []
 versions_from-push v [] e = refl

@@ -10,12 +10,6 @@ use Rattle.lsm_vault.specs.Stored.{TableMap}
 use Rattle.lsm_versions.specs.Opening.{ArePlacesKept, HaveTables}
 
 -- one table more
-pub recorded_push : (fs : List FileMeta) (ts : List Opened) (f : FileMeta) (t : Opened) → AreAsRecorded fs ts → IsAsRecorded f t → AreAsRecorded (fs ++ f ∷ []) (ts ++ t ∷ [])
-recorded_push [] [] f t are one = (one, tt)
-recorded_push [] (u ∷ ts) f t are one = absurd are
-recorded_push (g ∷ fs) [] f t are one = absurd are
-recorded_push (g ∷ fs) (u ∷ ts) f t are one = (are.0, recorded_push fs ts f t are.1 one)
-
 pub kept_push : (kept : TableMap) (fs : List FileMeta) (ts : List Opened) (f : FileMeta) (t : Opened) → AreAsRecorded fs ts → ArePlacesKept kept (placed_of fs ts) → get kept f.number ≡ Some t.bytes → ArePlacesKept kept (placed_of (fs ++ f ∷ []) (ts ++ t ∷ []))
 kept_push kept [] [] f t are before one p (inl same) = subst (λ (q : Placed). get kept q.meta.number ≡ Some q.table.bytes) (sym same) one
 kept_push kept [] [] f t are before one p (inr none) = absurd none

@@ -1,25 +1,17 @@
 -- Edits that are taken from a list and applied, one after the other.
-use Rattle.std.proofs.Common.{◌≡◌, ◌∙◌, ℕ, ◌<◌, ◌^◌, List, [], ◌∷◌, ◌++◌, length, All, None, Result, Ok, Err, IfErr, append_assoc, refl, sym, ap, subst, arith}
+use Rattle.std.proofs.Common.{◌≡◌, ◌∙◌, ℕ, ◌<◌, ◌^◌, List, [], ◌∷◌, ◌++◌, length, All, None, Result, Ok, Err, IfErr, append_assoc, sym, ap, subst, arith}
 use Rattle.std.specs.List.{flat_map}
 use Rattle.std.proofs.lemmas.Grind.{flat_map-append}
 use Rattle.std.proofs.lemmas.List.{append-nil}
 use Rattle.std.proofs.lemmas.List.Elements.{All-append, All-cons}
 use Rattle.lsm_edit.specs.declared.edit.Edit.{Edit}
 use Rattle.lsm_edit.specs.Edit.{IsSpelledEdit}
-use Rattle.lsm_edit.specs.Edits.{Apply, after_edits}
 use Rattle.lsm_edit.specs.Version.{VersionValue, after_apply, apply_fault, first_version}
+use Rattle.lsm_edit.proofs.PushedEdits.{Apply-push, folded-push}
 use Rattle.lsm_msg.specs.Messages.{sized}
 use Rattle.luddimpa.specs.declared.checked_edits.EditsFault.{EditsFault}
 use Rattle.luddimpa.specs.declared.checked_edits.EditsFault.TheVariants.{CutShort, NotAnEdit, DoesNotApply, OutOfMemory}
 use Rattle.luddimpa.specs.EditChecks.{AppliesOne, RefusesEdit, IsSizedEdit, Replays, StopsAt, sized_edit}
-
-Apply-push : (v : VersionValue) (edits : List Edit) (e : Edit) → Apply v edits → apply_fault (after_edits v edits) e ≡ None → Apply v (edits ++ e ∷ [])
-Apply-push v [] e h one = (one, tt)
-Apply-push v (x ∷ edits) e h one = (h.0, Apply-push (after_apply v x) edits e h.1 one)
-
-folded-push : (v : VersionValue) (edits : List Edit) (e : Edit) → after_edits v (edits ++ e ∷ []) ≡ after_apply (after_edits v edits) e
-folded-push v [] e = refl
-folded-push v (x ∷ edits) e = folded-push (after_apply v x) edits e
 
 none_yet : All IsSizedEdit []
 none_yet k d lt = absurd (omega (arith, lt))

@@ -6,18 +6,11 @@ use Rattle.lsm_key.proofs.FieldLaws.{ok_is}
 use Rattle.lsm_table.specs.Tables.{Opened}
 use Rattle.lsm_edit.specs.declared.file.FileMeta.{FileMeta}
 use Rattle.lsm_edit.specs.declared.format.FormatFault.{FormatFault}
-use Rattle.lsm_edit.specs.Served.{AreAsRecorded, IsAsRecorded}
+use Rattle.lsm_edit.specs.Served.{IsAsRecorded}
 use Rattle.lsm_msg.specs.Messages.{sized}
 use Rattle.luddimpa.specs.Elements.{element_at}
 use Rattle.luddimpa.specs.JobMerges.{BeginsWrong, StandsAsRecorded, sized_tables}
 use Rattle.luddimpa.proofs.ElementReading.{element_again}
-
--- one table more
-pub recorded_push : (fs : List FileMeta) (ts : List Opened) (f : FileMeta) (t : Opened) → AreAsRecorded fs ts → IsAsRecorded f t → AreAsRecorded (fs ++ f ∷ []) (ts ++ t ∷ [])
-recorded_push [] [] f t are one = (one, tt)
-recorded_push [] (u ∷ ts) f t are one = absurd are
-recorded_push (g ∷ fs) [] f t are one = absurd are
-recorded_push (g ∷ fs) (u ∷ ts) f t are one = (are.0, recorded_push fs ts f t are.1 one)
 
 sized_push : (ts : List Opened) (t : Opened) (more : List ℕ) → sized_tables (ts ++ t ∷ []) ++ more ≡ sized_tables ts ++ (sized t.bytes ++ more)
 sized_push ts t more =

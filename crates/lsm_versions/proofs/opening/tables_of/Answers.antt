@@ -7,10 +7,11 @@ use Rattle.lsm_key.proofs.Membership.{IsIn-at}
 use Rattle.lsm_table.specs.Tables.{Opened}
 use Rattle.lsm_edit.specs.declared.file.FileMeta.{FileMeta}
 use Rattle.lsm_edit.specs.Served.{IsAsRecorded}
+use Rattle.lsm_edit.proofs.PushedEdits.{recorded_push}
 use Rattle.lsm_vault.specs.Stored.{VaultValue}
 use Rattle.lsm_versions.specs.Opening.{LacksTable}
 use Rattle.lsm_versions.proofs.PutTables.{never_falls}
-use Rattle.lsm_versions.proofs.RecoveredTables.{kept_push, recorded_push}
+use Rattle.lsm_versions.proofs.RecoveredTables.{kept_push}
 use Rattle.lsm_versions.proofs.opening.tables_of.Goals as goal
 
 pub returns-in_default-clause-none : goal.returns-in_default-clause-none

@@ -4,9 +4,10 @@ use Rattle.std.specs.Option.{IfNone, IfSome}
 use Rattle.lsm_table.specs.Tables.{Opened}
 use Rattle.lsm_edit.specs.declared.file.FileMeta.{FileMeta}
 use Rattle.lsm_edit.specs.Served.{IsAsRecorded}
+use Rattle.lsm_edit.proofs.PushedEdits.{recorded_push}
 use Rattle.lsm_msg.specs.Messages.{sized}
 use Rattle.luddimpa.specs.JobMerges.{StandsAsRecorded}
-use Rattle.luddimpa.proofs.JobTables.{parts_push, recorded_push, wrong_here}
+use Rattle.luddimpa.proofs.JobTables.{parts_push, wrong_here}
 use Rattle.luddimpa.proofs.job_tables.tables_of.Goals as goal
 
 pub returns-in_default-clause-refused : goal.returns-in_default-clause-refused
