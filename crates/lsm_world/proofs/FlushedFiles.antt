@@ -19,7 +19,7 @@ use Rattle.lsm_coord.specs.Contract.Sound.{KeepsSound}
 use Rattle.lsm_coord.specs.Contract.Value.{CoordValue}
 use Rattle.lsm_world.specs.History.{History, IsHistory, IsFileOf, AreFiles, AreJobs, AreClaims, versions_in}
 use Rattle.lsm_world.specs.Nodes.{NodesValue}
-use Rattle.lsm_world.proofs.GrowingHistory.{Grows, Keeps, goes_on, same_jobs, table_stays}
+use Rattle.lsm_world.proofs.GrowingHistory.{Grows, Keeps, NameOneFile, goes_on, same_jobs, table_stays}
 use Rattle.lsm_world.proofs.LoggedHistories.{grown_versions, listed_on, logs_one}
 use Rattle.lsm_world.proofs.QuietCalls.{jobs_stay}
 
@@ -56,7 +56,7 @@ module _ (h : History) (old new : CoordValue) (file : FileMeta) (table : Opened)
   here : IsIn place new.served.places
   here = subst (IsIn place) (sym places_are) (inl refl)
 
-  one_file : (p q : Placed) → IsIn p more.files → IsIn q more.files → p.meta.number ≡ q.meta.number → p ≡ q
+  one_file : NameOneFile more.files
   one_file p q mp mq same = elim mp [
     | inl first ↦ elim mq [
       | inl both ↦ first ∙ sym both

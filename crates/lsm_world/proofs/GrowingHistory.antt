@@ -30,11 +30,15 @@ pub record GrowsEdits (h more : History) : Type 0 where
   pub longer : length h.edits ≤ length more.edits
   pub versions : (versions_in more ≡ versions_in h) ⊎ ((v : VersionValue) × (versions_in more ≡ versions_in h ++ v ∷ []))
 
+-- a number names one file
+abbrev pub NameOneFile : List Placed → Type 0
+NameOneFile files = (p q : Placed) → IsIn p files → IsIn q files → p.meta.number ≡ q.meta.number → p ≡ q
+
 -- the files, jobs and edits of the one are those of the other, in which a number names one file
 pub record Grows (h more : History) : Type 0 where
   pub files : (p : Placed) → IsIn p h.files → IsIn p more.files
   pub jobs : (j : JobParts) → IsIn j h.jobs → IsIn j more.jobs
-  pub one : (p q : Placed) → IsIn p more.files → IsIn q more.files → p.meta.number ≡ q.meta.number → p ≡ q
+  pub one : NameOneFile more.files
   pub edits : GrowsEdits h more
 
 -- ---- edits
@@ -54,7 +58,7 @@ one_edit h more e v edits versions = record {
 }
 
 -- a history is one that has grown by nothing
-pub grows_by_none : (h : History) → ((p q : Placed) → IsIn p h.files → IsIn q h.files → p.meta.number ≡ q.meta.number → p ≡ q) → Grows h h
+pub grows_by_none : (h : History) → NameOneFile h.files → Grows h h
 grows_by_none h one = record { files = λ p m. m; jobs = λ j m. m; one = one; edits = same_edits h h refl }
 
 module _ (h more : History) (grows : Grows h more) where

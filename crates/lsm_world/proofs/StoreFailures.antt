@@ -52,16 +52,16 @@ module _ (old new : StoreValue) where
   stays s is same = ap (λ (x : StoreValue). x.seat.failures) is ∙ same
 
   -- a worker or a follower was asked
-  kept_failures : (r : Reply) → new ≡ record old { network = new.network } → Counts before r before → Counts before r after
-  kept_failures r is counts = subst (λ (n : ℕ). Counts before r n) (sym (ap (λ (x : StoreValue). x.seat.failures) is)) counts
+  other_asked : new ≡ record old { network = new.network } → after ≡ before
+  other_asked is = ap (λ (x : StoreValue). x.seat.failures) is
 
   other : (e : Event) (r : Reply) → AsksOtherDown old e r new → Counts before r after
-  other e r is = kept_failures r is.1 (network_counted before old.network new.network e r is.0)
+  other e r is = told r r refl (other_asked is.1) (network_counted before old.network new.network e r is.0)
 
   delivered : (m : Message) (dst : Node) (r : Reply) → DeliversDown old m dst r new → Counts before r after
   delivered m Coordinator r is = told r (reply.Refused why.Down) is.0 (stays old is.1 refl) (omega arith)
-  delivered m (Worker index) r is = kept_failures r is.1 (passed_counted before old.network new.network m (Worker index) r is.0)
-  delivered m (Follower index) r is = kept_failures r is.1 (passed_counted before old.network new.network m (Follower index) r is.0)
+  delivered m (Worker index) r is = told r r refl (other_asked is.1) (passed_counted before old.network new.network m (Worker index) r is.0)
+  delivered m (Follower index) r is = told r r refl (other_asked is.1) (passed_counted before old.network new.network m (Follower index) r is.0)
 
   delivered_at : (number : ℕ) (r : Reply) → DeliversAtDown old number r new → Counts before r after
   delivered_at number (reply.Refused why.NoMessage) is = still before after (stays old is.1 refl)
