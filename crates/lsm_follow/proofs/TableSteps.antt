@@ -41,8 +41,7 @@ module _ (f : FollowerValue) (is : IsFollower f) (to : PendingValue) (seen : f.p
     pub last_comes : AreLacking f.served.version to.target (with_table p to).received
     last_comes = all_come f.served.version (with_table p to) more (last_goes to.missing at p.meta few stands.0 stands.1)
 
-    pub takes_last : (n : ℕ) (bytes : List ℕ) (o : FollowOutcome) → p.meta.number ≡ n → p.table.bytes ≡ bytes
-        → IfSome f.pending (λ was. (g : FileMeta) → StandsAt was.missing at g → o ≡ moves f (with_table (record { meta = g; table = p.table }) was)) → TakesMissing f n bytes f.pending o
+    pub takes_last : (n : ℕ) (bytes : List ℕ) (o : FollowOutcome) → p.meta.number ≡ n → p.table.bytes ≡ bytes → IfSome f.pending (λ was. (g : FileMeta) → StandsAt was.missing at g → o ≡ moves f (with_table (record { meta = g; table = p.table }) was)) → TakesMissing f n bytes f.pending o
     takes_last n bytes o number text made =
         let moved = subst (λ (x : Option PendingValue). IfSome x (λ was. (g : FileMeta) → StandsAt was.missing at g → o ≡ moves f (with_table (record { meta = g; table = p.table }) was))) seen made p.meta stands in
         subst (λ (x : Option PendingValue). TakesMissing f n bytes x o) (sym seen)
@@ -56,8 +55,7 @@ module _ (f : FollowerValue) (is : IsFollower f) (to : PendingValue) (seen : f.p
     pub still_waits : IsPending f.served.version (with_table p to)
     still_waits = record { version = pending.version; later = pending.later; has = more; some = stay }
 
-    pub takes_more : (n : ℕ) (bytes : List ℕ) (o : FollowOutcome) → p.meta.number ≡ n → p.table.bytes ≡ bytes
-        → IfSome f.pending (λ was. (g : FileMeta) → StandsAt was.missing at g → o ≡ waits f (with_table (record { meta = g; table = p.table }) was) []) → TakesMissing f n bytes f.pending o
+    pub takes_more : (n : ℕ) (bytes : List ℕ) (o : FollowOutcome) → p.meta.number ≡ n → p.table.bytes ≡ bytes → IfSome f.pending (λ was. (g : FileMeta) → StandsAt was.missing at g → o ≡ waits f (with_table (record { meta = g; table = p.table }) was) []) → TakesMissing f n bytes f.pending o
     takes_more n bytes o number text made =
         let kept = subst (λ (x : Option PendingValue). IfSome x (λ was. (g : FileMeta) → StandsAt was.missing at g → o ≡ waits f (with_table (record { meta = g; table = p.table }) was) [])) seen made p.meta stands in
         subst (λ (x : Option PendingValue). TakesMissing f n bytes x o) (sym seen)

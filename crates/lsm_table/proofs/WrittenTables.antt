@@ -106,8 +106,7 @@ module _ (target : ℕ) (es : List Entry) (count : ℕ) (lines blocks : List ℕ
   recounted = subst (λ (n : ℕ). IsDraftWritten target es n lines blocks last m) is.counted is
 
   module _ (bytes : List ℕ) (e : Entry) (next : IsNextEntry es bytes e) where
-    lines_grown : (more : Measure) (new : List ℕ) → (m.last < target → new ≡ lines) → (target ≤ m.last → new ≡ lines ++ (to_be_bytes w32 m.last ++ end_key (last_of es))) → (m.last < target → more.last ≡ m.last + length bytes) → (target ≤ m.last → more.last ≡ length bytes)
-        → IndexSoFar target (es ++ e ∷ []) [] new more.last
+    lines_grown : (more : Measure) (new : List ℕ) → (m.last < target → new ≡ lines) → (target ≤ m.last → new ≡ lines ++ (to_be_bytes w32 m.last ++ end_key (last_of es))) → (m.last < target → more.last ≡ m.last + length bytes) → (target ≤ m.last → more.last ≡ length bytes) → IndexSoFar target (es ++ e ∷ []) [] new more.last
     lines_grown more new same closes wider begun =
         let weighs = next_weighs es bytes e next in
         elim (cases_lt m.last target) [
