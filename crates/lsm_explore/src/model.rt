@@ -14,18 +14,18 @@ const NODES: usize = 4;
 
 /// A file and its level.
 #[derive(Clone, Copy)]
-pub(crate) struct Place {
+pub(crate) struct ModelFile {
     pub(crate) level: u8,
     pub(crate) file: u64,
 }
 
 /// What a version number stands for.
 #[derive(Drop)]
-pub(crate) struct Version {
+pub(crate) struct ModelVersion {
     /// Every write up to it is in the files.
     pub(crate) flushed: u64,
     /// By number.
-    pub(crate) files: Vec<Place>,
+    pub(crate) files: Vec<ModelFile>,
 }
 
 /// A job whose claim a dispatcher holds.
@@ -70,7 +70,7 @@ pub(crate) struct Model {
     /// The sequence of a write is its place, from 1.
     pub(crate) writes: Vec<Op>,
     /// By number from 0.
-    pub(crate) versions: Vec<Version>,
+    pub(crate) versions: Vec<ModelVersion>,
     /// The live ones, each with the sequence that it reads at.
     pub(crate) snapshots: Vec<(SnapId, u64)>,
     /// How many this epoch has made.
@@ -103,7 +103,7 @@ impl Model {
     pub(crate) fn new(alloc: Global, l0: u64) -> Result<Model, AllocError> {
         let mut versions = Vec::new(alloc);
         for _ in 0..2 {
-            versions.push(Version {
+            versions.push(ModelVersion {
                 flushed: 0,
                 files: Vec::new(alloc),
             })?;
@@ -142,7 +142,7 @@ impl Model {
     }
 
     /// What a number stands for.
-    pub(crate) fn version(&self, number: u64) -> Option<&Version> {
+    pub(crate) fn version(&self, number: u64) -> Option<&ModelVersion> {
         self.versions.get(number as usize)
     }
 
@@ -152,7 +152,7 @@ impl Model {
     }
 
     /// The files of a version.
-    pub(crate) fn files(&self, number: u64) -> &[Place] {
+    pub(crate) fn files(&self, number: u64) -> &[ModelFile] {
         match self.version(number) {
             None => &[],
             Some(version) => version.files.as_slice(),
@@ -229,9 +229,9 @@ impl Model {
             }
         }
         for file in self.next_file..self.next_file.saturating_add(added) {
-            files.push(Place { level, file })?;
+            files.push(ModelFile { level, file })?;
         }
-        self.versions.push(Version { flushed, files })?;
+        self.versions.push(ModelVersion { flushed, files })?;
         self.next_file = self.next_file.saturating_add(added);
         Ok(())
     }
