@@ -17,9 +17,9 @@ const MAX_TYPED_BYTES: usize = 4_095;
 /// How much is read at once, and how many bytes of answers are kept back while more lines wait. In bytes.
 const BUFFER_BYTES: usize = 65_536;
 
-/// What was found in place of the next line.
+/// The next line, or what was found in its place.
 #[derive(Clone, Copy, Debug, PartialEq, Eq)]
-pub(crate) enum Found {
+pub(crate) enum NextLine {
     /// A line.
     Line,
     /// A line of more than `MAX_LINE_BYTES`, which was skipped.
@@ -74,10 +74,10 @@ impl<R: Read + Drop, W: Write + Drop> Console<R, W> {
     }
 
     /// Reads the next line, without its end.
-    pub(crate) fn read_line(&mut self, line: &mut Vec<u8>) -> Result<Found, RunError> {
+    pub(crate) fn read_line(&mut self, line: &mut Vec<u8>) -> Result<NextLine, RunError> {
         let found = read_line(&mut self.reader, line)?;
         if self.has_prompt && line.len() >= MAX_TYPED_BYTES {
-            return Ok(Found::MaybeCut);
+            return Ok(NextLine::MaybeCut);
         }
         Ok(found)
     }
@@ -97,9 +97,9 @@ impl<R: Read + Drop, W: Write + Drop> Console<R, W> {
 }
 
 // Reads a line.
-fn read_line<R: BufRead>(reader: &mut R, line: &mut Vec<u8>) -> Result<Found, RunError> {
+fn read_line<R: BufRead>(reader: &mut R, line: &mut Vec<u8>) -> Result<NextLine, RunError> {
     line.clear();
-    let mut found = Found::End;
+    let mut found = NextLine::End;
     for _ in 0..u64::MAX {
         let piece = match reader.fill_buf() {
             Ok(piece) => piece,
@@ -124,11 +124,11 @@ fn read_line<R: BufRead>(reader: &mut R, line: &mut Vec<u8>) -> Result<Found, Ru
 }
 
 // Adds a piece to a line, or drops the line if it is too long with it.
-fn extend(line: &mut Vec<u8>, piece: &[u8], found: Found) -> Result<Found, RunError> {
-    if found == Found::TooLong || piece.len() > MAX_LINE_BYTES.saturating_sub(line.len()) {
+fn extend(line: &mut Vec<u8>, piece: &[u8], found: NextLine) -> Result<NextLine, RunError> {
+    if found == NextLine::TooLong || piece.len() > MAX_LINE_BYTES.saturating_sub(line.len()) {
         line.clear();
-        return Ok(Found::TooLong);
+        return Ok(NextLine::TooLong);
     }
     line.extend_from_slice(piece)?;
-    Ok(Found::Line)
+    Ok(NextLine::Line)
 }

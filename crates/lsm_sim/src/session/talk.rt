@@ -2,7 +2,7 @@
 
 use super::answer::{Answer, answer_event};
 use super::compact::compact;
-use super::console::{Console, Found};
+use super::console::{Console, NextLine};
 use super::error::SessionError;
 use super::request::{FaultyLine, LineFault, Request, request_in};
 use super::stats::stats;
@@ -36,13 +36,13 @@ pub(crate) fn talk<R: Read + Drop, W: Write + Drop, V: Vault>(
     let mut are_right = true;
     for number in 1..u64::MAX {
         let answered = match next_line(store, console, &mut line)? {
-            Found::End => {
+            NextLine::End => {
                 console.end_prompt()?;
                 break;
             }
-            Found::TooLong => Err(Refused::Fault(LineFault::TooLong)),
-            Found::MaybeCut => Err(Refused::Fault(LineFault::MaybeCut)),
-            Found::Line => answer_line(alloc, store, &line, screen, &mut console.out),
+            NextLine::TooLong => Err(Refused::Fault(LineFault::TooLong)),
+            NextLine::MaybeCut => Err(Refused::Fault(LineFault::MaybeCut)),
+            NextLine::Line => answer_line(alloc, store, &line, screen, &mut console.out),
         };
         match answered {
             Ok(Next::Line) => {}
@@ -65,7 +65,7 @@ fn next_line<R: Read + Drop, W: Write + Drop, V: Vault>(
     store: &mut Store<V>,
     console: &mut Console<R, W>,
     line: &mut Vec<u8>,
-) -> Result<Found, SessionError> {
+) -> Result<NextLine, SessionError> {
     console.prompt()?;
     if console.is_due() {
         write_answers(store, console)?;
