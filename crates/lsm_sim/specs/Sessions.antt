@@ -16,8 +16,8 @@ use Rattle.lsm_world.specs.declared.refusal.Refusal.{Refusal}
 use Rattle.lsm_world.specs.declared.refusal.Refusal.TheVariants as why
 use Rattle.lsm_world.specs.declared.reply.Reply.TheVariants as reply
 use Rattle.lsm_world.specs.Asks.{ListsVersion}
-use Rattle.lsm_sim.specs.declared.session.answer.Answer.{Answer}
-use Rattle.lsm_sim.specs.declared.session.answer.Answer.TheVariants.{Reply, Stored}
+use Rattle.lsm_sim.specs.declared.session.answer.StoreAnswer.{StoreAnswer}
+use Rattle.lsm_sim.specs.declared.session.answer.StoreAnswer.TheVariants.{Reply, Stored}
 
 -- a refusal as scripts show it
 abbrev pub store_refusal : StoreError → Refusal
@@ -43,7 +43,7 @@ HaveNextSequences old ops first last =
 
 -- What is answered to an event, by what the store held and holds: what was told is so, and a refusal has a reason of that call and
 -- loses nothing.
-abbrev pub AnswersEvent : CoordValue → Event → Answer → CoordValue → Type 0
+abbrev pub AnswersEvent : CoordValue → Event → StoreAnswer → CoordValue → Type 0
 AnswersEvent old (event.Write ops) (Reply (reply.Wrote first last)) new = Accepts old ops new × HaveNextSequences old ops first last
 AnswersEvent old (event.Write ops) (Reply (reply.Refused (why.Key e))) new = (batch_fault ops ≡ Some e) × (new ≡ old)
 AnswersEvent old (event.Write ops) (Reply (reply.Refused (why.Coord e))) new = WriteRefuses old ops new (store.Coord e) × Keeps old new

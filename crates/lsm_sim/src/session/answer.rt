@@ -2,7 +2,7 @@
 
 ghost use Rattle.std.specs.Prelude.{◌≡◌, IfNone, IfSome, is_some};
 ghost use Rattle.lsm_world.specs.declared.event.Event.TheVariants.{Flush, Get, Release, Scan, Show, Snap, Write};
-ghost use Rattle.lsm_sim.specs.declared.session.answer.Answer.TheVariants.{Reply as InReply};
+ghost use Rattle.lsm_sim.specs.declared.session.answer.StoreAnswer.TheVariants.{Reply as InReply};
 ghost use Rattle.lsm_sim.specs.Sessions.{AnswersEvent, is_of_store, store_refusal};
 
 use bytes::Bytes;
@@ -15,31 +15,31 @@ use std::alloc::Global;
 
 /// What a store answers.
 #[derive(Debug, Drop)]
-pub(crate) enum Answer {
+pub(crate) enum StoreAnswer {
     /// What is answered to the event in a script.
     Reply(Reply),
     /// All operations up to this sequence are in tables, and no others.
     Stored(Seq),
 }
 
-/// AnswersEvent an event, or does nothing if a store has no such event.
+/// Answers an event, or does nothing if a store has no such event.
 pub(crate) fn answer_event<V: Vault>(
     alloc: Global,
     store: &mut Store<V>,
     event: Event,
-) -> Option<Answer>
+) -> Option<StoreAnswer>
     ensures own { is_some result ≡ is_of_store event }
     ensures answers { IfSome result (λ answer. AnswersEvent store.old event answer store.new) }
     ensures other { IfNone result (store.new ≡ store.old) }
 {
     match event {
-        Event::Write(ops) => Some(Answer::Reply(write(store, ops.into_vec()))),
+        Event::Write(ops) => Some(StoreAnswer::Reply(write(store, ops.into_vec()))),
         Event::Flush => Some(flush(store)),
-        Event::Snap => Some(Answer::Reply(snapshot(store))),
-        Event::Release(id) => Some(Answer::Reply(release(store, id))),
-        Event::Get(key, at) => Some(Answer::Reply(get(store, &key, at))),
-        Event::Scan(range) => Some(Answer::Reply(scan(store, &range))),
-        Event::Show => Some(Answer::Reply(show(alloc, store))),
+        Event::Snap => Some(StoreAnswer::Reply(snapshot(store))),
+        Event::Release(id) => Some(StoreAnswer::Reply(release(store, id))),
+        Event::Get(key, at) => Some(StoreAnswer::Reply(get(store, &key, at))),
+        Event::Scan(range) => Some(StoreAnswer::Reply(scan(store, &range))),
+        Event::Show => Some(StoreAnswer::Reply(show(alloc, store))),
         _ => None,
     }
 }
@@ -79,12 +79,12 @@ fn write_batch<V: Vault>(store: &mut Store<V>, batch: &Batch) -> Reply
     }
 }
 
-fn flush<V: Vault>(store: &mut Store<V>) -> Answer
+fn flush<V: Vault>(store: &mut Store<V>) -> StoreAnswer
     ensures { AnswersEvent store.old Flush result store.new }
 {
     match store.flush() {
-        Err(why) => Answer::Reply(Reply::Refused(store_refusal(why))),
-        Ok(()) => Answer::Stored(store.flushed_sequence()),
+        Err(why) => StoreAnswer::Reply(Reply::Refused(store_refusal(why))),
+        Ok(()) => StoreAnswer::Stored(store.flushed_sequence()),
     }
 }
 

@@ -1,6 +1,6 @@
 //! The lines of a session, each answered before the next one is waited for, once the store is synced.
 
-use super::answer::{Answer, answer_event};
+use super::answer::{StoreAnswer, answer_event};
 use super::compact::compact;
 use super::console::{Console, NextLine};
 use super::error::SessionError;
@@ -141,10 +141,10 @@ fn answer_line<V: Vault>(
 }
 
 // The line of an answer: as scripts print it, or `flushed S`.
-fn write_answer(alloc: Global, out: &mut Vec<u8>, answer: &Answer) -> Result<(), AllocError> {
+fn write_answer(alloc: Global, out: &mut Vec<u8>, answer: &StoreAnswer) -> Result<(), AllocError> {
     match answer {
-        Answer::Reply(reply) => write_line(alloc, out, reply),
-        Answer::Stored(last) => {
+        StoreAnswer::Reply(reply) => write_line(alloc, out, reply),
+        StoreAnswer::Stored(last) => {
             write_text(out, "flushed ")?;
             write_number(out, last.number())?;
             write_line_end(out)
