@@ -27,7 +27,7 @@ use bench::Bench;
 use error::{OUT_OF_MEMORY, TimingError};
 use forms::Task;
 use keys::{KeyShape, Shape};
-use options::{Refusal, Request, print_help, request_of};
+use options::{OptionsError, Request, print_help, request_of};
 use std::io::ErrorKind;
 use std::process::ExitCode;
 use std::sync::Wait;
@@ -48,14 +48,14 @@ fn fail(rt: &HostRuntime, error: TimingError) -> ExitCode {
 }
 
 /// Reports what is wrong with the arguments on standard error, or prints the help that they ask for on standard output.
-fn answer(rt: &HostRuntime, refusal: Refusal<'_>) -> ExitCode {
-    if let Refusal::Help = refusal {
+fn answer(rt: &HostRuntime, why: OptionsError<'_>) -> ExitCode {
+    if let OptionsError::Help = why {
         return match print_help(rt) {
             Ok(()) => ExitCode::SUCCESS,
             Err(error) => fail(rt, TimingError::from(error)),
         };
     }
-    let _ = eprintln!(rt; "error: {refusal}");
+    let _ = eprintln!(rt; "error: {why}");
     ExitCode::from(REFUSED)
 }
 
@@ -152,7 +152,7 @@ fn main(rt: HostRuntime) -> ExitCode {
     };
     let request = match request_of(words.as_slice()) {
         Ok(request) => request,
-        Err(refusal) => return answer(&rt, refusal),
+        Err(why) => return answer(&rt, why),
     };
     let bench = Bench {
         rt,

@@ -17,7 +17,7 @@ pub(crate) struct Request {
 
 /// Why a command line asks for nothing.
 #[derive(Clone, Copy)]
-pub(crate) enum Refusal<'a> {
+pub(crate) enum OptionsError<'a> {
     /// The help is asked for.
     Help,
     NoCommand,
@@ -28,14 +28,14 @@ pub(crate) enum Refusal<'a> {
     Invalid(&'a str, &'static str),
 }
 
-impl<'a> fmt::Display for Refusal<'a> {
+impl<'a> fmt::Display for OptionsError<'a> {
     fn fmt<W: fmt::Write>(&self, f: &mut fmt::Formatter<W>) -> fmt::Result {
         match *self {
-            Refusal::Help => Ok(()),
-            Refusal::NoCommand => f.write_str("lsm_timing requires a subcommand"),
-            Refusal::NoValue(name) => write!(f, "a value is required for '{name}'"),
-            Refusal::Unexpected(word) => write!(f, "unexpected argument '{word}' found"),
-            Refusal::Invalid(word, name) => write!(f, "invalid value '{word}' for '{name}'"),
+            OptionsError::Help => Ok(()),
+            OptionsError::NoCommand => f.write_str("lsm_timing requires a subcommand"),
+            OptionsError::NoValue(name) => write!(f, "a value is required for '{name}'"),
+            OptionsError::Unexpected(word) => write!(f, "unexpected argument '{word}' found"),
+            OptionsError::Invalid(word, name) => write!(f, "invalid value '{word}' for '{name}'"),
         }
     }
 }
@@ -96,7 +96,7 @@ const EMPTY: Line = Line {
 };
 
 /// What the words after the program's name ask for.
-pub(crate) fn request_of(words: &[String]) -> Result<Request, Refusal<'_>> {
+pub(crate) fn request_of(words: &[String]) -> Result<Request, OptionsError<'_>> {
     let mut line = EMPTY;
     for word in words {
         line = with_word(line, word.as_str())?;
@@ -104,7 +104,7 @@ pub(crate) fn request_of(words: &[String]) -> Result<Request, Refusal<'_>> {
     request_in(line)
 }
 
-fn with_word(line: Line, word: &str) -> Result<Line, Refusal<'_>> {
+fn with_word(line: Line, word: &str) -> Result<Line, OptionsError<'_>> {
     if let Some(name) = line.waiting {
         return with_value(line, name, word);
     }
@@ -130,7 +130,7 @@ fn option_of(word: &str) -> Option<&'static str> {
     }
 }
 
-fn with_value<'a>(line: Line, name: &'static str, word: &'a str) -> Result<Line, Refusal<'a>> {
+fn with_value<'a>(line: Line, name: &'static str, word: &'a str) -> Result<Line, OptionsError<'a>> {
     let mut line = Line {
         waiting: None,
         ..line
@@ -141,24 +141,24 @@ fn with_value<'a>(line: Line, name: &'static str, word: &'a str) -> Result<Line,
         (KEYS, "scattered") => line.keys = KeyShape::Scattered,
         (KEYS, "prefixed") => line.keys = KeyShape::Prefixed,
         (VALUE, _) => line.value_len = number_of(BYTES, word)?,
-        _ => return Err(Refusal::Invalid(word, name)),
+        _ => return Err(OptionsError::Invalid(word, name)),
     }
     Ok(line)
 }
 
-fn form_of(word: &str) -> Result<Form, Refusal<'_>> {
+fn form_of(word: &str) -> Result<Form, OptionsError<'_>> {
     if word == "--help" || word == "-h" {
-        return Err(Refusal::Help);
+        return Err(OptionsError::Help);
     }
     for form in &FORMS {
         if word == form.name {
             return Ok(*form);
         }
     }
-    Err(Refusal::Unexpected(word))
+    Err(OptionsError::Unexpected(word))
 }
 
-fn with_number(line: Line, form: Form, word: &str) -> Result<Line, Refusal<'_>> {
+fn with_number(line: Line, form: Form, word: &str) -> Result<Line, OptionsError<'_>> {
     match (line.first, form.first, line.second, form.second) {
         (None, Some(number), _, _) => Ok(Line {
             first: Some(number_of(number, word)?),
@@ -168,23 +168,23 @@ fn with_number(line: Line, form: Form, word: &str) -> Result<Line, Refusal<'_>> 
             second: Some(number_of(number, word)?),
             ..line
         }),
-        _ => Err(Refusal::Unexpected(word)),
+        _ => Err(OptionsError::Unexpected(word)),
     }
 }
 
-fn number_of(number: Number, word: &str) -> Result<u64, Refusal<'_>> {
+fn number_of(number: Number, word: &str) -> Result<u64, OptionsError<'_>> {
     match word.parse::<u64>() {
         Ok(value) if value >= 1 && value <= number.most => Ok(value),
-        _ => Err(Refusal::Invalid(word, number.name)),
+        _ => Err(OptionsError::Invalid(word, number.name)),
     }
 }
 
-fn request_in<'a>(line: Line) -> Result<Request, Refusal<'a>> {
+fn request_in<'a>(line: Line) -> Result<Request, OptionsError<'a>> {
     if let Some(name) = line.waiting {
-        return Err(Refusal::NoValue(name));
+        return Err(OptionsError::NoValue(name));
     }
     let Some(form) = line.form else {
-        return Err(Refusal::NoCommand);
+        return Err(OptionsError::NoCommand);
     };
     Ok(Request {
         task: form.task,
@@ -199,10 +199,10 @@ fn request_in<'a>(line: Line) -> Result<Request, Refusal<'a>> {
 }
 
 // What a number is. A command that has none takes no notice of it.
-fn given<'a>(number: Option<Number>, value: Option<u64>) -> Result<u64, Refusal<'a>> {
+fn given<'a>(number: Option<Number>, value: Option<u64>) -> Result<u64, OptionsError<'a>> {
     match (value, number) {
         (Some(value), _) => Ok(value),
         (None, None) => Ok(0),
-        (None, Some(number)) => number.default.ok_or(Refusal::NoValue(number.name)),
+        (None, Some(number)) => number.default.ok_or(OptionsError::NoValue(number.name)),
     }
 }
