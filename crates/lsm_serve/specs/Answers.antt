@@ -18,7 +18,7 @@ use Rattle.lsm_serve.specs.declared.answer.Answer.{Answer}
 use Rattle.lsm_serve.specs.declared.answer.Answer.TheVariants.{Refused, Reply}
 use Rattle.lsm_serve.specs.declared.command.Command.{Command}
 use Rattle.lsm_serve.specs.declared.command.Command.TheVariants as command
-use Rattle.lsm_serve.specs.declared.refusal.Refusal.TheVariants.{NoDatabase, NoNumber, Store, Syntax, UnknownCommand, WrongCount}
+use Rattle.lsm_serve.specs.declared.refusal.CommandRefusal.TheVariants.{NoDatabase, NoNumber, Store, Syntax, UnknownCommand, WrongCount}
 use Rattle.lsm_serve.specs.Arguments.{ArePairs, WithOne, WithSome, WithThree, WithTwo}
 use Rattle.lsm_serve.specs.Commands.{IsCalled, IsNoCommand}
 use Rattle.lsm_serve.specs.Figures.{IsInfo}

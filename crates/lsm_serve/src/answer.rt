@@ -12,7 +12,7 @@ mod range;
 mod values;
 mod writes;
 
-use crate::{Command, Refusal};
+use crate::{Command, CommandRefusal};
 pub(crate) use arguments::one;
 use lsm_key::Seq;
 use lsm_resp::Reply;
@@ -24,7 +24,7 @@ use std::alloc::{AllocError, Global};
 #[derive(Debug, Drop)]
 pub enum Answer {
     Reply(Reply),
-    Refused(Refusal),
+    Refused(CommandRefusal),
 }
 
 /// Answers a request: a command's name, and its arguments. Without a name it is refused as unknown. `INFO` tells up to which sequence
@@ -39,10 +39,10 @@ pub fn answer_request<V: Vault>(
     ensures err { OnErr result (store.new ≡ store.old) }
 {
     let Some((name, args)) = words.split_first() else {
-        return Ok(Answer::Refused(Refusal::UnknownCommand));
+        return Ok(Answer::Refused(CommandRefusal::UnknownCommand));
     };
     match Command::of(name) {
-        None => Ok(Answer::Refused(Refusal::UnknownCommand)),
+        None => Ok(Answer::Refused(CommandRefusal::UnknownCommand)),
         Some(command) => answer_command(alloc, store, synced, command, args),
     }
 }

@@ -20,5 +20,5 @@ pub use answer::{Answer, answer_request};
 pub use command::Command;
 pub use error::ServeError;
 pub use http_word::HttpWord;
-pub use refusal::Refusal;
+pub use refusal::CommandRefusal;
 pub use serving::serve;

@@ -6,7 +6,7 @@ use thiserror::Error;
 
 /// Why a request is refused. The store holds what it held before.
 #[derive(Clone, Copy, Debug, PartialEq, Eq, Error)]
-pub enum Refusal {
+pub enum CommandRefusal {
     /// No command has this name.
     #[error("unknown command")]
     UnknownCommand,

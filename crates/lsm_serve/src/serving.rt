@@ -13,7 +13,7 @@ ghost use Rattle.lsm_serve.specs.Serving.{AreAhead, EndsStream, ServesRequests, 
 ghost use Rattle.lsm_serve.specs.ServingSteps.{AnswersOne, IsReachable, LeftUnsent, ServedSoFar, ServesInput, WritesReply};
 
 use crate::answer::{Answer, answer_request, one};
-use crate::{Command, HttpWord, Refusal, ServeError};
+use crate::{Command, CommandRefusal, HttpWord, ServeError};
 use bytes::Bytes;
 use lsm_key::Seq;
 use lsm_resp::{ParseError, Parsed, ProtocolFault, Reply, parse_request, write_reply};
@@ -206,7 +206,7 @@ fn write_answer(alloc: Global, out: &mut Vec<u8>, answer: &Answer) -> Result<(),
 }
 
 /// An error reply: `ERR`, and why.
-fn write_refusal(alloc: Global, out: &mut Vec<u8>, why: Refusal) -> Result<(), AllocError>
+fn write_refusal(alloc: Global, out: &mut Vec<u8>, why: CommandRefusal) -> Result<(), AllocError>
     ensures { OnOk result (WritesReply (Refused why) out.old.items out.new.items) }
 {
     let text = format!(in alloc; "{why}")?;

@@ -6,7 +6,7 @@ ghost use Rattle.lsm_store.specs.Store.{Keeps, OpRefuses};
 ghost use Rattle.lsm_key.specs.declared.op.Op.TheVariants.{Delete};
 ghost use Rattle.lsm_serve.specs.Answers.{AnswersDelete, AnswersExists, CountsKeys, DeletesFirst, DeletesKey, DeletesKeys, IsShortOfMemory, KeyHasValue};
 
-use crate::{Answer, Command, Refusal};
+use crate::{Answer, Command, CommandRefusal};
 use lsm_resp::Reply;
 use lsm_store::{Store, StoreError};
 use lsm_vault::Vault;
@@ -15,11 +15,11 @@ pub(crate) fn exists<V: Vault>(store: &mut Store<V>, args: &[&[u8]]) -> Answer
     ensures { AnswersExists store.old (words_of args.now) result store.new }
 {
     if args.is_empty() {
-        return Answer::Refused(Refusal::WrongCount(Command::Exists));
+        return Answer::Refused(CommandRefusal::WrongCount(Command::Exists));
     }
     match count_keys(store, args) {
         Ok(count) => Answer::Reply(Reply::Integer(count)),
-        Err(why) => Answer::Refused(Refusal::Store(why)),
+        Err(why) => Answer::Refused(CommandRefusal::Store(why)),
     }
 }
 
@@ -27,11 +27,11 @@ pub(crate) fn delete<V: Vault>(store: &mut Store<V>, args: &[&[u8]]) -> Answer
     ensures { AnswersDelete store.old (words_of args.now) result store.new }
 {
     if args.is_empty() {
-        return Answer::Refused(Refusal::WrongCount(Command::Delete));
+        return Answer::Refused(CommandRefusal::WrongCount(Command::Delete));
     }
     match delete_keys(store, args) {
         Ok(count) => Answer::Reply(Reply::Integer(count)),
-        Err(why) => Answer::Refused(Refusal::Store(why)),
+        Err(why) => Answer::Refused(CommandRefusal::Store(why)),
     }
 }
 

@@ -7,7 +7,7 @@ ghost use Rattle.lsm_serve.specs.declared.answer.Answer.TheVariants.{Reply as In
 ghost use Rattle.lsm_serve.specs.Answers.{IsConfig, IsEcho, IsPing, IsQuit, IsSelect, SelectsIndex};
 
 use super::arguments::one;
-use crate::{Answer, Command, Refusal};
+use crate::{Answer, Command, CommandRefusal};
 use bytes::Bytes;
 use lsm_key::Items;
 use lsm_resp::Reply;
@@ -46,7 +46,7 @@ pub(crate) fn ping(alloc: Global, args: &[&[u8]]) -> Result<Answer, AllocError>
     }
     match one(args) {
         Some(message) => same(alloc, message),
-        None => Ok(Answer::Refused(Refusal::WrongCount(Command::Ping))),
+        None => Ok(Answer::Refused(CommandRefusal::WrongCount(Command::Ping))),
     }
 }
 
@@ -55,7 +55,7 @@ pub(crate) fn echo(alloc: Global, args: &[&[u8]]) -> Result<Answer, AllocError>
 {
     match one(args) {
         Some(message) => same(alloc, message),
-        None => Ok(Answer::Refused(Refusal::WrongCount(Command::Echo))),
+        None => Ok(Answer::Refused(CommandRefusal::WrongCount(Command::Echo))),
     }
 }
 
@@ -63,7 +63,7 @@ pub(crate) fn config(alloc: Global, args: &[&[u8]]) -> Answer
     ensures { IsConfig (words_of args.now) result }
 {
     if args.is_empty() {
-        return Answer::Refused(Refusal::WrongCount(Command::Config));
+        return Answer::Refused(CommandRefusal::WrongCount(Command::Config));
     }
     nothing(alloc)
 }
@@ -73,7 +73,7 @@ pub(crate) fn select(args: &[&[u8]]) -> Answer
 {
     match one(args) {
         Some(index) => select_index(index),
-        None => Answer::Refused(Refusal::WrongCount(Command::Select)),
+        None => Answer::Refused(CommandRefusal::WrongCount(Command::Select)),
     }
 }
 
@@ -83,7 +83,7 @@ fn select_index(index: &[u8]) -> Answer
     if index.len() == 1 && index[0] == b'0' {
         return done();
     }
-    Answer::Refused(Refusal::NoDatabase)
+    Answer::Refused(CommandRefusal::NoDatabase)
 }
 
 pub(crate) fn quit(args: &[&[u8]]) -> Answer
@@ -92,5 +92,5 @@ pub(crate) fn quit(args: &[&[u8]]) -> Answer
     if args.is_empty() {
         return done();
     }
-    Answer::Refused(Refusal::WrongCount(Command::Quit))
+    Answer::Refused(CommandRefusal::WrongCount(Command::Quit))
 }

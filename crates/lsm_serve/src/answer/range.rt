@@ -5,7 +5,7 @@ ghost use Rattle.lsm_resp.specs.Requests.{words_of};
 ghost use Rattle.lsm_serve.specs.Answers.{AnswersRange, Ranges, RangesWithin, ReadsLimit, in_turn};
 
 use super::arguments::three;
-use crate::{Answer, Command, Refusal};
+use crate::{Answer, Command, CommandRefusal};
 use bytes::Bytes;
 use lsm_key::Items;
 use lsm_resp::{Reply, read_number};
@@ -25,7 +25,7 @@ pub(crate) fn range<V: Vault>(
 {
     match three(args) {
         Some((lo, hi, limit)) => range_of(alloc, store, lo, hi, limit),
-        None => Ok(Answer::Refused(Refusal::WrongCount(Command::Range))),
+        None => Ok(Answer::Refused(CommandRefusal::WrongCount(Command::Range))),
     }
 }
 
@@ -40,7 +40,7 @@ fn range_of<V: Vault>(
 {
     match limit_of(limit) {
         Some(limit) => range_within(alloc, store, lo, hi, limit),
-        None => Ok(Answer::Refused(Refusal::NoNumber)),
+        None => Ok(Answer::Refused(CommandRefusal::NoNumber)),
     }
 }
 
@@ -70,7 +70,7 @@ fn range_within<V: Vault>(
             let values = in_turn(alloc, &pairs)?;
             Ok(Answer::Reply(Reply::Array(Items::from_vec(values))))
         }
-        Err(why) => Ok(Answer::Refused(Refusal::Store(why))),
+        Err(why) => Ok(Answer::Refused(CommandRefusal::Store(why))),
     }
 }
 

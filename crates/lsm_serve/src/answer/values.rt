@@ -6,7 +6,7 @@ ghost use Rattle.lsm_store.specs.Store.{OfCoord};
 ghost use Rattle.lsm_serve.specs.Answers.{AnswersGet, AnswersGetAll, AnswersKey, IsShortOfMemory, ReadsAll};
 
 use super::arguments::one;
-use crate::{Answer, Command, Refusal};
+use crate::{Answer, Command, CommandRefusal};
 use bytes::Bytes;
 use lsm_key::Items;
 use lsm_resp::Reply;
@@ -19,7 +19,7 @@ pub(crate) fn get<V: Vault>(store: &mut Store<V>, args: &[&[u8]]) -> Answer
 {
     match one(args) {
         Some(key) => get_key(store, key),
-        None => Answer::Refused(Refusal::WrongCount(Command::Get)),
+        None => Answer::Refused(CommandRefusal::WrongCount(Command::Get)),
     }
 }
 
@@ -28,7 +28,7 @@ fn get_key<V: Vault>(store: &mut Store<V>, key: &[u8]) -> Answer
 {
     match store.get(key, None) {
         Ok(value) => Answer::Reply(Reply::Bulk(value)),
-        Err(why) => Answer::Refused(Refusal::Store(why)),
+        Err(why) => Answer::Refused(CommandRefusal::Store(why)),
     }
 }
 
@@ -36,11 +36,11 @@ pub(crate) fn get_all<V: Vault>(alloc: Global, store: &mut Store<V>, args: &[&[u
     ensures { AnswersGetAll store.old (words_of args.now) result store.new }
 {
     if args.is_empty() {
-        return Answer::Refused(Refusal::WrongCount(Command::MultiGet));
+        return Answer::Refused(CommandRefusal::WrongCount(Command::MultiGet));
     }
     match values_of(alloc, store, args) {
         Ok(values) => Answer::Reply(Reply::Array(Items::from_vec(values))),
-        Err(why) => Answer::Refused(Refusal::Store(why)),
+        Err(why) => Answer::Refused(CommandRefusal::Store(why)),
     }
 }
 

@@ -8,7 +8,7 @@ ghost use Rattle.lsm_serve.specs.Answers.{AnswersSave, AnswersSet, AnswersSetAll
 
 use super::arguments::{are_pairs, two};
 use super::plain::done;
-use crate::{Answer, Command, Refusal};
+use crate::{Answer, Command, CommandRefusal};
 use bytes::Bytes;
 use lsm_key::{Batch, Op};
 use lsm_store::{Store, StoreError};
@@ -29,9 +29,9 @@ fn refused_set(count: usize) -> Answer
     ensures { result ≡ refused_set count }
 {
     if count > 2 {
-        Answer::Refused(Refusal::Syntax)
+        Answer::Refused(CommandRefusal::Syntax)
     } else {
-        Answer::Refused(Refusal::WrongCount(Command::Set))
+        Answer::Refused(CommandRefusal::WrongCount(Command::Set))
     }
 }
 
@@ -40,7 +40,7 @@ fn set_key<V: Vault>(store: &mut Store<V>, key: &[u8], value: &[u8]) -> Answer
 {
     match store.put(key, value) {
         Ok(()) => done(),
-        Err(why) => Answer::Refused(Refusal::Store(why)),
+        Err(why) => Answer::Refused(CommandRefusal::Store(why)),
     }
 }
 
@@ -48,11 +48,11 @@ pub(crate) fn set_all<V: Vault>(alloc: Global, store: &mut Store<V>, args: &[&[u
     ensures { AnswersSetAll store.old (words_of args.now) result store.new }
 {
     if !are_pairs(args) {
-        return Answer::Refused(Refusal::WrongCount(Command::MultiSet));
+        return Answer::Refused(CommandRefusal::WrongCount(Command::MultiSet));
     }
     match write_puts(alloc, store, args) {
         Ok(()) => done(),
-        Err(why) => Answer::Refused(Refusal::Store(why)),
+        Err(why) => Answer::Refused(CommandRefusal::Store(why)),
     }
 }
 
@@ -62,7 +62,7 @@ pub(crate) fn save<V: Vault>(store: &mut Store<V>, args: &[&[u8]]) -> Answer
     if args.is_empty() {
         flush(store)
     } else {
-        Answer::Refused(Refusal::WrongCount(Command::Save))
+        Answer::Refused(CommandRefusal::WrongCount(Command::Save))
     }
 }
 
@@ -71,7 +71,7 @@ fn flush<V: Vault>(store: &mut Store<V>) -> Answer
 {
     match store.flush() {
         Ok(()) => done(),
-        Err(why) => Answer::Refused(Refusal::Store(why)),
+        Err(why) => Answer::Refused(CommandRefusal::Store(why)),
     }
 }
 
