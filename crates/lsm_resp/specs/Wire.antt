@@ -2,8 +2,8 @@
 use Rattle.std.specs.Prelude.{ℕ, List, [], ◌∷◌, ◌++◌, Option, None, Some, length}
 use Rattle.std.specs.List.{flat_map}
 use Rattle.std.specs.Fmt.{decimal}
-use Rattle.lsm_resp.specs.declared.reply.Reply.{Reply}
-use Rattle.lsm_resp.specs.declared.reply.Reply.TheVariants.{Simple, Error, Integer, Bulk, Array}
+use Rattle.lsm_resp.specs.declared.reply.RespReply.{RespReply}
+use Rattle.lsm_resp.specs.declared.reply.RespReply.TheVariants.{Simple, Error, Integer, Bulk, Array}
 
 -- a mark, text, a carriage return and a line feed
 abbrev pub line_bytes : ℕ → List ℕ → List ℕ
@@ -34,7 +34,7 @@ abbrev pub bulks_bytes : List (Option (List ℕ)) → List ℕ
 bulks_bytes values = flat_map bulk_or_null_bytes values
 
 -- `+`, `-`, `:`, `$` and `*`
-abbrev pub reply_bytes : Reply → List ℕ
+abbrev pub reply_bytes : RespReply → List ℕ
 reply_bytes (Simple text) = line_bytes 43 text
 reply_bytes (Error text) = line_bytes 45 text
 reply_bytes (Integer n) = header_bytes 58 n

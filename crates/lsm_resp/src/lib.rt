@@ -17,5 +17,5 @@ mod request;
 pub use fault::{ParseError, ProtocolFault};
 pub use header::read_number;
 pub use limits::{MAX_LINE_BYTES, MAX_REQUEST_BYTES, MAX_WORD_BYTES, MAX_WORDS};
-pub use reply::{Reply, write_reply};
+pub use reply::{RespReply, write_reply};
 pub use request::{Parsed, parse_request};

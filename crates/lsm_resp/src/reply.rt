@@ -11,7 +11,7 @@ use std::io::Write;
 
 /// A reply. Neither a simple string nor an error has a line end within.
 #[derive(Debug, Drop)]
-pub enum Reply {
+pub enum RespReply {
     Simple(Bytes),
     Error(Bytes),
     Integer(u64),
@@ -22,15 +22,15 @@ pub enum Reply {
 }
 
 /// Appends a reply's bytes.
-pub fn write_reply(out: &mut Vec<u8>, reply: &Reply) -> Result<(), AllocError>
+pub fn write_reply(out: &mut Vec<u8>, reply: &RespReply) -> Result<(), AllocError>
     ensures { OnOk result (out.new.items ≡ out.old.items ++ reply_bytes reply.now) }
 {
     match reply {
-        Reply::Simple(text) => write_line(out, b'+', text.as_slice()),
-        Reply::Error(text) => write_line(out, b'-', text.as_slice()),
-        Reply::Integer(number) => write_header(out, b':', *number),
-        Reply::Bulk(value) => write_bulk_or_null(out, value),
-        Reply::Array(values) => write_array(out, values.as_slice()),
+        RespReply::Simple(text) => write_line(out, b'+', text.as_slice()),
+        RespReply::Error(text) => write_line(out, b'-', text.as_slice()),
+        RespReply::Integer(number) => write_header(out, b':', *number),
+        RespReply::Bulk(value) => write_bulk_or_null(out, value),
+        RespReply::Array(values) => write_array(out, values.as_slice()),
     }
 }
 

@@ -15,7 +15,7 @@ use Rattle.lsm_serve.specs.Errors.{error_of_stream}
 use Rattle.lsm_resp.specs.declared.request.Parsed.TheVariants.{Partial, Request}
 use Rattle.lsm_stream.specs.Streams.{AppendsPart}
 use Rattle.lsm_resp.specs.Wire.{reply_bytes, request_bytes}
-use Rattle.lsm_resp.specs.declared.reply.Reply.TheVariants as reply
+use Rattle.lsm_resp.specs.declared.reply.RespReply.TheVariants as reply
 use Rattle.lsm_serve.specs.declared.answer.Answer.{Answer}
 use Rattle.lsm_serve.specs.declared.answer.Answer.TheVariants.{Refused, Reply}
 use Rattle.lsm_serve.specs.Answers.{AnswersRequest}

@@ -11,7 +11,7 @@ use Rattle.lsm_coord.specs.Contract.Value.{CoordValue}
 use Rattle.lsm_store.specs.declared.error.StoreError.{StoreError}
 use Rattle.lsm_store.specs.declared.error.StoreError.TheVariants as store
 use Rattle.lsm_store.specs.Store.{Accepts, Keeps, OfCoord, OpRefuses, ReadsValue, ReadsRange, StoreFlushRefuses, Stores, WriteRefuses}
-use Rattle.lsm_resp.specs.declared.reply.Reply.TheVariants.{Array, Bulk, Integer, Simple}
+use Rattle.lsm_resp.specs.declared.reply.RespReply.TheVariants.{Array, Bulk, Integer, Simple}
 use Rattle.lsm_resp.specs.Pieces.{ReadsNumber}
 use Rattle.lsm_serve.specs.declared.answer.range.TheConstants.{MAX_RANGE_KEYS}
 use Rattle.lsm_serve.specs.declared.answer.Answer.{Answer}

@@ -7,7 +7,7 @@ use Rattle.lsm_pick.specs.Due.{of_level}
 use Rattle.lsm_coord.specs.Contract.Value.{CoordValue}
 use Rattle.lsm_store.specs.Stats.{saturated_sum}
 use Rattle.lsm_store.specs.Store.{IsLatestSequence, stored_count}
-use Rattle.lsm_resp.specs.declared.reply.Reply.TheVariants.{Bulk}
+use Rattle.lsm_resp.specs.declared.reply.RespReply.TheVariants.{Bulk}
 use Rattle.lsm_serve.specs.declared.answer.Answer.{Answer}
 use Rattle.lsm_serve.specs.declared.answer.Answer.TheVariants.{Reply}
 

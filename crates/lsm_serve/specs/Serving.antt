@@ -4,7 +4,7 @@ use Rattle.std.specs.Io.KnownBytes.{Appends}
 use Rattle.std.specs.List.{flat_map}
 use Rattle.lsm_coord.specs.Contract.Calls.{MayHaveFailed}
 use Rattle.lsm_coord.specs.Contract.Value.{CoordValue}
-use Rattle.lsm_resp.specs.declared.reply.Reply.TheVariants as reply
+use Rattle.lsm_resp.specs.declared.reply.RespReply.TheVariants as reply
 use Rattle.lsm_resp.specs.Requests.{AreWords}
 use Rattle.lsm_stream.specs.Streams.{AppendsPart}
 use Rattle.lsm_resp.specs.Wire.{reply_bytes, request_bytes}

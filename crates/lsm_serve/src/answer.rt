@@ -15,7 +15,7 @@ mod writes;
 use crate::{Command, CommandRefusal};
 pub(crate) use arguments::one;
 use lsm_key::Seq;
-use lsm_resp::Reply;
+use lsm_resp::RespReply;
 use lsm_store::Store;
 use lsm_vault::Vault;
 use std::alloc::{AllocError, Global};
@@ -23,7 +23,7 @@ use std::alloc::{AllocError, Global};
 /// What is answered to a request.
 #[derive(Debug, Drop)]
 pub enum Answer {
-    Reply(Reply),
+    Reply(RespReply),
     Refused(CommandRefusal),
 }
 

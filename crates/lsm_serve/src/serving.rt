@@ -6,7 +6,7 @@ ghost use Rattle.lsm_coord.specs.Contract.Value.{CoordValue};
 ghost use Rattle.lsm_store.specs.Store.{IsLatestSequence};
 ghost use Rattle.lsm_resp.specs.Requests.{words_of};
 ghost use Rattle.lsm_resp.specs.Wire.{reply_bytes};
-ghost use Rattle.lsm_resp.specs.declared.reply.Reply.TheVariants.{Error};
+ghost use Rattle.lsm_resp.specs.declared.reply.RespReply.TheVariants.{Error};
 ghost use Rattle.lsm_serve.specs.declared.answer.Answer.TheVariants.{Refused};
 ghost use Rattle.lsm_serve.specs.HttpWords.{IsNoHttp};
 ghost use Rattle.lsm_serve.specs.Serving.{AreAhead, EndsStream, ServesRequests, error_text, in_line};
@@ -16,7 +16,7 @@ use crate::answer::{Answer, answer_request, one};
 use crate::{Command, CommandRefusal, HttpWord, ServeError};
 use bytes::Bytes;
 use lsm_key::Seq;
-use lsm_resp::{ParseError, Parsed, ProtocolFault, Reply, parse_request, write_reply};
+use lsm_resp::{ParseError, Parsed, ProtocolFault, RespReply, parse_request, write_reply};
 use lsm_store::Store;
 use lsm_stream::{StreamError, buffer_of, read_more, write_out};
 use lsm_vault::Vault;
@@ -218,7 +218,7 @@ fn write_error(alloc: Global, out: &mut Vec<u8>, text: &[u8]) -> Result<(), Allo
     ensures { OnOk result (out.new.items ≡ out.old.items ++ reply_bytes (Error (error_text text.now))) }
 {
     let line = error_line(alloc, text)?;
-    write_reply(out, &Reply::Error(Bytes::from_vec(line)?))
+    write_reply(out, &RespReply::Error(Bytes::from_vec(line)?))
 }
 
 /// `ERR` and a text, in one line.

@@ -7,7 +7,7 @@ ghost use Rattle.lsm_serve.specs.Figures.{IsInfo, figure_line, level_figure_line
 use crate::Answer;
 use bytes::Bytes;
 use lsm_key::Seq;
-use lsm_resp::Reply;
+use lsm_resp::RespReply;
 use lsm_store::Store;
 use lsm_vault::Vault;
 use std::alloc::{AllocError, Global};
@@ -31,7 +31,7 @@ pub(crate) fn info<V: Vault>(
         store.flushed_sequence().number(),
     )?;
     write_levels(&mut text, store, &[0, 1, 2, 3, 4, 5, 6])?;
-    Ok(Answer::Reply(Reply::Bulk(Some(Bytes::from_vec(text)?))))
+    Ok(Answer::Reply(RespReply::Bulk(Some(Bytes::from_vec(text)?))))
 }
 
 fn write_text(out: &mut Vec<u8>, text: &str) -> Result<(), AllocError>

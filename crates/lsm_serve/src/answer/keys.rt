@@ -7,7 +7,7 @@ ghost use Rattle.lsm_key.specs.declared.op.Op.TheVariants.{Delete};
 ghost use Rattle.lsm_serve.specs.Answers.{AnswersDelete, AnswersExists, CountsKeys, DeletesFirst, DeletesKey, DeletesKeys, IsShortOfMemory, KeyHasValue};
 
 use crate::{Answer, Command, CommandRefusal};
-use lsm_resp::Reply;
+use lsm_resp::RespReply;
 use lsm_store::{Store, StoreError};
 use lsm_vault::Vault;
 
@@ -18,7 +18,7 @@ pub(crate) fn exists<V: Vault>(store: &mut Store<V>, args: &[&[u8]]) -> Answer
         return Answer::Refused(CommandRefusal::WrongCount(Command::Exists));
     }
     match count_keys(store, args) {
-        Ok(count) => Answer::Reply(Reply::Integer(count)),
+        Ok(count) => Answer::Reply(RespReply::Integer(count)),
         Err(why) => Answer::Refused(CommandRefusal::Store(why)),
     }
 }
@@ -30,7 +30,7 @@ pub(crate) fn delete<V: Vault>(store: &mut Store<V>, args: &[&[u8]]) -> Answer
         return Answer::Refused(CommandRefusal::WrongCount(Command::Delete));
     }
     match delete_keys(store, args) {
-        Ok(count) => Answer::Reply(Reply::Integer(count)),
+        Ok(count) => Answer::Reply(RespReply::Integer(count)),
         Err(why) => Answer::Refused(CommandRefusal::Store(why)),
     }
 }

@@ -1,7 +1,7 @@
 //! Commands that do not ask the store.
 
 ghost use Rattle.std.specs.Prelude.{◌≡◌, IfOk, Some, codes, []};
-ghost use Rattle.lsm_resp.specs.declared.reply.Reply.TheVariants.{Array, Bulk, Simple};
+ghost use Rattle.lsm_resp.specs.declared.reply.RespReply.TheVariants.{Array, Bulk, Simple};
 ghost use Rattle.lsm_resp.specs.Requests.{words_of};
 ghost use Rattle.lsm_serve.specs.declared.answer.Answer.TheVariants.{Reply as InReply};
 ghost use Rattle.lsm_serve.specs.Answers.{IsConfig, IsEcho, IsPing, IsQuit, IsSelect, SelectsIndex};
@@ -10,32 +10,32 @@ use super::arguments::one;
 use crate::{Answer, Command, CommandRefusal};
 use bytes::Bytes;
 use lsm_key::Items;
-use lsm_resp::Reply;
+use lsm_resp::RespReply;
 use std::alloc::{AllocError, Global};
 
 pub(crate) fn done() -> Answer
     ensures { result ≡ InReply (Simple (codes "OK")) }
 {
-    Answer::Reply(Reply::Simple(Bytes::from_static(b"OK")))
+    Answer::Reply(RespReply::Simple(Bytes::from_static(b"OK")))
 }
 
 fn pong() -> Answer
     ensures { result ≡ InReply (Simple (codes "PONG")) }
 {
-    Answer::Reply(Reply::Simple(Bytes::from_static(b"PONG")))
+    Answer::Reply(RespReply::Simple(Bytes::from_static(b"PONG")))
 }
 
 /// An empty array.
 pub(crate) fn nothing(alloc: Global) -> Answer
     ensures { result ≡ InReply (Array []) }
 {
-    Answer::Reply(Reply::Array(Items::new(alloc)))
+    Answer::Reply(RespReply::Array(Items::new(alloc)))
 }
 
 fn same(alloc: Global, message: &[u8]) -> Result<Answer, AllocError>
     ensures { IfOk result (λ answer. answer ≡ InReply (Bulk (Some message.now))) }
 {
-    Ok(Answer::Reply(Reply::Bulk(Some(Bytes::copy_from_slice(alloc, message)?))))
+    Ok(Answer::Reply(RespReply::Bulk(Some(Bytes::copy_from_slice(alloc, message)?))))
 }
 
 pub(crate) fn ping(alloc: Global, args: &[&[u8]]) -> Result<Answer, AllocError>

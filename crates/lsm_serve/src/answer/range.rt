@@ -8,7 +8,7 @@ use super::arguments::three;
 use crate::{Answer, Command, CommandRefusal};
 use bytes::Bytes;
 use lsm_key::Items;
-use lsm_resp::{Reply, read_number};
+use lsm_resp::{RespReply, read_number};
 use lsm_store::Store;
 use lsm_vault::Vault;
 use std::alloc::{AllocError, Global};
@@ -68,7 +68,7 @@ fn range_within<V: Vault>(
     match store.scan(lo, hi, None, limit) {
         Ok(pairs) => {
             let values = in_turn(alloc, &pairs)?;
-            Ok(Answer::Reply(Reply::Array(Items::from_vec(values))))
+            Ok(Answer::Reply(RespReply::Array(Items::from_vec(values))))
         }
         Err(why) => Ok(Answer::Refused(CommandRefusal::Store(why))),
     }

@@ -9,7 +9,7 @@ use super::arguments::one;
 use crate::{Answer, Command, CommandRefusal};
 use bytes::Bytes;
 use lsm_key::Items;
-use lsm_resp::Reply;
+use lsm_resp::RespReply;
 use lsm_store::{Store, StoreError};
 use lsm_vault::Vault;
 use std::alloc::{AllocError, Global};
@@ -27,7 +27,7 @@ fn get_key<V: Vault>(store: &mut Store<V>, key: &[u8]) -> Answer
     ensures { AnswersKey store.old key.now result store.new }
 {
     match store.get(key, None) {
-        Ok(value) => Answer::Reply(Reply::Bulk(value)),
+        Ok(value) => Answer::Reply(RespReply::Bulk(value)),
         Err(why) => Answer::Refused(CommandRefusal::Store(why)),
     }
 }
@@ -39,7 +39,7 @@ pub(crate) fn get_all<V: Vault>(alloc: Global, store: &mut Store<V>, args: &[&[u
         return Answer::Refused(CommandRefusal::WrongCount(Command::MultiGet));
     }
     match values_of(alloc, store, args) {
-        Ok(values) => Answer::Reply(Reply::Array(Items::from_vec(values))),
+        Ok(values) => Answer::Reply(RespReply::Array(Items::from_vec(values))),
         Err(why) => Answer::Refused(CommandRefusal::Store(why)),
     }
 }
