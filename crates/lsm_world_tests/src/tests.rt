@@ -194,7 +194,7 @@ fn play(
     rt: &impl Abort,
     alloc: Global,
     world: &mut World<Fused>,
-    schedules: &[&[Turn]],
+    schedules: &[&[EventReply]],
 ) -> Result<(), Fail> {
     for schedule in schedules {
         for (does, wanted) in *schedule {
@@ -209,7 +209,12 @@ fn play(
 }
 
 /// The same in a new world over a vault of which the call after so many fails.
-fn see_fail(rt: &impl Abort, alloc: Global, calls: u64, schedules: &[&[Turn]]) -> Result<(), Fail> {
+fn see_fail(
+    rt: &impl Abort,
+    alloc: Global,
+    calls: u64,
+    schedules: &[&[EventReply]],
+) -> Result<(), Fail> {
     let mut world = new_world(alloc, calls)?;
     let seen = play(rt, alloc, &mut world, schedules);
     let _vault = world.close();
@@ -217,7 +222,7 @@ fn see_fail(rt: &impl Abort, alloc: Global, calls: u64, schedules: &[&[Turn]]) -
 }
 
 /// The same where no call fails.
-fn see(rt: &impl Abort, alloc: Global, schedules: &[&[Turn]]) -> Result<(), Fail> {
+fn see(rt: &impl Abort, alloc: Global, schedules: &[&[EventReply]]) -> Result<(), Fail> {
     see_fail(rt, alloc, u64::MAX, schedules)
 }
 

@@ -1,13 +1,13 @@
 //! Schedules of followers, worked out by hand: each event with its reply.
 
-use super::schedules::{Does, Tells, Turn};
+use super::schedules::{Does, EventReply, Tells};
 use super::{see, see_fail};
 use lsm_versions::OpenError;
 use lsm_world::Refusal;
 use std::test::Fail;
 
 /// A follower awaits a table, while a job of its file is picked, merged and installed.
-const AWAITED: [Turn; 17] = [
+const AWAITED: [EventReply; 17] = [
     (Does::Put(b"a", b"1"), Tells::Wrote(1)),
     (Does::Flush, Tells::Flushed(2, 1, 1)),
     (Does::Put(b"a", b"2"), Tells::Wrote(2)),
@@ -28,7 +28,7 @@ const AWAITED: [Turn; 17] = [
 ];
 
 /// The table is let go, and the follower moves to the whole version.
-const GONE: [Turn; 9] = [
+const GONE: [EventReply; 9] = [
     (Does::Trim(4), Tells::Trimmed(4, &[1, 2])),
     (Does::Deliver(5), Tells::Served(12)),
     (Does::Deliver(12), Tells::Dropped),
@@ -42,7 +42,7 @@ const GONE: [Turn; 9] = [
 
 /// The coordinator is down after a restart that is refused, and followers go on: they take messages, ask, read, list their version
 /// and start anew.
-const DOWN: [Turn; 23] = [
+const DOWN: [EventReply; 23] = [
     (Does::Put(b"a", b"1"), Tells::Wrote(1)),
     (Does::Flush, Tells::Flushed(2, 1, 1)),
     (Does::Ask(1), Tells::Asked(1)),

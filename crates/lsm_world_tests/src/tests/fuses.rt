@@ -1,7 +1,7 @@
 //! Schedules over a vault of which one call fails, each call in turn: an event that is refused for it is done once more, and all
 //! replies are then those over a vault that does not fail.
 
-use super::schedules::{Does, FROZEN, MERGED, PICKED, REFUSED, TWO, TWO_JOBS, Tells, Turn};
+use super::schedules::{Does, EventReply, FROZEN, MERGED, PICKED, REFUSED, TWO, TWO_JOBS, Tells};
 use super::{BASE, Fused, event_of, is_told, step};
 use lsm_coord::CoordError;
 use lsm_key::{DEFAULT_BLOCK, Limits};
@@ -50,7 +50,7 @@ fn play(
     rt: &impl Abort,
     alloc: Global,
     world: &mut World<Fused>,
-    schedules: &[&[Turn]],
+    schedules: &[&[EventReply]],
 ) -> Result<(), Fail> {
     for schedule in schedules {
         for (does, wanted) in *schedule {
@@ -65,7 +65,12 @@ fn play(
 }
 
 /// Whether a call failed in these schedules, if it is the one after so many.
-fn fails(rt: &impl Abort, alloc: Global, calls: u64, schedules: &[&[Turn]]) -> Result<bool, Fail> {
+fn fails(
+    rt: &impl Abort,
+    alloc: Global,
+    calls: u64,
+    schedules: &[&[EventReply]],
+) -> Result<bool, Fail> {
     let limits = Limits::new(2, BASE, DEFAULT_BLOCK).ok_or("no limits")?;
     let mut world = new_world(alloc, limits, calls)?;
     let seen = play(rt, alloc, &mut world, schedules);
@@ -75,7 +80,7 @@ fn fails(rt: &impl Abort, alloc: Global, calls: u64, schedules: &[&[Turn]]) -> R
 }
 
 /// Lets each call fail in turn, until none does.
-fn see_each(rt: &impl Abort, alloc: Global, schedules: &[&[Turn]]) -> Result<(), Fail> {
+fn see_each(rt: &impl Abort, alloc: Global, schedules: &[&[EventReply]]) -> Result<(), Fail> {
     for calls in 0..MOST {
         if !fails(rt, alloc, calls, schedules)? {
             assert!(rt; calls > 10, "only {calls} calls");

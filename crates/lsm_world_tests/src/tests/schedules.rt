@@ -78,10 +78,10 @@ pub(super) enum Tells {
 }
 
 /// An event with its reply.
-pub(super) type Turn = (Does, Tells);
+pub(super) type EventReply = (Does, Tells);
 
 /// A key is put and deleted, each is flushed, and a job of both files is picked.
-pub(super) const PICKED: [Turn; 5] = [
+pub(super) const PICKED: [EventReply; 5] = [
     (Does::Put(b"a", b"1"), Tells::Wrote(1)),
     (Does::Flush, Tells::Flushed(2, 1, 1)),
     (Does::Delete(b"a"), Tells::Wrote(2)),
@@ -90,7 +90,7 @@ pub(super) const PICKED: [Turn; 5] = [
 ];
 
 /// The first worker gets both tables, and merges them.
-pub(super) const MERGED: [Turn; 5] = [
+pub(super) const MERGED: [EventReply; 5] = [
     (Does::Deliver(1), Tells::Collecting(2, 2, 3)),
     (Does::Deliver(2), Tells::Served(4)),
     (Does::Deliver(3), Tells::Served(5)),
@@ -99,14 +99,14 @@ pub(super) const MERGED: [Turn; 5] = [
 ];
 
 /// The result is installed once.
-pub(super) const INSTALLED: [Turn; 3] = [
+pub(super) const INSTALLED: [EventReply; 3] = [
     (Does::Deliver(6), Tells::Installed(4, &[])),
     (Does::Get(b"a"), Tells::Got(None)),
     (Does::Deliver(6), Tells::Refused(Refusal::NoClaim)),
 ];
 
 /// The tables of merged files are still served, and the job is merged once more from them.
-pub(super) const LATE: [Turn; 8] = [
+pub(super) const LATE: [EventReply; 8] = [
     (Does::Deliver(2), Tells::Served(7)),
     (Does::Deliver(7), Tells::Ignored),
     (Does::Deliver(1), Tells::Collecting(2, 8, 9)),
@@ -118,7 +118,7 @@ pub(super) const LATE: [Turn; 8] = [
 ];
 
 /// Files of two keys.
-pub(super) const TWO: [Turn; 8] = [
+pub(super) const TWO: [EventReply; 8] = [
     (Does::Put(b"a", b"1"), Tells::Wrote(1)),
     (Does::Flush, Tells::Flushed(2, 1, 1)),
     (Does::Put(b"a", b"2"), Tells::Wrote(2)),
@@ -130,7 +130,7 @@ pub(super) const TWO: [Turn; 8] = [
 ];
 
 /// Two jobs at a time; the later one is merged last and installed first.
-pub(super) const TWO_JOBS: [Turn; 16] = [
+pub(super) const TWO_JOBS: [EventReply; 16] = [
     (Does::Pick(1), Tells::Picked(1, 1, 0, &[1, 2], 1)),
     (Does::Pick(2), Tells::Picked(1, 2, 0, &[3, 4], 2)),
     (Does::Deliver(1), Tells::Collecting(2, 3, 4)),
@@ -150,7 +150,7 @@ pub(super) const TWO_JOBS: [Turn; 16] = [
 ];
 
 /// The other calls, what is not there, and a claim that is given back.
-pub(super) const CALLS: [Turn; 15] = [
+pub(super) const CALLS: [EventReply; 15] = [
     (Does::Put(b"a", b"1"), Tells::Wrote(1)),
     (Does::Freeze, Tells::Froze(1)),
     (
@@ -175,14 +175,14 @@ pub(super) const CALLS: [Turn; 15] = [
 ];
 
 /// The coordinator restarts after the merge: the result is refused, and the next job is of the next epoch.
-pub(super) const REFUSED: [Turn; 3] = [
+pub(super) const REFUSED: [EventReply; 3] = [
     (Does::RestartCoordinator, Tells::Restarted(2, 4, 2)),
     (Does::Deliver(6), Tells::Refused(Refusal::OldEpoch)),
     (Does::Pick(1), Tells::Picked(2, 1, 0, &[1, 2], 7)),
 ];
 
 /// A write that is refused is not there, and its sequence is given again.
-pub(super) const UNWRITTEN: [Turn; 6] = [
+pub(super) const UNWRITTEN: [EventReply; 6] = [
     (
         Does::Put(b"a", b"1"),
         Tells::Refused(Refusal::Coord(CoordError::Device)),
@@ -195,7 +195,7 @@ pub(super) const UNWRITTEN: [Turn; 6] = [
 ];
 
 /// A freeze that is refused freezes nothing, and is done again.
-pub(super) const UNFROZEN: [Turn; 5] = [
+pub(super) const UNFROZEN: [EventReply; 5] = [
     (Does::Put(b"a", b"1"), Tells::Wrote(1)),
     (
         Does::Freeze,
@@ -207,7 +207,7 @@ pub(super) const UNFROZEN: [Turn; 5] = [
 ];
 
 /// Records that a flush could not cut are read past by the next opening, and cut.
-pub(super) const UNCUT: [Turn; 6] = [
+pub(super) const UNCUT: [EventReply; 6] = [
     (Does::Put(b"a", b"1"), Tells::Wrote(1)),
     (Does::Flush, Tells::Flushed(2, 1, 1)),
     (Does::Put(b"a", b"2"), Tells::Wrote(2)),
@@ -217,7 +217,7 @@ pub(super) const UNCUT: [Turn; 6] = [
 ];
 
 /// What is frozen is so after a restart, and is flushed first.
-pub(super) const FROZEN: [Turn; 7] = [
+pub(super) const FROZEN: [EventReply; 7] = [
     (Does::Put(b"a", b"1"), Tells::Wrote(1)),
     (Does::Freeze, Tells::Froze(1)),
     (Does::Put(b"b", b"2"), Tells::Wrote(2)),
@@ -228,7 +228,7 @@ pub(super) const FROZEN: [Turn; 7] = [
 ];
 
 /// A flush that is refused is done again.
-pub(super) const FAILED: [Turn; 4] = [
+pub(super) const FAILED: [EventReply; 4] = [
     (Does::Put(b"a", b"1"), Tells::Wrote(1)),
     (
         Does::Flush,
@@ -239,7 +239,7 @@ pub(super) const FAILED: [Turn; 4] = [
 ];
 
 /// The coordinator is down after a restart that is refused, and a worker goes on. A claim is given back once it is up again.
-pub(super) const STOPPED: [Turn; 10] = [
+pub(super) const STOPPED: [EventReply; 10] = [
     (
         Does::RestartCoordinator,
         Tells::Refused(Refusal::Open(OpenError::Device)),
@@ -256,7 +256,7 @@ pub(super) const STOPPED: [Turn; 10] = [
 ];
 
 /// A trim that is refused has raised the floor, and removed a table; the next one removes the other one.
-pub(super) const TRIMMED: [Turn; 2] = [
+pub(super) const TRIMMED: [EventReply; 2] = [
     (
         Does::Trim(4),
         Tells::Refused(Refusal::Coord(CoordError::Device)),
