@@ -30,6 +30,9 @@ use std::marker::Model;
 
 /// One store: its memtables, its version set over a vault, its live snapshots, and the claims of this epoch. The vault's log has
 /// what the memtables have; snapshots and claims are lost when it ends.
+///
+/// Invariant: the log holds the writes that the memtables have, those after the current version's flushed sequence; the claims are of the
+/// version's epoch, and each live one is of a job whose inputs may still be merged.
 #[derive(Drop)]
 pub struct Coord<V: Vault> {
     alloc: Global,

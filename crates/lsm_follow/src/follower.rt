@@ -12,6 +12,8 @@ use std::alloc::Global;
 use std::marker::Model;
 
 /// A follower: it serves a version, and may be about to move to another one.
+///
+/// Invariant: a version that it is to move to is later than the one that it serves, and lacks a table; what has come for it is as its files' records say.
 #[derive(Debug, Drop)]
 pub struct Follower {
     alloc: Global,

@@ -3,6 +3,8 @@
 use std::marker::Model;
 
 /// The number of a file, which no other file ever has.
+///
+/// Invariant: it is less than 2^64.
 #[derive(Clone, Copy, Debug, PartialEq, Eq, PartialOrd, Ord)]
 pub struct FileNumber {
     number: u64,
@@ -39,6 +41,8 @@ impl FileNumber {
 }
 
 /// The number of a version.
+///
+/// Invariant: it is less than 2^64.
 #[derive(Clone, Copy, Debug, PartialEq, Eq, PartialOrd, Ord)]
 pub struct VersionNumber {
     number: u64,

@@ -21,8 +21,9 @@ use std::marker::Model;
 // A front is learned from as many entries as this.
 const MIN_LEARNED: usize = 1_000;
 
-/// Keys in their order, each with its versions, the oldest first. Every bucket has an entry, and the keys in it have its
-/// prefix after the front.
+/// Keys in their order, each with its versions, the oldest first.
+///
+/// Invariant: every bucket has an entry, and the keys in it have its prefix after the front.
 #[derive(Debug, Drop)]
 pub(crate) struct Buckets {
     alloc: Global,

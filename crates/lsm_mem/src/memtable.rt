@@ -11,6 +11,8 @@ use std::alloc::{AllocError, Global};
 use std::marker::Model;
 
 /// The entries that were written last, at most `MAX_MEMTABLE_WEIGHT` bytes of them, in the order of internal keys.
+///
+/// Invariant: no two entries have one sequence, and weight, count and greatest sequence are those of the entries.
 #[derive(Debug, Drop)]
 pub struct Memtable {
     buckets: Buckets,

@@ -33,10 +33,12 @@ impl Start for Brand {
     ghost start = { no_coord };
 }
 
-/// A coordinator with the history of its calls, from the start that `J` names. Whatever the results held that were installed, the
-/// installs in the manifest are those at the start and those of the history. If each install of the history held the
-/// merge of its job, the history is a run of the model from each state that was shown at the start to one that the coordinator
-/// shows. It is `Drop` if the vault is. The history keeps every call and answer, so that the bytes of every installed table stay as long as it does.
+/// A coordinator with the history of its calls, from the start that `J` names. It is `Drop` if the vault is. The history keeps every call and
+/// answer, so that the bytes of every installed table stay as long as it does.
+///
+/// Invariant: whatever the results held that were installed, the installs in the manifest are those at the start and those of the history. If each
+/// install of the history held the merge of its job, the history is a run of the model from each state that was shown at the start to one that
+/// the coordinator shows.
 #[derive(Drop)]
 pub struct Shared<V: Vault, J: Start, N: Witness + Drop> {
     coord: Coord<V>,

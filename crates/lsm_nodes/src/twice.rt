@@ -3,6 +3,8 @@
 use std::marker::Model;
 
 /// A value and its copy, one for the history and one for the caller's tally.
+///
+/// Invariant: both are the same value.
 #[derive(Drop)]
 pub(crate) struct Twice<T> {
     one: T,

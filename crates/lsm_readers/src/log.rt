@@ -22,6 +22,8 @@ impl LogName for Brand {
 }
 
 /// A log without publications, which has no name yet. Contracts see it as which log it is.
+///
+/// Invariant: nothing is published in it, and its head is the log's own word.
 #[derive(Drop)]
 pub struct NewLog {
     head: Word<Served, u64, Rising>,

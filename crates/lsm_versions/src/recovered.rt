@@ -12,6 +12,8 @@ use std::marker::Model;
 
 /// What a vault has, read: its edits replay to a version, and it has the table of each file. An opening goes on from it by `begin`,
 /// which is the first to change the vault, so whatever else an opening may be refused for comes between.
+///
+/// Invariant: no file is retired.
 #[derive(Drop)]
 pub struct Recovered<V: Vault> {
     // At the version that the edits replay to.

@@ -33,10 +33,11 @@ use lsm_vault::{Vault, VaultError};
 use std::alloc::{AllocError, Global};
 use std::marker::Model;
 
-/// The current version with its tables; the vault, whose edits are the manifest; and the retired files, by number. The manifest
-/// always replays to the current version, the retired files are those that some version from the floor on lists and the current
-/// one lacks, and the vault has the tables of all of them. The recent edits are those of the manifest from the floor on. The cache
-/// holds blocks of the current version's tables alone.
+/// The current version with its tables; the vault, whose edits are the manifest; and the retired files, by number.
+///
+/// Invariant: the manifest replays to the current version, the retired files are those that some version from the floor on lists and the current
+/// one lacks, and the vault has the tables of all of them. The recent edits are those of the manifest from the floor on. The cache holds blocks
+/// of the current version's tables alone.
 #[derive(Drop)]
 pub struct VersionSet<V: Vault> {
     alloc: Global,

@@ -14,6 +14,8 @@ use std::alloc::{AllocError, Global};
 use std::marker::Model;
 
 /// A job with those of its inputs that have come.
+///
+/// Invariant: the numbers are those of inputs of the job, in their order, and each table is as the record of its file says.
 #[derive(Debug, Drop)]
 pub(crate) struct Task {
     job: Job,

@@ -15,6 +15,8 @@ use std::marker::Model;
 
 /// A coordinator, four dispatchers, four workers, four followers, and the messages that they sent. It is not `Drop`: a dispatcher may hold a
 /// claim, which only a close settles.
+///
+/// Invariant: one history of versions, files and jobs has all that the nodes and the messages hold.
 pub(crate) struct Nodes<V: Vault> {
     alloc: Global,
     coord: Coord<V>,

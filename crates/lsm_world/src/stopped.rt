@@ -22,6 +22,8 @@ use std::marker::Model;
 
 /// A vault, four dispatchers, four workers, four followers, and the messages that they sent, with what the next opening takes. It is not
 /// `Drop`: a dispatcher may hold a claim, which only `close` settles.
+///
+/// Invariant: no claim is live in the book, and one history has all that the vault, the nodes and the messages hold.
 pub(crate) struct Stopped<V: Vault> {
     alloc: Global,
     vault: V,

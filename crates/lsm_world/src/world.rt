@@ -31,6 +31,8 @@ use std::marker::Model;
 /// and delay what they send. Messages are numbered from 1 and stay, so that each may be delivered whenever, and as often as, the
 /// schedule says. It is a model of the network, not a node: it keeps the bytes of every message. It is not `Drop`: `close`
 /// ends it.
+///
+/// Invariant: the events that were taken led from a new store, with some replies, to a state of the model that the store shows.
 pub struct World<V: Vault> {
     alloc: Global,
     // It is `Some` between calls.

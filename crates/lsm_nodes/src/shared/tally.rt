@@ -40,9 +40,11 @@ impl Records {
     }
 }
 
-/// What a caller counted and recorded, and what was merged into it. Only the calls under the lock write its records. It keeps that `picked` is the sum of `installed`,
-/// `returned` and `stale`, that `installed` is the number of its records of installs that were done, and that the number of its
-/// records is its share of the history's length. It has some of the parts of its ledger.
+/// What a caller counted and recorded, and what was merged into it. Only the calls under the lock write its records. It has some of the parts
+/// of its ledger.
+///
+/// Invariant: `picked` is the sum of `installed`, `returned` and `stale`, `installed` is the number of its records of installs that were done, and the
+/// number of its records is its share of the history's length.
 #[derive(Drop)]
 pub struct Tally<J: Ledger> {
     parts: u64,
