@@ -2,6 +2,7 @@
 use Rattle.std.proofs.Common.{◌≡◌, ◌∙◌, ℕ, List, false, sym, subst}
 use Rattle.std.proofs.lemmas.Bool.{true≢false}
 use Rattle.std.proofs.lemmas.Option.{none-some, same_Some}
+use Rattle.lsm_key.specs.Sets.{is_among}
 use Rattle.lsm_key.proofs.Results.{ok_not_err}
 use Rattle.lsm_table.specs.Tables.{IsTable, Opened}
 use Rattle.lsm_table.proofs.TableContents.{table_one}
@@ -12,7 +13,7 @@ use Rattle.lsm_vault.specs.Stored.{TableMap}
 use Rattle.lsm_versions.specs.Opening.{LacksTable}
 use Rattle.lsm_inspect.specs.declared.damage.Damage.{Damage}
 use Rattle.lsm_inspect.specs.declared.damage.Damage.TheVariants.{NotWhole, Missing, WrongLength, NotATable, WrongCount, WrongKeys}
-use Rattle.lsm_inspect.specs.Check.{HasMismatch, IsDamage, IsMismatch, is_among}
+use Rattle.lsm_inspect.specs.Check.{HasMismatch, IsDamage, IsMismatch}
 
 -- a table that is not as the file's record says is a damage
 pub mismatch_damage : (kept : TableMap) (damaged : List ℕ) (f : FileMeta) (d : Damage) → HasMismatch kept f d → IsDamage kept damaged f d

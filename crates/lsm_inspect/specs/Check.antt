@@ -1,8 +1,8 @@
 -- Whether the tables of a store are what the records of its files say (RocksDB: DB::VerifyChecksum; LevelDB: leveldbutil dump).
-use Rattle.std.specs.Prelude.{◌≡◌, ℕ, ◌⊎◌, Bool, true, false, not, List, [], ◌∷◌, Option, None, Some, Err, length, filter, nat_eq}
+use Rattle.std.specs.Prelude.{◌≡◌, ℕ, ◌⊎◌, true, false, not, List, [], ◌∷◌, Option, None, Some, Err, length, filter}
 use Rattle.std.specs.List.{list_any}
 use Rattle.std.specs.FinMap as map
-use Rattle.lsm_key.specs.Sets.{IsIn}
+use Rattle.lsm_key.specs.Sets.{IsIn, is_among}
 use Rattle.lsm_key.specs.declared.refused.Refused.{Refused}
 use Rattle.lsm_key.specs.declared.refused.Refused.TheVariants as refused
 use Rattle.lsm_table.specs.Tables.{IsTable, Opened, smallest_key, largest_key}
@@ -18,10 +18,6 @@ use Rattle.lsm_inspect.specs.declared.error.InspectError.TheVariants.{OutOfMemor
 use Rattle.lsm_inspect.specs.declared.damage.Damage.{Damage}
 use Rattle.lsm_inspect.specs.declared.damage.Damage.TheVariants.{NotWhole, Missing, WrongLength, NotATable, WrongCount, WrongKeys}
 use Rattle.lsm_inspect.specs.declared.damage.Finding.{Finding}
-
--- the number is one of these
-abbrev pub is_among : List ℕ → ℕ → Bool
-is_among numbers n = list_any (λ m. nat_eq m n) numbers
 
 -- the file's table is there, as its record says
 abbrev pub HasRecordedTable : TableMap → FileMeta → Type 0

@@ -1,6 +1,7 @@
 //! What holds of all that is found, as facts on the definitions. The functions do nothing: each is the proof of its contract.
 
 ghost use Rattle.std.specs.Prelude.{◌≡◌, ℕ, false, List};
+ghost use Rattle.lsm_key.specs.Sets.{is_among};
 ghost use Rattle.lsm_edit.specs.declared.file.FileMeta.{FileMeta};
 ghost use Rattle.lsm_edit.specs.Log.{BadLog};
 ghost use Rattle.lsm_edit.specs.Version.{VersionValue};
@@ -10,7 +11,7 @@ ghost use Rattle.lsm_versions.specs.Manifest.{Folds};
 ghost use Rattle.lsm_versions.specs.Opening.{HaveTables, LacksTable, OpenRefuses};
 ghost use Rattle.lsm_inspect.specs.declared.damage.Damage.{Damage};
 ghost use Rattle.lsm_inspect.specs.declared.damage.LogDamage.{LogDamage};
-ghost use Rattle.lsm_inspect.specs.Check.{IsDamage, is_among};
+ghost use Rattle.lsm_inspect.specs.Check.{IsDamage};
 ghost use Rattle.lsm_inspect.specs.Log.{IsLogDamage};
 
 /// What is wrong with the table of a file whose number no damaged one has is a reason to refuse an opening.

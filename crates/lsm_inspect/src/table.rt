@@ -2,9 +2,10 @@
 
 ghost use Rattle.std.specs.Prelude.{◌≡◌, false, IfErr, IfOk, Some};
 ghost use Rattle.std.specs.FinMap as map;
+ghost use Rattle.lsm_key.specs.Sets.{is_among};
 ghost use Rattle.lsm_table.specs.Tables.{IsTable};
 ghost use Rattle.lsm_edit.specs.Served.{IsAsRecorded};
-ghost use Rattle.lsm_inspect.specs.Check.{IsMismatch, RefusesTable, is_among};
+ghost use Rattle.lsm_inspect.specs.Check.{IsMismatch, RefusesTable};
 
 use crate::Damage;
 use lsm_edit::{FileMeta, is_as_recorded};

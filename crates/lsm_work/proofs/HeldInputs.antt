@@ -9,7 +9,7 @@ use Rattle.std.proofs.lemmas.Bool.Decides.{nat_tests}
 use Rattle.std.proofs.lemmas.Cmp.{ranked}
 use Rattle.std.proofs.lemmas.List.Filters.{length-filter_both}
 use Rattle.std.proofs.lemmas.List.Kept.{AllPairs-filter}
-use Rattle.lsm_key.specs.Sets.{IsIn}
+use Rattle.lsm_key.specs.Sets.{IsIn, is_among}
 use Rattle.lsm_key.proofs.AscendingEntries.{IsIn-filter}
 use Rattle.lsm_key.proofs.Lists.{IsIn-kept, some_in}
 use Rattle.lsm_key.proofs.Membership.{IsIn-at, IsIn-place, IsIn-map, IsIn-mapped}
@@ -22,7 +22,7 @@ use Rattle.lsm_edit.proofs.NumberSearch.{searched, files_rise}
 use Rattle.lsm_edit.proofs.PlacesInOrder.{as_many}
 use Rattle.lsm_msg.specs.declared.job.JobParts.{JobParts}
 use Rattle.lsm_msg.specs.Jobs.{IsJob}
-use Rattle.lsm_work.specs.Workers.{TaskValue, new_task, is_among, numbers_of, missing, received_tables, with_input, IsComplete}
+use Rattle.lsm_work.specs.Workers.{TaskValue, new_task, numbers_of, missing, received_tables, with_input, IsComplete}
 use Rattle.lsm_work.specs.Held.{files_of, task_of, AreHeld, IsSpot, BelongsAt}
 
 -- ---- files with their tables

@@ -4,7 +4,7 @@ use Rattle.std.specs.List.{filter}
 use Rattle.std.specs.Option.{is_some}
 use Rattle.std.specs.Prelude.{nat_eq}
 use Rattle.std.proofs.lemmas.Bool.{eq-eqb, eqb-true, false_from_ne_true}
-use Rattle.lsm_key.specs.Sets.{IsIn}
+use Rattle.lsm_key.specs.Sets.{IsIn, is_among}
 use Rattle.lsm_key.proofs.Lists.{any_from, none_from}
 use Rattle.lsm_key.proofs.Membership.{IsIn-map, IsIn-mapped}
 use Rattle.std.proofs.lemmas.List.{append-nil, map-append}
@@ -14,7 +14,7 @@ use Rattle.lsm_msg.specs.declared.message.Body.TheVariants as body
 use Rattle.lsm_msg.specs.declared.message.Message.{Message}
 use Rattle.lsm_msg.specs.Messages.{fetches, to_coordinator}
 use Rattle.lsm_msg.specs.declared.node.Node.TheVariants.{Worker}
-use Rattle.lsm_work.specs.Workers.{WorkerValue, TaskValue, WorkOutcome, IsComplete, MergesInputs, Proceeds, collects, is_among}
+use Rattle.lsm_work.specs.Workers.{WorkerValue, TaskValue, WorkOutcome, IsComplete, MergesInputs, Proceeds, collects}
 
 pub All-one : {X : Type 0} (P : X → Type 0) (x : X) → P x → All P (x ∷ [])
 All-one P x h = All-cons P x [] h (λ k d lt. absurd (omega (arith, lt)))

@@ -1,7 +1,7 @@
 -- The form in which a worker holds the inputs of its job: numbers beside tables, so that the tables can be merged where they are (the store's own).
 use Rattle.std.specs.Prelude.{◌≡◌, ℕ, ◌<◌, ◌≤◌, Bool, true, false, if◌then◌else◌, List, Option, None, Some, length, map, filter}
 use Rattle.std.specs.List.Sorted.{IsPartitionPoint}
-use Rattle.lsm_key.specs.Sets.{IsIn}
+use Rattle.lsm_key.specs.Sets.{IsIn, is_among}
 use Rattle.lsm_table.specs.Tables.{Opened}
 use Rattle.lsm_edit.specs.declared.file.FileMeta.{FileMeta}
 use Rattle.lsm_edit.specs.declared.served.Placed.{Placed}
@@ -10,7 +10,7 @@ use Rattle.lsm_msg.specs.declared.job.JobParts.{JobParts}
 use Rattle.lsm_msg.specs.Jobs.{IsJob}
 use Rattle.lsm_work.specs.declared.change.WorkChange.{WorkChange}
 use Rattle.lsm_work.specs.declared.change.WorkChange.TheVariants.{Collecting, Merged, Dropped, Ignored}
-use Rattle.lsm_work.specs.Workers.{TaskValue, is_among, missing, numbers_of}
+use Rattle.lsm_work.specs.Workers.{TaskValue, missing, numbers_of}
 
 -- the files of these numbers
 abbrev pub files_of : List ℕ → List FileMeta → List FileMeta

@@ -1,7 +1,6 @@
 -- What a worker does with a message (RocksDB wiki, Remote Compaction: a worker gets the input of a job, compacts it, and sends the result back).
 use Rattle.std.specs.Prelude.{◌≡◌, ◌⊎◌, ℕ, Bool, not, ◌&&◌, ◌||◌, List, [], ◌∷◌, ◌++◌, Option, None, Some, length, map, filter, nat_eq, nat_lt, if◌then◌else◌}
-use Rattle.std.specs.List.{list_any}
-use Rattle.lsm_key.specs.Sets.{IsIn}
+use Rattle.lsm_key.specs.Sets.{IsIn, is_among}
 use Rattle.lsm_table.specs.Tables.{Opened}
 use Rattle.lsm_claim.specs.declared.job.JobId.{JobId}
 use Rattle.lsm_claim.specs.Jobs.{same_job_id}
@@ -38,9 +37,6 @@ pub record WorkOutcome : Type 0 where
 -- no input has come
 abbrev pub new_task : JobParts → TaskValue
 new_task job = record { job = job; received = [] }
-
-abbrev pub is_among : List ℕ → ℕ → Bool
-is_among numbers number = list_any (λ n. nat_eq number n) numbers
 
 abbrev pub numbers_of : List Placed → List ℕ
 numbers_of places = map (λ p. p.meta.number) places

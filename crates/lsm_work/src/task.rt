@@ -39,14 +39,14 @@ impl Model for Task {
 
 impl Task {
     ghost use Rattle.std.specs.Prelude.{◌≡◌, ◌≤◌, All, IfErr, IfNone, IfOk, IfSome, OnErr, Some, length, map};
-    ghost use Rattle.lsm_key.specs.Sets.{IsIn};
+    ghost use Rattle.lsm_key.specs.Sets.{IsIn, is_among};
     ghost use Rattle.lsm_edit.specs.declared.file.FileMeta.{FileMeta};
     ghost use Rattle.lsm_merge.specs.Inputs.{CanMerge, IsRefused};
     ghost use Rattle.lsm_merge.specs.Outputs.{IsMerge};
     ghost use Rattle.lsm_msg.specs.declared.message.Body.TheVariants as body;
     ghost use Rattle.lsm_msg.specs.declared.node.Node.TheVariants.{Worker};
     ghost use Rattle.lsm_msg.specs.Messages.{AreTableBytes, IsMessage, fetches, to_coordinator};
-    ghost use Rattle.lsm_work.specs.Workers.{TakesTable, is_among, missing, new_task, numbers_of, received_tables, with_input};
+    ghost use Rattle.lsm_work.specs.Workers.{TakesTable, missing, new_task, numbers_of, received_tables, with_input};
     ghost use Rattle.lsm_work.specs.Held.{IsSpot, BelongsAt, left_after};
 
     /// The task of a job of which no input has come.

@@ -1,7 +1,7 @@
 -- What a worker does with a message that is known: its task is of the history again, and what it sends is known.
 use Rattle.std.proofs.Common.{◌≡◌, ℕ, Bool, true, false, cond, List, [], ◌∷◌, Option, None, Some, map, refl, sym, ap, subst, ◌∙◌, inl, inr}
 use Rattle.std.specs.Prelude.{not, nat_lt, filter, slice_get, slice_set}
-use Rattle.lsm_key.specs.Sets.{IsIn}
+use Rattle.lsm_key.specs.Sets.{IsIn, is_among}
 use Rattle.lsm_key.proofs.AscendingEntries.{IsIn-filter}
 use Rattle.lsm_key.proofs.Membership.{IsIn-append_cases}
 use Rattle.lsm_claim.specs.Jobs.{same_job_id}
@@ -16,7 +16,7 @@ use Rattle.lsm_msg.specs.declared.node.Node.TheVariants.{Worker}
 use Rattle.lsm_merge.specs.Outputs.{IsMerge}
 use Rattle.lsm_store.specs.Compacting.{tables_at}
 use Rattle.lsm_store.proofs.ServedTables.{tables_found}
-use Rattle.lsm_work.specs.Workers.{IsComplete, MergesInputs, WorkOutcome, Proceeds, TakesTable, TaskValue, WorkerValue, Works, after_gone, after_job, drops, fetching, ignores, is_among, is_later, missing, new_task, numbers_of, received_tables, with_input}
+use Rattle.lsm_work.specs.Workers.{IsComplete, MergesInputs, WorkOutcome, Proceeds, TakesTable, TaskValue, WorkerValue, Works, after_gone, after_job, drops, fetching, ignores, is_later, missing, new_task, numbers_of, received_tables, with_input}
 use Rattle.lsm_world.specs.History.{AreFilesOf, AreJobsOf, History, IsFileOf, IsKnown, IsNetwork, IsTableAt, IsTaskOf}
 use Rattle.lsm_world.specs.Nodes.{NetworkValue}
 use Rattle.lsm_world.proofs.AwaitedTables.{awaited_is, fetched, file_numbered}

@@ -4,14 +4,14 @@ use Rattle.std.specs.Prelude.{nat_eq}
 use Rattle.std.proofs.lemmas.Bool.{eq-eqb, true≢false}
 use Rattle.std.proofs.lemmas.Cmp.{ranked}
 use Rattle.std.proofs.lemmas.List.Sorted.{answers_always}
-use Rattle.lsm_key.specs.Sets.{IsIn}
+use Rattle.lsm_key.specs.Sets.{IsIn, is_among}
 use Rattle.lsm_key.proofs.Lists.{none_is}
 use Rattle.lsm_key.proofs.Membership.{IsIn-at}
 use Rattle.lsm_edit.specs.declared.file.FileMeta.{FileMeta}
 use Rattle.lsm_edit.specs.Version.{FileNumbersRise}
 use Rattle.lsm_edit.proofs.ServedPlaces.{one_number}
 use Rattle.lsm_work.specs.Held.{IsSpot}
-use Rattle.lsm_work.specs.Workers.{TaskValue, numbers_of, is_among, missing}
+use Rattle.lsm_work.specs.Workers.{TaskValue, numbers_of, missing}
 use Rattle.lsm_work.proofs.HeldInputs.{numbers_held, missing_from, missing_if, numbers_ascend, inputs_rise, among_found, file_found, spot_found}
 use Rattle.lsm_work.proofs.task.Task.awaited.Goals as goal
 

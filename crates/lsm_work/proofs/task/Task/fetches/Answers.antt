@@ -3,13 +3,14 @@ use Rattle.std.specs.List.{filter}
 use Rattle.std.specs.List.Sorted.{IsNonDecreasing}
 use Rattle.std.proofs.lemmas.List.{take_all}
 use Rattle.std.proofs.lemmas.List.Elements.{All-append}
+use Rattle.lsm_key.specs.Sets.{is_among}
 use Rattle.lsm_edit.specs.declared.file.FileMeta.{FileMeta}
 use Rattle.lsm_msg.specs.declared.message.Body.TheVariants as body
 use Rattle.lsm_msg.specs.declared.message.Message.{Message}
 use Rattle.lsm_msg.specs.Messages.{IsFileNumber, IsMessage, fetches, to_coordinator}
 use Rattle.lsm_msg.specs.Rules.{IsInput}
 use Rattle.lsm_msg.specs.declared.node.Node.TheVariants.{Worker}
-use Rattle.lsm_work.specs.Workers.{TaskValue, is_among, missing}
+use Rattle.lsm_work.specs.Workers.{TaskValue, missing}
 use Rattle.lsm_work.proofs.HeldInputs.{missing_is, numbers_ascend, among_found}
 use Rattle.lsm_work.proofs.Steps.{All-one, asked_one, asked_none, lacks}
 use Rattle.lsm_work.proofs.task.Task.fetches.Goals as goal

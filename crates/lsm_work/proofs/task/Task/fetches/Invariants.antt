@@ -1,8 +1,8 @@
 use Rattle.std.proofs.Common.{◌≡◌, All, not, take}
 use Rattle.std.specs.List.{filter}
+use Rattle.lsm_key.specs.Sets.{is_among}
 use Rattle.lsm_msg.specs.Messages.{IsMessage, fetches}
 use Rattle.lsm_msg.specs.declared.node.Node.TheVariants.{Worker}
-use Rattle.lsm_work.specs.Workers.{is_among}
 use Rattle.lsm_work.proofs.task.Task.fetches.Given as goal
 
 -- the inputs looked at that have not come are asked for

@@ -1,7 +1,8 @@
 use Rattle.std.proofs.Common.{◌≡◌, ◌∙◌, ℕ, Bool, List, Option, Some, None, cond, map, refl, ap, sym, subst}
+use Rattle.lsm_key.specs.Sets.{is_among}
 use Rattle.lsm_msg.specs.declared.message.Message.{Message}
 use Rattle.lsm_work.specs.declared.change.WorkChange.TheVariants.{Dropped}
-use Rattle.lsm_work.specs.Workers.{TaskValue, WorkerValue, WorkOutcome, drops, ignores, is_among, missing, after_gone}
+use Rattle.lsm_work.specs.Workers.{TaskValue, WorkerValue, WorkOutcome, drops, ignores, missing, after_gone}
 use Rattle.lsm_work.proofs.worker.Worker.on_gone.Goals as goal
 use Rattle.lsm_work.proofs.worker.Worker.on_gone.Goals.{in_default-via-in-Some+else-lacks, in_default-via-in_default}
 
