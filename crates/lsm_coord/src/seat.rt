@@ -17,18 +17,19 @@ pub enum Seat<V: Vault> {
 }
 
 impl<V: Vault> Seat<V> {
-    ghost use Rattle.std.specs.Prelude.{◌≡◌};
+    ghost use Rattle.std.specs.Prelude.{◌≡◌, IfErr};
     ghost use Rattle.lsm_claim.specs.Book.{settle_answer};
     ghost use Rattle.lsm_coord.specs.Model.Changes.{after_stop};
     ghost use Rattle.lsm_coord.specs.Model.State.{State};
     ghost use Rattle.lsm_coord.specs.Contract.Restarts.{RestartFollows, Restarts, after_return, seat_of};
-    ghost use Rattle.lsm_coord.specs.Contract.Seats.{ShowsDown, ShowsSeat};
+    ghost use Rattle.lsm_coord.specs.Contract.Seats.{LogComesFirst, ShowsDown, ShowsSeat};
 
     /// Lets go of all that is not in the vault, and opens the vault again, in the next epoch. No write is lost; snapshots are, and all
     /// claims are stale. If the opening is refused, the coordinator is down, and a restart may be tried again.
     pub fn restart(self, alloc: Global) -> (Seat<V>, Result<(), OpenError>)
         ensures restarts { Restarts (seat_of V.stored V.failures self) result.1 (seat_of V.stored V.failures result.0) }
         ensures step { RestartFollows (seat_of V.stored V.failures self) result.1 (seat_of V.stored V.failures result.0) }
+        ensures first { IfErr result.1 (LogComesFirst (seat_of V.stored V.failures self).stored) }
     {
         let (vault, epoch, limits) = self.stop();
         match Coord::open(alloc, vault, limits) {

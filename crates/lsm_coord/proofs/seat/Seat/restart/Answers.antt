@@ -4,7 +4,7 @@ use Rattle.lsm_claim.specs.Book.{new_book}
 use Rattle.lsm_vault.specs.Stored.{VaultValue}
 use Rattle.lsm_versions.specs.Opening.{CountsRefusal, MayHaveDropped, OpenRefuses}
 use Rattle.lsm_coord.specs.Contract.Restarts.{seat_of}
-use Rattle.lsm_coord.specs.Contract.Seats.{OpensCoord, SeatValue}
+use Rattle.lsm_coord.specs.Contract.Seats.{LogComesFirst, OpensCoord, SeatValue}
 use Rattle.lsm_coord.proofs.seat.Seat.restart.Goals as goal
 
 pub returns-in-Ok-clause-restarts : goal.returns-in-Ok-clause-restarts
@@ -41,3 +41,6 @@ returns-in-Err-clause-restarts g c =
 
 pub returns-in-Err-clause-step : goal.returns-in-Err-clause-step
 returns-in-Err-clause-step g c = λ s h. c.in-Err.ensures.stays s (c.stop-vault.ensures.shown s h)
+
+pub returns-in-Err-clause-first : goal.returns-in-Err-clause-first
+returns-in-Err-clause-first g c = subst (λ (v : VaultValue). LogComesFirst v c.in-Err.why) c.stop-vault.ensures.vault c.in-Err.ensures.first
