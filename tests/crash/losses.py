@@ -1,4 +1,4 @@
-"""What may be lost, by who syncs the log and by the kind of stop: the table of README.md, word for word, which tests/documents compares with this one. The
+"""What may be lost, by who syncs the log and by the kind of stop: the table of docs/GUIDE.md, word for word, which tests/documents compares with this one. The
 scripts of tests/crash/run hold the program to its first row, and log_changes.py holds a folder that a library opens to the others."""
 
 KILL, POWER_CUT = "A killed process loses", "A power cut loses"
