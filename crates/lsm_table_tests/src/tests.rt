@@ -226,7 +226,7 @@ fn each_fault_of_a_block(rt: HostRuntime) -> Result<(), Fail> {
         (46, same, same, BlockFault::Truncated),
         (62, same, same, BlockFault::Truncated),
         (63, same, (33, 0), BlockFault::BadLength),
-        (63, same, (32, 4), BlockFault::BadLength),
+        (63, same, (32, 16), BlockFault::BadLength),
         (63, same, (42, 2), BlockFault::BadKind),
         (63, same, (41, 0), BlockFault::BadKind),
         (63, same, (46, 1), BlockFault::BadLength),

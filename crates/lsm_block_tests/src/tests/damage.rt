@@ -48,7 +48,7 @@ fn a_beginning_is_shorter_or_truncated(rt: HostRuntime) -> Result<(), Fail> {
 const CHANGES: [(usize, u8, Option<BlockFault>); 21] = [
     // A key's length.
     (1, 0, Some(BlockFault::BadLength)),
-    (0, 4, Some(BlockFault::BadLength)),
+    (0, 16, Some(BlockFault::BadLength)),
     (0, 1, Some(BlockFault::Truncated)),
     (32, 0xff, Some(BlockFault::Truncated)),
     // A trailer's kind and sequence.
