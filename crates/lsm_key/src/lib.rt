@@ -29,15 +29,15 @@ pub use fields::{
 };
 pub use items::Items;
 pub use laws::{
-    an_earlier_place_is_newer, limits_are_these, newest_is_the_greatest, order_does_not_matter,
-    visible_is_the_greatest,
+    all_levels_are_these, an_earlier_place_is_newer, limits_are_these, newest_is_the_greatest,
+    order_does_not_matter, visible_is_the_greatest,
 };
 pub use lent::{key_in, piece_in, trailer_in, u16_in, u32_in, u64_in};
 pub use limits::{
-    DEFAULT_BASE, DEFAULT_BLOCK, DEFAULT_L0, ENTRY_OVERHEAD, Limits, MAX_BASE, MAX_BATCH_OPS,
-    MAX_BATCH_WEIGHT, MAX_DEEPER, MAX_INPUT_BYTES, MAX_INPUTS, MAX_JOB_LEVEL, MAX_KEY_BYTES,
-    MAX_L0, MAX_LEVEL, MAX_LIVE_CLAIMS, MAX_MEMTABLE_WEIGHT, MAX_NODES, MAX_NUMBER, MAX_POINTS,
-    MAX_SHORT_KEY_BYTES, MAX_SNAPSHOTS, MAX_TABLE_BYTES, MAX_VALUE_BYTES, NUM_LEVELS,
+    ALL_LEVELS, DEFAULT_BASE, DEFAULT_BLOCK, DEFAULT_L0, ENTRY_OVERHEAD, Limits, MAX_BASE,
+    MAX_BATCH_OPS, MAX_BATCH_WEIGHT, MAX_DEEPER, MAX_INPUT_BYTES, MAX_INPUTS, MAX_JOB_LEVEL,
+    MAX_KEY_BYTES, MAX_L0, MAX_LEVEL, MAX_LIVE_CLAIMS, MAX_MEMTABLE_WEIGHT, MAX_NODES, MAX_NUMBER,
+    MAX_POINTS, MAX_SHORT_KEY_BYTES, MAX_SNAPSHOTS, MAX_TABLE_BYTES, MAX_VALUE_BYTES, NUM_LEVELS,
 };
 pub use lookup::compare_place;
 pub use merge::merge_lists;

@@ -1,7 +1,7 @@
 //! The command `stats`.
 
 use super::answer::store_refusal;
-use lsm_key::NUM_LEVELS;
+use lsm_key::ALL_LEVELS;
 use lsm_store::{LevelStats, Store, Written};
 use lsm_text::{write_number, write_refused, write_text};
 use lsm_vault::Vault;
@@ -26,9 +26,9 @@ fn write_levels<V: Vault>(out: &mut Vec<u8>, store: &Store<V>) -> Result<(), All
     write_number(out, store.latest_sequence().number())?;
     write_text(out, " flushed ")?;
     write_number(out, store.flushed_sequence().number())?;
-    for level in 0..NUM_LEVELS {
-        write_level_stats(out, level, store.level_stats(level))?;
-        if store.is_due(level) {
+    for level in &ALL_LEVELS {
+        write_level_stats(out, *level, store.level_stats(*level))?;
+        if store.is_due(*level) {
             write_text(out, " due")?;
         }
     }
