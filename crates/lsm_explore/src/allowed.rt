@@ -4,7 +4,7 @@ use crate::model::{Model, NoteKind, place_of};
 use bytes::Bytes;
 use lsm_claim::JobId;
 use lsm_msg::NodeIndex;
-use lsm_script::Word;
+use lsm_word::Word;
 use lsm_world::Event;
 use std::alloc::AllocError;
 use std::fmt::Write;

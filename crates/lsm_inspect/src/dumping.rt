@@ -12,9 +12,9 @@ use crate::{InspectError, Report};
 use bytes::Bytes;
 use lsm_edit::{FileMeta, LogRecord, decode_log};
 use lsm_file_vault::Contents;
-use lsm_key::{EntryRef, Kind, NUM_LEVELS, Refused};
-use lsm_script::{Operations, Word};
+use lsm_key::{ALL_LEVELS, EntryRef, Kind, Refused};
 use lsm_table::Table;
+use lsm_word::{Operations, Word};
 use std::alloc::Global;
 use std::fmt;
 use std::io::{self, BufWriter, Write};
@@ -76,8 +76,8 @@ fn write_all<W: Write + Drop>(
     ensures { IfErr result IsWriteError }
 {
     let mut out = BufWriter::new(alloc, out)?;
-    for level in 0..NUM_LEVELS {
-        write_level(alloc, contents, files, level, &mut out)?;
+    for level in &ALL_LEVELS {
+        write_level(alloc, contents, files, *level, &mut out)?;
     }
     out.flush()?;
     Ok(())

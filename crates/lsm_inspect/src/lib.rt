@@ -5,7 +5,7 @@
 //! report what a check does. They read what a folder holds and change nothing. It promises that a check that finds nothing damaged leaves
 //! no reason to refuse an opening for a table or for the log, and that what is found is true of the file, or the log. The text of a dump is
 //! tested. It stands on `lsm_versions` for the replay of edits, on `lsm_file_vault` for what a folder holds, on the edits, the tables and
-//! the records of a log, on `lsm_store` for the sums of a level, and on `lsm_script` for keys, values and operations as words.
+//! the records of a log, on `lsm_store` for the sums of a level, and on `lsm_word` for keys, values and operations as words.
 #![tactic(auto)]
 
 mod checking;

@@ -5,7 +5,7 @@ ghost use Rattle.lsm_store.specs.Stats.{IsLevelStats};
 
 use crate::{Finding, LogDamage};
 use lsm_edit::Version;
-use lsm_key::{FileNumber, NUM_LEVELS};
+use lsm_key::{ALL_LEVELS, FileNumber};
 use lsm_store::{LevelStats, stats_of};
 use std::fmt;
 
@@ -175,8 +175,8 @@ fn write_numbers<W: fmt::Write>(f: &mut fmt::Formatter<W>, tables: &[FileNumber]
 
 // A line for each level that has files.
 fn write_levels<W: fmt::Write>(f: &mut fmt::Formatter<W>, report: &Report) -> fmt::Result {
-    for level in 0..NUM_LEVELS {
-        let stats = report.level_stats(level);
+    for level in &ALL_LEVELS {
+        let stats = report.level_stats(*level);
         if stats.files > 0 {
             let (files, bytes, entries) = (stats.files, stats.bytes, stats.entries);
             writeln!(f, "L{level} {files} files {bytes} bytes {entries} entries")?;

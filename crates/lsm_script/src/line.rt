@@ -1,8 +1,8 @@
 //! The line of an event.
 
-use crate::word::Word;
 use lsm_coord::{ScanRange, SnapId};
 use lsm_key::Op;
+use lsm_word::{Operation, Operations, Word};
 use lsm_world::Event;
 use std::fmt;
 
@@ -51,36 +51,12 @@ impl fmt::Display for At {
     }
 }
 
-/// Operations as a script has them behind the word `batch`: a space and `put K V` or `del K` for each.
-#[derive(Clone, Copy)]
-pub struct Operations<'a>(pub &'a [Op]);
-
-impl fmt::Display for Operations<'_> {
-    fn fmt<W: fmt::Write>(&self, f: &mut fmt::Formatter<W>) -> fmt::Result {
-        for op in self.0 {
-            f.write_str(" ")?;
-            write_op(f, op)?;
-        }
-        Ok(())
-    }
-}
-
-// `put K V` or `del K`, or `batch` and the operations if there is not just one.
+// The operation, or `batch` and the operations if there is not just one.
 fn write_ops<W: fmt::Write>(f: &mut fmt::Formatter<W>, ops: &[Op]) -> fmt::Result {
     if let [op] = ops {
-        return write_op(f, op);
+        return write!(f, "{}", Operation(op));
     }
     write!(f, "batch{}", Operations(ops))
-}
-
-// `put K V` or `del K`
-fn write_op<W: fmt::Write>(f: &mut fmt::Formatter<W>, op: &Op) -> fmt::Result {
-    match op {
-        Op::Put(key, value) => {
-            write!(f, "put {} {}", Word(key.as_slice()), Word(value.as_slice()))
-        }
-        Op::Delete(key) => write!(f, "del {}", Word(key.as_slice())),
-    }
 }
 
 // `scan LO HI LIMIT`, and where it reads
