@@ -1,7 +1,7 @@
 -- What writes in a row leave to write. What reads and writes one after another do to known bytes is in Rattle.std.proofs.KnownBytes.
-use Rattle.std.proofs.Common.{◌≡◌, ℕ, ◌+◌, ◌≤◌, List, length, take, drop, Option, refl, ap, ◌∙◌, arith}
-use Rattle.std.specs.Io.KnownBytes.{Appends, Keeps}
-use Rattle.std.proofs.KnownBytes.{Appends-kept, Appends-nil, Appends-trans}
+use Rattle.std.proofs.Common.{◌≡◌, ℕ, ◌+◌, ◌≤◌, List, [], ◌++◌, length, take, drop, Option, None, Some, refl, ap, sym, ◌∙◌, append-nil, arith}
+use Rattle.std.specs.Io.KnownBytes.{Appends, Consumes, Keeps}
+use Rattle.std.proofs.KnownBytes.{Appends-kept, Appends-nil, Appends-trans, Keeps-trans}
 use Rattle.std.proofs.lemmas.List.{drop-drop, length-drop, take_all}
 use Rattle.std.proofs.Math.Seq.{take-add}
 
@@ -32,3 +32,27 @@ IsWritten-all old new bytes rest so none =
     let e : length rest ≡ length (drop so.done bytes) = ap (λ (r : List ℕ). length r) so.left in
     let end : length bytes ≤ so.done = omega (arith, e, length-drop so.done bytes, none) in
     rw (take_all so.done bytes end) at so.wrote
+
+-- ---- calls that were interrupted before
+
+pub kept_twice : (a b c : Option (List ℕ)) → Keeps a b → Keeps b c → Keeps a c
+kept_twice a b c = Keeps-trans a b c
+
+pub kept_consumes : (a b c : Option (List ℕ)) (bs : List ℕ) → Keeps a b → Consumes b c bs → Consumes a c bs
+kept_consumes None b c bs p q = tt
+kept_consumes (Some x) None c bs p q = absurd p
+kept_consumes (Some x) (Some y) None bs p q = absurd q
+kept_consumes (Some x) (Some y) (Some z) bs p q = sym p ∙ q
+
+pub kept_appends : (a b c : Option (List ℕ)) (bs : List ℕ) → Keeps a b → Appends b c bs → Appends a c bs
+kept_appends None b c bs p q = tt
+kept_appends (Some x) None c bs p q = absurd p
+kept_appends (Some x) (Some y) None bs p q = absurd q
+kept_appends (Some x) (Some y) (Some z) bs p q = q ∙ ap (λ (l : List ℕ). l ++ bs) p
+
+-- a write that takes nothing
+pub kept_none : (a b c : Option (List ℕ)) → Keeps a b → Appends b c [] → Keeps a c
+kept_none None b c p q = tt
+kept_none (Some x) None c p q = absurd p
+kept_none (Some x) (Some y) None p q = absurd q
+kept_none (Some x) (Some y) (Some z) p q = q ∙ append-nil y ∙ p
