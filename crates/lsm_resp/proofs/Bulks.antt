@@ -109,6 +109,6 @@ pub same_fault : (input rest a b : List ℕ) (words : List (List ℕ)) (why : Pa
 same_fault input rest a b words OutOfMemory found = tt
 same_fault input rest a b words (Protocol why) found = absurd found
 
-pub same_error : (input : List ℕ) (bytes : List ℕ) (words : List (List ℕ)) (why : ParseError) → FindsAll input words bytes (Err why) → FindsWords input words (Err why)
+pub same_error : (input : List ℕ) (bytes : List ℕ) (words : List (List ℕ)) (why : ParseError) → FindsAll input words bytes (Err why) → FindsWords input words bytes (Err why)
 same_error input bytes words OutOfMemory found = tt
 same_error input bytes words (Protocol why) found = absurd found

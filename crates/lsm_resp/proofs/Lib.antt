@@ -2,3 +2,4 @@ pub mod Ahead
 pub mod Headers
 pub mod Words
 pub mod Bulks
+pub mod Lines

@@ -1,3 +1,5 @@
 pub mod Wire
 pub mod Requests
 pub mod Pieces
+pub mod Enough
+pub mod Lines

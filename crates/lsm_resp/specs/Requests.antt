@@ -29,17 +29,17 @@ pub record IsAhead (bytes input : List ℕ) : Type 0 where
   pub rest : List ℕ
   pub is : input ++ later ≡ bytes ++ rest
 
--- Of words that lie ahead nothing is said but them and how many bytes they take; and if not all of them have come, that so it is. Memory may
--- run out.
-abbrev pub FindsWords : List ℕ → List (List ℕ) → Result Parsed ParseError → Type 0
-FindsWords input words (Ok (Request lent len)) = (words_of lent.items ≡ words) × (len ≡ length (request_bytes words))
-FindsWords input words (Ok Partial) = length input < length (request_bytes words)
-FindsWords input words (Err OutOfMemory) = Unit {0}
-FindsWords input words (Err (Protocol why)) = ⊥
+-- Of words that lie ahead as these bytes nothing is said but them and how many bytes they take; and if not all of them have come, that so it
+-- is. Memory may run out.
+abbrev pub FindsWords : List ℕ → List (List ℕ) → List ℕ → Result Parsed ParseError → Type 0
+FindsWords input words bytes (Ok (Request lent len)) = (words_of lent.items ≡ words) × (len ≡ length bytes)
+FindsWords input words bytes (Ok Partial) = length input < length bytes
+FindsWords input words bytes (Err OutOfMemory) = Unit {0}
+FindsWords input words bytes (Err (Protocol why)) = ⊥
 
 -- whatever request within the limits lies ahead, it is the one that is found
 abbrev pub FindsRequest : List ℕ → Result Parsed ParseError → Type 0
-FindsRequest input found = (words : List (List ℕ)) → AreWords words → IsAhead (request_bytes words) input → FindsWords input words found
+FindsRequest input found = (words : List (List ℕ)) → AreWords words → IsAhead (request_bytes words) input → FindsWords input words (request_bytes words) found
 
 -- a request takes at least a byte, and no more than have come
 abbrev pub TakesWithin : List ℕ → Parsed → Type 0

@@ -1,7 +1,8 @@
 //! Bulk strings: the words of a request.
 
-ghost use Rattle.std.specs.Prelude.{◌≡◌, ◌+◌, ◌≤◌, IfOk, IfSome, OnSome, length};
+ghost use Rattle.std.specs.Prelude.{◌≡◌, ◌+◌, ◌<◌, ◌≤◌, IfNone, IfOk, IfSome, OnSome, length};
 ghost use Rattle.lsm_resp.specs.declared.limits.TheConstants.{MAX_WORD_BYTES};
+ghost use Rattle.lsm_resp.specs.Enough.{enough_for_bulk, enough_for_bulks, enough_for_header};
 ghost use Rattle.lsm_resp.specs.Pieces.{FindsBulk, FindsBulks, FindsBytes};
 
 use crate::header::read_header;
@@ -27,6 +28,7 @@ fn read_bytes(input: &[u8], len: usize) -> Result<Option<&[u8]>, ProtocolFault>
     requires { len ≤ MAX_WORD_BYTES }
     ensures found { FindsBytes input.now len result }
     ensures within { IfOk result (λ found. OnSome found (len + 2 ≤ length input.now)) }
+    ensures enough { IfOk result (λ found. IfNone found (length input.now < len + 2)) }
     ensures len { IfOk result (λ found. IfSome found (λ bytes. length bytes.now ≡ len)) }
 {
     if input.len() < len + 2 {
@@ -43,6 +45,8 @@ fn read_bytes(input: &[u8], len: usize) -> Result<Option<&[u8]>, ProtocolFault>
 pub(crate) fn read_bulk(input: &[u8]) -> Result<Option<Bulk<'_>>, ProtocolFault>
     ensures found { FindsBulk input.now result }
     ensures within { IfOk result (λ found. IfSome found (λ bulk. bulk.len ≤ length input.now)) }
+    ensures light { IfOk result (λ found. IfSome found (λ bulk. bulk.len ≤ enough_for_header + length bulk.word.now + 2)) }
+    ensures enough { IfOk result (λ found. IfNone found (length input.now < enough_for_bulk)) }
     ensures short { IfOk result (λ found. IfSome found (λ bulk. length bulk.word.now ≤ MAX_WORD_BYTES)) }
 {
     if !input.is_empty() && input[0] != b'$' {
@@ -72,6 +76,8 @@ pub(crate) fn read_bulks(
 ) -> Result<Option<Bulks<'_>>, ParseError>
     ensures found { FindsBulks input.now count result }
     ensures within { IfOk result (λ found. IfSome found (λ bulks. bulks.len ≤ length input.now)) }
+    ensures light { IfOk result (λ found. IfSome found (λ bulks. bulks.len ≤ enough_for_bulks count)) }
+    ensures enough { IfOk result (λ found. IfNone found (length input.now < enough_for_bulks count)) }
 {
     let mut words = Vec::new(alloc);
     let mut len = 0;

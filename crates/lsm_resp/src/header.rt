@@ -1,6 +1,8 @@
 //! Lines that announce how many words or bytes follow: a mark, decimal digits, and a line end.
 
-ghost use Rattle.std.specs.Prelude.{◌<◌, ◌≤◌, ◌↔◌, IfOk, IfSome, IsTrue, OnSome, length};
+ghost use Rattle.std.specs.Prelude.{◌≡◌, ◌<◌, ◌≤◌, ◌↔◌, IfNone, IfOk, IfSome, IsTrue, length};
+ghost use Rattle.std.specs.Fmt.{decimal};
+ghost use Rattle.lsm_resp.specs.Enough.{enough_for_header};
 ghost use Rattle.lsm_resp.specs.Pieces.{FindsHeader, IsPlainNumber, ReadsNumber};
 
 use crate::ProtocolFault;
@@ -17,7 +19,7 @@ pub(crate) struct Header {
 /// The number that decimal digits spell, below 2^64: without a sign, and with no zero in front.
 pub fn read_number(digits: &[u8]) -> Option<u64>
     ensures read { ReadsNumber digits.now result }
-    ensures plain { OnSome result (IsPlainNumber digits.now) }
+    ensures only { IfSome result (λ n. digits.now ≡ decimal n) }
 {
     if !is_plain(digits) {
         return None;
@@ -39,6 +41,8 @@ fn is_plain(digits: &[u8]) -> bool
 pub(crate) fn read_header(input: &[u8]) -> Result<Option<Header>, ProtocolFault>
     ensures found { FindsHeader input.now result }
     ensures within { IfOk result (λ found. IfSome found (λ header. (0 < header.len) × (header.len ≤ length input.now))) }
+    ensures light { IfOk result (λ found. IfSome found (λ header. header.len ≤ enough_for_header)) }
+    ensures enough { IfOk result (λ found. IfNone found (length input.now < enough_for_header)) }
 {
     let Some((_, rest)) = input.split_first() else {
         return Ok(None);

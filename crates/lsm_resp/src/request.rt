@@ -1,6 +1,8 @@
 //! Requests: arrays of bulk strings, and inline ones.
 
-ghost use Rattle.std.specs.Prelude.{◌≡◌, ◌<◌, ◌≤◌, [], IfOk, IfSome, None, Ok, length};
+ghost use Rattle.std.specs.Prelude.{◌≡◌, ◌<◌, ◌≤◌, [], IfNone, IfOk, IfSome, None, Ok, length};
+ghost use Rattle.lsm_resp.specs.Enough.{IsEnough, enough_for_request};
+ghost use Rattle.lsm_resp.specs.Lines.{FindsLine, FindsLineRequest};
 ghost use Rattle.lsm_resp.specs.Pieces.{FindsArray};
 ghost use Rattle.lsm_resp.specs.Requests.{FindsRequest, TakesWithin};
 ghost use Rattle.lsm_resp.specs.declared.request.Parsed.TheVariants.{Partial};
@@ -25,7 +27,9 @@ pub enum Parsed<'a> {
 pub fn parse_request(alloc: Global, input: &[u8]) -> Result<Parsed<'_>, ParseError>
     ensures found { FindsRequest input.now result }
     ensures nothing { input.now ≡ [] → result ≡ Ok Partial }
+    ensures line { FindsLineRequest input.now result }
     ensures within { IfOk result (TakesWithin input.now) }
+    ensures enough { IfOk result (IsEnough input.now) }
 {
     match read_any(alloc, input) {
         Ok(Some(found)) => Ok(Parsed::Request(found.words, found.len)),
@@ -37,8 +41,11 @@ pub fn parse_request(alloc: Global, input: &[u8]) -> Result<Parsed<'_>, ParseErr
 /// The request ahead, or `None` if not all of it has come.
 fn read_any(alloc: Global, input: &[u8]) -> Result<Option<Bulks<'_>>, ParseError>
     ensures found { FindsArray input.now result }
+    ensures line { FindsLine input.now result }
     ensures nothing { input.now ≡ [] → result ≡ Ok None }
     ensures within { IfOk result (λ found. IfSome found (λ bulks. (0 < bulks.len) × (bulks.len ≤ length input.now))) }
+    ensures light { IfOk result (λ found. IfSome found (λ bulks. bulks.len ≤ enough_for_request)) }
+    ensures enough { IfOk result (λ found. IfNone found (length input.now < enough_for_request)) }
 {
     if input.is_empty() {
         return Ok(None);
@@ -54,6 +61,8 @@ fn read_any(alloc: Global, input: &[u8]) -> Result<Option<Bulks<'_>>, ParseError
 fn read_array(alloc: Global, input: &[u8]) -> Result<Option<Bulks<'_>>, ParseError>
     ensures found { FindsArray input.now result }
     ensures within { IfOk result (λ found. IfSome found (λ bulks. (0 < bulks.len) × (bulks.len ≤ length input.now))) }
+    ensures light { IfOk result (λ found. IfSome found (λ bulks. bulks.len ≤ enough_for_request)) }
+    ensures enough { IfOk result (λ found. IfNone found (length input.now < enough_for_request)) }
 {
     let Some(header) = read_header(input)? else {
         return Ok(None);
