@@ -9,6 +9,7 @@ use lsm_coord::Coord;
 use lsm_dispatch::{DispatchError, dispatch};
 use lsm_msg::NodeIndex;
 use lsm_store::Due;
+use lsm_stream::{CountedReader, CountedWriter};
 use lsm_vault::Vault;
 use std::alloc::Global;
 use std::io;
@@ -28,7 +29,8 @@ pub fn dispatch_jobs(rt: &HostRuntime, place: Place<'_>, workers: NodeIndex) -> 
     let OpenCoord { coord, incidents } = opened;
     let mut coord = coord;
     let before = edit_count(&mut coord);
-    let (mut reader, mut writer) = (rt.reader(), io::writer(rt));
+    let mut reader = CountedReader::new(rt.reader());
+    let mut writer = CountedWriter::new(io::writer(rt));
     let dispatched = dispatch(rt.alloc(), &mut coord, workers, &mut reader, &mut writer);
     if let Some(made) = made_since(rt.alloc(), &mut coord, before) {
         screen.report(&made);

@@ -16,7 +16,7 @@ pub const FAILED: u8 = 1;
 pub enum CommandError {
     /// The folder is not opened.
     #[error("{0}")]
-    Folder(lsm_file_vault::OpenError),
+    Folder(lsm_file_vault::FolderError),
     /// The folder has no valid store, or its device failed, with what the system says of it.
     #[error("the store is not opened: {0}")]
     Store(lsm_versions::OpenError, Option<io::Error>),
@@ -31,15 +31,15 @@ pub enum CommandError {
     WriteFault,
 }
 
-impl From<lsm_file_vault::OpenError> for CommandError {
-    fn from(why: lsm_file_vault::OpenError) -> CommandError {
+impl From<lsm_file_vault::FolderError> for CommandError {
+    fn from(why: lsm_file_vault::FolderError) -> CommandError {
         CommandError::Folder(why)
     }
 }
 
 impl From<AllocError> for CommandError {
     fn from(_e: AllocError) -> CommandError {
-        CommandError::Folder(lsm_file_vault::OpenError::OutOfMemory)
+        CommandError::Folder(lsm_file_vault::FolderError::OutOfMemory)
     }
 }
 

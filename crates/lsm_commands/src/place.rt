@@ -5,7 +5,7 @@ ghost use Rattle.std.specs.Prelude.{◌≡◌, [], IfOk};
 use crate::inspect::report_faults;
 use crate::{CommandError, Screen};
 use lsm_coord::Coord;
-use lsm_file_vault::{FileCall, FileVault, HostFolder, Incidents, LogSync, OpenError, Opened};
+use lsm_file_vault::{FileCall, FileVault, FolderError, HostFolder, Incidents, LogSync, Opened};
 use lsm_key::Limits;
 use lsm_store::{Options, Store};
 use std::fs;
@@ -84,7 +84,7 @@ impl Place<'_> {
         };
         let path = String::from_str(rt.alloc(), self.folder)?;
         let call = FileCall::Open;
-        Err(CommandError::Folder(OpenError::Io { path, call, error }))
+        Err(CommandError::Folder(FolderError::Io { path, call, error }))
     }
 
     // Opens the folder.

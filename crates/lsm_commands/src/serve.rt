@@ -4,6 +4,7 @@ use crate::{CommandError, Place, Screen, check_streams};
 use lsm_key::Limits;
 use lsm_serve::serve;
 use lsm_store::{Options, Store};
+use lsm_stream::{CountedReader, CountedWriter};
 use lsm_vault::{MemoryVault, Vault};
 use std::io;
 use std::process::ExitCode;
@@ -35,7 +36,9 @@ pub fn serve_memory(rt: &HostRuntime, limits: Limits) -> ExitCode {
 }
 
 fn serve_from<V: Vault>(rt: &HostRuntime, store: &mut Store<V>, screen: &Screen<'_>) -> ExitCode {
-    match serve(rt.alloc(), store, &mut rt.reader(), &mut io::writer(rt)) {
+    let mut reader = CountedReader::new(rt.reader());
+    let mut writer = CountedWriter::new(io::writer(rt));
+    match serve(rt.alloc(), store, &mut reader, &mut writer) {
         Ok(()) => ExitCode::SUCCESS,
         Err(error) => screen.fail(&error),
     }

@@ -2,6 +2,7 @@
 
 use crate::{Screen, check_streams};
 use lsm_msg::NodeIndex;
+use lsm_stream::{CountedReader, CountedWriter};
 use std::io;
 use std::process::ExitCode;
 
@@ -12,7 +13,9 @@ pub fn work(rt: &HostRuntime, index: NodeIndex) -> ExitCode {
     if let Err(error) = check_streams(rt) {
         return screen.fail(&error);
     }
-    match lsm_frame::work(rt.alloc(), index, &mut rt.reader(), &mut io::writer(rt)) {
+    let mut reader = CountedReader::new(rt.reader());
+    let mut writer = CountedWriter::new(io::writer(rt));
+    match lsm_frame::work(rt.alloc(), index, &mut reader, &mut writer) {
         Ok(()) => ExitCode::SUCCESS,
         Err(error) => screen.fail(&error),
     }

@@ -1,3 +1,4 @@
+mod CountedTurns
 mod HandedJobs
 mod HeldClaims
 mod KeptSteps

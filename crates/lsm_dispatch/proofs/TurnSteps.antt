@@ -154,7 +154,8 @@ module _ (crew crew_new : List WorkerState) (old new : CoordValue) (payload : Li
 -- ---- a letter that is not taken
 
 read_refused : (crew : List WorkerState) (known : Option (List ℕ)) (e : PipeError) → has_busy crew ≡ true → FrameRefuses known e → ReadStops crew known e
-read_refused crew known pipe.ReadFault busy h = tt
+read_refused crew known pipe.NoEnd busy h = tt
+read_refused crew known pipe.ReadFault busy h = (busy, h)
 read_refused crew known pipe.EndsInside busy h = (busy, h)
 read_refused crew known pipe.TooLong busy h = (busy, h)
 read_refused crew known pipe.OutOfMemory busy h = (busy, h)
@@ -183,8 +184,8 @@ act_fails crew c new was left held payload m e p spelled h =
 pub ends_early : (crew : List WorkerState) (c : CoordValue) (was held : Option (List ℕ)) → IsAtEnd was → has_busy crew ≡ true → RunStops crew c was held held error.EndsEarly
 ends_early crew c was held end busy = stops_now crew c was held held error.EndsEarly (end, busy, refl)
 
-pub reads_no_more : (crew : List WorkerState) (c : CoordValue) (was held : Option (List ℕ)) → RunStops crew c was held held (error.Pipe pipe.ReadFault)
-reads_no_more crew c was held = stops_now crew c was held held (error.Pipe pipe.ReadFault) (inr (tt, refl))
+pub reads_no_more : (crew : List WorkerState) (c : CoordValue) (was held : Option (List ℕ)) → RunStops crew c was held held (error.Pipe pipe.NoEnd)
+reads_no_more crew c was held = stops_now crew c was held held (error.Pipe pipe.NoEnd) (inr (tt, refl))
 
 -- ---- whole dispatches
 

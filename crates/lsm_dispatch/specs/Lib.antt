@@ -1,3 +1,4 @@
+pub mod Counting
 pub mod Crews
 pub mod Dispatching
 pub mod Letters

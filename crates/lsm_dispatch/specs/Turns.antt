@@ -112,9 +112,9 @@ abbrev pub LetterRefuses : Option (List ℕ) → PipeError → Type 0
 LetterRefuses known pipe.NotMessage = IfSome known IsNoLetter
 LetterRefuses known e = FrameRefuses known e
 
--- a letter is waited for only while a worker has a job; that a read fails is said at any time
+-- a letter is waited for only while a worker has a job; that there is no end may be reported at any time
 abbrev pub ReadStops : List WorkerState → Option (List ℕ) → PipeError → Type 0
-ReadStops crew known pipe.ReadFault = Unit {0}
+ReadStops crew known pipe.NoEnd = Unit {0}
 ReadStops crew known e = (has_busy crew ≡ true) × LetterRefuses known e
 
 -- no message is sent unless a turn sends it

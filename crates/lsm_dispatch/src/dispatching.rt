@@ -1,10 +1,11 @@
 //! A dispatch: a coordinator that has its compactions made over a pipe.
 
-ghost use Rattle.std.specs.Prelude.{◌≡◌, ℕ, ◌+◌, ◌≤◌, List, [], Option, true, false, IfErr, IfOk, IfSome, OnOk};
+ghost use Rattle.std.specs.Prelude.{◌≡◌, ℕ, ◌+◌, ◌<◌, ◌≤◌, List, [], Option, true, false, IfErr, IfOk, IfSome, OnOk};
 ghost use Rattle.std.specs.Io.KnownBytes.{Appends};
 ghost use Rattle.lsm_key.specs.declared.limits.TheConstants.{MAX_NODES};
 ghost use Rattle.lsm_msg.specs.Messages.{IsMessage};
 ghost use Rattle.lsm_frame.specs.Frames.{framed};
+ghost use Rattle.lsm_dispatch.specs.Counting.{DispatchCounts, DispatchCountsBoth, DispatchCountsReadFaults, DispatchCountsWriteFaults, read_faults_in};
 ghost use Rattle.lsm_dispatch.specs.Crews.{has_busy, new_crew};
 ghost use Rattle.lsm_dispatch.specs.Dispatching.{IsLeftDue, KeepsIfMerged, RunKeeps};
 ghost use Rattle.lsm_dispatch.specs.Turns.{AsksWorker, AsksBefore, DispatchRefuses, NoneWaits, OneRefuses, RunEnds, RunStops, RunsOver, one_or_none};
@@ -18,9 +19,9 @@ use lsm_frame::{PipeError, read_frame, send};
 use lsm_key::MAX_NODES;
 use lsm_msg::{Message, NodeIndex};
 use lsm_store::Due;
+use lsm_stream::{Sink, Source};
 use lsm_vault::Vault;
 use std::alloc::Global;
-use std::io::{Read, Write};
 
 /// Has the compactions of an idle coordinator made by workers, of which so many are there at first, until none is due, and returns
 /// what is still due: nothing, or compactions that exceed a job size limit. The host takes each frame that is written to the
@@ -30,9 +31,9 @@ use std::io::{Read, Write};
 /// installed is the merge of its job.
 ///
 /// It ends early if the reader fails or ends while a worker has a job, if what comes is no frame or no letter, if the writer fails or a message
-/// has too many bytes, if the coordinator refuses a pick, an install or a trim, or finds no memory, and if a compaction is due that no
-/// worker takes.
-pub fn dispatch<V: Vault, R: Read, W: Write>(
+/// has too many bytes, if a stream was called as often as is counted, if the coordinator refuses a pick, an install or a trim, or finds no
+/// memory, and if a compaction is due that no worker takes.
+pub fn dispatch<V: Vault, R: Source, W: Sink>(
     alloc: Global,
     coord: &mut Coord<V>,
     count: NodeIndex,
@@ -45,6 +46,9 @@ pub fn dispatch<V: Vault, R: Read, W: Write>(
     ensures refused { IfErr result (DispatchRefuses (new_crew count) coord.old (R.remaining reader.old) (R.remaining reader.new) (W.contents writer.old) (W.contents writer.new) coord.new) }
     ensures settled { coord.new.book.live ≡ [] }
     ensures keeps { KeepsIfMerged coord.old coord.new }
+    ensures counted { DispatchCountsBoth result (R.reads reader.old) (R.reads reader.new) (W.writes writer.old) (W.writes writer.new) }
+    ensures read_faults { DispatchCountsReadFaults result (R.faults reader.old) (R.faults reader.new) }
+    ensures write_faults { DispatchCountsWriteFaults result (W.faults writer.old) (W.faults writer.new) }
 {
     let mut crew = Crew::new(count);
     let ended = run(alloc, coord, &mut crew, reader, writer);
@@ -57,7 +61,7 @@ pub fn dispatch<V: Vault, R: Read, W: Write>(
 }
 
 // Hands out jobs and takes letters until no worker has a job.
-fn run<V: Vault, R: Read, W: Write>(
+fn run<V: Vault, R: Source, W: Sink>(
     alloc: Global,
     coord: &mut Coord<V>,
     crew: &mut Crew,
@@ -68,19 +72,22 @@ fn run<V: Vault, R: Read, W: Write>(
     ensures idle { OnOk result ((has_busy crew.new ≡ false) × NoneWaits crew.new coord.new) }
     ensures refused { IfErr result (RunStops crew.old coord.old (R.remaining reader.old) (W.contents writer.old) (W.contents writer.new)) }
     ensures keeps { RunKeeps crew.old coord.old crew.new coord.new }
+    ensures counted { DispatchCountsBoth result (R.reads reader.old) (R.reads reader.new) (W.writes writer.old) (W.writes writer.new) }
+    ensures read_faults { DispatchCountsReadFaults result (R.faults reader.old) (R.faults reader.new) }
+    ensures write_faults { DispatchCountsWriteFaults result (W.faults writer.old) (W.faults writer.new) }
 {
-    for _ in 0..u64::MAX {
+    for _turn in 0..u64::MAX {
         hand_out_all(alloc, coord, crew, writer)?;
         if !crew.is_busy() {
             return Ok(());
         }
         take_letter(alloc, coord, crew, reader, writer)?;
     }
-    Err(DispatchError::Pipe(PipeError::ReadFault))
+    Err(DispatchError::Pipe(PipeError::NoEnd))
 }
 
 // Hands a job to each idle worker, as long as one is due.
-fn hand_out_all<V: Vault, W: Write>(
+fn hand_out_all<V: Vault, W: Sink>(
     alloc: Global,
     coord: &mut Coord<V>,
     crew: &mut Crew,
@@ -90,6 +97,9 @@ fn hand_out_all<V: Vault, W: Write>(
     ensures refused { IfErr result (λ e. (input : Option (List ℕ)) → RunStops crew.old coord.old input (W.contents writer.old) (W.contents writer.new) e) }
     ensures asks { OnOk result (AsksBefore (MAX_NODES + 1) crew.old coord.old crew.new coord.new) }
     ensures keeps { RunKeeps crew.old coord.old crew.new coord.new }
+    ensures counted { DispatchCounts result (W.writes writer.old) (W.writes writer.new) }
+    ensures faults { DispatchCountsWriteFaults result (W.faults writer.old) (W.faults writer.new) }
+    ensures unread { IfErr result (λ e. read_faults_in e ≡ 0) }
 {
     for number in 1..MAX_NODES + 1 {
         hand_out_to(alloc, coord, crew, number, writer)?;
@@ -98,7 +108,7 @@ fn hand_out_all<V: Vault, W: Write>(
 }
 
 // Hands a job to the worker of this number, if it is idle and one is due.
-fn hand_out_to<V: Vault, W: Write>(
+fn hand_out_to<V: Vault, W: Sink>(
     alloc: Global,
     coord: &mut Coord<V>,
     crew: &mut Crew,
@@ -110,6 +120,9 @@ fn hand_out_to<V: Vault, W: Write>(
     ensures refused { IfErr result (λ e. (input : Option (List ℕ)) → RunStops crew.old coord.old input (W.contents writer.old) (W.contents writer.new) e) }
     ensures asks { OnOk result (AsksWorker number crew.old coord.old crew.new coord.new) }
     ensures keeps { RunKeeps crew.old coord.old crew.new coord.new }
+    ensures counted { DispatchCounts result (W.writes writer.old) (W.writes writer.new) }
+    ensures faults { DispatchCountsWriteFaults result (W.faults writer.old) (W.faults writer.new) }
+    ensures unread { IfErr result (λ e. read_faults_in e ≡ 0) }
 {
     let Some(index) = NodeIndex::new(number) else {
         return Ok(());
@@ -119,7 +132,7 @@ fn hand_out_to<V: Vault, W: Write>(
 }
 
 // Takes the next letter, and answers it.
-fn take_letter<V: Vault, R: Read, W: Write>(
+fn take_letter<V: Vault, R: Source, W: Sink>(
     alloc: Global,
     coord: &mut Coord<V>,
     crew: &mut Crew,
@@ -130,6 +143,10 @@ fn take_letter<V: Vault, R: Read, W: Write>(
     ensures ok { OnOk result (RunsOver crew.old coord.old (R.remaining reader.old) (R.remaining reader.new) (W.contents writer.old) (W.contents writer.new) crew.new coord.new) }
     ensures refused { IfErr result (RunStops crew.old coord.old (R.remaining reader.old) (W.contents writer.old) (W.contents writer.new)) }
     ensures keeps { RunKeeps crew.old coord.old crew.new coord.new }
+    ensures turns { OnOk result (R.reads reader.old < R.reads reader.new) }
+    ensures counted { DispatchCountsBoth result (R.reads reader.old) (R.reads reader.new) (W.writes writer.old) (W.writes writer.new) }
+    ensures read_faults { DispatchCountsReadFaults result (R.faults reader.old) (R.faults reader.new) }
+    ensures write_faults { DispatchCountsWriteFaults result (W.faults writer.old) (W.faults writer.new) }
 {
     let Some(payload) = read_frame(alloc, reader)? else {
         return Err(DispatchError::EndsEarly);
@@ -151,7 +168,8 @@ fn take_letter<V: Vault, R: Read, W: Write>(
 }
 
 // Sends a message, if there is one.
-fn send_some<W: Write>(
+#[tactic(auto, using(lsm_frame::proofs::Counted::send_not_read))]
+fn send_some<W: Sink>(
     alloc: Global,
     writer: &mut W,
     message: Option<Message>,
@@ -159,6 +177,9 @@ fn send_some<W: Write>(
     requires { IfSome message IsMessage }
     ensures ok { OnOk result (Appends (W.contents writer.old) (W.contents writer.new) (framed (one_or_none message))) }
     ensures refused { IfErr result (OneRefuses message) }
+    ensures counted { DispatchCounts result (W.writes writer.old) (W.writes writer.new) }
+    ensures faults { DispatchCountsWriteFaults result (W.faults writer.old) (W.faults writer.new) }
+    ensures unread { IfErr result (λ e. read_faults_in e ≡ 0) }
 {
     if let Some(message) = message {
         send(alloc, writer, &message)?;

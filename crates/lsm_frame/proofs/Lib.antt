@@ -1,2 +1,3 @@
+pub mod Counted
 mod FrameReading
 pub mod WorkSteps

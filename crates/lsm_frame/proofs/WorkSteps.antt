@@ -10,6 +10,7 @@ use Rattle.lsm_work.specs.declared.change.WorkChange.TheVariants.{Dropped}
 use Rattle.lsm_work.specs.Workers.{WorkOutcome, WorkerValue, Works, ignores}
 use Rattle.lsm_frame.specs.declared.error.PipeError.{PipeError}
 use Rattle.lsm_frame.specs.declared.error.PipeError.TheVariants as error
+use Rattle.lsm_frame.specs.Counting.{read_faults_of}
 use Rattle.lsm_frame.specs.Frames.{SendRefuses, SendStops, framed}
 use Rattle.lsm_frame.specs.Working.{StopsAfter, TakeStops, TakesNext, TakesOver, WorkStops, WorksAll, WorksOnce, WorksOver, WorksThrough}
 
@@ -17,6 +18,7 @@ use Rattle.lsm_frame.specs.Working.{StopsAfter, TakeStops, TakesNext, TakesOver,
 
 pub send_stops : (m : Message) (e : PipeError) → SendRefuses m e → SendStops e
 send_stops m error.TooLarge h = tt
+send_stops m error.NoEnd h = tt
 send_stops m error.WriteFault h = tt
 send_stops m error.OutOfMemory h = tt
 send_stops m e h = absurd h
@@ -43,6 +45,7 @@ gave_up index w new m change sent own works dropped = (record { change = change;
 
 sent_stops : (index : ℕ) (w : WorkerValue) (m : Message) (e : PipeError) → SendStops e → TakeStops index w m e
 sent_stops index w m error.TooLarge h = tt
+sent_stops index w m error.NoEnd h = tt
 sent_stops index w m error.WriteFault h = tt
 sent_stops index w m error.OutOfMemory h = tt
 sent_stops index w m e h = absurd h
@@ -60,9 +63,15 @@ begins (Some xs) (Some ys) bytes p = (ys, p)
 pub stops_at : (index : ℕ) (w : WorkerValue) (m : Message) (was left : Option (List ℕ)) (e : PipeError) → Consumes was left (sized (message m)) → TakeStops index w m e → WorkStops index w was e
 stops_at index w m was left error.GaveUp read h = record { next = m; outcome = h.0; comes = begins was left (sized (message m)) read; taken = h.1; dropped = h.2 }
 stops_at index w m was left error.TooLarge read h = tt
+stops_at index w m was left error.NoEnd read h = tt
 stops_at index w m was left error.WriteFault read h = tt
 stops_at index w m was left error.OutOfMemory read h = tt
 stops_at index w m was left e read h = absurd h
+
+-- what comes of a message that came is no fault of the source
+pub taken_not_read : (index : ℕ) (w : WorkerValue) (m : Message) (e : PipeError) → TakeStops index w m e → read_faults_of e ≡ 0
+taken_not_read index w m error.ReadFault h = absurd h
+taken_not_read index w m e h = refl
 
 -- ---- one after another
 
@@ -107,3 +116,7 @@ works_all index a w new was mid left held half holds more e so once =
 
 pub stops_after : (index : ℕ) (a w : WorkerValue) (was mid held half : Option (List ℕ)) (e : PipeError) → WorksOver index a was mid held half w → WorkStops index w mid e → StopsAfter index a was e
 stops_after index a w was mid held half e so stops = record { messages = so.messages; sent = so.sent; last = w; left = mid; works = so.works; read = so.read; stops = stops }
+
+-- after as many messages as are counted
+pub never_ends : (index : ℕ) (a w : WorkerValue) (was mid held half : Option (List ℕ)) → WorksOver index a was mid held half w → StopsAfter index a was error.NoEnd
+never_ends index a w was mid held half so = stops_after index a w was mid held half error.NoEnd so tt

@@ -4,18 +4,24 @@ use Rattle.std.specs.Int.{w32, from_be_bytes, to_be_bytes}
 use Rattle.std.specs.List.{flat_map}
 use Rattle.std.specs.Io.KnownBytes.{Consumes, IsAtEnd}
 use Rattle.lsm_frame.specs.declared.error.PipeError.{PipeError}
-use Rattle.lsm_frame.specs.declared.error.PipeError.TheVariants.{EndsInside, TooLong, NotMessage, TooLarge, ReadFault, WriteFault, OutOfMemory}
-use Rattle.lsm_stream.specs.declared.error.StreamError.{StreamError}
-use Rattle.lsm_stream.specs.declared.error.StreamError.TheVariants as stream
+use Rattle.lsm_frame.specs.declared.error.PipeError.TheVariants.{EndsInside, TooLong, NotMessage, TooLarge, NoEnd, ReadFault, WriteFault, OutOfMemory}
+use Rattle.lsm_stream.specs.declared.sink.SinkError.{SinkError}
+use Rattle.lsm_stream.specs.declared.sink.SinkError.TheVariants as sink
+use Rattle.lsm_stream.specs.declared.source.SourceError.{SourceError}
+use Rattle.lsm_stream.specs.declared.source.SourceError.TheVariants as source
 use Rattle.lsm_msg.specs.declared.message.Message.{Message}
 use Rattle.lsm_msg.specs.declared.message.TheConstants.{MAX_MESSAGE_BYTES}
 use Rattle.lsm_msg.specs.Messages.{IsMessage, IsSpelled, message, sized}
 
--- why a pipe ends, by why no more is read or written
-abbrev pub pipe_error_of : StreamError → PipeError
-pipe_error_of stream.ReadFault = ReadFault
-pipe_error_of stream.WriteFault = WriteFault
-pipe_error_of stream.OutOfMemory = OutOfMemory
+-- why a pipe ends, by why no more is read, and by why no more is written
+abbrev pub source_error_of : SourceError → PipeError
+source_error_of source.ReadFault = ReadFault
+source_error_of source.NoEnd = NoEnd
+source_error_of source.OutOfMemory = OutOfMemory
+
+abbrev pub sink_error_of : SinkError → PipeError
+sink_error_of sink.WriteFault = WriteFault
+sink_error_of sink.NoEnd = NoEnd
 
 -- ---- reading
 
@@ -47,9 +53,17 @@ ReadsFrame old new None = IsAtEnd old × Consumes old new []
 abbrev pub FrameRefuses : Option (List ℕ) → PipeError → Type 0
 FrameRefuses known EndsInside = IfSome known IsCutFrame
 FrameRefuses known TooLong = IfSome known IsTooLongFrame
+FrameRefuses known NoEnd = Unit {0}
 FrameRefuses known ReadFault = Unit {0}
 FrameRefuses known OutOfMemory = Unit {0}
 FrameRefuses known e = ⊥
+
+-- why bytes are not read
+abbrev pub IsReadError : PipeError → Type 0
+IsReadError NoEnd = Unit {0}
+IsReadError ReadFault = Unit {0}
+IsReadError OutOfMemory = Unit {0}
+IsReadError e = ⊥
 
 -- what a reader loses is these bytes, so many or fewer before its end
 pub record TakesUpTo (count : ℕ) (old new : Option (List ℕ)) (bytes : List ℕ) : Type 0 where
@@ -89,6 +103,7 @@ MessageRefuses known e = FrameRefuses known e
 -- why a message is not sent
 abbrev pub SendRefuses : Message → PipeError → Type 0
 SendRefuses m TooLarge = MAX_MESSAGE_BYTES < length (message m)
+SendRefuses m NoEnd = Unit {0}
 SendRefuses m WriteFault = Unit {0}
 SendRefuses m OutOfMemory = Unit {0}
 SendRefuses m e = ⊥
@@ -96,6 +111,7 @@ SendRefuses m e = ⊥
 -- why some message is not sent
 abbrev pub SendStops : PipeError → Type 0
 SendStops TooLarge = Unit {0}
+SendStops NoEnd = Unit {0}
 SendStops WriteFault = Unit {0}
 SendStops OutOfMemory = Unit {0}
 SendStops e = ⊥

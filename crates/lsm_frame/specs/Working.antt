@@ -7,7 +7,7 @@ use Rattle.lsm_msg.specs.Messages.{IsMessage, message, sized}
 use Rattle.lsm_work.specs.declared.change.WorkChange.TheVariants.{Dropped}
 use Rattle.lsm_work.specs.Workers.{WorkOutcome, WorkerValue, Works, ignores}
 use Rattle.lsm_frame.specs.declared.error.PipeError.{PipeError}
-use Rattle.lsm_frame.specs.declared.error.PipeError.TheVariants.{GaveUp, TooLarge, WriteFault}
+use Rattle.lsm_frame.specs.declared.error.PipeError.TheVariants.{GaveUp, NoEnd, TooLarge, WriteFault}
 use Rattle.lsm_frame.specs.Frames.{MessageRefuses, SendStops, framed}
 
 -- what comes of a message at the worker of this index: one that is for another node is ignored
@@ -71,6 +71,7 @@ pub record EndsWork (index : ℕ) (w : WorkerValue) (known : Option (List ℕ)) 
 -- why a worker ends before the input does, by what is left of the input then
 abbrev pub WorkStops : ℕ → WorkerValue → Option (List ℕ) → PipeError → Type 0
 WorkStops index w known GaveUp = EndsWork index w known
+WorkStops index w known NoEnd = Unit {0}
 WorkStops index w known TooLarge = Unit {0}
 WorkStops index w known WriteFault = Unit {0}
 WorkStops index w known e = MessageRefuses known e

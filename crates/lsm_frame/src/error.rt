@@ -2,9 +2,9 @@
 
 ghost use Rattle.std.specs.Prelude.{◌≡◌};
 ghost use Rattle.lsm_frame.specs.declared.error.PipeError.TheVariants.{OutOfMemory};
-ghost use Rattle.lsm_frame.specs.Frames.{pipe_error_of};
+ghost use Rattle.lsm_frame.specs.Frames.{sink_error_of, source_error_of};
 
-use lsm_stream::StreamError;
+use lsm_stream::{SinkError, SourceError};
 use std::alloc::{AllocError, AllocFailed};
 use thiserror::Error;
 
@@ -26,6 +26,9 @@ pub enum PipeError {
     /// The worker gave its job up: one of its inputs is no longer served, or two inputs share an entry.
     #[error("the worker gave its job up")]
     GaveUp,
+    /// A stream was read or written as often as is counted, 2^64 - 1 times.
+    #[error("the input does not end")]
+    NoEnd,
     /// The input could not be read.
     #[error("read fault")]
     ReadFault,
@@ -53,14 +56,25 @@ impl<T: Drop> From<AllocFailed<T>> for PipeError {
     }
 }
 
-impl From<StreamError> for PipeError {
-    ghost from_gives = { λ why e. e ≡ pipe_error_of why };
+impl From<SourceError> for PipeError {
+    ghost from_gives = { λ why e. e ≡ source_error_of why };
 
-    fn from(why: StreamError) -> PipeError {
+    fn from(why: SourceError) -> PipeError {
         match why {
-            StreamError::ReadFault => PipeError::ReadFault,
-            StreamError::WriteFault => PipeError::WriteFault,
-            StreamError::OutOfMemory => PipeError::OutOfMemory,
+            SourceError::ReadFault => PipeError::ReadFault,
+            SourceError::NoEnd => PipeError::NoEnd,
+            SourceError::OutOfMemory => PipeError::OutOfMemory,
+        }
+    }
+}
+
+impl From<SinkError> for PipeError {
+    ghost from_gives = { λ why e. e ≡ sink_error_of why };
+
+    fn from(why: SinkError) -> PipeError {
+        match why {
+            SinkError::WriteFault => PipeError::WriteFault,
+            SinkError::NoEnd => PipeError::NoEnd,
         }
     }
 }

@@ -2,20 +2,20 @@
 //!
 //! A frame is encoded as: u32 length, big-endian, and that many bytes. The length is at most `MAX_MESSAGE_BYTES`.
 
-ghost use Rattle.std.specs.Prelude.{◌≡◌, ◌≢◌, ◌⊎◌, ℕ, ◌≤◌, ◌<◌, List, [], ◌++◌, IfErr, IfOk, OnOk, length, take};
+ghost use Rattle.std.specs.Prelude.{◌≡◌, ◌≢◌, ◌⊎◌, ℕ, ◌≤◌, ◌<◌, List, [], ◌++◌, IfErr, IfOk, OnOk, length, min, take, true};
 ghost use Rattle.std.specs.Io.KnownBytes.{Appends, Consumes, IsAtEnd};
 ghost use Rattle.lsm_msg.specs.Messages.{sized};
 ghost use Rattle.lsm_msg.specs.declared.message.TheConstants.{MAX_MESSAGE_BYTES};
-ghost use Rattle.lsm_frame.specs.declared.frame.TheConstants.{HEAD_BYTES};
-ghost use Rattle.lsm_frame.specs.Frames.{FrameRefuses, IsHead, ReadsFrame, TakesUpTo};
+ghost use Rattle.lsm_frame.specs.declared.frame.TheConstants.{HEAD_BYTES, PIECE_BYTES};
+ghost use Rattle.lsm_frame.specs.Counting.{PipeCounts, PipeCountsReadFaults, PipeCountsWriteFaults};
+ghost use Rattle.lsm_frame.specs.Frames.{FrameRefuses, IsHead, IsReadError, ReadsFrame, TakesUpTo};
 
 use crate::error::PipeError;
 use bytes::Bytes;
 use lsm_key::{know_slice, u32_in};
 use lsm_msg::MAX_MESSAGE_BYTES;
-use lsm_stream::{buffer_of, read_more, write_all};
-use std::alloc::Global;
-use std::io::{Read, Write};
+use lsm_stream::{Sink, Source, buffer_of, read_next, write_whole};
+use std::alloc::{AllocError, Global};
 
 /// How many bytes of a frame stand before those that it holds.
 const HEAD_BYTES: usize = 4;
@@ -26,9 +26,12 @@ const PIECE_BYTES: usize = 65_536;
 /// The bytes of the next frame, or `None` if the input ends before it. Memory grows as bytes come. After a refusal nothing more may
 /// be read: where the next frame begins is not known.
 #[tactic(auto, using(crate::proofs::FrameReading::cut_head, crate::proofs::FrameReading::cut_payload, crate::proofs::FrameReading::too_long, crate::proofs::FrameReading::whole_frame))]
-pub fn read_frame<R: Read>(alloc: Global, reader: &mut R) -> Result<Option<Bytes>, PipeError>
+pub fn read_frame<R: Source>(alloc: Global, reader: &mut R) -> Result<Option<Bytes>, PipeError>
     ensures ok { IfOk result (ReadsFrame (R.remaining reader.old) (R.remaining reader.new)) }
     ensures refused { IfErr result (FrameRefuses (R.remaining reader.old)) }
+    ensures counted { PipeCounts result (R.reads reader.old) (R.reads reader.new) }
+    ensures turns { OnOk result (R.reads reader.old < R.reads reader.new) }
+    ensures faults { PipeCountsReadFaults result (R.faults reader.old) (R.faults reader.new) }
 {
     let head = read_up_to(alloc, reader, HEAD_BYTES)?;
     if head.is_empty() {
@@ -58,32 +61,44 @@ fn length_in(head: &[u8]) -> Result<usize, PipeError>
 }
 
 /// So many bytes, or as many as there are before the input ends.
-fn read_up_to<R: Read>(alloc: Global, reader: &mut R, count: usize) -> Result<Vec<u8>, PipeError>
+fn read_up_to<R: Source>(alloc: Global, reader: &mut R, count: usize) -> Result<Vec<u8>, PipeError>
     ensures ok { IfOk result (λ bytes. TakesUpTo count (R.remaining reader.old) (R.remaining reader.new) bytes.items) }
-    ensures refused { IfErr result (λ e. (e ≡ PipeError.ReadFault) ⊎ (e ≡ PipeError.OutOfMemory)) }
+    ensures refused { IfErr result IsReadError }
+    ensures counted { PipeCounts result (R.reads reader.old) (R.reads reader.new) }
+    ensures turns { 0 < count → OnOk result (R.reads reader.old < R.reads reader.new) }
+    ensures faults { PipeCountsReadFaults result (R.faults reader.old) (R.faults reader.new) }
 {
-    let mut buffer = buffer_of(alloc, count.min(PIECE_BYTES))?;
+    let mut buffer = piece(alloc, count)?;
     let mut bytes = Vec::new(alloc);
-    for _ in 0..u64::MAX {
+    while bytes.len() < count {
         let room = (count - bytes.len()).min(buffer.len());
-        if room == 0 {
-            return Ok(bytes);
-        }
-        if !read_more(reader, &mut buffer[..room], &mut bytes)? {
+        if !read_next(reader, &mut buffer[..room], &mut bytes)? {
             return Ok(bytes);
         }
     }
-    Err(PipeError::ReadFault)
+    Ok(bytes)
+}
+
+/// A buffer for so many bytes that are to come, as far as they are read at once.
+fn piece(alloc: Global, count: usize) -> Result<Vec<u8>, AllocError>
+    ensures len { IfOk result (λ buffer. length buffer.items ≡ min count PIECE_BYTES) }
+    ensures few { IfOk result (λ buffer. length buffer.items ≤ 65536) }
+{
+    buffer_of(alloc, count.min(PIECE_BYTES))
 }
 
 /// Writes the frame of these bytes, and flushes. After a fault a part of it may be written.
-pub fn write_frame<W: Write>(writer: &mut W, payload: &[u8]) -> Result<(), PipeError>
+pub fn write_frame<W: Sink>(writer: &mut W, payload: &[u8]) -> Result<(), PipeError>
     requires { length payload.now ≤ MAX_MESSAGE_BYTES }
     ensures ok { OnOk result (Appends (W.contents writer.old) (W.contents writer.new) (sized payload.now)) }
-    ensures refused { IfErr result (λ e. e ≡ PipeError.WriteFault) }
+    ensures flushed { OnOk result (W.is_flushed writer.new ≡ true) }
+    ensures refused { IfErr result (λ e. (e ≡ PipeError.WriteFault) ⊎ (e ≡ PipeError.NoEnd)) }
+    ensures counted { PipeCounts result (W.writes writer.old) (W.writes writer.new) }
+    ensures faults { PipeCountsWriteFaults result (W.faults writer.old) (W.faults writer.new) }
 {
     let head = (payload.len() as u32).to_be_bytes();
-    write_all(writer, &head)?;
-    write_all(writer, payload)?;
-    writer.flush().map_err(|_| PipeError::WriteFault)
+    write_whole(writer, &head)?;
+    write_whole(writer, payload)?;
+    writer.flush()?;
+    Ok(())
 }

@@ -1,12 +1,10 @@
 -- Requests of a stream that are answered so far, and their replies.
 use Rattle.std.proofs.Common.{◌≡◌, ◌∙◌, inl, inr, ℕ, ◌+◌, List, [], ◌∷◌, ◌++◌, Option, All, length, take, drop, append_assoc, append-nil, refl, sym, ap, subst, arith}
-use Prim.Native.Nat.{suc}
 use Rattle.std.proofs.Math.Seq.{drop-append_seam, take-add, take-append_seam}
 use Rattle.std.proofs.lemmas.List.Elements.{All-append, All-cons}
 use Rattle.std.specs.Io.KnownBytes.{Appends}
 use Rattle.lsm_coord.specs.Contract.Value.{CoordValue}
 use Rattle.std.proofs.KnownBytes.{Appends-nil, Appends-trans}
-use Rattle.lsm_resp.specs.Requests.{AreWords}
 use Rattle.lsm_stream.specs.Streams.{AppendsPart}
 use Rattle.lsm_serve.specs.declared.http_word.HttpWord.{HttpWord}
 use Rattle.lsm_serve.specs.HttpWords.{BeginsHttp}
@@ -19,8 +17,8 @@ Requests = List (List (List ℕ))
 
 -- ---- requests
 
-pub answered_none : (old : CoordValue) (requests : Requests) → All AreWords requests → RepliesSoFar old requests requests [] old
-answered_none old requests fit = record { done = []; parted = refl; fit = fit; goes_on = λ k d lt. absurd (omega (arith, lt)); completes = λ more rest new r. r }
+pub answered_none : (old : CoordValue) (requests : Requests) → RepliesSoFar old requests requests [] old
+answered_none old requests = record { done = []; parted = refl; goes_on = λ k d lt. absurd (omega (arith, lt)); completes = λ more rest new r. r }
 
 module _ (old now : CoordValue) (requests left : Requests) (bytes : List ℕ) (a : RepliesSoFar old requests left bytes now) where
   -- those that are answered
@@ -40,7 +38,6 @@ module _ (old now mid : CoordValue) (requests left : Requests) (request : List (
   answered_next replies other = record {
     done = a.done ++ request ∷ [];
     parted = a.parted ∙ sym (append_assoc a.done (request ∷ []) left);
-    fit = λ k d lt. a.fit (suc k) d (omega arith);
     goes_on = All-append (λ it. EndsStream it → ⊥) a.done (request ∷ []) a.goes_on (All-cons (λ it. EndsStream it → ⊥) request [] other (λ k d lt. absurd (omega (arith, lt))));
     completes = λ more rest new r.
         subst (λ (ds : Requests). RepliesInTurn old ds ((bytes ++ first) ++ rest) new) (sym (append_assoc a.done (request ∷ []) more))

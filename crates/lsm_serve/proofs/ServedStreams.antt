@@ -1,28 +1,28 @@
 -- A stream of requests that is served so far, by what is found ahead.
-use Rattle.std.proofs.Common.{◌≡◌, ◌∙◌, inl, inr, ℕ, ◌+◌, ◌<◌, ◌≤◌, List, [], ◌∷◌, ◌++◌, Option, Result, Ok, Err, Bool, true, false, IsTrue, ◌↔◌, All, append-nil, length, drop, length-append, refl, sym, ap, subst, arith}
+use Rattle.std.proofs.Common.{◌≡◌, ◌∙◌, inl, inr, ℕ, ◌+◌, ◌<◌, ◌≤◌, List, [], ◌∷◌, ◌++◌, Option, Result, Ok, Err, Bool, true, false, IsTrue, ◌↔◌, append-nil, length, drop, length-append, refl, sym, ap, subst, arith}
 use Rattle.std.proofs.lemmas.List.{drop-append-le, drop-drop}
 use Rattle.std.proofs.Math.Seq.{drop-append_seam}
 use Rattle.std.specs.Borrow.{Bor}
 use Rattle.std.specs.Io.KnownBytes.{Appends}
-use Rattle.std.specs.List.{flat_map}
 use Rattle.lsm_coord.specs.Contract.Value.{CoordValue}
 use Rattle.lsm_resp.proofs.Words.{request_some}
-use Rattle.lsm_resp.specs.Requests.{AreWords, FindsRequest, IsAhead, TakesWithin, words_of}
+use Rattle.lsm_resp.specs.Lines.{FindsLineRequest}
+use Rattle.lsm_resp.specs.Requests.{FindsRequest, FindsWords, IsAhead, TakesWithin, words_of}
+use Rattle.lsm_resp.specs.declared.fault.ParseError.{ParseError}
 use Rattle.lsm_resp.specs.declared.request.Parsed.{Parsed}
-use Rattle.lsm_stream.specs.declared.error.StreamError.{StreamError}
-use Rattle.lsm_stream.specs.declared.error.StreamError.TheVariants.{OutOfMemory, ReadFault, WriteFault}
-use Rattle.lsm_serve.specs.Errors.{error_of_stream}
+use Rattle.lsm_serve.specs.declared.error.ServeError.{ServeError}
+use Rattle.lsm_serve.specs.declared.error.ServeError.TheVariants.{NoEnd, OutOfMemory, ReadFault}
 use Rattle.lsm_resp.specs.declared.request.Parsed.TheVariants.{Partial, Request}
 use Rattle.lsm_stream.specs.Streams.{AppendsPart}
-use Rattle.lsm_resp.specs.Wire.{reply_bytes, request_bytes}
+use Rattle.lsm_resp.specs.Wire.{reply_bytes}
 use Rattle.lsm_resp.specs.declared.reply.RespReply.TheVariants as reply
 use Rattle.lsm_serve.specs.declared.answer.Answer.{Answer}
 use Rattle.lsm_serve.specs.declared.answer.Answer.TheVariants.{Refused, Reply}
 use Rattle.lsm_serve.specs.Answers.{AnswersRequest}
 use Rattle.lsm_serve.specs.declared.http_word.HttpWord.{HttpWord}
 use Rattle.lsm_serve.specs.HttpWords.{BeginsHttp, IsNoHttp}
-use Rattle.lsm_serve.specs.Serving.{EndsStream, IsReplyTo, RepliesInTurn, RepliesTo, RepliesToSome, ServesSome, error_text}
-use Rattle.lsm_serve.specs.ServingSteps.{AnswersOne, RepliesSoFar, AreSent, IsLast, ServedAll, ServedBefore, ServedSoFar}
+use Rattle.lsm_serve.specs.Serving.{AreSentAs, EndsStream, IsReplyTo, IsSentAs, RepliesInTurn, RepliesTo, RepliesToSome, ServesSome, error_text}
+use Rattle.lsm_serve.specs.ServingSteps.{AnswersOne, RepliesSoFar, AreSent, IsLast, IsReadReason, ServedAll, ServedBefore, ServedSoFar}
 use Rattle.lsm_serve.proofs.RequestsSoFar.{Requests, answered_all, answered_last, answered_more, answered_next, answered_none, answered_some, sent_all, sent_more, sent_none, sent_part, sent_part_of_out, sent_so_far}
 use Rattle.lsm_serve.proofs.Syncs.{may_stay}
 
@@ -32,10 +32,16 @@ no_bytes : (a b : List ℕ) → a ++ b ≡ [] → a ≡ []
 no_bytes [] b e = refl
 no_bytes (x ∷ a) b e = absurd cc
 
+-- a request has bytes
+sent_some : (words : List (List ℕ)) (bytes : List ℕ) → IsSentAs words bytes → 0 < length bytes
+sent_some words bytes (inl (fit, is)) = let size = ap (λ (xs : List ℕ). length xs) is in omega (arith, size, request_some words)
+sent_some words bytes (inr (line, fit, same, is)) = let size = ap (λ (xs : List ℕ). length xs) is in omega (arith, size, length-append line (10 ∷ []))
+
 -- no bytes are no requests
-no_requests : (left : Requests) → [] ≡ flat_map request_bytes left → left ≡ []
-no_requests [] e = refl
-no_requests (request ∷ left) e = absurd (let size = ap (λ (xs : List ℕ). length xs) e in omega (arith, size, request_some request, length-append (request_bytes request) (flat_map request_bytes left)))
+no_requests : (left : Requests) (ahead : List ℕ) → AreSentAs left ahead → ahead ≡ [] → left ≡ []
+no_requests [] ahead are none = refl
+no_requests (request ∷ left) ahead (first, rest, is, more, joined) none =
+    absurd (let size = ap (λ (xs : List ℕ). length xs) (sym joined ∙ none) in omega (arith, size, sent_some request first is, length-append first rest))
 
 -- the bytes behind a request
 behind : (rest later a b : List ℕ) (len : ℕ) → rest ++ later ≡ a ++ b → len ≡ length a → len ≤ length rest → drop len rest ++ later ≡ b
@@ -68,12 +74,12 @@ last_is false request e = λ ends. (let wrong = e.1 ends in cc)
 
 -- ---- at first
 
-pub served_none : (old : CoordValue) (requests : Requests) (held : Option (List ℕ)) (ahead out : List ℕ) → All AreWords requests → ahead ≡ flat_map request_bytes requests → out ≡ [] → ServedSoFar old requests held old ahead out held
-served_none old requests held ahead out fit is none = record {
+pub served_none : (old : CoordValue) (requests : Requests) (held : Option (List ℕ)) (ahead out : List ℕ) → AreSentAs requests ahead → out ≡ [] → ServedSoFar old requests held old ahead out held
+served_none old requests held ahead out are none = record {
   left = requests;
   bytes = [];
-  answered = answered_none old requests fit;
-  are_ahead = is;
+  answered = answered_none old requests;
+  are_ahead = are;
   sent = subst (λ (o : List ℕ). AreSent held held [] o) (sym none) (sent_none held);
 }
 
@@ -90,20 +96,31 @@ module _ (old now : CoordValue) (requests : Requests) (held holds : Option (List
   -- nothing is ahead any more
   pub served_to_end : ahead ≡ [] → (replies : List ℕ) × RepliesInTurn old requests replies now × AreSent held holds replies out
   served_to_end none =
-      let left_none : s.left ≡ [] = no_requests s.left (sym none ∙ s.are_ahead) in
+      let left_none : s.left ≡ [] = no_requests s.left ahead s.are_ahead none in
       (s.bytes, answered_all old now requests s.bytes (subst (λ (l : Requests). RepliesSoFar old requests l s.bytes now) left_none s.answered), s.sent)
 
 -- ---- by what is found
 
 -- what is found of a request that lies ahead: its words, or that it has not come, or a fault
 abbrev FindsIt : List ℕ → List (Bor (List ℕ)) → ℕ → Type 0
-FindsIt rest lent len = (words : List (List ℕ)) → AreWords words → IsAhead (request_bytes words) rest → (words_of lent ≡ words) × (len ≡ length (request_bytes words))
+FindsIt rest lent len = (words : List (List ℕ)) (bytes : List ℕ) → IsSentAs words bytes → IsAhead bytes rest → (words_of lent ≡ words) × (len ≡ length bytes)
 
 abbrev FindsPart : List ℕ → Type 0
-FindsPart rest = (words : List (List ℕ)) → AreWords words → IsAhead (request_bytes words) rest → length rest < length (request_bytes words)
+FindsPart rest = (words : List (List ℕ)) (bytes : List ℕ) → IsSentAs words bytes → IsAhead bytes rest → length rest < length bytes
 
 abbrev FindsFault : List ℕ → Type 0
-FindsFault rest = (words : List (List ℕ)) → AreWords words → IsAhead (request_bytes words) rest → ⊥
+FindsFault rest = (words : List (List ℕ)) (bytes : List ℕ) → IsSentAs words bytes → IsAhead bytes rest → ⊥
+
+-- whatever request lies ahead, it is the one that is found
+abbrev pub FindsSent : List ℕ → Result Parsed ParseError → Type 0
+FindsSent rest found = (words : List (List ℕ)) (bytes : List ℕ) → IsSentAs words bytes → IsAhead bytes rest → FindsWords rest words bytes found
+
+pub finds_sent : (rest : List ℕ) (found : Result Parsed ParseError) → FindsRequest rest found → FindsLineRequest rest found → FindsSent rest found
+finds_sent rest found array line words bytes (inl (fit, is)) ahead =
+    subst (λ (b : List ℕ). FindsWords rest words b found) (sym is) (array words fit (subst (λ (b : List ℕ). IsAhead b rest) is ahead))
+finds_sent rest found array line words bytes (inr (text, fit, same, is)) ahead =
+    subst (λ (b : List ℕ). FindsWords rest words b found) (sym is)
+    (subst (λ (ws : List (List ℕ)). FindsWords rest ws (text ++ 10 ∷ []) found) (sym same) (line text fit (subst (λ (b : List ℕ). IsAhead b rest) is ahead)))
 
 -- how the answer to a request leaves a stream
 abbrev pub Leaves : {E : Type 0} → CoordValue → Requests → Option (List ℕ) → Option (List ℕ) → List ℕ → List ℕ → Result Bool E → CoordValue → Type 0
@@ -111,77 +128,74 @@ Leaves old requests held holds ahead out (Ok false) mid = ServedSoFar old reques
 Leaves old requests held holds ahead out (Ok true) mid = ServedAll old requests held mid out holds
 Leaves old requests held holds ahead out (Err e) mid = RepliesToSome old requests held holds mid
 
-module _ (old now : CoordValue) (requests left : Requests) (request : List (List ℕ)) (held holds : Option (List ℕ)) (rest later out bytes : List ℕ)
-    (answered : RepliesSoFar old requests (request ∷ left) bytes now) (ahead : rest ++ later ≡ request_bytes request ++ flat_map request_bytes left) (sent : AreSent held holds bytes out) where
-  fits : AreWords request
-  fits = answered.fit 0 [] (omega arith)
-
-  is_ahead : IsAhead (request_bytes request) rest
-  is_ahead = record { later = later; rest = flat_map request_bytes left; is = ahead }
+module _ (old now : CoordValue) (requests left : Requests) (request : List (List ℕ)) (held holds : Option (List ℕ)) (rest later out bytes first others : List ℕ)
+    (answered : RepliesSoFar old requests (request ∷ left) bytes now) (is_request : IsSentAs request first) (are_others : AreSentAs left others) (ahead : rest ++ later ≡ first ++ others) (sent : AreSent held holds bytes out) where
+  is_ahead : IsAhead first rest
+  is_ahead = record { later = later; rest = others; is = ahead }
 
   next_waits : FindsPart rest → later ≡ [] → rest ≡ []
   next_waits finds none =
-      let few = finds request fits is_ahead in
+      let few = finds request first is_request is_ahead in
       let size = ap (λ (xs : List ℕ). length xs) ahead in
       let nothing = ap (λ (xs : List ℕ). length xs) none in
-      absurd (omega (arith, few, size, nothing, length-append rest later, length-append (request_bytes request) (flat_map request_bytes left)))
+      absurd (omega (arith, few, size, nothing, length-append rest later, length-append first others))
 
   next_http : (word : HttpWord) (lent : List (Bor (List ℕ))) (len : ℕ) → FindsIt rest lent len → BeginsHttp word (words_of lent) → ServedBefore word old requests held now out holds
   next_http word lent len finds begins = record {
     request = request;
     left = left;
     bytes = bytes;
-    begins = subst (λ (ws : List (List ℕ)). BeginsHttp word ws) (finds request fits is_ahead).0 begins;
+    begins = subst (λ (ws : List (List ℕ)). BeginsHttp word ws) (finds request first is_request is_ahead).0 begins;
     answered = answered;
     sent = sent;
   }
 
   next_fault : FindsFault rest → ⊥
-  next_fault finds = finds request fits is_ahead
+  next_fault finds = finds request first is_request is_ahead
 
   next_leaves : {E : Type 0} (lent : List (Bor (List ℕ))) (len : ℕ) (out_new : List ℕ) (mid : CoordValue) (r : Result Bool E)
       → FindsIt rest lent len → len ≤ length rest → AnswersOne now (words_of lent) out out_new r mid → Leaves old requests held holds (drop len rest ++ later) out_new r mid
   next_leaves lent len out_new mid (Ok false) finds within one =
-      let found = finds request fits is_ahead in
+      let found = finds request first is_request is_ahead in
       let it : AnswersOne {E = Unit {0}} now request out out_new (Ok false) mid = subst (λ (ws : List (List ℕ)). AnswersOne {E = Unit {0}} now ws out out_new (Ok false) mid) found.0 one in
       record {
         left = left;
         bytes = bytes ++ it.0;
         answered = answered_next old now mid requests left request bytes it.0 answered it.1 it.3;
-        are_ahead = behind rest later (request_bytes request) (flat_map request_bytes left) len ahead found.1 within;
+        are_ahead = subst (λ (b : List ℕ). AreSentAs left b) (sym (behind rest later first others len ahead found.1 within)) are_others;
         sent = sent_more held holds bytes out sent it.0 out_new it.2;
       }
   next_leaves lent len out_new mid (Ok true) finds within one =
-      let found = finds request fits is_ahead in
+      let found = finds request first is_request is_ahead in
       let it : AnswersOne {E = Unit {0}} now request out out_new (Ok true) mid = subst (λ (ws : List (List ℕ)). AnswersOne {E = Unit {0}} now ws out out_new (Ok true) mid) found.0 one in
       (bytes ++ it.0, answered_last old now mid requests left request bytes it.0 answered it.1 it.3, sent_more held holds bytes out sent it.0 out_new it.2)
   next_leaves lent len out_new mid (Err e) finds within (inl same) =
       subst (λ (c : CoordValue). RepliesToSome old requests held holds c) (sym same) (answered_some old now requests (request ∷ left) bytes answered held holds (sent_so_far held holds bytes out sent))
   next_leaves lent len out_new mid (Err e) finds within (inr one) =
-      let found = finds request fits is_ahead in
+      let found = finds request first is_request is_ahead in
       let replies : RepliesInTurn now (request ∷ []) one.0 mid = subst (λ (ws : List (List ℕ)). RepliesInTurn now (ws ∷ []) one.0 mid) found.0 one.1 in
       answered_more old now mid requests left request bytes one.0 answered held holds replies (sent_part held holds bytes out sent one.0)
 
 module _ (old now : CoordValue) (requests : Requests) (held holds : Option (List ℕ)) (rest later out : List ℕ) where
-  waits_by : (left : Requests) (bytes : List ℕ) → RepliesSoFar old requests left bytes now → rest ++ later ≡ flat_map request_bytes left → AreSent held holds bytes out → FindsPart rest → later ≡ [] → rest ≡ []
+  waits_by : (left : Requests) (bytes : List ℕ) → RepliesSoFar old requests left bytes now → AreSentAs left (rest ++ later) → AreSent held holds bytes out → FindsPart rest → later ≡ [] → rest ≡ []
   waits_by [] bytes answered ahead sent finds none = no_bytes rest later ahead
-  waits_by (request ∷ left) bytes answered ahead sent finds none = next_waits old now requests left request held holds rest later out bytes answered ahead sent finds none
+  waits_by (request ∷ left) bytes answered (first, others, is_request, are_others, ahead) sent finds none = next_waits old now requests left request held holds rest later out bytes first others answered is_request are_others ahead sent finds none
 
-  fault_by : (left : Requests) (bytes : List ℕ) → RepliesSoFar old requests left bytes now → rest ++ later ≡ flat_map request_bytes left → AreSent held holds bytes out → FindsFault rest → (rest ≡ [] → ⊥) → ⊥
+  fault_by : (left : Requests) (bytes : List ℕ) → RepliesSoFar old requests left bytes now → AreSentAs left (rest ++ later) → AreSent held holds bytes out → FindsFault rest → (rest ≡ [] → ⊥) → ⊥
   fault_by [] bytes answered ahead sent finds some = some (no_bytes rest later ahead)
-  fault_by (request ∷ left) bytes answered ahead sent finds some = next_fault old now requests left request held holds rest later out bytes answered ahead sent finds
+  fault_by (request ∷ left) bytes answered (first, others, is_request, are_others, ahead) sent finds some = next_fault old now requests left request held holds rest later out bytes first others answered is_request are_others ahead sent finds
 
-  http_by : (word : HttpWord) (left : Requests) (bytes : List ℕ) → RepliesSoFar old requests left bytes now → rest ++ later ≡ flat_map request_bytes left → AreSent held holds bytes out
+  http_by : (word : HttpWord) (left : Requests) (bytes : List ℕ) → RepliesSoFar old requests left bytes now → AreSentAs left (rest ++ later) → AreSent held holds bytes out
       → (lent : List (Bor (List ℕ))) (len : ℕ) → FindsIt rest lent len → (rest ≡ [] → ⊥) → BeginsHttp word (words_of lent) → ServedBefore word old requests held now out holds
   http_by word [] bytes answered ahead sent lent len finds some begins = absurd (some (no_bytes rest later ahead))
-  http_by word (request ∷ left) bytes answered ahead sent lent len finds some begins = next_http old now requests left request held holds rest later out bytes answered ahead sent word lent len finds begins
+  http_by word (request ∷ left) bytes answered (first, others, is_request, are_others, ahead) sent lent len finds some begins = next_http old now requests left request held holds rest later out bytes first others answered is_request are_others ahead sent word lent len finds begins
 
-  leaves_by : {E : Type 0} (left : Requests) (bytes : List ℕ) → RepliesSoFar old requests left bytes now → rest ++ later ≡ flat_map request_bytes left → AreSent held holds bytes out
+  leaves_by : {E : Type 0} (left : Requests) (bytes : List ℕ) → RepliesSoFar old requests left bytes now → AreSentAs left (rest ++ later) → AreSent held holds bytes out
       → (lent : List (Bor (List ℕ))) (len : ℕ) (out_new : List ℕ) (mid : CoordValue) (r : Result Bool E)
       → FindsIt rest lent len → (rest ≡ [] → ⊥) → len ≤ length rest → AnswersOne now (words_of lent) out out_new r mid → Leaves old requests held holds (drop len rest ++ later) out_new r mid
   leaves_by [] bytes answered ahead sent lent len out_new mid r finds some within one = absurd (some (no_bytes rest later ahead))
-  leaves_by (request ∷ left) bytes answered ahead sent lent len out_new mid r finds some within one =
-      next_leaves old now requests left request held holds rest later out bytes answered ahead sent lent len out_new mid r finds within one
+  leaves_by (request ∷ left) bytes answered (first, others, is_request, are_others, ahead) sent lent len out_new mid r finds some within one =
+      next_leaves old now requests left request held holds rest later out bytes first others answered is_request are_others ahead sent lent len out_new mid r finds within one
 
   module _ (s : ServedSoFar old requests held now (rest ++ later) out holds) where
     pub served_waits : FindsPart rest → later ≡ [] → rest ≡ []
@@ -210,7 +224,7 @@ abbrev pub WhenRequest : List ℕ → Parsed → Type 0
 WhenRequest rest (Request lent len) = IsFound rest lent.items len
 WhenRequest rest Partial = Unit {0}
 
-pub request_is : (rest : List ℕ) (parsed : Parsed) → FindsRequest rest (Ok parsed) → (rest ≡ [] → parsed ≡ Partial) → TakesWithin rest parsed → WhenRequest rest parsed
+pub request_is : (rest : List ℕ) (parsed : Parsed) → FindsSent rest (Ok parsed) → (rest ≡ [] → parsed ≡ Partial) → TakesWithin rest parsed → WhenRequest rest parsed
 request_is rest (Request lent len) finds nothing within = record { finds = finds; some = λ e. (let wrong = nothing e in cc); taken = within.0; within = within.1 }
 request_is rest Partial finds nothing within = tt
 
@@ -236,8 +250,9 @@ module _ (old now : CoordValue) (requests : Requests) (held holds : Option (List
       subst (λ (b : List ℕ). Leaves old requests held holds (b ++ later) out_new r mid) (ap (drop len) is ∙ drop-drop len at input)
       (served_leaves old now requests held holds rest later out here lent len out_new mid r found.finds found.some found.within it)
 
--- a stream is a reason to end
-pub serves_some : (why : StreamError) (old now : CoordValue) (requests : Requests) (held holds : Option (List ℕ)) → RepliesToSome old requests held holds now → ServesSome old requests held holds (error_of_stream why) now
-serves_some ReadFault old now requests held holds some = (some, tt)
-serves_some WriteFault old now requests held holds some = (some, tt)
-serves_some OutOfMemory old now requests held holds some = (some, tt)
+-- that no more is read is a reason to end
+pub serves_some : (why : ServeError) (old now : CoordValue) (requests : Requests) (held holds : Option (List ℕ)) → IsReadReason why → RepliesToSome old requests held holds now → ServesSome old requests held holds why now
+serves_some ReadFault old now requests held holds is some = (some, tt)
+serves_some NoEnd old now requests held holds is some = (some, tt)
+serves_some OutOfMemory old now requests held holds is some = (some, tt)
+serves_some why old now requests held holds is some = absurd is

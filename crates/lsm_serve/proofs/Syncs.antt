@@ -6,7 +6,7 @@ use Rattle.lsm_coord.specs.Contract.Calls.{MayHaveFailed}
 use Rattle.lsm_coord.specs.Contract.Value.{CoordValue}
 use Rattle.lsm_stream.specs.Streams.{AppendsPart}
 use Rattle.lsm_serve.specs.declared.error.ServeError.{ServeError}
-use Rattle.lsm_serve.specs.declared.error.ServeError.TheVariants.{Http, NotSynced, OutOfMemory, Protocol, Stream, Truncated}
+use Rattle.lsm_serve.specs.declared.error.ServeError.TheVariants.{Http, NoEnd, NotSynced, OutOfMemory, Protocol, ReadFault, Truncated, WriteFault}
 use Rattle.lsm_serve.specs.declared.http_word.HttpWord.{HttpWord}
 use Rattle.lsm_serve.specs.Serving.{RepliesBefore, RepliesInTurn, RepliesToSome, ServesSome}
 use Rattle.lsm_serve.specs.ServingSteps.{RepliesSoFar, LeftUnsent, ServedSoFar}
@@ -74,7 +74,6 @@ module _ (old now new : CoordValue) (requests : List (List (List ℕ))) (held ho
       let answered : RepliesSoFar old requests s.left s.bytes new = record {
         done = s.answered.done;
         parted = s.answered.parted;
-        fit = s.answered.fit;
         goes_on = s.answered.goes_on;
         completes = λ more rest last r. s.answered.completes more rest last (replies_resume now new last more rest failed r);
       } in
@@ -84,7 +83,9 @@ module _ (old now new : CoordValue) (requests : List (List (List ℕ))) (held ho
 
 pub part_sent : (why : ServeError) (held holds : Option (List ℕ)) (out : List ℕ) → LeftUnsent held holds out why → AppendsPart held holds out
 part_sent (NotSynced e) held holds out same = (0, subst (λ (h : Option (List ℕ)). Appends held h []) (sym same) (Appends-nil held))
-part_sent (Stream e) held holds out part = part
+part_sent WriteFault held holds out part = part
+part_sent NoEnd held holds out part = part
+part_sent ReadFault held holds out refused = absurd refused
 part_sent (Protocol fault) held holds out refused = absurd refused
 part_sent (Http word) held holds out refused = absurd refused
 part_sent Truncated held holds out refused = absurd refused
@@ -93,7 +94,9 @@ part_sent OutOfMemory held holds out refused = absurd refused
 -- why they are not is no fault of a request
 pub sends_some : (why : ServeError) (old now : CoordValue) (requests : List (List (List ℕ))) (held holds after : Option (List ℕ)) (out : List ℕ) → LeftUnsent holds after out why → RepliesToSome old requests held after now → ServesSome old requests held after why now
 sends_some (NotSynced e) old now requests held holds after out refused some = (some, tt)
-sends_some (Stream e) old now requests held holds after out refused some = (some, tt)
+sends_some WriteFault old now requests held holds after out refused some = (some, tt)
+sends_some NoEnd old now requests held holds after out refused some = (some, tt)
+sends_some ReadFault old now requests held holds after out refused some = absurd refused
 sends_some (Protocol fault) old now requests held holds after out refused some = absurd refused
 sends_some (Http word) old now requests held holds after out refused some = absurd refused
 sends_some Truncated old now requests held holds after out refused some = absurd refused

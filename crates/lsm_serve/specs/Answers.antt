@@ -12,7 +12,6 @@ use Rattle.lsm_store.specs.declared.error.StoreError.{StoreError}
 use Rattle.lsm_store.specs.declared.error.StoreError.TheVariants as store
 use Rattle.lsm_store.specs.Store.{Accepts, Keeps, OfCoord, OpRefuses, ReadsValue, ReadsRange, StoreFlushRefuses, Stores, WriteRefuses}
 use Rattle.lsm_resp.specs.declared.reply.RespReply.TheVariants.{Array, Bulk, Integer, Simple}
-use Rattle.lsm_resp.specs.Pieces.{ReadsNumber}
 use Rattle.lsm_serve.specs.declared.answer.range.TheConstants.{MAX_RANGE_KEYS}
 use Rattle.lsm_serve.specs.declared.answer.Answer.{Answer}
 use Rattle.lsm_serve.specs.declared.answer.Answer.TheVariants.{Refused, Reply}
@@ -105,7 +104,7 @@ RangesWithin old lo hi limit answer new = ⊥
 
 -- the limit is the number that the word spells, and not too large
 abbrev pub ReadsLimit : List ℕ → Option ℕ → Type 0
-ReadsLimit word (Some limit) = ReadsNumber word (Some limit) × (limit ≤ MAX_RANGE_KEYS)
+ReadsLimit word (Some limit) = (word ≡ decimal limit) × (limit ≤ MAX_RANGE_KEYS)
 ReadsLimit word None = (n : ℕ) → n ≤ MAX_RANGE_KEYS → word ≡ decimal n → ⊥
 
 abbrev pub Ranges : CoordValue → List ℕ → List ℕ → List ℕ → Answer → CoordValue → Type 0

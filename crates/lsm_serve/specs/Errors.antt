@@ -1,8 +1,10 @@
--- Why serving ends, by why a request is not read.
+-- Why serving ends, by why a request is not read, no more comes, or no more is written.
 use Rattle.lsm_resp.specs.declared.fault.ParseError.{ParseError}
 use Rattle.lsm_resp.specs.declared.fault.ParseError.TheVariants as parse
-use Rattle.lsm_stream.specs.declared.error.StreamError.{StreamError}
-use Rattle.lsm_stream.specs.declared.error.StreamError.TheVariants as stream
+use Rattle.lsm_stream.specs.declared.sink.SinkError.{SinkError}
+use Rattle.lsm_stream.specs.declared.sink.SinkError.TheVariants as sink
+use Rattle.lsm_stream.specs.declared.source.SourceError.{SourceError}
+use Rattle.lsm_stream.specs.declared.source.SourceError.TheVariants as source
 use Rattle.lsm_serve.specs.declared.error.ServeError.{ServeError}
 use Rattle.lsm_serve.specs.declared.error.ServeError.TheVariants as serve
 
@@ -10,6 +12,11 @@ abbrev pub error_of_parse : ParseError → ServeError
 error_of_parse parse.OutOfMemory = serve.OutOfMemory
 error_of_parse (parse.Protocol fault) = serve.Protocol fault
 
-abbrev pub error_of_stream : StreamError → ServeError
-error_of_stream stream.OutOfMemory = serve.OutOfMemory
-error_of_stream why = serve.Stream why
+abbrev pub error_of_source : SourceError → ServeError
+error_of_source source.ReadFault = serve.ReadFault
+error_of_source source.NoEnd = serve.NoEnd
+error_of_source source.OutOfMemory = serve.OutOfMemory
+
+abbrev pub error_of_sink : SinkError → ServeError
+error_of_sink sink.WriteFault = serve.WriteFault
+error_of_sink sink.NoEnd = serve.NoEnd

@@ -5,4 +5,5 @@ pub mod Arguments
 pub mod Figures
 pub mod Answers
 pub mod Serving
+pub mod Counting
 pub mod ServingSteps

@@ -1,10 +1,10 @@
 -- The replies to a stream of requests (Redis serialization protocol specification, RESP2: pipelining; Redis commands reference: QUIT).
 use Rattle.std.specs.Prelude.{◌≡◌, ◌⊎◌, ℕ, List, [], ◌∷◌, ◌++◌, Option, Some, Result, Ok, Err, All, codes, map, nat_eq, ◌||◌, if◌then◌else◌}
 use Rattle.std.specs.Io.KnownBytes.{Appends}
-use Rattle.std.specs.List.{flat_map}
 use Rattle.lsm_coord.specs.Contract.Calls.{MayHaveFailed}
 use Rattle.lsm_coord.specs.Contract.Value.{CoordValue}
 use Rattle.lsm_resp.specs.declared.reply.RespReply.TheVariants as reply
+use Rattle.lsm_resp.specs.Lines.{IsLine, line_words}
 use Rattle.lsm_resp.specs.Requests.{AreWords}
 use Rattle.lsm_stream.specs.Streams.{AppendsPart}
 use Rattle.lsm_resp.specs.Wire.{reply_bytes, request_bytes}
@@ -12,7 +12,7 @@ use Rattle.lsm_serve.specs.declared.answer.Answer.{Answer}
 use Rattle.lsm_serve.specs.declared.answer.Answer.TheVariants.{Refused, Reply}
 use Rattle.lsm_serve.specs.declared.command.Command.TheVariants as command
 use Rattle.lsm_serve.specs.declared.error.ServeError.{ServeError}
-use Rattle.lsm_serve.specs.declared.error.ServeError.TheVariants.{Http, NotSynced, OutOfMemory, Protocol, Stream, Truncated}
+use Rattle.lsm_serve.specs.declared.error.ServeError.TheVariants.{Http, NoEnd, NotSynced, OutOfMemory, Protocol, ReadFault, Truncated, WriteFault}
 use Rattle.lsm_serve.specs.Answers.{AnswersRequest}
 use Rattle.lsm_serve.specs.Commands.{IsCalled}
 use Rattle.lsm_serve.specs.declared.http_word.HttpWord.{HttpWord}
@@ -55,10 +55,20 @@ RepliesInTurn old (request ∷ requests) bytes new =
     × ((EndsStream request × (bytes ≡ first) × MayHaveFailed mid new)
     ⊎ ((EndsStream request → ⊥) × (rest : List ℕ) × RepliesInTurn mid requests rest new × (bytes ≡ first ++ rest)))
 
+-- the bytes of a request: an array of its words within the limits, or a line of them
+abbrev pub IsSentAs : List (List ℕ) → List ℕ → Type 0
+IsSentAs words bytes = (AreWords words × (bytes ≡ request_bytes words)) ⊎ ((line : List ℕ) × IsLine line × (words ≡ line_words line) × (bytes ≡ line ++ 10 ∷ []))
+
+-- of requests, one after another
+abbrev pub AreSentAs : List (List (List ℕ)) → List ℕ → Type 0
+AreSentAs [] bytes = bytes ≡ []
+AreSentAs (request ∷ requests) bytes = (first : List ℕ) × (rest : List ℕ) × IsSentAs request first × AreSentAs requests rest × (bytes ≡ first ++ rest)
+
 -- a reader that tells its bytes has these requests left, each within the limits, and nothing else
 pub record AreAhead (known : Option (List ℕ)) (requests : List (List (List ℕ))) : Type 0 where
-  pub bytes_are : known ≡ Some (flat_map request_bytes requests)
-  pub fit : All AreWords requests
+  pub bytes : List ℕ
+  pub bytes_are : known ≡ Some bytes
+  pub are : AreSentAs requests bytes
 
 -- the first requests are answered, and a beginning of the replies is written
 pub record RepliesToSome (old : CoordValue) (requests : List (List (List ℕ))) (held holds : Option (List ℕ)) (new : CoordValue) : Type 0 where
@@ -87,13 +97,20 @@ abbrev pub IsNoFault : ServeError → Type 0
 IsNoFault (Protocol fault) = ⊥
 IsNoFault Truncated = ⊥
 IsNoFault (Http word) = ⊥
-IsNoFault (Stream why) = Unit {0}
+IsNoFault ReadFault = Unit {0}
+IsNoFault WriteFault = Unit {0}
+IsNoFault NoEnd = Unit {0}
 IsNoFault (NotSynced why) = Unit {0}
 IsNoFault OutOfMemory = Unit {0}
 
 abbrev pub ServesSome : CoordValue → List (List (List ℕ)) → Option (List ℕ) → Option (List ℕ) → ServeError → CoordValue → Type 0
 ServesSome old requests held holds (Http word) new = RepliesBefore word old requests held holds new
 ServesSome old requests held holds why new = RepliesToSome old requests held holds new × IsNoFault why
+
+-- bytes that are no request end serving, and an error line behind the replies is the last that is written
+abbrev pub AnswersLast : {A : Type 0} → Option (List ℕ) → Option (List ℕ) → Result A ServeError → Type 0
+AnswersLast held holds (Err (Protocol fault)) = (bytes : List ℕ) × (text : List ℕ) × Appends held holds (bytes ++ reply_bytes (reply.Error (error_text text)))
+AnswersLast held holds answer = Unit {0}
 
 -- the replies to all requests are written, or to the first ones
 abbrev pub ServesRequests : {A : Type 0} → CoordValue → List (List (List ℕ)) → Option (List ℕ) → Option (List ℕ) → Result A ServeError → CoordValue → Type 0

@@ -1,19 +1,20 @@
 -- How far a stream of requests is served, step by step.
-use Rattle.std.specs.Prelude.{◌≡◌, ◌⊎◌, ℕ, ◌≤◌, Bool, true, false, List, [], ◌∷◌, ◌++◌, Option, Result, Ok, Err, All, drop, length}
+use Rattle.std.specs.Prelude.{◌≡◌, ◌⊎◌, ℕ, ◌+◌, ◌<◌, ◌≤◌, Bool, true, false, List, [], ◌∷◌, ◌++◌, Option, Result, Ok, Err, All, drop, length}
 use Rattle.std.specs.Io.KnownBytes.{Appends}
-use Rattle.std.specs.List.{flat_map}
 use Rattle.lsm_coord.specs.Contract.Value.{CoordValue}
-use Rattle.lsm_resp.specs.Requests.{AreWords}
-use Rattle.lsm_resp.specs.Wire.{request_bytes}
+use Rattle.lsm_resp.specs.Enough.{enough_for_request}
+use Rattle.lsm_resp.specs.declared.fault.ProtocolFault.{ProtocolFault}
+use Rattle.lsm_resp.specs.declared.reply.RespReply.TheVariants as reply
+use Rattle.lsm_resp.specs.Wire.{reply_bytes}
 use Rattle.lsm_stream.specs.Streams.{AppendsPart}
 use Rattle.lsm_serve.specs.declared.answer.Answer.{Answer}
 use Rattle.lsm_serve.specs.declared.error.ServeError.{ServeError}
-use Rattle.lsm_serve.specs.declared.error.ServeError.TheVariants.{NotSynced, Stream}
+use Rattle.lsm_serve.specs.declared.error.ServeError.TheVariants.{NoEnd, NotSynced, OutOfMemory, Protocol, ReadFault, WriteFault}
 use Rattle.lsm_serve.specs.declared.serving.Reached.{Reached}
 use Rattle.lsm_serve.specs.declared.serving.Reached.TheVariants.{Http, Quit, Waits}
 use Rattle.lsm_serve.specs.declared.http_word.HttpWord.{HttpWord}
 use Rattle.lsm_serve.specs.HttpWords.{BeginsHttp}
-use Rattle.lsm_serve.specs.Serving.{EndsStream, IsReplyTo, RepliesInTurn, RepliesTo, ServesSome}
+use Rattle.lsm_serve.specs.Serving.{AreSentAs, EndsStream, IsReplyTo, RepliesInTurn, RepliesTo, ServesSome, error_text}
 
 -- ---- one request
 
@@ -35,16 +36,45 @@ AnswersOne old request out_old out_new (Err e) new = (new ≡ old) ⊎ ((bytes :
 -- what is written of them where they are left unsent: nothing if the store could not be synced, else a beginning
 abbrev pub LeftUnsent : Option (List ℕ) → Option (List ℕ) → List ℕ → ServeError → Type 0
 LeftUnsent held holds out (NotSynced why) = holds ≡ held
-LeftUnsent held holds out (Stream why) = AppendsPart held holds out
+LeftUnsent held holds out WriteFault = AppendsPart held holds out
+LeftUnsent held holds out NoEnd = AppendsPart held holds out
 LeftUnsent held holds out e = ⊥
 
+-- why replies are not written, and why no more is read
+abbrev pub IsWriteReason : ServeError → Type 0
+IsWriteReason (NotSynced why) = Unit {0}
+IsWriteReason WriteFault = Unit {0}
+IsWriteReason NoEnd = Unit {0}
+IsWriteReason OutOfMemory = Unit {0}
+IsWriteReason why = ⊥
+
+abbrev pub IsReadReason : ServeError → Type 0
+IsReadReason ReadFault = Unit {0}
+IsReadReason NoEnd = Unit {0}
+IsReadReason OutOfMemory = Unit {0}
+IsReadReason why = ⊥
+
+-- ---- bytes that are no request
+
+-- why what has come is not answered
+abbrev pub IsAnswerReason : ServeError → Type 0
+IsAnswerReason (Protocol fault) = Unit {0}
+IsAnswerReason why = IsWriteReason why
+
+-- behind the replies that were kept back an error line is written that ends serving; or a stream, a sync or memory ends it
+abbrev pub AnswersFault : ProtocolFault → Option (List ℕ) → Option (List ℕ) → List ℕ → ServeError → Type 0
+AnswersFault fault held holds out (Protocol why) = (why ≡ fault) × (text : List ℕ) × Appends held holds (out ++ reply_bytes (reply.Error (error_text text)))
+AnswersFault fault held holds out why = IsWriteReason why
+
 -- ---- requests so far
+
+abbrev pub AppendsSome : Option (List ℕ) → Option (List ℕ) → Type 0
+AppendsSome held holds = (bytes : List ℕ) × Appends held holds bytes
 
 -- the first requests are answered, none of them a QUIT, and whatever comes of those that follow completes the replies
 pub record RepliesSoFar (old : CoordValue) (requests left : List (List (List ℕ))) (bytes : List ℕ) (now : CoordValue) : Type 0 where
   pub done : List (List (List ℕ))
   pub parted : requests ≡ done ++ left
-  pub fit : All AreWords left
   pub goes_on : All (λ request. EndsStream request → ⊥) done
   pub completes : (more : List (List (List ℕ))) (rest : List ℕ) (new : CoordValue) → RepliesInTurn now more rest new → RepliesInTurn old (done ++ more) (bytes ++ rest) new
 
@@ -59,7 +89,7 @@ pub record ServedSoFar (old : CoordValue) (requests : List (List (List ℕ))) (h
   pub left : List (List (List ℕ))
   pub bytes : List ℕ
   pub answered : RepliesSoFar old requests left bytes now
-  pub are_ahead : ahead ≡ flat_map request_bytes left
+  pub are_ahead : AreSentAs left ahead
   pub sent : AreSent held holds bytes out
 
 -- all are answered, up to a QUIT
@@ -85,8 +115,8 @@ abbrev pub ServesInput : CoordValue → List (List (List ℕ)) → Option (List 
 ServesInput old requests held new input later out holds (Ok reached) = ServedTo old requests held new input later out holds reached
 ServesInput old requests held new input later out holds (Err why) = ServesSome old requests held holds why new
 
--- how far requests can be answered
+-- How far requests can be answered. More is waited for only of an input that is shorter than a request can be.
 abbrev pub IsReachable : List ℕ → Reached → Type 0
-IsReachable input (Waits at) = at ≤ length input
+IsReachable input (Waits at) = (at ≤ length input) × (length input < at + enough_for_request)
 IsReachable input Quit = Unit {0}
 IsReachable input (Http word) = Unit {0}

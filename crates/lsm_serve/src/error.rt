@@ -3,7 +3,7 @@
 use crate::HttpWord;
 use lsm_resp::{ParseError, ProtocolFault};
 use lsm_store::StoreError;
-use lsm_stream::StreamError;
+use lsm_stream::{SinkError, SourceError};
 use std::alloc::{AllocError, AllocFailed};
 use thiserror::Error;
 
@@ -19,9 +19,15 @@ pub enum ServeError {
     /// The input ends within a request.
     #[error("the input ends within a request")]
     Truncated,
-    /// The input could not be read, or the replies could not be written.
-    #[error("{0}")]
-    Stream(StreamError),
+    /// The input could not be read.
+    #[error("the input could not be read")]
+    ReadFault,
+    /// The replies could not be written.
+    #[error("the output could not be written")]
+    WriteFault,
+    /// A stream was read or written as often as is counted, 2^64 - 1 times.
+    #[error("the input does not end")]
+    NoEnd,
     /// The store could not be synced. No reply was written that tells of a write since the last sync.
     #[error("not synced: {0}")]
     NotSynced(StoreError),
@@ -65,16 +71,31 @@ impl From<ParseError> for ServeError {
     }
 }
 
-impl From<StreamError> for ServeError {
+impl From<SourceError> for ServeError {
     ghost use Rattle.std.specs.Prelude.{◌≡◌};
-    ghost use Rattle.lsm_serve.specs.Errors.{error_of_stream};
+    ghost use Rattle.lsm_serve.specs.Errors.{error_of_source};
 
-    ghost from_gives = { λ why e. e ≡ error_of_stream why };
+    ghost from_gives = { λ why e. e ≡ error_of_source why };
 
-    fn from(why: StreamError) -> ServeError {
+    fn from(why: SourceError) -> ServeError {
         match why {
-            StreamError::OutOfMemory => ServeError::OutOfMemory,
-            _ => ServeError::Stream(why),
+            SourceError::ReadFault => ServeError::ReadFault,
+            SourceError::NoEnd => ServeError::NoEnd,
+            SourceError::OutOfMemory => ServeError::OutOfMemory,
+        }
+    }
+}
+
+impl From<SinkError> for ServeError {
+    ghost use Rattle.std.specs.Prelude.{◌≡◌};
+    ghost use Rattle.lsm_serve.specs.Errors.{error_of_sink};
+
+    ghost from_gives = { λ why e. e ≡ error_of_sink why };
+
+    fn from(why: SinkError) -> ServeError {
+        match why {
+            SinkError::WriteFault => ServeError::WriteFault,
+            SinkError::NoEnd => ServeError::NoEnd,
         }
     }
 }

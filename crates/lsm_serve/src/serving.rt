@@ -1,16 +1,19 @@
 //! Serving: requests in, replies out, a sync of the store before each write of them.
 
-ghost use Rattle.std.specs.Prelude.{◌≡◌, ◌<◌, ◌≤◌, ◌++◌, ◌↔◌, [], ℕ, List, Option, IfErr, IfOk, IsTrue, Ok, OnOk, drop, length, vec_len};
+ghost use Rattle.std.specs.Prelude.{◌≡◌, ◌≢◌, ◌<◌, ◌≤◌, ◌++◌, ◌↔◌, [], ℕ, List, Option, Err, IfErr, IfOk, IsTrue, Ok, OnOk, drop, length, true, vec_len};
 ghost use Rattle.std.specs.Io.KnownBytes.{Appends};
 ghost use Rattle.lsm_coord.specs.Contract.Value.{CoordValue};
 ghost use Rattle.lsm_store.specs.Store.{IsLatestSequence};
+ghost use Rattle.lsm_stream.specs.Streams.{Gains};
 ghost use Rattle.lsm_resp.specs.Requests.{words_of};
 ghost use Rattle.lsm_resp.specs.Wire.{reply_bytes};
 ghost use Rattle.lsm_resp.specs.declared.reply.RespReply.TheVariants.{Error};
 ghost use Rattle.lsm_serve.specs.declared.answer.Answer.TheVariants.{Refused};
+ghost use Rattle.lsm_serve.specs.Counting.{ReportsCalls, ReportsReadFaults, ReportsReads, ReportsWriteFaults, ReportsWrites};
 ghost use Rattle.lsm_serve.specs.HttpWords.{IsNoHttp};
-ghost use Rattle.lsm_serve.specs.Serving.{AreAhead, EndsStream, ServesRequests, error_text, in_line};
-ghost use Rattle.lsm_serve.specs.ServingSteps.{AnswersOne, IsReachable, LeftUnsent, ServedSoFar, ServesInput, WritesReply};
+ghost use Rattle.lsm_serve.specs.declared.error.ServeError.TheVariants.{Protocol, Truncated};
+ghost use Rattle.lsm_serve.specs.Serving.{AnswersLast, AreAhead, EndsStream, ServesRequests, error_text, in_line};
+ghost use Rattle.lsm_serve.specs.ServingSteps.{AnswersFault, AnswersOne, AppendsSome, IsAnswerReason, IsReachable, IsReadReason, IsWriteReason, LeftUnsent, ServedSoFar, ServesInput, WritesReply};
 
 use crate::answer::{Answer, answer_request, one};
 use crate::{Command, CommandRefusal, HttpWord, ServeError};
@@ -18,10 +21,9 @@ use bytes::Bytes;
 use lsm_key::Seq;
 use lsm_resp::{ParseError, Parsed, ProtocolFault, RespReply, parse_request, write_reply};
 use lsm_store::Store;
-use lsm_stream::{StreamError, buffer_of, read_more, write_out};
+use lsm_stream::{Sink, Source, buffer_of, read_next, write_kept};
 use lsm_vault::Vault;
 use std::alloc::{AllocError, Global};
-use std::io::{Read, Write};
 
 /// How much is read at once. In bytes.
 const READ_BYTES: usize = 65_536;
@@ -40,24 +42,29 @@ enum Reached {
     Http(HttpWord),
 }
 
-/// Answers the requests of the reader in order, until it ends or a `QUIT` was answered. Replies are written before more input is
-/// waited for, and the store is synced before each write of them: once for all requests that have come. If that is refused, none of the
+/// Answers the requests of the reader in order, until it ends or a `QUIT` was answered. Replies are written and flushed before more input
+/// is waited for, and the store is synced before each write of them: once for all requests that have come. If that is refused, none of the
 /// replies that wait is written, and it ends. What is no request within the limits is answered with an error, and ends it; a request that
 /// begins as one of HTTP does ends it without an answer. The store is not flushed.
-pub fn serve<V: Vault, R: Read, W: Write>(
+pub fn serve<V: Vault, R: Source, W: Sink>(
     alloc: Global,
     store: &mut Store<V>,
     reader: &mut R,
     writer: &mut W,
 ) -> Result<(), ServeError>
-    ensures { (requests : List (List (List ℕ))) → AreAhead (R.remaining reader.old) requests → ServesRequests store.old requests (W.contents writer.old) (W.contents writer.new) result store.new }
+    ensures replies { (requests : List (List (List ℕ))) → AreAhead (R.remaining reader.old) requests → ServesRequests store.old requests (W.contents writer.old) (W.contents writer.new) result store.new }
+    ensures answered { AnswersLast (W.contents writer.old) (W.contents writer.new) result }
+    ensures flushed { OnOk result (W.is_flushed writer.new ≡ true) }
+    ensures counted { ReportsCalls result (R.reads reader.old) (R.reads reader.new) (W.writes writer.old) (W.writes writer.new) }
+    ensures read_faults { ReportsReadFaults result (R.faults reader.old) (R.faults reader.new) }
+    ensures write_faults { ReportsWriteFaults result (W.faults writer.old) (W.faults writer.new) }
 {
     let mut chunk = buffer_of(alloc, READ_BYTES)?;
     serve_through(alloc, store, reader, writer, &mut chunk)
 }
 
 /// The same, by reads into a chunk that has room.
-fn serve_through<V: Vault, R: Read, W: Write>(
+fn serve_through<V: Vault, R: Source, W: Sink>(
     alloc: Global,
     store: &mut Store<V>,
     reader: &mut R,
@@ -65,12 +72,17 @@ fn serve_through<V: Vault, R: Read, W: Write>(
     chunk: &mut [u8],
 ) -> Result<(), ServeError>
     requires { 0 < length chunk.old }
-    ensures { (requests : List (List (List ℕ))) → AreAhead (R.remaining reader.old) requests → ServesRequests store.old requests (W.contents writer.old) (W.contents writer.new) result store.new }
+    ensures replies { (requests : List (List (List ℕ))) → AreAhead (R.remaining reader.old) requests → ServesRequests store.old requests (W.contents writer.old) (W.contents writer.new) result store.new }
+    ensures answered { AnswersLast (W.contents writer.old) (W.contents writer.new) result }
+    ensures flushed { OnOk result (W.is_flushed writer.new ≡ true) }
+    ensures counted { ReportsCalls result (R.reads reader.old) (R.reads reader.new) (W.writes writer.old) (W.writes writer.new) }
+    ensures read_faults { ReportsReadFaults result (R.faults reader.old) (R.faults reader.new) }
+    ensures write_faults { ReportsWriteFaults result (W.faults writer.old) (W.faults writer.new) }
 {
     let mut input = Vec::new(alloc);
     let mut out = Vec::new(alloc);
     let mut synced = store.flushed_sequence();
-    for _ in 0..u64::MAX {
+    for _turn in 0..u64::MAX {
         let reached = answer_all(alloc, store, &input, writer, &mut out, &mut synced)?;
         send(store, writer, &mut out, &mut synced)?;
         match reached {
@@ -78,16 +90,35 @@ fn serve_through<V: Vault, R: Read, W: Write>(
             Reached::Http(word) => return Err(ServeError::Http(word)),
             Reached::Waits(at) => drop_front(&mut input, at),
         }
-        if !read_more(reader, chunk, &mut input)? {
+        if !wait_for_more(reader, writer, chunk, &mut input)? {
             return end_of(&input);
         }
     }
-    Err(ServeError::Stream(StreamError::ReadFault))
+    Err(ServeError::NoEnd)
+}
+
+/// Appends what the next read gives, which may have to be waited for: so the writer is flushed. Returns whether it gave something.
+fn wait_for_more<R: Source, W: Sink>(
+    reader: &mut R,
+    _writer: &W,
+    chunk: &mut [u8],
+    input: &mut Vec<u8>,
+) -> Result<bool, ServeError>
+    requires room { 0 < length chunk.old }
+    requires flushed { W.is_flushed _writer.now ≡ true }
+    ensures ok { IfOk result (Gains (length chunk.old) (R.remaining reader.old) (R.remaining reader.new) input.old.items input.new.items) }
+    ensures why { IfErr result IsReadReason }
+    ensures counted { ReportsReads result (R.reads reader.old) (R.reads reader.new) }
+    ensures faults { ReportsReadFaults result (R.faults reader.old) (R.faults reader.new) }
+{
+    Ok(read_next(reader, chunk, input)?)
 }
 
 /// How it ends at the end of the input: well, if nothing of a request is left.
 fn end_of(input: &[u8]) -> Result<(), ServeError>
-    ensures { input.now ≡ [] → result ≡ Ok tt }
+    ensures whole { input.now ≡ [] → result ≡ Ok tt }
+    ensures cut { input.now ≢ [] → result ≡ Err Truncated }
+    ensures why { IfErr result (λ e. e ≡ Truncated) }
 {
     if input.is_empty() {
         Ok(())
@@ -103,8 +134,8 @@ fn drop_front(input: &mut Vec<u8>, len: usize)
     let _ = input.drain(..len);
 }
 
-/// Syncs the store, and then writes the replies that were kept back. If the store is not synced, none of them is written.
-fn send<V: Vault, W: Write>(
+/// Syncs the store, and then writes the replies that were kept back, and flushes. If the store is not synced, none of them is written.
+fn send<V: Vault, W: Sink>(
     store: &mut Store<V>,
     writer: &mut W,
     out: &mut Vec<u8>,
@@ -116,20 +147,21 @@ fn send<V: Vault, W: Write>(
     ensures same { store.new ≡ record store.old { failures = store.new.failures } }
     ensures counted { store.old.failures ≤ store.new.failures }
     ensures refused { IfErr result (LeftUnsent (W.contents writer.old) (W.contents writer.new) out.old.items) }
+    ensures flushed { OnOk result (W.is_flushed writer.new ≡ true) }
+    ensures writes { ReportsWrites result (W.writes writer.old) (W.writes writer.new) }
+    ensures faults { ReportsWriteFaults result (W.faults writer.old) (W.faults writer.new) }
 {
     match store.sync() {
         Ok(()) => {}
         Err(why) => return Err(ServeError::NotSynced(why)),
     }
     *synced = store.latest_sequence();
-    match write_out(writer, out) {
-        Ok(()) => Ok(()),
-        Err(why) => Err(ServeError::Stream(why)),
-    }
+    write_kept(writer, out)?;
+    Ok(())
 }
 
 /// Answers the requests that have come whole. Tells up to where the store was synced.
-fn answer_all<V: Vault, W: Write>(
+fn answer_all<V: Vault, W: Sink>(
     alloc: Global,
     store: &mut Store<V>,
     input: &[u8],
@@ -139,9 +171,14 @@ fn answer_all<V: Vault, W: Write>(
 ) -> Result<Reached, ServeError>
     ensures reach { IfOk result (IsReachable input.now) }
     ensures served { (old : CoordValue) (requests : List (List (List ℕ))) (held : Option (List ℕ)) (later : List ℕ) → ServedSoFar old requests held store.old (input.now ++ later) out.old.items (W.contents writer.old) → ServesInput old requests held store.new input.now later out.new.items (W.contents writer.new) result }
+    ensures wrote { OnOk result (AppendsSome (W.contents writer.old) (W.contents writer.new)) }
+    ensures answered { AnswersLast (W.contents writer.old) (W.contents writer.new) result }
+    ensures why { IfErr result IsAnswerReason }
+    ensures writes { ReportsWrites result (W.writes writer.old) (W.writes writer.new) }
+    ensures faults { ReportsWriteFaults result (W.faults writer.old) (W.faults writer.new) }
 {
     let mut at = 0;
-    for _turn in 0..u64::MAX {
+    while at < input.len() {
         let (_, rest) = input.split_at(at);
         match parse_request(alloc, rest) {
             Ok(Parsed::Partial) => return Ok(Reached::Waits(at)),
@@ -163,7 +200,7 @@ fn answer_all<V: Vault, W: Write>(
             send(store, writer, out, synced)?;
         }
     }
-    unreachable!()
+    Ok(Reached::Waits(at))
 }
 
 /// Appends the reply to a request that is none of HTTP, an empty one having none. Returns whether it was a `QUIT`.
@@ -245,28 +282,37 @@ fn in_line(byte: u8) -> u8
 }
 
 /// Answers what is no request, as far as that can be done. Returns why serving ends.
-fn fail<V: Vault, W: Write>(
+fn fail<V: Vault, W: Sink>(
     alloc: Global,
     store: &mut Store<V>,
     writer: &mut W,
     out: &mut Vec<u8>,
     synced: &mut Seq,
     fault: ProtocolFault,
-) -> ServeError {
+) -> ServeError
+    ensures told { AnswersFault fault (W.contents writer.old) (W.contents writer.new) out.old.items result }
+    ensures writes { ReportsWrites {T = Unit {0}} (Err result) (W.writes writer.old) (W.writes writer.new) }
+    ensures faults { ReportsWriteFaults {T = Unit {0}} (Err result) (W.faults writer.old) (W.faults writer.new) }
+{
     match write_fault(alloc, store, writer, out, synced, fault) {
         Ok(()) => ServeError::Protocol(fault),
         Err(error) => error,
     }
 }
 
-fn write_fault<V: Vault, W: Write>(
+fn write_fault<V: Vault, W: Sink>(
     alloc: Global,
     store: &mut Store<V>,
     writer: &mut W,
     out: &mut Vec<u8>,
     synced: &mut Seq,
     fault: ProtocolFault,
-) -> Result<(), ServeError> {
+) -> Result<(), ServeError>
+    ensures answered { OnOk result (AnswersFault fault (W.contents writer.old) (W.contents writer.new) out.old.items (Protocol fault)) }
+    ensures refused { IfErr result IsWriteReason }
+    ensures writes { ReportsWrites result (W.writes writer.old) (W.writes writer.new) }
+    ensures faults { ReportsWriteFaults result (W.faults writer.old) (W.faults writer.new) }
+{
     let text = format!(in alloc; "Protocol error: {fault}")?;
     write_error(alloc, out, text.as_bytes())?;
     send(store, writer, out, synced)

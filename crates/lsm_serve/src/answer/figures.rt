@@ -6,7 +6,7 @@ ghost use Rattle.lsm_serve.specs.Figures.{IsInfo, figure_line, level_figure_line
 
 use crate::Answer;
 use bytes::Bytes;
-use lsm_key::Seq;
+use lsm_key::{ALL_LEVELS, Seq};
 use lsm_resp::RespReply;
 use lsm_store::Store;
 use lsm_vault::Vault;
@@ -30,7 +30,7 @@ pub(crate) fn info<V: Vault>(
         "flushed_sequence",
         store.flushed_sequence().number(),
     )?;
-    write_levels(&mut text, store, &[0, 1, 2, 3, 4, 5, 6])?;
+    write_levels(&mut text, store, &ALL_LEVELS)?;
     Ok(Answer::Reply(RespReply::Bulk(Some(Bytes::from_vec(text)?))))
 }
 
