@@ -7,3 +7,4 @@ pub mod TalliedRecords
 pub mod MatchedRecords
 pub mod PartedHistories
 pub mod SettledRounds
+pub mod CarriedJobs

@@ -12,6 +12,7 @@ mod answers;
 mod exchange;
 mod hub;
 mod installed;
+mod laws;
 mod matching;
 mod rounds;
 mod shared;
@@ -19,5 +20,6 @@ mod twice;
 
 pub use exchange::{Exchange, Witness, Witnessed};
 pub use hub::{CloseError, Hub, PARTS};
+pub use laws::hub_limits_are_these;
 pub use rounds::{Link, dispatch};
 pub use shared::{Record, Shared, Start, Tally};

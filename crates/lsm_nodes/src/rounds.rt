@@ -1,6 +1,7 @@
 //! Dispatchers: they pick jobs, have them carried to workers, and install the results.
 
 ghost use Rattle.std.specs.Prelude.{◌≡◌, ◌+◌, ◌<◌, ◌≤◌, ◌^◌, ◌++◌, List, count_by};
+ghost use Rattle.lsm_nodes.specs.Carrying.{CarriesPicks};
 ghost use Rattle.lsm_nodes.specs.Tallies.{SettlesPicks, is_done, records_of};
 
 use crate::exchange::Witness;
@@ -14,7 +15,15 @@ use std::sync::Wait;
 
 /// Carries a job to a worker, and its result back, or nothing. No lock is held while it does.
 pub trait Link {
-    fn carry(&mut self, job: Job) -> Option<JobResult>;
+    ghost use Rattle.std.specs.Prelude.{List, [], ◌∷◌, Option, None};
+    ghost use Rattle.lsm_msg.specs.declared.job.JobParts.{JobParts};
+    ghost use Rattle.lsm_nodes.specs.Carrying.{GainsKnown};
+
+    // The jobs that it was given, one after another, if they are known.
+    ghost carried: { Self → Option (List JobParts) } = { λ _. None };
+
+    fn carry(&mut self, job: Job) -> Option<JobResult>
+        ensures { GainsKnown (carried self.old) (carried self.new) (job ∷ []) };
 }
 
 // Picks a job, has it carried, and installs its result. A claim that is not installed is given back.
@@ -30,6 +39,7 @@ fn round<V: Vault, J: Start, N: Witness + Drop, L: Link, R: Wait>(
     ensures picked { tally.new.picked ≤ tally.old.picked + 1 }
     ensures others { tally.new.others ≡ tally.old.others }
     ensures settled { SettlesPicks tally.old tally.new }
+    ensures carried { CarriesPicks (L.carried link.old) (L.carried link.new) tally.old tally.new }
 {
     match hub.pick(rt, tally) {
         Ok(None) => {}
@@ -46,7 +56,9 @@ fn round<V: Vault, J: Start, N: Witness + Drop, L: Link, R: Wait>(
 }
 
 /// So many rounds of a pick, a carry without the lock, and an install. A round that picks nothing counts nothing; a claim that
-/// is not installed is given back, and counts as returned, or as stale if its job was not live. The tally keeps its parts.
+/// is not installed is given back, and counts as returned, or as stale if its job was not live. The tally keeps its parts. The link is given
+/// each job that is picked, once, and no other.
+#[tactic(auto, using(crate::proofs::CarriedJobs::carries_nothing, crate::proofs::CarriedJobs::carries_then))]
 pub fn dispatch<V: Vault, J: Start, N: Witness + Drop, L: Link, R: Wait>(
     rt: &R,
     hub: &Hub<V, J, N>,
@@ -62,6 +74,7 @@ pub fn dispatch<V: Vault, J: Start, N: Witness + Drop, L: Link, R: Wait>(
     ensures installed { result.installed ≡ count_by is_done (records_of result) }
     ensures others { result.others ≡ tally.others }
     ensures settled { SettlesPicks tally result }
+    ensures carried { CarriesPicks (L.carried link.old) (L.carried link.new) tally result }
 {
     let mut tally = tally;
     for _round in 0..rounds {

@@ -8,6 +8,7 @@
 #![tactic(auto)]
 
 mod error;
+mod laws;
 mod log;
 mod publication;
 mod reader;
@@ -18,6 +19,7 @@ mod view;
 mod writer;
 
 pub use error::{PublishError, ReadError, ReadersError};
+pub use laws::reader_limits_are_these;
 pub use log::{LogName, NewLog, PublicationLog};
 pub use publication::Publication;
 pub use reader::FollowerReader;

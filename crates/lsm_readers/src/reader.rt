@@ -1,6 +1,6 @@
 //! Readers.
 
-ghost use Rattle.std.specs.Prelude.{◌≡◌, ◌⊎◌, IfOk, IfErr};
+ghost use Rattle.std.specs.Prelude.{◌≡◌, ◌<◌, ◌⊎◌, IfOk, IfErr, length};
 ghost use Rattle.std.specs.Option.{option_map};
 ghost use mathlib.Core.List.{IsPrefix};
 ghost use Rattle.lsm_key.specs.Places.{AreOrdered, all_entries};
@@ -65,13 +65,22 @@ impl<J: LogName> FollowerReader<J> {
             return Err(ReadError::NotEntered);
         };
         let publication: &Publication<J> = &*guard;
-        if publication.view().len() < self.view.len() {
-            return Err(ReadError::NotEntered);
-        }
-        self.view = self.view.onward(publication.view());
+        self.view = view_at(&self.view, publication)?;
         match publication.read(key) {
             Ok(answer) => Ok(answer),
             Err(_) => Err(ReadError::OutOfMemory),
         }
     }
+}
+
+// The view of a reader that has reached a publication. Refuses exactly if that is older than what the reader has seen or was told.
+fn view_at<J: LogName>(view: &View<J>, publication: &Publication<J>) -> Result<View<J>, ReadError>
+    ensures rising { AreRising view.now }
+    ensures ok { IfOk result (λ v. (v ≡ publication.now) × IsPrefix view.now v × AreRising v) }
+    ensures behind { IfErr result (λ e. (e ≡ NotEntered) × (length publication.now < length view.now)) }
+{
+    if publication.view().len() < view.len() {
+        return Err(ReadError::NotEntered);
+    }
+    Ok(view.onward(publication.view()))
 }

@@ -1,9 +1,10 @@
 //! What publishes.
 
-ghost use Rattle.std.specs.Prelude.{◌≡◌, ◌⊎◌, ◌++◌, ◌∷◌, [], OnOk, IfErr};
+ghost use Rattle.std.specs.Prelude.{◌≡◌, ◌≤◌, ◌⊎◌, ◌++◌, ◌∷◌, [], MatchBool, OnOk, IfErr, length};
 ghost use Rattle.std.specs.Option.{option_map};
 ghost use Rattle.left_right.specs.Handles.{published, pending};
-ghost use Rattle.lsm_readers.specs.Publications.{IsLater, last_published};
+ghost use Rattle.lsm_readers.specs.Publications.{IsLater, IsLonger, last_published};
+ghost use Rattle.lsm_readers.specs.declared.writer.TheConstants.{MAX_PUBLICATIONS};
 ghost use Rattle.lsm_readers.specs.declared.error.PublishError.TheVariants.{NotTaken, Pending};
 
 use crate::{LogName, Publication, PublicationLog, PublishError, Told, View};
@@ -100,7 +101,7 @@ impl<J: LogName, R: Wait + Drop> FollowerWriter<Publication<J>, View<J>, Publica
             return Err(PublishError::NotTaken);
         };
         let mut view = self.taken.copy();
-        if view.len() >= MAX_PUBLICATIONS || !view.add(&self.log, served) {
+        if !is_added(&mut view, &self.log, served) {
             return Err(PublishError::NotTaken);
         }
         self.taken = view.copy();
@@ -149,4 +150,13 @@ impl<J: LogName, R: Wait + Drop> FollowerWriter<Publication<J>, View<J>, Publica
     {
         Told::of(self.handle.published().view().copy())
     }
+}
+
+// Adds a version to the log after all that was taken, and says whether it did. It did not if the log is full, or longer than what was
+// taken.
+fn is_added<J: LogName>(view: &mut View<J>, log: &PublicationLog<J>, served: &Served) -> bool
+    requires { IsLater view.old served.now }
+    ensures { MatchBool result (view.new ≡ view.old ++ served.now ∷ []) ((MAX_PUBLICATIONS ≤ length view.old) ⊎ IsLonger view.old view.new) }
+{
+    view.len() < MAX_PUBLICATIONS && view.add(log, served)
 }

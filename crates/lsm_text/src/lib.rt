@@ -14,6 +14,7 @@ mod fault;
 mod follow;
 mod followers;
 mod jobs;
+mod laws;
 mod lines;
 mod listing;
 mod names;
@@ -28,6 +29,7 @@ mod words;
 
 pub use fault::{Fault, Reason};
 pub use followers::write_read;
+pub use laws::script_limits_are_these;
 pub use lines::write_line;
 pub use listing::write_shown;
 pub use refusals::write_refused;

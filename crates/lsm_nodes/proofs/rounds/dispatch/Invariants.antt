@@ -1,5 +1,6 @@
 -- Each round settles what it picks, at most one claim.
 use Rattle.std.proofs.Common.{◌≡◌, ◌+◌, ◌≤◌}
+use Rattle.lsm_nodes.specs.Carrying.{CarriesPicks}
 use Rattle.lsm_nodes.specs.Tallies.{SettlesPicks}
 use Rattle.lsm_nodes.proofs.rounds.dispatch.Given as goal
 
@@ -9,4 +10,5 @@ invariant-loop-round g l = record {
   picked : l.tally.picked ≤ l.fn.tally.picked + l._round;
   others : l.tally.others ≡ l.fn.tally.others;
   settled : SettlesPicks l.fn.tally l.tally;
+  carried : CarriesPicks (g.L.Link.carried l.fn.link) (g.L.Link.carried l.link) l.fn.tally l.tally;
 }

@@ -1,5 +1,5 @@
 -- The job that was picked is settled, whatever becomes of it.
-use Rattle.std.proofs.Common.{◌≡◌, ◌+◌, Option, Result, Some, Ok, Err, subst, refl, arith}
+use Rattle.std.proofs.Common.{◌≡◌, ◌+◌, [], Option, Result, Some, Ok, Err, subst, refl, arith}
 use Rattle.lsm_claim.specs.declared.ending.Settled.TheVariants.{Stale}
 use Rattle.lsm_claim.specs.declared.job.LiveJob.{LiveJob}
 use Rattle.lsm_msg.specs.declared.job.JobParts.{JobParts}
@@ -13,6 +13,7 @@ use Rattle.lsm_coord.specs.Contract.Replies.{error_of}
 use Rattle.lsm_nodes.specs.Answers.{pick_answer, picked_answer}
 use Rattle.lsm_nodes.specs.Tallies.{MayRecord, TallyValue, exchange_of}
 use Rattle.lsm_nodes.proofs.SettledRounds.{Adds, adds_then, finds_one, installs_one, picks_none, picks_one, returns_one, settles, settles_none, stale_by}
+use Rattle.lsm_nodes.proofs.CarriedJobs.{carries, carries_job, gains_none, picks_job, picks_nothing, picks_return, picks_same}
 use Rattle.lsm_nodes.proofs.rounds.round.Goals as goal
 
 -- a pick that gave a job, by what the pick ensures
@@ -75,3 +76,58 @@ returns-in-None-clause-settled g c =
     let back = c.give_back.result in
     let picked = first t u c.in-Ok-Some.field-0 (c.in-Ok-Some.claim, c.in-Ok-Some.job) c.in-Ok-Some.field-0-is c.in-Ok-Some.ensures.recorded in
     settles t w 1 0 (0 + stale_by back) (omega arith) (adds_then t u w 1 0 0 1 0 0 0 (stale_by back) picked (returns_one u w back c.count.ensures))
+
+-- ---- the job that was picked was carried
+
+pub returns-in-Done-clause-carried : goal.returns-in-Done-clause-carried
+returns-in-Done-clause-carried g c =
+    let t = c.args.tally.now in
+    let u = c.pick.new.tally in
+    let v = c.install.new.tally in
+    let picked = picks_job t u c.in-Ok-Some.field-0 (c.in-Ok-Some.claim, c.in-Ok-Some.job) c.in-Ok-Some.field-0-is c.in-Ok-Some.ensures.recorded in
+    let tried = picks_nothing u v (call.Install c.in-Ok-Some.claim.id c.in-Some.made) (answer.Installed c.in-Done._number c.in-Done._files) _ refl c.in-Done.ensures in
+    carries_job (g.L.Link.carried c.args.link.now) (g.L.Link.carried c.carry.new.self) t u v v c.in-Ok-Some.job picked tried (picks_same v v refl) c.carry.ensures
+
+pub returns-in-Stale-clause-carried : goal.returns-in-Stale-clause-carried
+returns-in-Stale-clause-carried g c =
+    let t = c.args.tally.now in
+    let u = c.pick.new.tally in
+    let v = c.install.new.tally in
+    let w = c.count-in-Stale.new.self in
+    let picked = picks_job t u c.in-Ok-Some.field-0 (c.in-Ok-Some.claim, c.in-Ok-Some.job) c.in-Ok-Some.field-0-is c.in-Ok-Some.ensures.recorded in
+    let tried = picks_nothing u v (call.Install c.in-Ok-Some.claim.id c.in-Some.made) (answer.Stale c.in-Stale.field-0 c.in-Stale.field-1) _ refl c.in-Stale.ensures in
+    carries_job (g.L.Link.carried c.args.link.now) (g.L.Link.carried c.carry.new.self) t u v w c.in-Ok-Some.job picked tried (picks_return v w Stale c.count-in-Stale.ensures) c.carry.ensures
+
+pub returns-clause-carried : goal.returns-clause-carried
+returns-clause-carried g c =
+    let t = c.args.tally.now in
+    let u = c.pick.new.tally in
+    let v = c.install.new.tally in
+    let w = c.count-in-Kept.new.self in
+    let picked = picks_job t u c.in-Ok-Some.field-0 (c.in-Ok-Some.claim, c.in-Ok-Some.job) c.in-Ok-Some.field-0-is c.in-Ok-Some.ensures.recorded in
+    let tried = picks_nothing u v (call.Install c.in-Ok-Some.claim.id c.in-Some.made) (answer.Refused (error_of c.in-Kept.field-1)) _ refl c.in-Kept.ensures in
+    carries_job (g.L.Link.carried c.args.link.now) (g.L.Link.carried c.carry.new.self) t u v w c.in-Ok-Some.job picked tried (picks_return v w c.give_back-in-Kept.result c.count-in-Kept.ensures) c.carry.ensures
+
+pub returns-in-Ok-None-clause-carried : goal.returns-in-Ok-None-clause-carried
+returns-in-Ok-None-clause-carried g c =
+    let t = c.args.tally.now in
+    let u = c.pick.new.tally in
+    let P : Option (LiveJob × JobParts) → Type 0 = λ given. MayRecord (Ok given ≡ Err OutOfMemory) t u (exchange_of call.Pick (picked_answer given)) in
+    let tried = picks_nothing t u call.Pick answer.Idle _ refl (subst P c.in-Ok-None.field-0-is c.in-Ok-None.ensures.recorded) in
+    carries (g.L.Link.carried c.args.link.now) (g.L.Link.carried c.args.link.now) t u [] tried (gains_none (g.L.Link.carried c.args.link.now))
+
+pub returns-in-Err-clause-carried : goal.returns-in-Err-clause-carried
+returns-in-Err-clause-carried g c =
+    let t = c.args.tally.now in
+    let u = c.pick.new.tally in
+    let P : Result (Option (LiveJob × JobParts)) CoordError → Type 0 = λ r. MayRecord (r ≡ Err OutOfMemory) t u (exchange_of call.Pick (pick_answer r)) in
+    let tried = picks_nothing t u call.Pick (answer.Refused c.in-Err.field-0) _ refl (subst P c.in-Err.is c.pick.ensures.recorded) in
+    carries (g.L.Link.carried c.args.link.now) (g.L.Link.carried c.args.link.now) t u [] tried (gains_none (g.L.Link.carried c.args.link.now))
+
+pub returns-in-None-clause-carried : goal.returns-in-None-clause-carried
+returns-in-None-clause-carried g c =
+    let t = c.args.tally.now in
+    let u = c.pick.new.tally in
+    let w = c.count.new.self in
+    let picked = picks_job t u c.in-Ok-Some.field-0 (c.in-Ok-Some.claim, c.in-Ok-Some.job) c.in-Ok-Some.field-0-is c.in-Ok-Some.ensures.recorded in
+    carries_job (g.L.Link.carried c.args.link.now) (g.L.Link.carried c.carry.new.self) t u u w c.in-Ok-Some.job picked (picks_same u u refl) (picks_return u w c.give_back.result c.count.ensures) c.carry.ensures
