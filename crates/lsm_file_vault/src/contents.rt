@@ -5,7 +5,7 @@ use crate::error::called;
 use crate::frame::only_frame;
 use crate::listing::{Listing, list};
 use crate::names::{EDITS, LOG, file_path, table_path};
-use crate::{FileCall, OpenError};
+use crate::{FileCall, FolderError};
 use bytes::Bytes;
 use lsm_key::{FileNumber, Refused};
 use lsm_vault::Tables;
@@ -50,7 +50,7 @@ impl Contents {
     pub fn read<R: Files + AllocGlobal + Clone + Drop>(
         files: &R,
         path: &str,
-    ) -> Result<Contents, OpenError> {
+    ) -> Result<Contents, FolderError> {
         let alloc = files.alloc();
         let mut tables = Tables::new(alloc);
         let mut damaged_tables = Vec::new(alloc);
@@ -93,7 +93,7 @@ fn add_table<R: Files + AllocGlobal>(
     number: FileNumber,
     tables: &mut Tables,
     damaged_tables: &mut Vec<FileNumber>,
-) -> Result<(), OpenError> {
+) -> Result<(), FolderError> {
     match table_of(files, path, number)? {
         Some(table) => {
             tables.insert(number, table)?;
@@ -108,7 +108,7 @@ fn table_of<R: Files + AllocGlobal>(
     files: &R,
     path: &str,
     number: FileNumber,
-) -> Result<Option<Bytes>, OpenError> {
+) -> Result<Option<Bytes>, FolderError> {
     let file = table_path(files.alloc(), path, number)?;
     let bytes = read_file(files, file.as_str())?;
     Ok(only_frame(bytes)?)
@@ -120,29 +120,29 @@ fn edits_of<R: Files + AllocGlobal>(
     path: &str,
     has_edits: bool,
     needs_edits: bool,
-) -> Result<EditsFile, OpenError> {
+) -> Result<EditsFile, FolderError> {
     let alloc = files.alloc();
     let file = file_path(alloc, path, EDITS)?;
     if !has_edits && needs_edits {
-        return Err(OpenError::MissingEdits { file });
+        return Err(FolderError::MissingEdits { file });
     }
     let bytes = bytes_of(files, path, EDITS, has_edits)?;
     match read_edits(alloc, bytes) {
         Ok(found) => Ok(found),
-        Err(Refused::Fault(offset)) => Err(OpenError::DamagedEdits { file, offset }),
-        Err(Refused::OutOfMemory) => Err(OpenError::OutOfMemory),
+        Err(Refused::Fault(offset)) => Err(FolderError::DamagedEdits { file, offset }),
+        Err(Refused::OutOfMemory) => Err(FolderError::OutOfMemory),
     }
 }
 
 // The log, whose records stand in its bytes as edits do in theirs.
-fn log_of(alloc: Global, path: &str, bytes: Bytes) -> Result<EditsFile, OpenError> {
+fn log_of(alloc: Global, path: &str, bytes: Bytes) -> Result<EditsFile, FolderError> {
     match read_edits(alloc, bytes) {
         Ok(found) => Ok(found),
         Err(Refused::Fault(offset)) => {
             let file = file_path(alloc, path, LOG)?;
-            Err(OpenError::DamagedLog { file, offset })
+            Err(FolderError::DamagedLog { file, offset })
         }
-        Err(Refused::OutOfMemory) => Err(OpenError::OutOfMemory),
+        Err(Refused::OutOfMemory) => Err(FolderError::OutOfMemory),
     }
 }
 
@@ -152,7 +152,7 @@ fn bytes_of<R: Files + AllocGlobal>(
     path: &str,
     name: &str,
     is_there: bool,
-) -> Result<Bytes, OpenError> {
+) -> Result<Bytes, FolderError> {
     if !is_there {
         return Ok(Bytes::new());
     }
@@ -161,7 +161,7 @@ fn bytes_of<R: Files + AllocGlobal>(
 }
 
 // All bytes of a file.
-fn read_file<R: Files + AllocGlobal>(files: &R, file: &str) -> Result<Bytes, OpenError> {
+fn read_file<R: Files + AllocGlobal>(files: &R, file: &str) -> Result<Bytes, FolderError> {
     let alloc = files.alloc();
     let read = fs::read(files, file);
     let bytes = called(alloc, FileCall::Read, file, read)?;

@@ -7,7 +7,7 @@ use thiserror::Error;
 
 /// Why a folder is not opened or read. Each names the file or the folder.
 #[derive(Debug, Drop, Error)]
-pub enum OpenError {
+pub enum FolderError {
     #[error("out of memory")]
     OutOfMemory,
     /// A call on a file or on a folder failed.
@@ -82,15 +82,15 @@ impl fmt::Display for FileCall {
     }
 }
 
-impl OpenError {
+impl FolderError {
     /// Why a call on the file or folder at this path failed.
-    pub(crate) fn io(alloc: Global, call: FileCall, path: &str, error: io::Error) -> OpenError {
+    pub(crate) fn io(alloc: Global, call: FileCall, path: &str, error: io::Error) -> FolderError {
         if error.kind() == io::ErrorKind::OutOfMemory {
-            return OpenError::OutOfMemory;
+            return FolderError::OutOfMemory;
         }
         match String::from_str(alloc, path) {
-            Ok(path) => OpenError::Io { path, call, error },
-            Err(_) => OpenError::OutOfMemory,
+            Ok(path) => FolderError::Io { path, call, error },
+            Err(_) => FolderError::OutOfMemory,
         }
     }
 }
@@ -101,21 +101,21 @@ pub(crate) fn called<T>(
     call: FileCall,
     path: &str,
     returned: io::Result<T>,
-) -> Result<T, OpenError> {
+) -> Result<T, FolderError> {
     match returned {
         Ok(value) => Ok(value),
-        Err(error) => Err(OpenError::io(alloc, call, path, error)),
+        Err(error) => Err(FolderError::io(alloc, call, path, error)),
     }
 }
 
-impl From<AllocError> for OpenError {
-    fn from(_e: AllocError) -> OpenError {
-        OpenError::OutOfMemory
+impl From<AllocError> for FolderError {
+    fn from(_e: AllocError) -> FolderError {
+        FolderError::OutOfMemory
     }
 }
 
-impl<T: Drop> From<AllocFailed<T>> for OpenError {
-    fn from(_e: AllocFailed<T>) -> OpenError {
-        OpenError::OutOfMemory
+impl<T: Drop> From<AllocFailed<T>> for FolderError {
+    fn from(_e: AllocFailed<T>) -> FolderError {
+        FolderError::OutOfMemory
     }
 }

@@ -7,7 +7,7 @@ use crate::error::called;
 use crate::frame::write_header;
 use crate::log_file::LogFile;
 use crate::names::{EDITS, NEW_FILE, file_path, table_path};
-use crate::{Change, Contents, FileCall, Folder, Incidents, LogSync, Notes, OpenError, SetAside};
+use crate::{Change, Contents, FileCall, Folder, FolderError, Incidents, LogSync, Notes, SetAside};
 use bytes::{Bytes, BytesMut};
 use lsm_key::FileNumber;
 use std::alloc::Global;
@@ -57,7 +57,7 @@ impl<R: Files + AllocGlobal + Drop> HostFolder<R> {
         lock: Option<File>,
         incidents: Incidents,
         log_sync: LogSync,
-    ) -> Result<HostFolder<R>, OpenError>
+    ) -> Result<HostFolder<R>, FolderError>
         ensures tables { IfOk result (λ folder. ⟦<HostFolder<R> as Folder>⟧.tables folder ≡ contents.now.tables) }
         ensures edits { IfOk result (λ folder. ⟦<HostFolder<R> as Folder>⟧.edits folder ≡ contents.now.edits.items) }
         ensures log { IfOk result (λ folder. ⟦<HostFolder<R> as Folder>⟧.log folder ≡ contents.now.log.items) }
@@ -208,7 +208,7 @@ pub(crate) fn ready_file<R: Files + AllocGlobal>(
     name: &str,
     last: &[Bytes],
     bytes: u64,
-) -> Result<R::File, OpenError> {
+) -> Result<R::File, FolderError> {
     let alloc = files.alloc();
     let name = file_path(alloc, path, name)?;
     let mut file = open_file(files, name.as_str())?;
@@ -219,7 +219,7 @@ pub(crate) fn ready_file<R: Files + AllocGlobal>(
 }
 
 // Opens a file, and makes it if there is none.
-fn open_file<R: Files + AllocGlobal>(files: &R, file: &str) -> Result<R::File, OpenError> {
+fn open_file<R: Files + AllocGlobal>(files: &R, file: &str) -> Result<R::File, FolderError> {
     let mut options = OpenOptions::new();
     options.read(true).write(true).create(true);
     let opened = options.open(files, file);

@@ -33,7 +33,7 @@ mod opening;
 
 pub use change::Change;
 pub use contents::Contents;
-pub use error::{FileCall, OpenError};
+pub use error::{FileCall, FolderError};
 pub use file_vault::FileVault;
 pub use folder::Folder;
 pub use frame::FrameFault;

@@ -2,7 +2,7 @@
 
 use crate::error::called;
 use crate::names::{FileKind, file_path, kind_of};
-use crate::{FileCall, OpenError};
+use crate::{FileCall, FolderError};
 use lsm_key::FileNumber;
 use std::alloc::Global;
 use std::fs;
@@ -25,7 +25,7 @@ pub(crate) struct Listing {
 pub(crate) fn list<R: Files + AllocGlobal + Clone + Drop>(
     files: &R,
     path: &str,
-) -> Result<Listing, OpenError> {
+) -> Result<Listing, FolderError> {
     let alloc = files.alloc();
     let mut found = Found::new(alloc);
     let listed = fs::read_dir(files, path);
@@ -60,7 +60,7 @@ impl Found {
     }
 
     // Adds the file of this name.
-    fn add(&mut self, alloc: Global, path: &str, name: &str) -> Result<(), OpenError> {
+    fn add(&mut self, alloc: Global, path: &str, name: &str) -> Result<(), FolderError> {
         match kind_of(name) {
             FileKind::Table(number) => self.listing.numbers.push(number)?,
             FileKind::Lost => {
@@ -74,21 +74,21 @@ impl Found {
             FileKind::Beside => self.beside = Some(file_path(alloc, path, name)?),
             FileKind::Foreign => {
                 let file = file_path(alloc, path, name)?;
-                return Err(OpenError::ForeignFile { file });
+                return Err(FolderError::ForeignFile { file });
             }
         }
         Ok(())
     }
 
     // The whole list, or why it is refused.
-    fn listing(self) -> Result<Listing, OpenError> {
+    fn listing(self) -> Result<Listing, FolderError> {
         let Found {
             mut listing,
             beside,
         } = self;
         if let Some(file) = beside {
             if !listing.has_edits {
-                return Err(OpenError::ForeignFile { file });
+                return Err(FolderError::ForeignFile { file });
             }
         }
         listing.lost_files.sort()?;

@@ -6,7 +6,7 @@ use crate::host_folder::{
     write_file,
 };
 use crate::names::{LOG, NEW_FILE, file_path};
-use crate::{Contents, Incidents, LogSync, OpenError, SetAside};
+use crate::{Contents, FolderError, Incidents, LogSync, SetAside};
 use bytes::{Bytes, BytesMut};
 use std::fs::{self, OpenFile};
 use std::io;
@@ -48,7 +48,7 @@ impl<R: Files + AllocGlobal + Drop> LogFile<R> {
         path: &str,
         contents: &Contents,
         log_sync: LogSync,
-    ) -> Result<LogFile<R>, OpenError> {
+    ) -> Result<LogFile<R>, FolderError> {
         let torn = contents.torn_log.clone()?;
         let file = ready_file(
             files,

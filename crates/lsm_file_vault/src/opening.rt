@@ -6,7 +6,7 @@ use crate::error::called;
 use crate::host_folder::sync_folder;
 use crate::listing::list;
 use crate::names::{LOCK, file_path, table_path};
-use crate::{Contents, FileCall, FileVault, Folder, HostFolder, Incidents, LogSync, OpenError};
+use crate::{Contents, FileCall, FileVault, Folder, FolderError, HostFolder, Incidents, LogSync};
 use lsm_vault::Vault;
 use std::alloc::Global;
 use std::fs::{self, File, OpenOptions, TryLockError};
@@ -32,7 +32,7 @@ where
 ///
 /// Of several reasons against it the first one in this order is reported: `NotAFolder`, `ForeignFile`, `Busy`, `MissingEdits`,
 /// `DamagedEdits`, `DamagedLog`, `DamagedTable`. Then nothing was changed but that the folder was made and, if no file is foreign, its lock.
-pub fn open(rt: &HostRuntime, path: &str) -> Result<Opened<HostRuntime>, OpenError>
+pub fn open(rt: &HostRuntime, path: &str) -> Result<Opened<HostRuntime>, FolderError>
     ensures failures { IfOk result (λ opened. ⟦<FileVault<HostFolder<HostRuntime>> as Vault>⟧.failures opened.vault ≡ 0) }
 {
     open_with(rt, path, LogSync::Each)
@@ -43,7 +43,7 @@ pub fn open_with(
     rt: &HostRuntime,
     path: &str,
     log_sync: LogSync,
-) -> Result<Opened<HostRuntime>, OpenError>
+) -> Result<Opened<HostRuntime>, FolderError>
     ensures failures { IfOk result (λ opened. ⟦<FileVault<HostFolder<HostRuntime>> as Vault>⟧.failures opened.vault ≡ 0) }
 {
     create_folder(rt, path)?;
@@ -56,7 +56,7 @@ pub fn open_with(
 pub fn open_unlocked<R: Files + AllocGlobal + Clone + Drop>(
     files: R,
     path: &str,
-) -> Result<Opened<R>, OpenError>
+) -> Result<Opened<R>, FolderError>
     ensures failures { IfOk result (λ opened. ⟦<FileVault<HostFolder<R>> as Vault>⟧.failures opened.vault ≡ 0) }
 {
     create_folder(&files, path)?;
@@ -65,7 +65,7 @@ pub fn open_unlocked<R: Files + AllocGlobal + Clone + Drop>(
 
 /// Reads what the folder at `path` holds, and changes nothing there; damaged tables and torn bytes are reported. The folder is
 /// refused while a process has it open, and not opened while it is read. Errors are as of `open`, but for damaged tables.
-pub fn read(rt: &HostRuntime, path: &str) -> Result<Contents, OpenError> {
+pub fn read(rt: &HostRuntime, path: &str) -> Result<Contents, FolderError> {
     is_there(rt, path)?;
     let _shared = lock_shared(rt, path)?;
     Contents::read(rt, path)
@@ -77,7 +77,7 @@ fn open_contents<R: Files + AllocGlobal + Clone + Drop>(
     path: &str,
     lock: Option<File>,
     log_sync: LogSync,
-) -> Result<Opened<R>, OpenError>
+) -> Result<Opened<R>, FolderError>
     ensures failures { IfOk result (λ opened. ⟦<FileVault<HostFolder<R>> as Vault>⟧.failures opened.vault ≡ 0) }
 {
     let alloc = files.alloc();
@@ -92,25 +92,25 @@ fn open_contents<R: Files + AllocGlobal + Clone + Drop>(
 fn whole_contents<R: Files + AllocGlobal + Clone + Drop>(
     files: &R,
     path: &str,
-) -> Result<Contents, OpenError> {
+) -> Result<Contents, FolderError> {
     let contents = Contents::read(files, path)?;
     if let Some(number) = contents.damaged_tables.first() {
         let number = *number;
         let file = table_path(files.alloc(), path, number)?;
-        return Err(OpenError::DamagedTable { file, number });
+        return Err(FolderError::DamagedTable { file, number });
     }
     Ok(contents)
 }
 
 // Whether the folder is there.
-fn is_there<R: Files + AllocGlobal>(files: &R, path: &str) -> Result<bool, OpenError> {
+fn is_there<R: Files + AllocGlobal>(files: &R, path: &str) -> Result<bool, FolderError> {
     match fs::metadata(files, path) {
         Ok(found) => {
             if found.is_dir() {
                 Ok(true)
             } else {
                 let path = String::from_str(files.alloc(), path)?;
-                Err(OpenError::NotAFolder { path })
+                Err(FolderError::NotAFolder { path })
             }
         }
         Err(_) => Ok(false),
@@ -118,7 +118,7 @@ fn is_there<R: Files + AllocGlobal>(files: &R, path: &str) -> Result<bool, OpenE
 }
 
 // Makes the folder if there is none, so that it outlives the process.
-fn create_folder<R: Files + AllocGlobal>(files: &R, path: &str) -> Result<(), OpenError> {
+fn create_folder<R: Files + AllocGlobal>(files: &R, path: &str) -> Result<(), FolderError> {
     let alloc = files.alloc();
     if is_there(files, path)? {
         return Ok(());
@@ -131,7 +131,7 @@ fn create_folder<R: Files + AllocGlobal>(files: &R, path: &str) -> Result<(), Op
 }
 
 // Takes the folder for this process, until the file is dropped.
-fn lock(rt: &HostRuntime, path: &str) -> Result<File, OpenError> {
+fn lock(rt: &HostRuntime, path: &str) -> Result<File, FolderError> {
     let alloc = rt.alloc();
     let name = file_path(alloc, path, LOCK)?;
     let opened = OpenOptions::new()
@@ -147,7 +147,7 @@ fn lock(rt: &HostRuntime, path: &str) -> Result<File, OpenError> {
 }
 
 // Keeps others from taking the folder, until the file is dropped. A folder that was never opened has no file to lock.
-fn lock_shared(rt: &HostRuntime, path: &str) -> Result<Option<File>, OpenError> {
+fn lock_shared(rt: &HostRuntime, path: &str) -> Result<Option<File>, FolderError> {
     let alloc = rt.alloc();
     let name = file_path(alloc, path, LOCK)?;
     let exists = fs::exists(rt, name.as_str());
@@ -163,12 +163,12 @@ fn lock_shared(rt: &HostRuntime, path: &str) -> Result<Option<File>, OpenError> 
 }
 
 // Why a lock was not had.
-fn not_locked(alloc: Global, path: &str, name: &str, error: TryLockError) -> OpenError {
+fn not_locked(alloc: Global, path: &str, name: &str, error: TryLockError) -> FolderError {
     match error {
         TryLockError::WouldBlock => match String::from_str(alloc, path) {
-            Ok(path) => OpenError::Busy { path },
-            Err(_) => OpenError::OutOfMemory,
+            Ok(path) => FolderError::Busy { path },
+            Err(_) => FolderError::OutOfMemory,
         },
-        TryLockError::Error(error) => OpenError::io(alloc, FileCall::Lock, name, error),
+        TryLockError::Error(error) => FolderError::io(alloc, FileCall::Lock, name, error),
     }
 }

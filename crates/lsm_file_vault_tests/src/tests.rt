@@ -1,110 +1,187 @@
 //! What no clause says: that calls succeed and files give back what they were given, and the texts of calls.
 
 use bytes::Bytes;
-use lsm_file_vault::{FileCall, LogSync, OpenError, open, open_with};
+use lsm_file_vault::{FileCall, FolderError, LogSync, open_with};
 use lsm_key::FileNumber;
 use lsm_vault::{Vault, VaultError};
-use std::alloc::Global;
+use std::alloc::{AllocError, Global};
 use std::fs;
 use std::test::Fail;
 
-/// Tables, of which 7 is put again, 5 is removed and 6 was never there, and edits.
-fn fill<V: Vault>(vault: &mut V) -> Result<(), VaultError> {
-    for (number, table) in [
-        (7, "seven"),
-        (3, "three"),
-        (12, ""),
-        (7, "again"),
-        (5, "five"),
-    ] {
-        let table = Bytes::from_static(table.as_bytes());
-        vault.put_table(FileNumber::new(number), table)?;
+/// A call of a vault. A record of `Large` has as many bytes as it says.
+#[derive(Clone, Copy)]
+enum Call {
+    Put(u64, &'static str),
+    Remove(u64),
+    Edit(&'static str),
+    Log(&'static str),
+    Large(usize),
+    Cut(usize),
+    Sync,
+}
+
+/// Makes a call of a vault.
+fn make<V: Vault>(alloc: Global, vault: &mut V, call: Call) -> Result<(), VaultError> {
+    match call {
+        Call::Put(number, table) => {
+            vault.put_table(
+                FileNumber::new(number),
+                Bytes::from_static(table.as_bytes()),
+            )
+        }
+        Call::Remove(number) => vault.remove_table(FileNumber::new(number)),
+        Call::Edit(edit) => vault.append_edit(Bytes::from_static(edit.as_bytes())),
+        Call::Log(record) => vault.append_log(Bytes::from_static(record.as_bytes())),
+        Call::Large(len) => vault.append_log(large(alloc, len)?),
+        Call::Cut(count) => vault.cut_log(count),
+        Call::Sync => vault.sync_log(),
     }
-    for number in [5, 6] {
-        vault.remove_table(FileNumber::new(number))?;
-    }
-    for edit in ["first", "", "second"] {
-        vault.append_edit(Bytes::from_static(edit.as_bytes()))?;
+}
+
+fn large(alloc: Global, len: usize) -> Result<Bytes, AllocError> {
+    let mut record = Vec::new(alloc);
+    record.resize(len, b'x')?;
+    Ok(Bytes::from_vec(record)?)
+}
+
+fn make_all<V: Vault>(alloc: Global, vault: &mut V, calls: &[Call]) -> Result<(), VaultError> {
+    for call in calls {
+        make(alloc, vault, *call)?;
     }
     Ok(())
 }
 
-/// Whether the table of this number has these bytes.
-fn has<V: Vault>(vault: &mut V, number: u64, wanted: &[u8]) -> Result<bool, VaultError> {
-    match vault.table(FileNumber::new(number))? {
-        Some(table) => Ok(table.as_slice() == wanted),
-        None => Ok(false),
+/// What a vault has: its tables behind `+`, its edits behind `;` and its records behind `,`. Of what has more than 9 bytes, how many.
+fn told<V: Vault>(alloc: Global, vault: &mut V) -> Result<Vec<u8>, VaultError> {
+    let mut out = Vec::new(alloc);
+    for number in vault.numbers()? {
+        tell(alloc, &mut out, b'+', vault.table(number)?)?;
+    }
+    for edit in vault.edits()? {
+        tell(alloc, &mut out, b';', Some(edit))?;
+    }
+    for record in vault.log()? {
+        tell(alloc, &mut out, b',', Some(record))?;
+    }
+    Ok(out)
+}
+
+fn tell(
+    alloc: Global,
+    out: &mut Vec<u8>,
+    before: u8,
+    bytes: Option<Bytes>,
+) -> Result<(), AllocError> {
+    out.push(before)?;
+    match bytes {
+        None => out.extend_from_slice(b"none")?,
+        Some(bytes) => {
+            if bytes.len() > 9 {
+                let len = format!(in alloc; "{}", bytes.len())?;
+                out.extend_from_slice(len.as_bytes())?;
+            } else {
+                out.extend_from_slice(bytes.as_slice())?;
+            }
+        }
+    }
+    Ok(())
+}
+
+/// Makes these calls of the vault in a folder, and then tells what it has. A vault is owned here and in `changed` alone, and at one exit,
+/// since each exit of a function is proved with all that it owns.
+fn after(rt: &HostRuntime, path: &str, log_sync: LogSync, calls: &[Call]) -> Result<Vec<u8>, Fail> {
+    let mut vault = open_with(rt, path, log_sync)?.vault;
+    let made = make_all(rt.alloc(), &mut vault, calls);
+    let has = told(rt.alloc(), &mut vault);
+    drop(vault);
+    made?;
+    Ok(has?)
+}
+
+/// Tables, of which 7 is put again, 5 is removed and 6 was never there, and edits.
+const FILLED: [Call; 10] = [
+    Call::Put(7, "seven"),
+    Call::Put(3, "three"),
+    Call::Put(12, ""),
+    Call::Put(7, "again"),
+    Call::Put(5, "five"),
+    Call::Remove(5),
+    Call::Remove(6),
+    Call::Edit("first"),
+    Call::Edit(""),
+    Call::Edit("second"),
+];
+
+/// Some calls of a vault in a folder that is synced in this way, and what it has after them.
+#[derive(Clone, Copy)]
+struct Session {
+    log_sync: LogSync,
+    calls: &'static [Call],
+    has: &'static str,
+}
+
+/// One session after another in a new folder: what the first one had that should have had something else. A vault that is dropped is as a
+/// process that is killed.
+fn first_wrong(rt: &HostRuntime, path: &str, all: &[Session]) -> Result<Option<Vec<u8>>, Fail> {
+    let _ = fs::remove_dir_all(rt, path);
+    for session in all {
+        let has = after(rt, path, session.log_sync, session.calls)?;
+        if has.as_slice() != session.has.as_bytes() {
+            return Ok(Some(has));
+        }
+    }
+    fs::remove_dir_all(rt, path)?;
+    Ok(None)
+}
+
+const fn each(calls: &'static [Call], has: &'static str) -> Session {
+    Session {
+        log_sync: LogSync::Each,
+        calls,
+        has,
     }
 }
 
-/// Whether there are as many tables as this, and whether the edits are the three that were appended.
-fn counts<V: Vault>(vault: &mut V) -> Result<(usize, bool), VaultError> {
-    let tables = vault.numbers()?.len();
-    let edits = vault.edits()?;
-    let are_kept = match edits.as_slice() {
-        [first, empty, second] => first.as_slice() == b"first".as_slice()
-            && empty.is_empty()
-            && second.as_slice() == b"second".as_slice(),
-        _ => false,
-    };
-    Ok((tables, are_kept))
+const fn gathered(calls: &'static [Call], has: &'static str) -> Session {
+    Session {
+        log_sync: LogSync::Gathered,
+        calls,
+        has,
+    }
 }
 
 #[test]
 fn what_was_put_is_there_after_an_opening(rt: HostRuntime) -> Result<(), Fail> {
-    let path = "lsm_file_vault_kept";
-    let _ = fs::remove_dir_all(&rt, path);
-    let mut vault = open(&rt, path)?.vault;
-    fill(&mut vault)?;
-    drop(vault);
-    let mut vault = open(&rt, path)?.vault;
-    assert!(rt; counts(&mut vault)? == (3, true));
-    for (number, table) in [(3, "three"), (7, "again"), (12, "")] {
-        assert!(rt; has(&mut vault, number, table.as_bytes())?, "{number}");
-    }
-    fs::remove_dir_all(&rt, path)?;
+    let has = "+three+again+;first;;second";
+    let wrong = first_wrong(
+        &rt,
+        "lsm_file_vault_kept",
+        &[each(&FILLED, has), each(&[], has)],
+    )?;
+    assert!(rt; wrong.is_none(), "{wrong:?}");
     Ok(())
-}
-
-/// Appends these records to the log.
-fn log_all<V: Vault>(vault: &mut V, records: &[&'static str]) -> Result<(), VaultError> {
-    for record in records {
-        let record = *record;
-        vault.append_log(Bytes::from_static(record.as_bytes()))?;
-    }
-    Ok(())
-}
-
-/// The records of the log, each behind a comma.
-fn told_log<V: Vault>(alloc: Global, vault: &mut V) -> Result<Vec<u8>, VaultError> {
-    let mut told = Vec::new(alloc);
-    for record in vault.log()? {
-        told.push(b',')?;
-        told.extend_from_slice(record.as_slice())?;
-    }
-    Ok(told)
 }
 
 // A part of a log is cut off by a new file, and a whole log in its own.
 #[test]
 fn a_log_is_there_after_an_opening(rt: HostRuntime) -> Result<(), Fail> {
-    let path = "lsm_file_vault_log";
-    let _ = fs::remove_dir_all(&rt, path);
-    let mut vault = open(&rt, path)?.vault;
-    log_all(&mut vault, &["one", "", "three"])?;
-    vault.cut_log(1)?;
-    log_all(&mut vault, &["four"])?;
-    drop(vault);
-    let mut vault = open(&rt, path)?.vault;
-    let told = told_log(rt.alloc(), &mut vault)?;
-    assert!(rt; told.as_slice() == b",,three,four".as_slice(), "{told:?}");
-    vault.cut_log(9)?;
-    log_all(&mut vault, &["five"])?;
-    drop(vault);
-    let mut vault = open(&rt, path)?.vault;
-    let told = told_log(rt.alloc(), &mut vault)?;
-    assert!(rt; told.as_slice() == b",five".as_slice(), "{told:?}");
-    fs::remove_dir_all(&rt, path)?;
+    let all = [
+        each(
+            &[
+                Call::Log("one"),
+                Call::Log(""),
+                Call::Log("three"),
+                Call::Cut(1),
+                Call::Log("four"),
+            ],
+            ",,three,four",
+        ),
+        each(&[], ",,three,four"),
+        each(&[Call::Cut(9), Call::Log("five")], ",five"),
+        each(&[], ",five"),
+    ];
+    let wrong = first_wrong(&rt, "lsm_file_vault_log", &all)?;
+    assert!(rt; wrong.is_none(), "{wrong:?}");
     Ok(())
 }
 
@@ -113,25 +190,22 @@ fn a_log_is_there_after_an_opening(rt: HostRuntime) -> Result<(), Fail> {
 fn a_torn_record_is_set_aside_by_the_next_one(rt: HostRuntime) -> Result<(), Fail> {
     let path = "lsm_file_vault_torn_log";
     let _ = fs::remove_dir_all(&rt, path);
-    let mut vault = open(&rt, path)?.vault;
-    log_all(&mut vault, &["one"])?;
-    drop(vault);
+    let _one = after(&rt, path, LogSync::Each, &[Call::Log("one")])?;
     let mut bytes = fs::read(&rt, "lsm_file_vault_torn_log/log")?;
     bytes.push(7)?;
     fs::write(&rt, "lsm_file_vault_torn_log/log", bytes.as_slice())?;
-    let mut vault = open(&rt, path)?.vault;
-    log_all(&mut vault, &["two"])?;
-    drop(vault);
-    let mut vault = open(&rt, path)?.vault;
-    let told = told_log(rt.alloc(), &mut vault)?;
-    assert!(rt; told.as_slice() == b",one,two".as_slice(), "{told:?}");
+    let _two = after(&rt, path, LogSync::Each, &[Call::Log("two")])?;
+    let has = after(&rt, path, LogSync::Each, &[])?;
+    assert!(rt; has.as_slice() == b",one,two".as_slice(), "{has:?}");
     let lost = fs::read(&rt, "lsm_file_vault_torn_log/lost-log-19")?;
     assert!(rt; lost.as_slice() == b"\x07".as_slice(), "{lost:?}");
     fs::remove_dir_all(&rt, path)?;
     Ok(())
 }
 
-// A vault that is dropped is as a process that is killed.
+/// A sync between two records.
+const ONE_SYNCED: [Call; 3] = [Call::Log("one"), Call::Sync, Call::Log("two")];
+
 #[test]
 fn records_are_there_as_their_sync_has_it(rt: HostRuntime) -> Result<(), Fail> {
     let path = "lsm_file_vault_synced";
@@ -140,110 +214,86 @@ fn records_are_there_as_their_sync_has_it(rt: HostRuntime) -> Result<(), Fail> {
         (LogSync::Asked, ",one,two"),
         (LogSync::Gathered, ",one"),
     ] {
-        let _ = fs::remove_dir_all(&rt, path);
-        let mut vault = open_with(&rt, path, log_sync)?.vault;
-        log_all(&mut vault, &["one"])?;
-        vault.sync_log()?;
-        log_all(&mut vault, &["two"])?;
-        let told = told_log(rt.alloc(), &mut vault)?;
-        assert!(rt;
-            told.as_slice() == b",one,two".as_slice(),
-            "{log_sync:?}: {told:?}"
-        );
-        drop(vault);
-        let mut vault = open(&rt, path)?.vault;
-        let told = told_log(rt.alloc(), &mut vault)?;
-        assert!(rt;
-            told.as_slice() == left.as_bytes(),
-            "{log_sync:?}: {told:?}"
-        );
+        let session = Session {
+            log_sync,
+            calls: &ONE_SYNCED,
+            has: ",one,two",
+        };
+        let wrong = first_wrong(&rt, path, &[session, each(&[], left)])?;
+        assert!(rt; wrong.is_none(), "{log_sync:?}: {wrong:?}");
     }
-    fs::remove_dir_all(&rt, path)?;
     Ok(())
 }
 
 // What is gathered is written before an edit is, and once it is 64 KiB.
 #[test]
 fn gathered_records_are_written(rt: HostRuntime) -> Result<(), Fail> {
-    let path = "lsm_file_vault_gathered";
-    let _ = fs::remove_dir_all(&rt, path);
-    let mut vault = open_with(&rt, path, LogSync::Gathered)?.vault;
-    log_all(&mut vault, &["one", "two"])?;
-    vault.append_edit(Bytes::from_static(b"edit"))?;
-    log_all(&mut vault, &["lost"])?;
-    drop(vault);
-    let mut vault = open_with(&rt, path, LogSync::Gathered)?.vault;
-    let told = told_log(rt.alloc(), &mut vault)?;
-    assert!(rt; told.as_slice() == b",one,two".as_slice(), "{told:?}");
-    let mut large = Vec::new(rt.alloc());
-    large.resize(65_536, b'x')?;
-    log_all(&mut vault, &["three"])?;
-    vault.append_log(Bytes::from_vec(large)?)?;
-    log_all(&mut vault, &["lost"])?;
-    drop(vault);
-    let mut vault = open(&rt, path)?.vault;
-    let log = vault.log()?;
-    assert!(rt; log.len() == 4, "{} records", log.len());
-    fs::remove_dir_all(&rt, path)?;
+    let all = [
+        gathered(
+            &[
+                Call::Log("one"),
+                Call::Log("two"),
+                Call::Edit("edit"),
+                Call::Log("lost"),
+            ],
+            ";edit,one,two,lost",
+        ),
+        gathered(
+            &[Call::Log("three"), Call::Large(65_536), Call::Log("lost")],
+            ";edit,one,two,three,65536,lost",
+        ),
+        each(&[], ";edit,one,two,three,65536"),
+    ];
+    let wrong = first_wrong(&rt, "lsm_file_vault_gathered", &all)?;
+    assert!(rt; wrong.is_none(), "{wrong:?}");
     Ok(())
 }
 
-/// A change of a log, or a sync of it.
-#[derive(Clone, Copy)]
-enum Change {
-    Append(&'static str),
-    Cut(usize),
-    Sync,
-}
-
 /// Cuts of all records and of a part.
-const CHANGES: [Change; 11] = [
-    Change::Cut(9),
-    Change::Append("one"),
-    Change::Append("two"),
-    Change::Append("three"),
-    Change::Cut(1),
-    Change::Append("four"),
-    Change::Cut(9),
-    Change::Append("five"),
-    Change::Append("six"),
-    Change::Cut(1),
-    Change::Append("seven"),
+const CHANGES: [Call; 11] = [
+    Call::Cut(9),
+    Call::Log("one"),
+    Call::Log("two"),
+    Call::Log("three"),
+    Call::Cut(1),
+    Call::Log("four"),
+    Call::Cut(9),
+    Call::Log("five"),
+    Call::Log("six"),
+    Call::Cut(1),
+    Call::Log("seven"),
 ];
 
 /// The same, with syncs between them.
-const SYNCED: [Change; 15] = [
-    Change::Cut(9),
-    Change::Append("one"),
-    Change::Append("two"),
-    Change::Sync,
-    Change::Append("three"),
-    Change::Cut(1),
-    Change::Append("four"),
-    Change::Sync,
-    Change::Cut(9),
-    Change::Append("five"),
-    Change::Append("six"),
-    Change::Cut(1),
-    Change::Append("seven"),
-    Change::Sync,
-    Change::Sync,
+const SYNCED: [Call; 15] = [
+    Call::Cut(9),
+    Call::Log("one"),
+    Call::Log("two"),
+    Call::Sync,
+    Call::Log("three"),
+    Call::Cut(1),
+    Call::Log("four"),
+    Call::Sync,
+    Call::Cut(9),
+    Call::Log("five"),
+    Call::Log("six"),
+    Call::Cut(1),
+    Call::Log("seven"),
+    Call::Sync,
+    Call::Sync,
 ];
 
-/// Makes a change of a log.
-fn make_change<V: Vault>(vault: &mut V, change: Change) -> Result<(), VaultError> {
-    match change {
-        Change::Append(record) => vault.append_log(Bytes::from_static(record.as_bytes())),
-        Change::Cut(count) => vault.cut_log(count),
-        Change::Sync => vault.sync_log(),
-    }
-}
-
-/// Makes changes of a log, and prints how each ended. Returns whether each was made.
-fn change_all<V: Vault>(rt: &HostRuntime, vault: &mut V, changes: &[Change]) -> Result<bool, Fail> {
+/// Prints what a vault has, makes calls of it, and prints how each ended. Returns what it had, and whether each call was made.
+fn print_all<V: Vault>(
+    rt: &HostRuntime,
+    vault: &mut V,
+    calls: &[Call],
+) -> Result<(Vec<u8>, bool), Fail> {
+    let found = told(rt.alloc(), vault)?;
+    println!(rt; "found {found:?}")?;
     let mut are_made = true;
-    for next in changes {
-        match make_change(vault, *next) {
+    for call in calls {
+        match make(rt.alloc(), vault, *call) {
             Ok(()) => println!(rt; "done")?,
             Err(VaultError::Device) => {
                 are_made = false;
@@ -252,7 +302,19 @@ fn change_all<V: Vault>(rt: &HostRuntime, vault: &mut V, changes: &[Change]) -> 
             Err(why) => Err(why)?,
         }
     }
-    Ok(are_made)
+    Ok((found, are_made))
+}
+
+fn changed(
+    rt: &HostRuntime,
+    path: &str,
+    log_sync: LogSync,
+    calls: &[Call],
+) -> Result<(Vec<u8>, bool), Fail> {
+    let mut vault = open_with(rt, path, log_sync)?.vault;
+    let printed = print_all(rt, &mut vault, calls);
+    drop(vault);
+    printed
 }
 
 /// Opens a folder, prints what its log has, makes these changes of it, opens the folder again, and prints what its log has then. Returns
@@ -261,16 +323,10 @@ fn change_in(
     rt: &HostRuntime,
     path: &str,
     log_sync: LogSync,
-    changes: &[Change],
+    changes: &[Call],
 ) -> Result<bool, Fail> {
-    let mut vault = open_with(rt, path, log_sync)?.vault;
-    let found = told_log(rt.alloc(), &mut vault)?;
-    println!(rt; "found {found:?}")?;
-    let are_made = change_all(rt, &mut vault, changes)?;
-    drop(vault);
-    let mut vault = open_with(rt, path, log_sync)?.vault;
-    let found = told_log(rt.alloc(), &mut vault)?;
-    println!(rt; "found {found:?}")?;
+    let (_before, are_made) = changed(rt, path, log_sync, changes)?;
+    let (found, _) = changed(rt, path, log_sync, &[])?;
     let is_right = !are_made || found.as_slice() == b",six,seven".as_slice();
     if is_right {
         fs::remove_dir_all(rt, path)?;
@@ -315,7 +371,7 @@ fn calls_on_files_have_texts(rt: HostRuntime) -> Result<(), Fail> {
         let text = format!(in alloc; "{call}")?;
         assert!(rt; text.as_str() == want, "{text}");
     }
-    let text = format!(in alloc; "{}", OpenError::OutOfMemory)?;
+    let text = format!(in alloc; "{}", FolderError::OutOfMemory)?;
     assert!(rt; text.as_str() == "out of memory");
     Ok(())
 }

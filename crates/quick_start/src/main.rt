@@ -3,27 +3,15 @@
 
 use anyhow::Error;
 use bytes::Bytes;
-use lsm_coord::SnapId;
-use lsm_file_vault::{FileVault, HostFolder};
-use lsm_key::{Batch, Op};
-use lsm_store::{Options, Store};
+use lsm::{Batch, FolderStore, Op, Options, SnapId, open};
 use std::alloc::{AllocError, Global};
 
-/// A store in a folder.
-type FolderStore = Store<FileVault<HostFolder<HostRuntime>>>;
-
 fn main(rt: HostRuntime) -> Result<(), Error> {
-    let mut store = open(&rt, "data")?;
+    let mut store = open(&rt, "data", Options::default())?;
     let before = write(rt.alloc(), &mut store)?;
     read(&rt, &mut store, before)?;
     store.flush()?; // into tables; the log has had all of it from each answer on
     Ok(())
-}
-
-fn open(rt: &HostRuntime, folder: &str) -> Result<FolderStore, Error> {
-    let vault = lsm_file_vault::open(rt, folder)?.vault;
-    let opened = Store::open(rt.alloc(), vault, Options::default());
-    Ok(opened.map_err(|(why, _vault)| why)?)
 }
 
 fn write(alloc: Global, store: &mut FolderStore) -> Result<SnapId, Error> {
