@@ -1,7 +1,6 @@
 //! Jobs, bodies and messages by their public calls, and what is the same as what.
 
 mod bytes_of;
-mod versions;
 
 use bytes::Bytes;
 use lsm_claim::JobId;

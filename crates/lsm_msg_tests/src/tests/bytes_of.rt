@@ -1,4 +1,4 @@
-//! Messages as bytes: one of each kind, field by field. What bytes are as a message is in tests/bytes.
+//! Messages as bytes: one of each kind, field by field. What bytes are as a message, and of which version it is, is in tests/bytes.
 
 ghost use Rattle.lsm_msg.specs.Messages.{IsBody};
 
@@ -40,7 +40,7 @@ const BASE: &[u8] =
 // Version 3 is the latest, to follower 4.
 const CURRENT: &[u8] = b"LSMM\x01\x09\0\0\x02\x04\0\0\0\0\0\0\0\x03";
 
-pub(super) fn is_encoded(alloc: Global, message: &Message, bytes: &[u8]) -> Result<bool, Fail>
+fn is_encoded(alloc: Global, message: &Message, bytes: &[u8]) -> Result<bool, Fail>
     requires { IsBody message.now.body }
 {
     match encode(alloc, message) {
