@@ -1,8 +1,8 @@
-//! Each call on its happy path, over the format's worked examples; and the refusals of blocks and builders. Those of tables are in tests/bytes.
+//! Each call on its happy path, over the format's worked examples; and the refusals of blocks and builders. Those of tables are in tests/bytes,
+//! and long keys; that a builder forgets one is in tests/pipe/merges.py.
 
 mod copying;
 mod cursors;
-mod long_keys;
 
 ghost use Rattle.lsm_key.specs.Entries.{IsEntry};
 ghost use Rattle.lsm_table.specs.Tables.{IsTarget};

@@ -21,10 +21,10 @@ fn copy_left(builder: &mut TableBuilder, cursor: &mut Cursor<'_>) -> Result<(), 
 }
 
 // Of a copy: the weight of its entries, the last one's sequence, and whether it is byte for byte the same.
-pub(crate) type Copied = (usize, Option<Seq>, bool);
+type Copied = (usize, Option<Seq>, bool);
 
 // Copies a table.
-pub(crate) fn copied(builder: &mut TableBuilder, table: &Table) -> Result<Copied, BuildError>
+fn copied(builder: &mut TableBuilder, table: &Table) -> Result<Copied, BuildError>
     requires { builder.old.entries ≡ [] }
     ensures { OnOk result (builder.new.entries ≡ []) }
 {
