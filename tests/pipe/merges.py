@@ -160,6 +160,10 @@ def worked():
     ends, older, newer = [put(b"a", 1, b"1"), put(b"c", 2, b"2")], put(long, 3, b"3"), Entry(long, 4, DELETE, b"")
     for points, deeper, seen in [([], [], ends), ([3], [], [ends[0], newer, older, ends[1]]), ([], [(long, long)], [ends[0], newer, ends[1]])]:
         yield Case([ends, [newer, older]], points, deeper), [seen]
+    # The same of a long key behind a short one.
+    short, put_long, gone_long = put(b"a", 3, b"3"), put(long, 1, b"1"), Entry(long, 2, DELETE, b"")
+    for points, seen in [([], [short]), ([1], [short, gone_long, put_long])]:
+        yield Case([[short], [gone_long, put_long]], points, []), [seen]
     # The output behind that of a long key is of version 1 again: 30 entries beside it weigh an output's target.
     beside = [put(b"A" * (SHORT_KEY + 1), 1, b"v" * 64_501)] + [heavy(bytes([key]), 1) for key in range(ord("B"), ord("b"))]
     yield Case([beside], [], []), [beside[:31], beside[31:]]

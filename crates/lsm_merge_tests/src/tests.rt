@@ -1,7 +1,6 @@
-//! Merges of tables whose keys and values have one letter.
+//! Merges of tables whose keys and values have one letter. Of which version an output is, is in tests/pipe/merges.py.
 
 mod refusals;
-mod versions;
 mod walks;
 
 ghost use Rattle.std.specs.Prelude.{IfOk};
