@@ -1,11 +1,16 @@
 //! A block of keys that are easily mistaken for one another, each with some versions, beside the list of these keys.
+//!
+//! A block is lent to what sees it and owned where a function has few exits, since each exit is proved with all that is owned there.
 
 mod damage;
 
 use bytes::{BufMut, Bytes, BytesMut};
-use lsm_block::{Block, BlocksReader, Cursor, decode_block, decode_with_hints, seek_in};
+use lsm_block::{
+    Block, BlockError, BlocksReader, Cursor, decode_block, decode_with_hints, seek_in,
+};
 use lsm_key::{Entry, MAX_KEY_BYTES, Refused, Seq};
 use std::alloc::{AllocError, Global};
+use std::process::Abort;
 use std::test::Fail;
 
 // Keys in order: of 1, 7, 8 and 9 bytes, with the least and the greatest byte, some of them beginnings of others.
@@ -52,13 +57,18 @@ fn bytes_of(alloc: Global) -> Result<Bytes, AllocError> {
     Ok(out.freeze()?)
 }
 
-fn block_of(alloc: Global, front: &'static [u8]) -> Result<Block, Fail> {
-    let front = Bytes::from_static(front);
-    match decode_with_hints(alloc, bytes_of(alloc)?, front, 42, MAX_KEY_BYTES) {
+// What was decoded, if it was.
+fn decoded(block: Result<Block, BlockError>) -> Result<Block, Fail> {
+    match block {
         Ok(block) => Ok(block),
         Err(Refused::OutOfMemory) => Err("out of memory")?,
         Err(Refused::Fault(_)) => Err("no block")?,
     }
+}
+
+fn block_of(alloc: Global, front: &'static [u8]) -> Result<Block, Fail> {
+    let front = Bytes::from_static(front);
+    decoded(decode_with_hints(alloc, bytes_of(alloc)?, front, 42, MAX_KEY_BYTES))
 }
 
 // The newest sequence up to one, of a key that has all of them.
@@ -87,6 +97,208 @@ fn seen_by_walk(block: &Block, key: &[u8], at: Seq) -> Option<u64> {
     }
 }
 
+// Whether a look-up of a key, and the same by a walk, find its newest version up to each sequence.
+fn finds_the_newest(block: &Block, key: &[u8]) -> bool {
+    for number in 0..11 {
+        let at = Seq::new(number);
+        let want = newest(number);
+        if seen(block, key, at) != want || seen_by_walk(block, key, at) != want {
+            return false;
+        }
+    }
+    true
+}
+
+fn see_newest(rt: &impl Abort, block: &Block) {
+    for (i, key) in KEYS.iter().enumerate() {
+        assert!(rt; finds_the_newest(block, key), "key {i}");
+    }
+}
+
+#[test]
+fn a_seek_finds_the_newest_up_to_a_sequence(rt: HostRuntime) -> Result<(), Fail> {
+    for front in [b"".as_slice(), b"user:", b"user:0000", b"zzz"] {
+        let block = block_of(rt.alloc(), front)?;
+        see_newest(&rt, &block);
+    }
+    Ok(())
+}
+
+// Whether a look-up in the part of the block that is the key's finds what one in the block does, up to each sequence.
+fn is_in_part(alloc: Global, block: &Block, key: &[u8]) -> Result<bool, AllocError> {
+    let part = block.part(alloc, block.handle(key))?;
+    for number in 0..11 {
+        let at = Seq::new(number);
+        if seen(&part, key, at) != seen(block, key, at) {
+            return Ok(false);
+        }
+    }
+    Ok(true)
+}
+
+// The first of the keys whose part shows something else.
+fn unlike_key(alloc: Global, block: &Block) -> Result<Option<usize>, AllocError> {
+    for (i, key) in KEYS.iter().enumerate() {
+        if !is_in_part(alloc, block, key)? {
+            return Ok(Some(i));
+        }
+    }
+    Ok(None)
+}
+
+#[test]
+fn a_part_shows_of_its_key_what_the_block_shows(rt: HostRuntime) -> Result<(), Fail> {
+    for front in [b"".as_slice(), b"user:", b"zzz"] {
+        let block = block_of(rt.alloc(), front)?;
+        let is_less = block.handle(b"\x00").size < block.bytes().len();
+        let unlike = unlike_key(rt.alloc(), &block);
+        drop(block);
+        assert!(rt; is_less && unlike? == None);
+    }
+    Ok(())
+}
+
+fn see_none(rt: &impl Abort, block: &Block) {
+    for key in [
+        b"".as_slice(),
+        b"\x01",
+        b"a\x00\x00",
+        b"user:",
+        b"user:00000",
+        b"user:1",
+        b"\xff",
+    ] {
+        assert!(rt;
+            seen(block, key, Seq::new(9)).is_none(),
+            "a key of {} bytes",
+            key.len()
+        );
+    }
+}
+
+#[test]
+fn a_key_that_is_not_there_is_not_found(rt: HostRuntime) -> Result<(), Fail> {
+    let block = block_of(rt.alloc(), b"user:")?;
+    see_none(&rt, &block);
+    Ok(())
+}
+
+// How many entries a range has.
+fn count_between(alloc: Global, block: &Block, lo: &[u8], hi: &[u8]) -> Result<usize, AllocError> {
+    Ok(block.range(alloc, lo, hi)?.len())
+}
+
+fn see_ranges(rt: &impl Abort, alloc: Global, block: &Block) -> Result<(), Fail> {
+    for (i, lo) in KEYS.iter().enumerate() {
+        for (j, hi) in KEYS.iter().enumerate() {
+            let want = j.saturating_sub(i).saturating_mul(3);
+            assert!(rt; count_between(alloc, block, lo, hi)? == want, "{i} to {j}");
+        }
+    }
+    Ok(())
+}
+
+#[test]
+fn a_range_has_the_versions_of_its_keys(rt: HostRuntime) -> Result<(), Fail> {
+    let block = block_of(rt.alloc(), b"user:")?;
+    see_ranges(&rt, rt.alloc(), &block)
+}
+
+// A copy of the block without hints, which is gone.
+fn copied(alloc: Global) -> Result<Block, Fail> {
+    let block = decoded(decode_block(alloc, bytes_of(alloc)?, MAX_KEY_BYTES))?;
+    Ok(block.copy()?)
+}
+
+// Whether the first one of all entries is what the block says that it is.
+fn is_first(block: &Block, entries: &[Entry]) -> Result<bool, AllocError> {
+    let first = block.first()?;
+    Ok(entries.first() == Some(&first))
+}
+
+fn is_last(block: &Block, entries: &[Entry]) -> Result<bool, AllocError> {
+    let last = block.last()?;
+    Ok(entries.last() == Some(&last))
+}
+
+fn see_copy(rt: &impl Abort, block: &Block, entries: &[Entry]) -> Result<(), Fail> {
+    assert!(rt; (entries.len(), block.count()) == (42, 42));
+    assert!(rt; is_first(block, entries)?);
+    assert!(rt; is_last(block, entries)?);
+    Ok(())
+}
+
+fn see_all(rt: &impl Abort, alloc: Global, block: &Block) -> Result<(), Fail> {
+    let entries = block.entries(alloc)?;
+    see_copy(rt, block, &entries)
+}
+
+#[test]
+fn a_copy_has_all_entries(rt: HostRuntime) -> Result<(), Fail> {
+    let copy = copied(rt.alloc())?;
+    see_all(&rt, rt.alloc(), &copy)
+}
+
+// Reads the next block, of so many bytes.
+fn read_next(reader: &mut BlocksReader, len: usize) -> Result<(), Fail> {
+    if len > reader.left() {
+        Err("too few bytes")?;
+    }
+    match reader.read(len) {
+        Ok(()) => Ok(()),
+        Err(Refused::OutOfMemory) => Err("out of memory")?,
+        Err(Refused::Fault(_)) => Err("no block")?,
+    }
+}
+
+// The length of the last key that was read, and its sequence.
+fn last_read(reader: &BlocksReader) -> Option<(usize, u64)> {
+    match reader.last() {
+        Some(last) => Some((last.key.len(), last.seq.number())),
+        None => None,
+    }
+}
+
+fn see_reading(rt: &impl Abort, reader: &mut BlocksReader) -> Result<(), Fail> {
+    // The first key has one byte: its versions take 16, 15 and 16.
+    for len in [16, 15 + 16] {
+        read_next(reader, len)?;
+    }
+    assert!(rt; reader.count() == 3 && last_read(reader) == Some((1, 2)));
+    let left = reader.left();
+    read_next(reader, left)?;
+    assert_eq!(rt; reader.count(), 42);
+    Ok(())
+}
+
+// The blocks that were read, as one.
+fn finished(alloc: Global, reader: BlocksReader) -> Result<Block, Fail> {
+    if reader.count() == 0 || reader.left() > 0 {
+        Err("a block is left")?;
+    }
+    Ok(reader.finish(alloc)?)
+}
+
+fn read_as_one(rt: &impl Abort, alloc: Global) -> Result<Block, Fail> {
+    let front = Bytes::from_static(b"user:");
+    let mut reader = BlocksReader::new(alloc, bytes_of(alloc)?, front, 42, MAX_KEY_BYTES)?;
+    see_reading(rt, &mut reader)?;
+    finished(alloc, reader)
+}
+
+fn see_keys(rt: &impl Abort, block: &Block) {
+    for (i, key) in KEYS.iter().enumerate() {
+        assert!(rt; seen(block, key, Seq::new(9)) == Some(9), "key {i}");
+    }
+}
+
+#[test]
+fn blocks_in_a_row_are_read_as_one(rt: HostRuntime) -> Result<(), Fail> {
+    let block = read_as_one(&rt, rt.alloc())?;
+    see_keys(&rt, &block);
+    Ok(())
+}
+
 fn sequence_of(entry: &Entry) -> u64 {
     entry.ikey.seq.number()
 }
@@ -111,157 +323,13 @@ fn sequences_in(alloc: Global, block: &Block, calls: usize) -> Result<Vec<u64>, 
     Ok(seqs)
 }
 
-// Whether a look-up of a key, and the same by a walk, find its newest version up to each sequence.
-fn finds_the_newest(block: &Block, key: &[u8]) -> bool {
-    for at in 0..11 {
-        let want = newest(at);
-        if seen(block, key, Seq::new(at)) != want
-            || seen_by_walk(block, key, Seq::new(at)) != want
-        {
-            return false;
-        }
-    }
-    true
-}
-
-#[test]
-fn a_seek_finds_the_newest_up_to_a_sequence(rt: HostRuntime) -> Result<(), Fail> {
-    for front in [b"".as_slice(), b"user:", b"user:0000", b"zzz"] {
-        let block = block_of(rt.alloc(), front)?;
-        for key in KEYS {
-            assert!(rt; finds_the_newest(&block, key), "{key:?}");
-        }
-    }
-    Ok(())
-}
-
-// The sequence that a look-up finds in the part of the block that is the key's.
-fn seen_in_part(
-    alloc: Global,
-    block: &Block,
-    key: &[u8],
-    at: Seq,
-) -> Result<Option<u64>, AllocError> {
-    let part = block.part(alloc, block.handle(key))?;
-    Ok(seen(&part, key, at))
-}
-
-#[test]
-fn a_part_shows_of_its_key_what_the_block_shows(rt: HostRuntime) -> Result<(), Fail> {
-    for front in [b"".as_slice(), b"user:", b"zzz"] {
-        let block = block_of(rt.alloc(), front)?;
-        assert!(rt; block.handle(b"\x00").size < block.bytes().len());
-        for key in KEYS {
-            for at in 0..11 {
-                let found = seen_in_part(rt.alloc(), &block, key, Seq::new(at))?;
-                assert!(rt; found == seen(&block, key, Seq::new(at)), "{key:?} at {at}");
-            }
-        }
-    }
-    Ok(())
-}
-
-#[test]
-fn a_key_that_is_not_there_is_not_found(rt: HostRuntime) -> Result<(), Fail> {
-    let block = block_of(rt.alloc(), b"user:")?;
-    for key in [
-        b"".as_slice(),
-        b"\x01",
-        b"a\x00\x00",
-        b"user:",
-        b"user:00000",
-        b"user:1",
-        b"\xff",
-    ] {
-        assert!(rt; block.seek(key, Seq::new(9)).is_none(), "{key:?}");
-    }
-    Ok(())
-}
-
-#[test]
-fn a_range_has_the_versions_of_its_keys(rt: HostRuntime) -> Result<(), Fail> {
-    let block = block_of(rt.alloc(), b"user:")?;
-    for (i, lo) in KEYS.iter().enumerate() {
-        for (j, hi) in KEYS.iter().enumerate() {
-            let range = block.range(rt.alloc(), lo, hi)?;
-            let want = j.saturating_sub(i).saturating_mul(3);
-            assert!(rt; range.len() == want, "{lo:?} to {hi:?}");
-        }
-    }
-    Ok(())
-}
-
-#[test]
-fn a_copy_has_all_entries(rt: HostRuntime) -> Result<(), Fail> {
-    let block = match decode_block(rt.alloc(), bytes_of(rt.alloc())?, MAX_KEY_BYTES) {
-        Ok(block) => block,
-        Err(Refused::OutOfMemory) => Err("out of memory")?,
-        Err(Refused::Fault(_)) => Err("no block")?,
-    };
-    let copy = block.copy()?;
-    drop(block);
-    let entries = copy.entries(rt.alloc())?;
-    assert!(rt; (entries.len(), copy.count()) == (42, 42));
-    assert!(rt; entries.first() == Some(&copy.first()?) && entries.last() == Some(&copy.last()?));
-    Ok(())
-}
-
-// Reads the next block, of so many bytes.
-fn read_next(reader: &mut BlocksReader, len: usize) -> Result<(), Fail> {
-    if len > reader.left() {
-        Err("too few bytes")?;
-    }
-    match reader.read(len) {
-        Ok(()) => Ok(()),
-        Err(Refused::OutOfMemory) => Err("out of memory")?,
-        Err(Refused::Fault(_)) => Err("no block")?,
-    }
-}
-
-// The length of the last key that was read, and its sequence.
-fn last_read(reader: &BlocksReader) -> Option<(usize, u64)> {
-    match reader.last() {
-        Some(last) => Some((last.key.len(), last.seq.number())),
-        None => None,
-    }
-}
-
-// The blocks that were read, as one.
-fn finished(alloc: Global, reader: BlocksReader) -> Result<Block, Fail> {
-    if reader.count() == 0 || reader.left() > 0 {
-        Err("a block is left")?;
-    }
-    Ok(reader.finish(alloc)?)
-}
-
-#[test]
-fn blocks_in_a_row_are_read_as_one(rt: HostRuntime) -> Result<(), Fail> {
-    let front = Bytes::from_static(b"user:");
-    let bytes = bytes_of(rt.alloc())?;
-    let mut reader = BlocksReader::new(rt.alloc(), bytes, front, 42, MAX_KEY_BYTES)?;
-    // The first key has one byte: its versions take 16, 15 and 16.
-    for len in [16, 15 + 16] {
-        read_next(&mut reader, len)?;
-    }
-    assert_eq!(rt; reader.count(), 3);
-    assert!(rt; last_read(&reader) == Some((1, 2)));
-    let left = reader.left();
-    read_next(&mut reader, left)?;
-    assert_eq!(rt; reader.count(), 42);
-    let block = finished(rt.alloc(), reader)?;
-    for key in KEYS {
-        assert!(rt; seen(&block, key, Seq::new(9)) == Some(9), "{key:?}");
-    }
-    Ok(())
-}
-
 #[test]
 fn a_cursor_gives_the_entries_in_turn(rt: HostRuntime) -> Result<(), Fail> {
     let block = block_of(rt.alloc(), b"")?;
-    let seqs = sequences_in(rt.alloc(), &block, 50)?;
+    let seqs = sequences_in(rt.alloc(), &block, 50);
     drop(block);
-    assert!(rt; seqs.len() == 42);
-    assert!(rt; seqs[..4] == [9, 5, 2, 9]);
+    let seqs = seqs?;
+    assert!(rt; seqs.len() == 42 && seqs[..4] == [9, 5, 2, 9]);
     Ok(())
 }
 
@@ -306,6 +374,16 @@ fn gives(cursor: &mut Cursor<'_>, key: &[u8], seq: u64) -> bool {
     }
 }
 
+// Whether a cursor gives these entries first.
+fn gives_first(cursor: &mut Cursor<'_>, first: &[(&'static [u8], u64)]) -> bool {
+    for (key, seq) in first {
+        if !gives(cursor, key, *seq) {
+            return false;
+        }
+    }
+    true
+}
+
 // How many entries a cursor gives.
 fn count_in(cursor: Cursor<'_>) -> usize {
     let mut count = 0usize;
@@ -315,21 +393,22 @@ fn count_in(cursor: Cursor<'_>) -> usize {
     count
 }
 
-#[test]
-fn a_cursor_begins_at_the_first_entry_from_a_key(rt: HostRuntime) -> Result<(), Fail> {
-    let block = block_of(rt.alloc(), b"user:")?;
-    for (lo, first, behind) in STARTS {
+fn see_starts(rt: &impl Abort, block: &Block) {
+    for (i, (lo, first, behind)) in STARTS.iter().enumerate() {
         let mut cursor = block.cursor_from(lo);
-        for (key, seq) in first {
-            assert!(rt;
-                gives(&mut cursor, key, seq),
-                "{key:?} at {seq} from {lo:?}"
-            );
-        }
-        assert!(rt; count_in(cursor) == behind, "{lo:?}");
+        assert!(rt;
+            gives_first(&mut cursor, first) && count_in(cursor) == *behind,
+            "start {i}"
+        );
     }
     // After all keys.
     let past = b"\xff\xff\xff\xff\xff\xff\xff\xff\xff\x00";
     assert!(rt; count_in(block.cursor_from(past)) == 0);
+}
+
+#[test]
+fn a_cursor_begins_at_the_first_entry_from_a_key(rt: HostRuntime) -> Result<(), Fail> {
+    let block = block_of(rt.alloc(), b"user:")?;
+    see_starts(&rt, &block);
     Ok(())
 }

@@ -1,5 +1,5 @@
-//! Each call on its happy path, over the format's worked examples; and the refusals of blocks and builders. Those of tables are in tests/bytes,
-//! and long keys; that a builder forgets one is in tests/pipe/merges.py.
+//! Each call on its happy path, over the format's worked examples; and the refusals of builders. Those of tables are in tests/bytes, and long
+//! keys; that a builder forgets one is in tests/pipe/merges.py.
 
 mod copying;
 mod cursors;
@@ -9,8 +9,8 @@ ghost use Rattle.lsm_table.specs.Tables.{IsTarget};
 ghost use Rattle.std.specs.Prelude.{◌≡◌, ◌≤◌, length};
 
 use bytes::Bytes;
-use lsm_block::{BlockFault, decode_block, encode_block};
-use lsm_key::{DEFAULT_BLOCK, Entry, InternalKey, Kind, MAX_KEY_BYTES, Refused, Seq};
+use lsm_block::encode_block;
+use lsm_key::{DEFAULT_BLOCK, Entry, InternalKey, Kind, Seq};
 use lsm_table::{BuildError, Table, TableBuilder, encode_table};
 use std::alloc::Global;
 use std::process::Abort;
@@ -74,16 +74,6 @@ fn deletion() -> Entry
     Entry {
         ikey: InternalKey { key, seq, kind },
         value,
-    }
-}
-
-// The fault of the bytes as a block, or none.
-fn block_fault(alloc: Global, bytes: &[u8]) -> Result<Option<BlockFault>, Fail> {
-    let bytes = Bytes::copy_from_slice(alloc, bytes)?;
-    match decode_block(alloc, bytes, MAX_KEY_BYTES) {
-        Ok(_) => Ok(None),
-        Err(Refused::Fault(fault)) => Ok(Some(fault)),
-        Err(Refused::OutOfMemory) => Err("out of memory")?,
     }
 }
 
@@ -170,76 +160,38 @@ fn copy_of_two(alloc: Global) -> Result<Table, Fail> {
     Ok(table.copy()?)
 }
 
+fn see_copy(rt: &impl Abort, copy: &Table) {
+    assert!(rt; copy.bytes().as_slice() == TWO.as_slice());
+    assert!(rt; seen(copy, b"a", Seq::new(1)) == Some((Kind::Put, 1)));
+}
+
 #[test]
 fn a_copy_outlives_its_table(rt: HostRuntime) -> Result<(), Fail> {
     let copy = copy_of_two(rt.alloc())?;
-    assert!(rt; copy.bytes().as_slice() == TWO.as_slice());
-    assert!(rt; seen(&copy, b"a", Seq::new(1)) == Some((Kind::Put, 1)));
+    see_copy(&rt, &copy);
     Ok(())
+}
+
+// Adds an entry, and then two that may not follow it.
+fn see_refusals(rt: &impl Abort, builder: &mut TableBuilder) -> Result<(), Fail> {
+    add(builder, put_of_one())?;
+    assert!(rt; add(builder, put_of_one()) == Err(BuildError::OutOfOrder));
+    assert!(rt; add(builder, deletion()) == Err(BuildError::OutOfOrder));
+    Ok(())
+}
+
+// The table of what is added.
+fn built(rt: &impl Abort, alloc: Global) -> Result<Bytes, Fail> {
+    let mut builder = TableBuilder::new(alloc, DEFAULT_BLOCK);
+    see_refusals(rt, &mut builder)?;
+    Ok(builder.finish()?)
 }
 
 #[test]
 fn a_builder_refuses(rt: HostRuntime) -> Result<(), Fail> {
-    let empty = TableBuilder::new(rt.alloc(), DEFAULT_BLOCK);
-    assert!(rt; matches!(empty.finish(), Err(BuildError::EmptyTable)));
-    let mut builder = TableBuilder::new(rt.alloc(), DEFAULT_BLOCK);
-    builder.add(put_of_one())?;
-    assert_eq!(rt; builder.add(put_of_one()), Err(BuildError::OutOfOrder));
-    assert_eq!(rt; builder.add(deletion()), Err(BuildError::OutOfOrder));
-    assert_eq!(rt; builder.finish()?.as_slice(), ONE.as_slice());
-    Ok(())
-}
-
-// The first `len` bytes of the two entries' table, with two of them replaced.
-fn changed(
-    alloc: Global,
-    len: usize,
-    first: (usize, u8),
-    second: (usize, u8),
-) -> Result<Vec<u8>, Fail> {
-    let mut bytes = Vec::from_slice(alloc, &TWO)?;
-    for (at, byte) in [first, second] {
-        if let Some(place) = bytes.get_mut(at) {
-            *place = byte;
-        }
-    }
-    bytes.truncate(len);
-    Ok(bytes)
-}
-
-// The fault of the entries' block with these changes.
-fn fault_with(
-    alloc: Global,
-    len: usize,
-    first: (usize, u8),
-    second: (usize, u8),
-) -> Result<Option<BlockFault>, Fail> {
-    let bytes = changed(alloc, len, first, second)?;
-    block_fault(alloc, bytes.get(32..).ok_or("a block")?)
-}
-
-#[test]
-fn each_fault_of_a_block(rt: HostRuntime) -> Result<(), Fail> {
-    let same = (32, 0);
-    for (len, first, second, fault) in [
-        (32, same, same, BlockFault::Truncated),
-        (46, same, same, BlockFault::Truncated),
-        (62, same, same, BlockFault::Truncated),
-        (63, same, (33, 0), BlockFault::BadLength),
-        (63, same, (32, 16), BlockFault::BadLength),
-        (63, same, (42, 2), BlockFault::BadKind),
-        (63, same, (41, 0), BlockFault::BadKind),
-        (63, same, (46, 1), BlockFault::BadLength),
-        (63, same, (59, 1), BlockFault::BadLength),
-        (63, same, (41, 1), BlockFault::OutOfOrder),
-        (34, same, (33, 0), BlockFault::BadLength),
-        (43, same, (42, 2), BlockFault::BadKind),
-        (47, same, (46, 1), BlockFault::BadLength),
-        (63, (42, 2), (46, 1), BlockFault::BadKind),
-        (63, (41, 1), (60, 1), BlockFault::Truncated),
-    ] {
-        let found = fault_with(rt.alloc(), len, first, second)?;
-        assert!(rt; found == Some(fault), "at {len} {first:?} {second:?}");
-    }
+    let empty = TableBuilder::new(rt.alloc(), DEFAULT_BLOCK).finish();
+    assert!(rt; matches!(empty, Err(BuildError::EmptyTable)));
+    let table = built(&rt, rt.alloc())?;
+    assert!(rt; table.as_slice() == ONE.as_slice());
     Ok(())
 }

@@ -1,4 +1,4 @@
-//! A block of three entries: each of its beginnings, some of its changes, and limits on its keys.
+//! A block of three entries and one of two: beginnings, changes, and limits on their keys.
 
 ghost use Rattle.std.specs.Prelude.{◌≤◌};
 
@@ -44,54 +44,104 @@ fn a_beginning_is_shorter_or_truncated(rt: HostRuntime) -> Result<(), Fail> {
     Ok(())
 }
 
-// A byte, what it is changed to, and the fault that the bytes then have, or none.
-const CHANGES: [(usize, u8, Option<BlockFault>); 21] = [
-    // A key's length.
-    (1, 0, Some(BlockFault::BadLength)),
-    (0, 16, Some(BlockFault::BadLength)),
-    (0, 1, Some(BlockFault::Truncated)),
-    (32, 0xff, Some(BlockFault::Truncated)),
-    // A trailer's kind and sequence.
-    (10, 2, Some(BlockFault::BadKind)),
-    (26, 0xff, Some(BlockFault::BadKind)),
-    (9, 0, Some(BlockFault::BadKind)),
-    (25, 0, Some(BlockFault::BadKind)),
-    // A value's length: of a put, and of a deletion.
-    (12, 1, Some(BlockFault::BadLength)),
-    (11, 0xff, Some(BlockFault::BadLength)),
-    (14, 0xff, Some(BlockFault::Truncated)),
-    (46, 1, Some(BlockFault::Truncated)),
-    (30, 1, Some(BlockFault::BadLength)),
-    // The order: keys, and the sequences of one key.
-    (2, 0x62, Some(BlockFault::OutOfOrder)),
-    (18, 0x60, Some(BlockFault::OutOfOrder)),
-    (25, 2, Some(BlockFault::OutOfOrder)),
-    (9, 1, Some(BlockFault::OutOfOrder)),
-    (33, 0x60, Some(BlockFault::OutOfOrder)),
-    // Other entries.
-    (15, 0x79, None),
-    (26, 1, None),
-    (33, 0x61, None),
+// Of the key a, at sequence 2 a deletion, at sequence 1 a put of 1.
+const TWO: [u8; 31] = [
+    0, 1, 0x61, 0, 0, 0, 0, 0, 0, 2, 0, 0, 0, 0, 0, //
+    0, 1, 0x61, 0, 0, 0, 0, 0, 0, 1, 1, 0, 0, 0, 1, 0x31,
 ];
 
-#[test]
-fn a_change_is_refused_or_another_block(rt: HostRuntime) -> Result<(), Fail> {
-    for (at, byte, want) in CHANGES {
-        let mut bytes = THREE;
-        bytes[at % 47] = byte;
-        let found = fault_of(rt.alloc(), &bytes, MAX_KEY_BYTES)?;
-        assert!(rt; found == want, "{at}");
+// A block, how many of its bytes there are, which of them are changed to what, the limit on its keys, and the fault that the bytes then
+// have, or none.
+type Row = (
+    &'static [u8],
+    usize,
+    &'static [(usize, u8)],
+    usize,
+    Option<BlockFault>,
+);
+
+const LENGTH: Option<BlockFault> = Some(BlockFault::BadLength);
+
+const KIND: Option<BlockFault> = Some(BlockFault::BadKind);
+
+const ORDER: Option<BlockFault> = Some(BlockFault::OutOfOrder);
+
+const SHORT: Option<BlockFault> = Some(BlockFault::Truncated);
+
+const ROWS: [Row; 40] = [
+    // A key's length.
+    (&THREE, 47, &[(1, 0)], 4096, LENGTH),
+    (&THREE, 47, &[(0, 16)], 4096, LENGTH),
+    (&THREE, 47, &[(0, 1)], 4096, SHORT),
+    (&THREE, 47, &[(32, 0xff)], 4096, SHORT),
+    // A trailer's kind and sequence.
+    (&THREE, 47, &[(10, 2)], 4096, KIND),
+    (&THREE, 47, &[(26, 0xff)], 4096, KIND),
+    (&THREE, 47, &[(9, 0)], 4096, KIND),
+    (&THREE, 47, &[(25, 0)], 4096, KIND),
+    // A value's length: of a put, and of a deletion.
+    (&THREE, 47, &[(12, 1)], 4096, LENGTH),
+    (&THREE, 47, &[(11, 0xff)], 4096, LENGTH),
+    (&THREE, 47, &[(14, 0xff)], 4096, SHORT),
+    (&THREE, 47, &[(46, 1)], 4096, SHORT),
+    (&THREE, 47, &[(30, 1)], 4096, LENGTH),
+    // The order: keys, and the sequences of one key.
+    (&THREE, 47, &[(2, 0x62)], 4096, ORDER),
+    (&THREE, 47, &[(18, 0x60)], 4096, ORDER),
+    (&THREE, 47, &[(25, 2)], 4096, ORDER),
+    (&THREE, 47, &[(9, 1)], 4096, ORDER),
+    (&THREE, 47, &[(33, 0x60)], 4096, ORDER),
+    // Other entries.
+    (&THREE, 47, &[(15, 0x79)], 4096, None),
+    (&THREE, 47, &[(26, 1)], 4096, None),
+    (&THREE, 47, &[(33, 0x61)], 4096, None),
+    // Its third key has two bytes.
+    (&THREE, 47, &[], 2, None),
+    (&THREE, 47, &[], 1, LENGTH),
+    (&THREE, 31, &[], 1, None),
+    (&THREE, 47, &[], 0, LENGTH),
+    // Bytes that end, one changed byte, and of two faults the first.
+    (&TWO, 0, &[], 4096, SHORT),
+    (&TWO, 14, &[], 4096, SHORT),
+    (&TWO, 30, &[], 4096, SHORT),
+    (&TWO, 31, &[(1, 0)], 4096, LENGTH),
+    (&TWO, 31, &[(0, 16)], 4096, LENGTH),
+    (&TWO, 31, &[(10, 2)], 4096, KIND),
+    (&TWO, 31, &[(9, 0)], 4096, KIND),
+    (&TWO, 31, &[(14, 1)], 4096, LENGTH),
+    (&TWO, 31, &[(27, 1)], 4096, LENGTH),
+    (&TWO, 31, &[(9, 1)], 4096, ORDER),
+    (&TWO, 2, &[(1, 0)], 4096, LENGTH),
+    (&TWO, 11, &[(10, 2)], 4096, KIND),
+    (&TWO, 15, &[(14, 1)], 4096, LENGTH),
+    (&TWO, 31, &[(10, 2), (14, 1)], 4096, KIND),
+    (&TWO, 31, &[(9, 1), (28, 1)], 4096, SHORT),
+];
+
+// The fault of the first bytes of a block with some of them changed, or none.
+fn fault_with(
+    alloc: Global,
+    block: &[u8],
+    len: usize,
+    changes: &[(usize, u8)],
+    max_key: usize,
+) -> Result<Option<BlockFault>, Fail> {
+    let mut bytes = Vec::from_slice(alloc, block)?;
+    for (at, byte) in changes {
+        if let Some(place) = bytes.get_mut(*at) {
+            *place = *byte;
+        }
     }
-    Ok(())
+    bytes.truncate(len);
+    fault_of(alloc, &bytes, max_key.min(MAX_KEY_BYTES))
 }
 
 #[test]
-fn a_longer_key_than_the_limit_is_refused(rt: HostRuntime) -> Result<(), Fail> {
-    // The third key has two bytes.
-    assert!(rt; fault_of(rt.alloc(), &THREE, 2)?.is_none());
-    assert!(rt; fault_of(rt.alloc(), &THREE, 1)? == Some(BlockFault::BadLength));
-    assert!(rt; fault_of(rt.alloc(), &THREE[..31], 1)?.is_none());
-    assert!(rt; fault_of(rt.alloc(), &THREE, 0)? == Some(BlockFault::BadLength));
+fn each_fault_of_a_block(rt: HostRuntime) -> Result<(), Fail> {
+    for (block, len, changes, max_key, want) in ROWS {
+        let found = fault_with(rt.alloc(), block, len, changes, max_key)?;
+        assert!(rt; found == want, "{len} bytes, {changes:?}, {max_key}");
+    }
     Ok(())
 }
 
@@ -103,6 +153,16 @@ fn block_of_key(alloc: Global, len: usize) -> Result<Vec<u8>, AllocError> {
     out.put_slice(key.as_slice())?;
     out.put_slice(&[0, 0, 0, 0, 0, 0, 1, 1, 0, 0, 0, 0])?;
     Vec::from_slice(alloc, out.as_slice())
+}
+
+// Its faults as a block of keys of any length, and as one of short keys.
+fn faults_of_key(
+    alloc: Global,
+    len: usize,
+) -> Result<(Option<BlockFault>, Option<BlockFault>), Fail> {
+    let bytes = block_of_key(alloc, len)?;
+    let any = fault_of(alloc, &bytes, MAX_KEY_BYTES)?;
+    Ok((any, fault_of(alloc, &bytes, MAX_SHORT_KEY_BYTES)?))
 }
 
 #[test]
@@ -117,10 +177,8 @@ fn a_key_has_at_most_4096_bytes(rt: HostRuntime) -> Result<(), Fail> {
             Some(BlockFault::BadLength),
         ),
     ] {
-        let bytes = block_of_key(rt.alloc(), len)?;
-        let found = fault_of(rt.alloc(), &bytes, MAX_KEY_BYTES)?;
-        let found_short = fault_of(rt.alloc(), &bytes, MAX_SHORT_KEY_BYTES)?;
-        assert!(rt; (found, found_short) == (want, want_short), "{len}");
+        let found = faults_of_key(rt.alloc(), len)?;
+        assert!(rt; found == (want, want_short), "{len}");
     }
     Ok(())
 }
