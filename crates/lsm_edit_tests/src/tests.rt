@@ -3,7 +3,6 @@
 mod bases;
 mod cursors;
 mod log_records;
-mod long_keys;
 mod served;
 mod versions;
 
@@ -122,8 +121,11 @@ fn edit_of(alloc: Global, bytes: &[u8]) -> Result<Edit, Fail>
 // The bytes are read as this edit, and are what it is written as.
 fn is_spelled(alloc: Global, bytes: &[u8], wanted: &Edit) -> Result<bool, Fail> {
     let edit = edit_of(alloc, bytes)?;
-    let written = encode_edit(alloc, &edit)?;
-    Ok(edit.same(wanted) && written.as_slice() == bytes)
+    let is_same = edit.same(wanted);
+    let written = encode_edit(alloc, &edit);
+    drop(edit);
+    let written = written?;
+    Ok(is_same && written.as_slice() == bytes)
 }
 
 // A copy with some of its bytes changed.
@@ -177,15 +179,25 @@ fn edit_saying(alloc: Global, said: Said) -> Result<Edit, AllocError> {
 #[test]
 fn edits_are_their_bytes(rt: HostRuntime) -> Result<(), Fail> {
     for (bytes, wanted) in EDITS {
+        let number = wanted.number;
         let wanted = edit_saying(rt.alloc(), wanted)?;
-        assert!(rt; is_spelled(rt.alloc(), bytes, &wanted)?, "{bytes:?}");
+        let is_spelled = is_spelled(rt.alloc(), bytes, &wanted);
+        drop(wanted);
+        assert!(rt; is_spelled?, "edit {number}");
     }
     Ok(())
 }
 
+// Whether it is the edit that opens a new store.
+fn is_opening(alloc: Global, first: &Edit) -> bool {
+    Edit::epoch(alloc, &Version::new(alloc)).same(first)
+}
+
 #[test]
 fn a_store_begins_with_an_opening(rt: HostRuntime) -> Result<(), Fail> {
-    let edit = Edit::epoch(rt.alloc(), &Version::new(rt.alloc()));
-    assert!(rt; edit.same(&edit_of(rt.alloc(), &EPOCH)?));
+    let first = edit_of(rt.alloc(), &EPOCH)?;
+    let is_first = is_opening(rt.alloc(), &first);
+    drop(first);
+    assert!(rt; is_first);
     Ok(())
 }

@@ -33,11 +33,13 @@ const APART: [u8; 82] = [
 // The version that the bytes encode is encoded as these bytes again.
 fn is_spelled(alloc: Global, bytes: &[u8], number: u64, files: usize) -> Result<bool, Fail> {
     match decode_base(alloc, Bytes::copy_from_slice(alloc, bytes)?) {
-        Ok(version) => Ok(
-            version.number() == number
-                && version.files().len() == files
-                && encode_base(alloc, &version)?.as_slice() == bytes,
-        ),
+        Ok(version) => {
+            let is_read = version.number() == number && version.files().len() == files;
+            let written = encode_base(alloc, &version);
+            drop(version);
+            let written = written?;
+            Ok(is_read && written.as_slice() == bytes)
+        }
         Err(Refused::Fault(_)) => Ok(false),
         Err(Refused::OutOfMemory) => Err("out of memory")?,
     }

@@ -61,7 +61,9 @@ const VALUES: [usize; 22] = [
 fn fault_of(alloc: Global, bytes: &[u8]) -> Result<Option<FormatFault>, Fail> {
     match decode_log(alloc, Bytes::copy_from_slice(alloc, bytes)?) {
         Ok(logged) => {
-            if encode_log(alloc, &logged)?.as_slice() == bytes {
+            let written = encode_log(alloc, &logged);
+            drop(logged);
+            if written?.as_slice() == bytes {
                 return Ok(None);
             }
             Err("a record with two encodings")?
@@ -80,47 +82,81 @@ fn record_of(alloc: Global, bytes: &[u8]) -> Result<LogRecord, Fail> {
     }
 }
 
-#[test]
-fn records_are_their_bytes(rt: HostRuntime) -> Result<(), Fail> {
-    let mut batch = Batch::new(rt.alloc());
+// The record of the put.
+fn written(alloc: Global) -> Result<Bytes, Fail> {
+    let mut batch = Batch::new(alloc);
     batch.push(Op::Put(Bytes::from_static(b"a"), Bytes::from_static(b"1")))?;
     if batch.ops().len() != 1 {
         return Err(Fail::from("no batch of one operation"));
     }
-    assert!(rt; encode_write(rt.alloc(), Seq::new(1), &batch)?.as_slice() == PUT.as_slice());
-    assert!(rt;
-        encode_freeze(rt.alloc(), Seq::new(Seq::MAX))?.as_slice() == LAST_FREEZE.as_slice()
-    );
-    for bytes in RECORDS {
-        assert!(rt; fault_of(rt.alloc(), bytes)?.is_none(), "{bytes:?}");
+    Ok(encode_write(alloc, Seq::new(1), &batch)?)
+}
+
+#[test]
+fn records_are_their_bytes(rt: HostRuntime) -> Result<(), Fail> {
+    let is_written = written(rt.alloc())?.as_slice() == PUT.as_slice();
+    let freeze = encode_freeze(rt.alloc(), Seq::new(Seq::MAX))?;
+    assert!(rt; is_written && freeze.as_slice() == LAST_FREEZE.as_slice());
+    drop(freeze);
+    for (i, bytes) in RECORDS.iter().enumerate() {
+        assert!(rt; fault_of(rt.alloc(), bytes)?.is_none(), "record {i}");
     }
     Ok(())
 }
 
+// Whether it is the last write.
+fn is_last(record: &LogRecord) -> bool {
+    match record {
+        LogRecord::Write(first, batch) => {
+            first.number() == Seq::MAX - 1 && are_last(batch.ops())
+        }
+        LogRecord::Freeze(_) => false,
+    }
+}
+
+fn are_last(ops: &[Op]) -> bool {
+    match ops {
+        [Op::Delete(gone), Op::Put(key, value)] => gone.as_slice() == b"b".as_slice()
+            && key.as_slice() == b"a".as_slice()
+            && value.is_empty(),
+        _ => false,
+    }
+}
+
+fn is_last_freeze(record: &LogRecord) -> bool {
+    match record {
+        LogRecord::Write(_, _) => false,
+        LogRecord::Freeze(at) => at.number() == Seq::MAX,
+    }
+}
+
 #[test]
 fn a_record_says_what_was_accepted(rt: HostRuntime) -> Result<(), Fail> {
-    let LogRecord::Write(first, batch) = record_of(rt.alloc(), &LAST)? else {
-        return Err(Fail::from("no write"));
-    };
-    assert!(rt; first.number() == Seq::MAX - 1);
-    let [Op::Delete(gone), Op::Put(key, value)] = batch.ops() else {
-        return Err(Fail::from("no deletion and put"));
-    };
-    assert!(rt; gone.as_slice() == b"b".as_slice());
-    assert!(rt; key.as_slice() == b"a".as_slice() && value.is_empty());
-    let LogRecord::Freeze(at) = record_of(rt.alloc(), &LAST_FREEZE)? else {
-        return Err(Fail::from("no freeze"));
-    };
-    assert!(rt; at.number() == Seq::MAX);
+    let write = record_of(rt.alloc(), &LAST)?;
+    let is_write = is_last(&write);
+    drop(write);
+    let freeze = record_of(rt.alloc(), &LAST_FREEZE)?;
+    let is_freeze = is_last_freeze(&freeze);
+    drop(freeze);
+    assert!(rt; is_write && is_freeze);
     Ok(())
+}
+
+// The first fault of a record with some of its bytes changed, or none.
+fn fault_with(
+    alloc: Global,
+    record: &[u8],
+    changes: &[(usize, u8)],
+) -> Result<Option<FormatFault>, Fail> {
+    let bytes = changed(alloc, record, changes)?;
+    fault_of(alloc, bytes.as_slice())
 }
 
 #[test]
 fn each_broken_rule_is_named(rt: HostRuntime) -> Result<(), Fail> {
     for (record, changes) in BROKEN {
-        let bytes = changed(rt.alloc(), record, changes)?;
-        let fault = fault_of(rt.alloc(), bytes.as_slice())?;
-        assert!(rt; fault == Some(FormatFault::BadField), "{bytes:?}");
+        let fault = fault_with(rt.alloc(), record, changes)?;
+        assert!(rt; fault == Some(FormatFault::BadField), "{changes:?}");
     }
     Ok(())
 }
@@ -138,7 +174,7 @@ fn are_truncated(alloc: Global, record: &[u8]) -> Result<bool, Fail> {
 #[test]
 fn each_beginning_is_truncated(rt: HostRuntime) -> Result<(), Fail> {
     for record in RECORDS {
-        assert!(rt; are_truncated(rt.alloc(), record)?, "{record:?}");
+        assert!(rt; are_truncated(rt.alloc(), record)?);
     }
     let more = [2, 0, 0, 0, 0, 0, 0, 0, 1, 0];
     assert!(rt; fault_of(rt.alloc(), &more)? == Some(FormatFault::TrailingBytes));
@@ -149,8 +185,7 @@ fn each_beginning_is_truncated(rt: HostRuntime) -> Result<(), Fail> {
 fn values_at(alloc: Global, at: usize) -> Result<usize, Fail> {
     let mut count = 0usize;
     for value in 0..=u8::MAX {
-        let bytes = changed(alloc, &PUT, &[(at, value)])?;
-        if fault_of(alloc, bytes.as_slice())?.is_none() {
+        if fault_with(alloc, &PUT, &[(at, value)])?.is_none() {
             count = count.saturating_add(1);
         }
     }
@@ -196,12 +231,60 @@ fn heavy(alloc: Global, count: u32, len: u32, given: usize) -> Result<Bytes, Fai
     Ok(out.freeze()?)
 }
 
+fn fault_of_heavy(
+    alloc: Global,
+    count: u32,
+    len: u32,
+    given: usize,
+) -> Result<Option<FormatFault>, Fail> {
+    let bytes = heavy(alloc, count, len, given)?;
+    fault_of(alloc, bytes.as_slice())
+}
+
 #[test]
 fn a_batch_is_weighed_at_its_last_length(rt: HostRuntime) -> Result<(), Fail> {
     for (count, len, given, wanted) in HEAVY {
-        let bytes = heavy(rt.alloc(), count, len, given)?;
-        let fault = fault_of(rt.alloc(), bytes.as_slice())?;
+        let fault = fault_of_heavy(rt.alloc(), count, len, given)?;
         assert!(rt; fault == wanted, "{count} {len} {given}");
+    }
+    Ok(())
+}
+
+// The write of one operation at sequence 1, up to that operation.
+const WRITE: [u8; 13] = [1, 0, 0, 0, 0, 0, 0, 0, 1, 0, 0, 0, 1];
+
+const LETTERS: &[u8] = &[0x61; 4_097];
+
+// The record of the deletion (0) of a key of this length, or of its put (1) with an empty value.
+fn with_op(alloc: Global, kind: u8, len: u16) -> Result<Bytes, Fail> {
+    let key = LETTERS.get(..usize::from(len)).ok_or("too long")?;
+    let behind: &[u8] = if kind == 1 { &[0, 0, 0, 0] } else { &[] };
+    let mut out = BytesMut::new(alloc);
+    out.put_slice(&WRITE)?;
+    out.put_u8(kind)?;
+    out.put_u16(len)?;
+    out.put_slice(key)?;
+    out.put_slice(behind)?;
+    Ok(out.freeze()?)
+}
+
+fn fault_of_op(alloc: Global, kind: u8, len: u16) -> Result<Option<FormatFault>, Fail> {
+    let bytes = with_op(alloc, kind, len)?;
+    fault_of(alloc, bytes.as_slice())
+}
+
+#[test]
+fn a_record_has_keys_of_4096_bytes(rt: HostRuntime) -> Result<(), Fail> {
+    for (len, wanted) in [
+        (1_024, None),
+        (1_025, None),
+        (4_096, None),
+        (4_097, Some(FormatFault::BadField)),
+    ] {
+        for kind in [0, 1] {
+            let fault = fault_of_op(rt.alloc(), kind, len)?;
+            assert!(rt; fault == wanted, "kind {kind}, {len}");
+        }
     }
     Ok(())
 }

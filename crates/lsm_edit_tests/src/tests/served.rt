@@ -146,16 +146,20 @@ fn has_only(served: &Served, number: u64) -> bool {
     }
 }
 
+// What has to be dropped dearly is lent, so that no assertion drops it.
+fn see_version(rt: &impl Abort, served: &Served) {
+    assert!(rt; lists(served, 2, 1, &[1]));
+    assert!(rt; has_only(served, 1));
+    assert!(rt; served.table(2).is_none());
+}
+
 #[test]
 fn a_served_version_becomes_another(rt: HostRuntime) -> Result<(), Fail> {
     let served = rebased(rt.alloc())?;
-    assert!(rt; lists(&served, 2, 1, &[1]));
-    assert!(rt; has_only(&served, 1));
-    assert!(rt; served.table(2).is_none());
+    see_version(&rt, &served);
     Ok(())
 }
 
-// What has to be dropped dearly is lent, so that no assertion drops it.
 fn see_rebased(rt: &impl Abort, alloc: Global, served: &Served) -> Result<(), Fail> {
     assert!(rt; gives(served, b"a", b"1"));
     assert!(rt; served.get(b"b").is_none() && !is_found(served, b"a", 0));

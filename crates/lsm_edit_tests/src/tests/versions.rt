@@ -1,7 +1,7 @@
 //! Versions, their copies, and the texts of refusals. Which edits apply is in tests/bytes.
 
 use super::{EPOCH, FLUSH, INSTALL, edit_of};
-use lsm_edit::{ApplyError, FileMeta, Version};
+use lsm_edit::{ApplyError, Edit, FileMeta, Version};
 use std::alloc::Global;
 use std::test::Fail;
 
@@ -65,21 +65,11 @@ pub(super) fn are_numbered(files: &[FileMeta], numbers: &[u64]) -> bool {
     files.len() == numbers.len()
 }
 
-#[test]
-fn a_copied_edit_is_the_same_and_another_is_not(rt: HostRuntime) -> Result<(), Fail> {
-    let (flush, next) = (edit_of(rt.alloc(), &FLUSH)?, edit_of(rt.alloc(), &NEXT)?);
-    assert!(rt; flush.same(&flush.copy(rt.alloc())?));
-    assert!(rt; !flush.same(&next) && !next.same(&flush));
-    Ok(())
-}
-
-#[test]
-fn a_copied_version_is_the_same_and_the_next_is_not(rt: HostRuntime) -> Result<(), Fail> {
-    let version = version_after(rt.alloc(), &[&EPOCH, &FLUSH])?;
-    let copy = version.copy(rt.alloc())?;
-    assert!(rt; version.same(&copy) && copy.same(&version));
-    let next = version_after(rt.alloc(), &[&EPOCH, &FLUSH, &NEXT])?;
-    assert!(rt; !version.same(&next) && !next.same(&version));
+// Whether the edit is the same as its copy, and as the next one, either way.
+fn compared(alloc: Global, flush: &Edit) -> Result<(bool, bool, bool), Fail> {
+    let found = compared_version(rt.alloc(), &version);
+    drop(version);
+    assert!(rt; found? == (true, false));
     Ok(())
 }
 
@@ -91,8 +81,10 @@ fn versions_list_their_files(rt: HostRuntime) -> Result<(), Fail> {
         (&[&EPOCH, &FLUSH, &NEXT, &INSTALL], &[3, 4]),
     ] {
         let version = version_after(rt.alloc(), edits)?;
-        assert!(rt; version.number() == edits.len() as u64);
-        assert!(rt; are_numbered(version.files(), numbers));
+        let number = version.number();
+        let are_listed = are_numbered(version.files(), numbers);
+        drop(version);
+        assert!(rt; number == edits.len() as u64 && are_listed);
     }
     Ok(())
 }
