@@ -107,17 +107,33 @@ fn another_job(alloc: Global) -> Result<Job, Fail> {
     Ok(Job::new(parts).ok_or("no job")?)
 }
 
+// What a test says of jobs, bodies and messages is said once they are dropped: each way out with one would be proved to let it go.
+
+fn is_as_its_copy(alloc: Global, job: &Job) -> Result<bool, AllocError> {
+    let copy = job.copy(alloc)?;
+    Ok(job.same(&copy))
+}
+
 #[test]
 fn a_copied_job_is_the_same(rt: HostRuntime) -> Result<(), Fail> {
     let job = job(rt.alloc())?;
-    assert!(rt; job.same(&job.copy(rt.alloc())?));
+    let is_same = is_as_its_copy(rt.alloc(), &job);
+    drop(job);
+    assert!(rt; is_same?);
     Ok(())
+}
+
+fn are_apart(alloc: Global, one: &Job) -> Result<bool, Fail> {
+    let other = another_job(alloc)?;
+    Ok(!one.same(&other) && !other.same(one))
 }
 
 #[test]
 fn another_part_makes_another_job(rt: HostRuntime) -> Result<(), Fail> {
-    let (one, other) = (job(rt.alloc())?, another_job(rt.alloc())?);
-    assert!(rt; !one.same(&other) && !other.same(&one));
+    let job = job(rt.alloc())?;
+    let are_apart = are_apart(rt.alloc(), &job);
+    drop(job);
+    assert!(rt; are_apart?);
     Ok(())
 }
 
@@ -173,16 +189,37 @@ fn body_of(alloc: Global, place: u32) -> Result<Body, Fail> {
     })
 }
 
+fn copied_body(alloc: Global, place: u32) -> Result<Body, Fail> {
+    let body = body_of(alloc, place)?;
+    Ok(body.copy(alloc)?)
+}
+
+// The first body whose copy is the same as this one though its index is another, or is not though it has the index.
+fn wrong_copy(alloc: Global, one: &Body, place: u32) -> Result<Option<u32>, Fail> {
+    for k in 0..9 {
+        let copy = copied_body(alloc, k)?;
+        if one.same(&copy) != (place == k) {
+            return Ok(Some(k));
+        }
+    }
+    Ok(None)
+}
+
 #[test]
 fn bodies_are_the_same_as_their_copies_alone(rt: HostRuntime) -> Result<(), Fail> {
     for i in 0..9 {
         let one = body_of(rt.alloc(), i)?;
-        for k in 0..9 {
-            let copy = body_of(rt.alloc(), k)?.copy(rt.alloc())?;
-            assert!(rt; one.same(&copy) == (i == k), "{i} and {k}");
-        }
+        let wrong = wrong_copy(rt.alloc(), &one, i);
+        drop(one);
+        let wrong = wrong?;
+        assert!(rt; wrong == None, "{i} and {wrong:?}");
     }
     Ok(())
+}
+
+fn is_as_copied(alloc: Global, message: &Message) -> Result<bool, AllocError> {
+    let copy = message.copy(alloc)?;
+    Ok(message.same(&copy))
 }
 
 #[test]
@@ -193,15 +230,24 @@ fn messages_are_the_same_as_their_copies(rt: HostRuntime) -> Result<(), Fail> {
             dst: Node::Coordinator,
             body: body_of(rt.alloc(), i)?,
         };
-        assert!(rt; message.same(&message.copy(rt.alloc())?));
+        let is_same = is_as_copied(rt.alloc(), &message);
+        drop(message);
+        assert!(rt; is_same?, "{i}");
     }
     Ok(())
+}
+
+// Whether a result is the same as its copy, and not as one of no table.
+fn is_told_apart(alloc: Global, one: &JobResult) -> Result<(bool, bool), Fail> {
+    let (copy, other) = (one.copy(alloc)?, result_of(alloc, false)?);
+    Ok((one.same(&copy), one.same(&other)))
 }
 
 #[test]
 fn a_result_is_the_same_as_its_copy(rt: HostRuntime) -> Result<(), Fail> {
     let one = result_of(rt.alloc(), true)?;
-    assert!(rt; one.same(&one.copy(rt.alloc())?));
-    assert!(rt; !one.same(&result_of(rt.alloc(), false)?));
+    let found = is_told_apart(rt.alloc(), &one);
+    drop(one);
+    assert!(rt; found? == (true, false));
     Ok(())
 }
