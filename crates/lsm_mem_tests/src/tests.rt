@@ -6,6 +6,7 @@ use bytes::Bytes;
 use lsm_key::{Batch, Entry, Kind, MAX_MEMTABLE_WEIGHT, Op, Seq};
 use lsm_mem::Memtable;
 use std::alloc::{AllocError, Global};
+use std::process::Abort;
 use std::test::Fail;
 
 /// What is done to a key: the put of a value, or a deletion.
@@ -150,26 +151,34 @@ fn found(memtable: &Memtable, key: &[u8], at: u64) -> (u64, bool, usize) {
 /// Where the entries of the example are.
 const PLACES: [Place; 5] = [(b"a", 14), (b"a", 12), (b"b", 13), (b"b", 11), (b"c", 15)];
 
+// A memtable is lent to what sees it: each way out of a function that owns one would be proved to let it go.
+
+fn see_example(rt: &impl Abort, memtable: &Memtable) -> Result<(), Fail> {
+    assert!(rt; has(memtable, &PLACES)?);
+    assert!(rt; counts(memtable) == (5, false, 5 * 15 + 1 + 2 + 3, 15));
+    Ok(())
+}
+
 #[test]
 fn entries_come_by_key_and_the_newest_first(rt: HostRuntime) -> Result<(), Fail> {
     let memtable = example(rt.alloc())?;
-    assert!(rt; has(&memtable, &PLACES)?);
-    assert!(rt; counts(&memtable) == (5, false, 5 * 15 + 1 + 2 + 3, 15));
+    see_example(&rt, &memtable)
+}
+
+fn see_nothing(rt: &impl Abort, memtable: &Memtable) -> Result<(), Fail> {
+    assert!(rt; counts(memtable) == (0, true, 0, 0));
+    assert!(rt; has(memtable, &[])? && has_from(memtable, b"", &[])?);
+    assert!(rt; found(memtable, b"a", 9) == NONE);
     Ok(())
 }
 
 #[test]
 fn a_new_memtable_has_nothing(rt: HostRuntime) -> Result<(), Fail> {
     let memtable = memtable_of(rt.alloc(), &[])?;
-    assert!(rt; counts(&memtable) == (0, true, 0, 0));
-    assert!(rt; has(&memtable, &[])? && has_from(&memtable, b"", &[])?);
-    assert!(rt; found(&memtable, b"a", 9) == NONE);
-    Ok(())
+    see_nothing(&rt, &memtable)
 }
 
-#[test]
-fn a_get_sees_what_was_written_by_its_sequence(rt: HostRuntime) -> Result<(), Fail> {
-    let memtable = example(rt.alloc())?;
+fn see_gets(rt: &impl Abort, memtable: &Memtable) {
     for (key, at, want) in [
         (b"a", 11, NONE),
         (b"a", 12, (12, true, 2)),
@@ -182,13 +191,29 @@ fn a_get_sees_what_was_written_by_its_sequence(rt: HostRuntime) -> Result<(), Fa
         (b"c", 15, (15, true, 0)),
         (b"d", 99, NONE),
     ] {
-        assert!(rt; found(&memtable, key.as_slice(), at) == want, "at {at}");
+        assert!(rt; found(memtable, key.as_slice(), at) == want, "at {at}");
+    }
+}
+
+#[test]
+fn a_get_sees_what_was_written_by_its_sequence(rt: HostRuntime) -> Result<(), Fail> {
+    let memtable = example(rt.alloc())?;
+    see_gets(&rt, &memtable);
+    Ok(())
+}
+
+/// Two ends of a range, and what it has.
+type Range = (&'static [u8], &'static [u8], &'static [Place]);
+
+fn see_ranges(rt: &impl Abort, memtable: &Memtable, ranges: &[Range]) -> Result<(), Fail> {
+    for (i, (lo, hi, places)) in ranges.iter().enumerate() {
+        assert!(rt; has_in(memtable, lo, hi, places)?, "range {i}");
     }
     Ok(())
 }
 
 /// Ranges of the example, each with what it has.
-const RANGES: [(&[u8], &[u8], &[Place]); 7] = [
+const RANGES: [Range; 7] = [
     (
         b"",
         b"z",
@@ -209,10 +234,7 @@ const RANGES: [(&[u8], &[u8], &[Place]); 7] = [
 #[test]
 fn a_range_leaves_out_its_end(rt: HostRuntime) -> Result<(), Fail> {
     let memtable = example(rt.alloc())?;
-    for (lo, hi, places) in RANGES {
-        assert!(rt; has_in(&memtable, lo, hi, places)?, "from {lo:?}");
-    }
-    Ok(())
+    see_ranges(&rt, &memtable, &RANGES)
 }
 
 /// Where a cursor begins over the keys that begin alike, with sequences 1 to 6, and b, zebra and b, and what it gives.
@@ -259,29 +281,37 @@ const CURSORS: [(&[u8], &[Place]); 7] = [
     (b"zebras", &[]),
 ];
 
+fn see_cursors(rt: &impl Abort, memtable: &Memtable) -> Result<(), Fail> {
+    for (i, (lo, places)) in CURSORS.iter().enumerate() {
+        assert!(rt; has_from(memtable, lo, places)?, "cursor {i}");
+    }
+    Ok(())
+}
+
 #[test]
 fn a_cursor_goes_from_its_key_to_the_end(rt: HostRuntime) -> Result<(), Fail> {
     let mut memtable = memtable_of(rt.alloc(), &ALIKE)?;
-    let others = puts_to(rt.alloc(), &[b"b".as_slice(), b"zebra", b"b"])?;
-    apply(&mut memtable, 7, others)?;
-    for (lo, places) in CURSORS {
-        assert!(rt; has_from(&memtable, lo, places)?, "from {lo:?}");
+    let keys = [b"b".as_slice(), b"zebra", b"b"];
+    apply(&mut memtable, 7, puts_to(rt.alloc(), &keys)?)?;
+    see_cursors(&rt, &memtable)
+}
+
+fn see_versions(rt: &impl Abort, memtable: &Memtable) {
+    assert!(rt; counts(memtable) == (1000, false, 22_000, 1000));
+    for at in [1, 2, 499, 1000] {
+        assert!(rt; found(memtable, b"key", at) == (at, true, 5), "at {at}");
     }
-    Ok(())
 }
 
 #[test]
 fn a_key_takes_a_thousand_versions(rt: HostRuntime) -> Result<(), Fail> {
     let memtable = memtable_of(rt.alloc(), &[b"key".as_slice(); 1000])?;
-    assert!(rt; counts(&memtable) == (1000, false, 22_000, 1000));
-    for at in [1, 2, 499, 1000] {
-        assert!(rt; found(&memtable, b"key", at) == (at, true, 5), "at {at}");
-    }
+    see_versions(&rt, &memtable);
     Ok(())
 }
 
 /// Ranges of keys that begin alike, each with what it has.
-const PARTS: [(&[u8], &[u8], &[Place]); 4] = [
+const PARTS: [Range; 4] = [
     (
         b"a",
         b"b",
@@ -310,10 +340,10 @@ const PARTS: [(&[u8], &[u8], &[Place]); 4] = [
 #[test]
 fn keys_with_one_prefix_are_told_apart(rt: HostRuntime) -> Result<(), Fail> {
     let memtable = memtable_of(rt.alloc(), &ALIKE)?;
-    for (lo, hi, places) in PARTS {
-        assert!(rt; has_in(&memtable, lo, hi, places)?, "from {lo:?}");
-    }
-    assert!(rt; found(&memtable, b"account-2", 4) == (1, true, 5));
+    let older = found(&memtable, b"account-2", 4);
+    see_ranges(&rt, &memtable, &PARTS)?;
+    drop(memtable);
+    assert!(rt; older == (1, true, 5));
     Ok(())
 }
 
@@ -330,14 +360,18 @@ fn ends_of(memtable: &Memtable, key: &[u8]) -> (u8, u8, usize) {
 
 const LONG: [Write; 2] = [(b"a", Some(&[1; 20_000])), (b"b", Some(&[2; 50_000]))];
 
+fn see_ends(rt: &impl Abort, memtable: &Memtable) {
+    assert!(rt; ends_of(memtable, b"a") == (1, 1, 20_000));
+    assert!(rt; ends_of(memtable, b"b") == (2, 2, 50_000));
+    assert!(rt; ends_of(memtable, b"d") == (118, 101, 5));
+}
+
 #[test]
 fn long_values_have_memory_of_their_own(rt: HostRuntime) -> Result<(), Fail> {
     let mut memtable = memtable_of(rt.alloc(), &[b"c"])?;
     apply(&mut memtable, 2, batch_of(rt.alloc(), &LONG)?)?;
     apply(&mut memtable, 4, puts_to(rt.alloc(), &[b"d"])?)?;
-    assert!(rt; ends_of(&memtable, b"a") == (1, 1, 20_000));
-    assert!(rt; ends_of(&memtable, b"b") == (2, 2, 50_000));
-    assert!(rt; ends_of(&memtable, b"d") == (118, 101, 5));
+    see_ends(&rt, &memtable);
     Ok(())
 }
 
@@ -372,11 +406,9 @@ fn next_of(alloc: Global) -> Result<Memtable, Fail> {
     Ok(next)
 }
 
-#[test]
-fn a_successor_finds_each_key(rt: HostRuntime) -> Result<(), Fail> {
-    let next = next_of(rt.alloc())?;
-    assert!(rt; has(&next, &NEXT_PLACES)?);
-    assert!(rt; has_in(&next, b"user", b"user:p", &NEXT_PLACES[1..4])?);
+fn see_next(rt: &impl Abort, next: &Memtable) -> Result<(), Fail> {
+    assert!(rt; has(next, &NEXT_PLACES)?);
+    assert!(rt; has_in(next, b"user", b"user:p", &NEXT_PLACES[1..4])?);
     for (key, want) in [
         (b"user".as_slice(), (4, true, 5)),
         (b"user:1", (3, true, 5)),
@@ -384,7 +416,13 @@ fn a_successor_finds_each_key(rt: HostRuntime) -> Result<(), Fail> {
         (b"user:2", NONE),
         (b"b", NONE),
     ] {
-        assert!(rt; found(&next, key, 9) == want, "{key:?}");
+        assert!(rt; found(next, key, 9) == want, "a key of {} bytes", key.len());
     }
     Ok(())
+}
+
+#[test]
+fn a_successor_finds_each_key(rt: HostRuntime) -> Result<(), Fail> {
+    let next = next_of(rt.alloc())?;
+    see_next(&rt, &next)
 }
