@@ -54,15 +54,21 @@ fn why_not(alloc: Global, tables: &[Table], job: &Job) -> Result<Option<MergeErr
     }
 }
 
-/// Why these tables are not merged by the job of the keys a to b and of c, whose first record is changed.
-fn refusal(alloc: Global, keys: &[u8], change: Change) -> Result<Option<MergeError>, Fail> {
+/// The job of the keys a to b and of c, whose first record is changed.
+fn changed_job(alloc: Global, change: Change) -> Result<Job, Fail> {
     let mut files = files_of(alloc, &tables_of(alloc, b"ac")?)?;
     if !files.is_empty() {
         let first = changed(files.remove(0), change);
         files.insert(0, first)?;
     }
-    let job = job_of(alloc, files, &[])?;
-    why_not(alloc, &tables_of(alloc, keys)?, &job)
+    job_of(alloc, files, &[])
+}
+
+/// Why these tables are not merged by that job.
+fn refusal(alloc: Global, keys: &[u8], change: Change) -> Result<Option<MergeError>, Fail> {
+    let tables = tables_of(alloc, keys)?;
+    let job = changed_job(alloc, change)?;
+    why_not(alloc, &tables, &job)
 }
 
 #[test]

@@ -34,19 +34,26 @@ fn next_place(walk: &mut Walk<'_>) -> Result<Option<(u8, u64)>, MergeError> {
 // What three calls give.
 type Three = [Result<Option<(u8, u64)>, MergeError>; 3];
 
-fn walked(alloc: Global, rows: [&[Row]; 2], points: &[u16]) -> Result<Three, Fail> {
+fn tables_of(alloc: Global, rows: [&[Row]; 2]) -> Result<Vec<Table>, Fail> {
     let mut tables = Vec::new(alloc);
     for list in rows {
         tables.push(table_of(alloc, list)?)?;
     }
-    let files = files_of(alloc, &tables)?;
-    let job: Job = job_of(alloc, files, points)?;
-    let cursors = cursors_of(alloc, &tables)?;
-    let mut walk = Walk::new(alloc, cursors, &job)?;
+    Ok(tables)
+}
+
+fn walked_by(alloc: Global, tables: &[Table], job: &Job) -> Result<Three, Fail> {
+    let mut walk = Walk::new(alloc, cursors_of(alloc, tables)?, job)?;
     let first = next_place(&mut walk);
     let second = next_place(&mut walk);
     let third = next_place(&mut walk);
     Ok([first, second, third])
+}
+
+fn walked(alloc: Global, rows: [&[Row]; 2], points: &[u16]) -> Result<Three, Fail> {
+    let tables = tables_of(alloc, rows)?;
+    let job = job_of(alloc, files_of(alloc, &tables)?, points)?;
+    walked_by(alloc, &tables, &job)
 }
 
 #[test]
@@ -80,10 +87,10 @@ fn a_shared_entry_is_refused_from_then_on(rt: HostRuntime) -> Result<(), Fail> {
 fn a_walk_over_no_cursor_has_ended(rt: HostRuntime) -> Result<(), Fail> {
     let table = table_of(rt.alloc(), &[put(b'a', 1, b'x')])?;
     let job = job_of(rt.alloc(), files_of(rt.alloc(), &[table])?, &[])?;
-    let mut walk = Walk::new(rt.alloc(), Vec::new(rt.alloc()), &job)?;
-    let first = next_place(&mut walk);
-    drop(walk);
+    let none = Vec::new(rt.alloc());
+    let three = walked_by(rt.alloc(), &none, &job);
+    drop(none);
     drop(job);
-    assert!(rt; first == Ok(None));
+    assert!(rt; three? == [Ok(None), Ok(None), Ok(None)]);
     Ok(())
 }
