@@ -17,6 +17,9 @@ pub enum CommandError {
     /// The folder is not opened.
     #[error("{0}")]
     Folder(lsm_file_vault::FolderError),
+    /// The folder is not there, or has no file, so that there is nothing to read.
+    #[error("{0} has no store: 'put', 'import' or 'store' with '--dir {0}' makes one")]
+    NoStore(String),
     /// The folder has no valid store, or its device failed, with what the system says of it.
     #[error("the store is not opened: {0}")]
     Store(lsm_versions::OpenError, Option<io::Error>),

@@ -9,6 +9,7 @@ use lsm_file_vault::{FileCall, FileVault, FolderError, HostFolder, Incidents, Lo
 use lsm_key::Limits;
 use lsm_store::{Options, Store};
 use std::fs;
+use std::io::ErrorKind;
 use std::process::ExitCode;
 
 /// A vault in a folder.
@@ -56,6 +57,19 @@ impl Place<'_> {
             }
             Err((why, _vault)) => Err(refused(why, screen, &incidents)),
         }
+    }
+
+    /// The same, but a folder that is not there, or has no file, is refused, and none is made.
+    pub(crate) fn open_made(
+        self,
+        rt: &HostRuntime,
+        screen: &Screen<'_>,
+    ) -> Result<OpenStore, CommandError> {
+        if is_bare(rt, self.folder) {
+            let folder = String::from_str(rt.alloc(), self.folder)?;
+            return Err(CommandError::NoStore(folder));
+        }
+        self.open(rt, screen)
     }
 
     /// The same, but the coordinator of the store, whose compactions are made elsewhere. A folder that is not there is not made.
@@ -106,6 +120,14 @@ impl Place<'_> {
             report_faults(rt, self.folder, screen);
         }
         status
+    }
+}
+
+// Whether a folder is not there, or has no file. If that can't be seen, as of what is no folder, an opening says why.
+fn is_bare(rt: &HostRuntime, folder: &str) -> bool {
+    match fs::read_dir(rt, folder) {
+        Ok(mut files) => files.next().is_none(),
+        Err(error) => error.kind() == ErrorKind::NotFound,
     }
 }
 

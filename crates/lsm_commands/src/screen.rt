@@ -30,6 +30,14 @@ impl<'a> Screen<'a> {
         }
     }
 
+    /// The same, which shows nothing of how far a command has come, on a terminal either.
+    pub fn still(rt: &'a HostRuntime) -> Screen<'a> {
+        Screen {
+            rt,
+            is_terminal: false,
+        }
+    }
+
     /// Reports an error, and returns the exit status after it.
     pub fn fail<E: Display>(&self, error: &E) -> ExitCode {
         self.report(error);

@@ -5,8 +5,9 @@ ghost use Rattle.lsm_sim.specs.Runs.{exit_status};
 
 use lsm_commands::{FAILED, REFUSED};
 use lsm_key::Refused;
+use lsm_line::Reason;
 use lsm_stream::StreamError;
-use lsm_text::{Fault, Reason};
+use lsm_text::Fault;
 use std::alloc::{AllocError, AllocFailed};
 use thiserror::Error;
 

@@ -1,5 +1,1 @@
-pub mod LinesAndWords
-pub mod NumberWords
-pub mod SpelledWords
 pub mod ScriptSteps
-pub mod JoinedText

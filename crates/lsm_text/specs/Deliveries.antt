@@ -1,10 +1,10 @@
 -- Which messages a line delivers: one, or those of a range of numbers in turn (the store's own).
 use Rattle.std.specs.Prelude.{ℕ, zero, suc, ◌+◌, ◌-◌, ◌==◌, ◌&&◌, Bool, List, [], ◌∷◌, ◌++◌, Option, None, Some, Result, Ok, Err, nat_le, nat_lt, take, drop, position, if◌then◌else◌}
 use Rattle.lsm_coord.specs.Model.Event as say
-use Rattle.lsm_text.specs.declared.fault.Reason.{Reason}
-use Rattle.lsm_text.specs.declared.fault.Reason.TheVariants.{WrongWordCount, BadNumber}
+use Rattle.lsm_line.specs.declared.fault.Reason.{Reason}
+use Rattle.lsm_line.specs.declared.fault.Reason.TheVariants.{WrongWordCount, BadNumber}
 use Rattle.lsm_text.specs.declared.deliver.TheConstants.{MAX_DELIVERIES}
-use Rattle.lsm_text.specs.Numbers.{number}
+use Rattle.lsm_line.specs.Numbers.{number}
 
 abbrev pub is_dash : ℕ → Bool
 is_dash byte = byte == 45

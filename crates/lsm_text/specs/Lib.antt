@@ -1,6 +1,3 @@
-pub mod Text
-pub mod Numbers
-pub mod Tokens
 pub mod Nodes
 pub mod Deliveries
 pub mod Script

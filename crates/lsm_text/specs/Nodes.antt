@@ -1,9 +1,9 @@
 -- How scripts name nodes: by an index, from 1, or by a letter and an index (the store's own).
 use Rattle.std.specs.Prelude.{ℕ, ◌==◌, ◌&&◌, List, [], ◌∷◌, Option, None, Some, Result, Ok, Err, nat_le, if◌then◌else◌}
 use Rattle.lsm_key.specs.declared.limits.TheConstants.{MAX_NODES}
-use Rattle.lsm_text.specs.declared.fault.Reason.{Reason}
-use Rattle.lsm_text.specs.declared.fault.Reason.TheVariants.{BadNumber}
-use Rattle.lsm_text.specs.Numbers.{number}
+use Rattle.lsm_line.specs.declared.fault.Reason.{Reason}
+use Rattle.lsm_line.specs.declared.fault.Reason.TheVariants.{BadNumber}
+use Rattle.lsm_line.specs.Numbers.{number}
 
 -- the index of a dispatcher, a worker or a follower
 abbrev pub index_of : Option ℕ → Option ℕ

@@ -3,13 +3,11 @@
 ghost use Rattle.std.specs.Prelude.{◌≡◌, ◌+◌, ◌≤◌, IfOk, IfSome, map, position};
 ghost use Rattle.lsm_key.specs.Reading.{Gives};
 ghost use Rattle.lsm_world.specs.Events.{event_of};
-ghost use Rattle.lsm_text.specs.Text.{words};
+ghost use Rattle.lsm_line.specs.Text.{words};
 ghost use Rattle.lsm_text.specs.Deliveries.{is_dash, range_between, read_range, deliveries, deliver};
 
-use crate::fault::Reason;
-use crate::number::read_number;
-use crate::words::Words;
 use lsm_key::Refused;
+use lsm_line::{Reason, Words, read_number};
 use lsm_world::Event;
 use std::alloc::{AllocError, Global};
 

@@ -2,15 +2,13 @@
 
 ghost use Rattle.lsm_key.specs.Reading.{Gives};
 ghost use Rattle.lsm_world.specs.Events.{event_of};
-ghost use Rattle.lsm_text.specs.Text.{words};
+ghost use Rattle.lsm_line.specs.Text.{words};
 ghost use Rattle.lsm_text.specs.Script.{ask, read};
 
-use crate::fault::Reason;
 use crate::names::read_index;
 use crate::schedule::indexed;
-use crate::token::key_or_value;
-use crate::words::Words;
 use lsm_key::Refused;
+use lsm_line::{Reason, Words, key_or_value};
 use lsm_world::Event;
 use std::alloc::Global;
 

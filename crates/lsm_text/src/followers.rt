@@ -4,10 +4,9 @@ ghost use Rattle.std.specs.Prelude.{◌≡◌, ◌++◌, OnOk};
 ghost use Rattle.lsm_text.specs.Lines.{trimmed_text, read_text, waiting_text, advanced_text, restarted_follower_text};
 
 use crate::jobs::write_sent;
-use crate::lines::write_got;
-use crate::text::{write_number, write_text};
 use bytes::Bytes;
 use lsm_key::{FileNumber, VersionNumber};
+use lsm_line::{write_got, write_number, write_text};
 use lsm_msg::NodeIndex;
 use lsm_world::Sent;
 use std::alloc::AllocError;

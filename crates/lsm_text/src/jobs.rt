@@ -3,9 +3,9 @@
 ghost use Rattle.std.specs.Prelude.{◌≡◌, ◌++◌, OnOk};
 ghost use Rattle.lsm_text.specs.Lines.{messages_text, sent_text, picked_text, returned_text, stale_text, served_text, made_text, installed_text, collecting_text, merged_text, opened_text, restarted_text};
 
-use crate::text::{write_name, write_number, write_numbers, write_text};
 use lsm_claim::JobId;
 use lsm_key::{FileNumber, Seq, VersionNumber};
+use lsm_line::{write_name, write_number, write_numbers, write_text};
 use lsm_msg::NodeIndex;
 use lsm_world::{PickedJob, Sent};
 use std::alloc::AllocError;

@@ -1,7 +1,7 @@
 //! The lines that replies print.
 
 ghost use Rattle.std.specs.Prelude.{◌≡◌, ◌++◌, OnOk};
-ghost use Rattle.lsm_text.specs.Lines.{wrote_text, froze_text, flushed_text, snapped_text, released_text, got_text, pair_text, scanned_text};
+ghost use Rattle.lsm_text.specs.Lines.{froze_text, flushed_text};
 ghost use Rattle.lsm_text.specs.Replies.{text_of, line};
 
 use crate::followers::{
@@ -11,27 +11,15 @@ use crate::jobs::{
     write_collecting, write_installed, write_merged, write_messages, write_opened, write_picked,
     write_restarted, write_returned, write_served, write_stale,
 };
-use crate::listing::write_shown;
 use crate::refusals::write_refused;
-use crate::text::{write_bytes, write_line_end, write_name, write_number, write_text};
-use bytes::Bytes;
-use lsm_coord::{Flushed, SnapId};
+use lsm_coord::Flushed;
 use lsm_key::{FileNumber, Seq, VersionNumber};
+use lsm_line::{
+    write_got, write_line_end, write_number, write_released, write_scanned, write_shown,
+    write_snapped, write_text, write_wrote,
+};
 use lsm_world::Reply;
 use std::alloc::{AllocError, Global};
-
-/// `seq F`, or `seq F-L` if F and L differ
-fn write_wrote(out: &mut Vec<u8>, first: Seq, last: Seq) -> Result<(), AllocError>
-    ensures { OnOk result (out.new.items ≡ out.old.items ++ wrote_text first last) }
-{
-    write_text(out, "seq ")?;
-    write_number(out, first.number())?;
-    if first.number() == last.number() {
-        return Ok(());
-    }
-    write_text(out, "-")?;
-    write_number(out, last.number())
-}
 
 /// `version N flushed S file F`
 fn write_flushed(
@@ -56,59 +44,6 @@ fn write_froze(out: &mut Vec<u8>, seq: Seq) -> Result<(), AllocError>
 {
     write_text(out, "frozen ")?;
     write_number(out, seq.number())
-}
-
-/// `snapshot E.N at S`
-fn write_snapped(out: &mut Vec<u8>, id: SnapId, seq: Seq) -> Result<(), AllocError>
-    ensures { OnOk result (out.new.items ≡ out.old.items ++ snapped_text id seq) }
-{
-    write_text(out, "snapshot ")?;
-    write_name(out, id.epoch, id.number)?;
-    write_text(out, " at ")?;
-    write_number(out, seq.number())
-}
-
-/// `released E.N`
-fn write_released(out: &mut Vec<u8>, id: SnapId) -> Result<(), AllocError>
-    ensures { OnOk result (out.new.items ≡ out.old.items ++ released_text id) }
-{
-    write_text(out, "released ")?;
-    write_name(out, id.epoch, id.number)
-}
-
-/// `value V`, or `none`
-pub fn write_got(out: &mut Vec<u8>, value: &Option<Bytes>) -> Result<(), AllocError>
-    ensures { OnOk result (out.new.items ≡ out.old.items ++ got_text value.now) }
-{
-    match value {
-        None => write_text(out, "none"),
-        Some(value) => {
-            write_text(out, "value ")?;
-            write_bytes(out, value.as_slice())
-        }
-    }
-}
-
-/// ` K=V`
-fn write_pair(out: &mut Vec<u8>, pair: &(Bytes, Bytes)) -> Result<(), AllocError>
-    ensures { OnOk result (out.new.items ≡ out.old.items ++ pair_text pair.now) }
-{
-    write_text(out, " ")?;
-    write_bytes(out, pair.0.as_slice())?;
-    write_text(out, "=")?;
-    write_bytes(out, pair.1.as_slice())
-}
-
-/// `range C`, and ` K=V` for each of the C pairs
-fn write_scanned(out: &mut Vec<u8>, pairs: &[(Bytes, Bytes)]) -> Result<(), AllocError>
-    ensures { OnOk result (out.new.items ≡ out.old.items ++ scanned_text pairs.now) }
-{
-    write_text(out, "range ")?;
-    write_number(out, pairs.len() as u64)?;
-    for pair in pairs {
-        write_pair(out, pair)?;
-    }
-    Ok(())
 }
 
 /// The text of a reply.

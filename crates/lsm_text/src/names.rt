@@ -1,13 +1,12 @@
 //! Which words name commands and nodes.
 
-ghost use Rattle.std.specs.Prelude.{◌≡◌, position};
-ghost use Rattle.lsm_text.specs.Numbers.{number};
+ghost use Rattle.std.specs.Prelude.{◌≡◌};
+ghost use Rattle.lsm_line.specs.Numbers.{number};
 ghost use Rattle.lsm_text.specs.Nodes.{index_of, node_index, worker_index, follower_index};
-ghost use Rattle.lsm_text.specs.Script.{read_command, is_comment, is_point, snapshot_from, read_snapshot, reading_at};
+ghost use Rattle.lsm_text.specs.Script.{read_command, is_comment};
 
 use crate::command::Command;
-use crate::number::read_number;
-use lsm_coord::SnapId;
+use lsm_line::read_number;
 use lsm_msg::NodeIndex;
 
 /// The command of this name.
@@ -62,44 +61,6 @@ pub fn is_comment(word: &[u8]) -> bool
         Some(byte) => *byte == b'#',
         None => false,
     }
-}
-
-/// The snapshot that a word `E.N` names.
-pub fn read_snapshot(word: &[u8]) -> Option<SnapId>
-    ensures { result ≡ read_snapshot word.now }
-{
-    match point_in(word) {
-        None => None,
-        Some(point) => paired(read_number(&word[..point]), read_number(&word[point + 1..])),
-    }
-}
-
-// The place of the first point.
-fn point_in(word: &[u8]) -> Option<usize>
-    ensures { result ≡ position is_point word.now }
-{
-    word.iter().position(|byte| *byte == b'.')
-}
-
-// The snapshot of an epoch and a number.
-fn paired(epoch: Option<u64>, number: Option<u64>) -> Option<SnapId>
-    ensures { result ≡ snapshot_from epoch number }
-{
-    match (epoch, number) {
-        (Some(epoch), Some(number)) => Some(SnapId { epoch, number }),
-        _ => None,
-    }
-}
-
-/// The snapshot that a word `@E.N` names.
-pub fn reading_at(word: &[u8]) -> Option<SnapId>
-    ensures { result ≡ reading_at word.now }
-{
-    let (first, name) = word.split_first()?;
-    if *first != b'@' {
-        return None;
-    }
-    read_snapshot(name)
 }
 
 /// The index of a dispatcher, a worker or a follower.

@@ -1,58 +1,14 @@
 //! The lines of refusals.
 
 ghost use Rattle.std.specs.Prelude.{◌≡◌, ◌++◌, OnOk};
-ghost use Rattle.lsm_coord.specs.Contract.Replies.{refusal_of};
 ghost use Rattle.lsm_coord.specs.Contract.Seats.{open_refusal};
-ghost use Rattle.lsm_coord.specs.Model.Rules.{key_refusal};
 ghost use Rattle.lsm_world.specs.Replies.{why_of};
-ghost use Rattle.lsm_text.specs.Lines.{name_of, refused_text};
+ghost use Rattle.lsm_line.specs.Lines.{name_of, refused_text};
 
-use crate::text::write_text;
-use lsm_coord::CoordError;
-use lsm_key::KeyError;
+use lsm_line::{coord_name, key_name, write_text};
 use lsm_versions::OpenError;
 use lsm_world::Refusal;
 use std::alloc::AllocError;
-
-/// The name of a refusal of a batch.
-fn key_name(error: KeyError) -> &'static str
-    ensures { result.now ≡ name_of (key_refusal error) }
-{
-    match error {
-        KeyError::EmptyKey => "EmptyKey",
-        KeyError::KeyTooLong => "KeyTooLong",
-        KeyError::ValueTooLong => "ValueTooLong",
-        KeyError::BatchFull => "BatchFull",
-        KeyError::OutOfMemory => "OutOfMemory",
-    }
-}
-
-/// The name of a refusal of the coordinator.
-fn coord_name(error: CoordError) -> &'static str
-    ensures { result.now ≡ name_of (refusal_of error) }
-{
-    match error {
-        CoordError::BadManifest => "BadManifest",
-        CoordError::MissingTable => "MissingTable",
-        CoordError::BadLog => "BadLog",
-        CoordError::Device => "Device",
-        CoordError::SequenceExhausted => "SequenceExhausted",
-        CoordError::FrozenWaiting => "FrozenWaiting",
-        CoordError::NothingToFreeze => "NothingToFreeze",
-        CoordError::NothingToFlush => "NothingToFlush",
-        CoordError::TooManySnapshots => "TooManySnapshots",
-        CoordError::NoSnapshot => "NoSnapshot",
-        CoordError::WrongJob => "WrongJob",
-        CoordError::BadResult => "BadResult",
-        CoordError::MemtableFull => "MemtableFull",
-        CoordError::EmptyBatch => "EmptyBatch",
-        CoordError::BookFull => "BookFull",
-        CoordError::TooWide => "TooWide",
-        CoordError::BadFloor => "BadFloor",
-        CoordError::NumbersExhausted => "NumbersExhausted",
-        CoordError::OutOfMemory => "OutOfMemory",
-    }
-}
 
 /// The name of a refusal of an opening.
 fn open_name(error: OpenError) -> &'static str

@@ -3,15 +3,14 @@
 ghost use Rattle.std.specs.Prelude.{◌≡◌};
 ghost use Rattle.lsm_key.specs.Reading.{Gives};
 ghost use Rattle.lsm_world.specs.Events.{event_of};
-ghost use Rattle.lsm_text.specs.Text.{words};
+ghost use Rattle.lsm_line.specs.Text.{words};
 ghost use Rattle.lsm_text.specs.Nodes.{index_of, index_or_fault};
-ghost use Rattle.lsm_text.specs.Numbers.{number};
+ghost use Rattle.lsm_line.specs.Numbers.{number};
 ghost use Rattle.lsm_text.specs.Script.{pick, give_up, restart, restart_other};
 
-use crate::fault::Reason;
 use crate::names::{follower_index, read_index, worker_index};
-use crate::words::Words;
 use lsm_key::Refused;
+use lsm_line::{Reason, Words};
 use lsm_msg::NodeIndex;
 use lsm_world::Event;
 

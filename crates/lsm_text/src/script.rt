@@ -4,57 +4,21 @@
 ghost use Rattle.std.specs.Prelude.{◌≡◌, ◌∷◌, [], Ok, map};
 ghost use Rattle.lsm_key.specs.Reading.{Gives};
 ghost use Rattle.lsm_world.specs.Events.{event_of};
-ghost use Rattle.lsm_text.specs.Text.{words};
-ghost use Rattle.lsm_text.specs.Script.{events_of_command, name_or_fault, events_of_words, script, put, delete, freeze, flush, snap, release, get, show, show_follower, trim};
+ghost use Rattle.lsm_line.specs.Text.{words};
+ghost use Rattle.lsm_line.specs.Commands.{call_event};
+ghost use Rattle.lsm_text.specs.Script.{events_of_command, events_of_words, script, freeze, show, show_follower, trim};
 
-use crate::batch::batch;
 use crate::command::Command;
 use crate::deliver::deliver;
-use crate::fault::{Fault, Reason};
+use crate::fault::Fault;
 use crate::follow::{ask, read};
-use crate::names::{follower_index, is_comment, read_command, read_snapshot, reading_at};
-use crate::number::read_number;
-use crate::scan::{counted, scan};
+use crate::names::{follower_index, is_comment, read_command};
 use crate::schedule::{give_up, pick, restart};
-use crate::token::key_or_value;
-use crate::words::{Lines, Words};
-use lsm_coord::SnapId;
-use lsm_key::{Items, Op, Refused, VersionNumber};
+use lsm_key::{Refused, VersionNumber};
+use lsm_line::{Call, Lines, Reason, Words, counted, read_number};
 use lsm_msg::NodeIndex;
 use lsm_world::Event;
 use std::alloc::Global;
-
-/// `put K V`
-fn put(alloc: Global, mut args: Words<'_>) -> Result<Event, Refused<Reason>>
-    ensures { Gives event_of result (put (words args.entry.rest.now)) }
-{
-    let (Some(key), Some(value), None) = (args.next(), args.next(), args.next()) else {
-        return Err(Refused::Fault(Reason::WrongWordCount));
-    };
-    let key = key_or_value(alloc, key)?;
-    let value = key_or_value(alloc, value)?;
-    let ops = vec![in alloc; Op::Put(key, value)]?;
-    Ok(Event::Write(Items::from_vec(ops)))
-}
-
-/// `del K`
-fn delete(alloc: Global, mut args: Words<'_>) -> Result<Event, Refused<Reason>>
-    ensures { Gives event_of result (delete (words args.entry.rest.now)) }
-{
-    let (Some(key), None) = (args.next(), args.next()) else {
-        return Err(Refused::Fault(Reason::WrongWordCount));
-    };
-    let key = key_or_value(alloc, key)?;
-    let ops = vec![in alloc; Op::Delete(key)]?;
-    Ok(Event::Write(Items::from_vec(ops)))
-}
-
-/// The snapshot that a word must name.
-pub fn named(id: Option<SnapId>) -> Result<SnapId, Refused<Reason>>
-    ensures { Gives (λ id. id) result (name_or_fault id) }
-{
-    id.ok_or(Refused::Fault(Reason::BadName))
-}
 
 /// `freeze`
 fn freeze(mut args: Words<'_>) -> Result<Event, Refused<Reason>>
@@ -64,60 +28,6 @@ fn freeze(mut args: Words<'_>) -> Result<Event, Refused<Reason>>
         None => Ok(Event::Freeze),
         Some(_) => Err(Refused::Fault(Reason::WrongWordCount)),
     }
-}
-
-/// `snap`
-fn snap(mut args: Words<'_>) -> Result<Event, Refused<Reason>>
-    ensures { Gives event_of result (snap (words args.entry.rest.now)) }
-{
-    match args.next() {
-        None => Ok(Event::Snap),
-        Some(_) => Err(Refused::Fault(Reason::WrongWordCount)),
-    }
-}
-
-/// `release E.N`
-fn release(mut args: Words<'_>) -> Result<Event, Refused<Reason>>
-    ensures { Gives event_of result (release (words args.entry.rest.now)) }
-{
-    let (Some(name), None) = (args.next(), args.next()) else {
-        return Err(Refused::Fault(Reason::WrongWordCount));
-    };
-    let id = named(read_snapshot(name))?;
-    Ok(Event::Release(id))
-}
-
-/// `flush`
-fn flush(mut args: Words<'_>) -> Result<Event, Refused<Reason>>
-    ensures { Gives event_of result (flush (words args.entry.rest.now)) }
-{
-    match args.next() {
-        None => Ok(Event::Flush),
-        Some(_) => Err(Refused::Fault(Reason::WrongWordCount)),
-    }
-}
-
-/// `get K`, or `get K @E.N`
-fn get(alloc: Global, mut args: Words<'_>) -> Result<Event, Refused<Reason>>
-    ensures { Gives event_of result (get (words args.entry.rest.now)) }
-{
-    let Some(key) = args.next() else {
-        return Err(Refused::Fault(Reason::WrongWordCount));
-    };
-    match (args.next(), args.next()) {
-        (None, _) => Ok(Event::Get(key_or_value(alloc, key)?, None)),
-        (Some(name), None) => get_at(alloc, key, name),
-        (Some(_), Some(_)) => Err(Refused::Fault(Reason::WrongWordCount)),
-    }
-}
-
-/// `get K @E.N`, of the words after the first
-fn get_at(alloc: Global, key: &[u8], name: &[u8]) -> Result<Event, Refused<Reason>>
-    ensures { Gives event_of result (get (key.now ∷ name.now ∷ [])) }
-{
-    let key = key_or_value(alloc, key)?;
-    let id = named(reading_at(name))?;
-    Ok(Event::Get(key, Some(id)))
 }
 
 /// `show c`, `show fI`
@@ -162,6 +72,28 @@ fn one(alloc: Global, event: Event) -> Result<Vec<Event>, Refused<Reason>>
     Ok(vec![in alloc; event]?)
 }
 
+/// The event of a call of a store.
+fn as_event(call: Call) -> Event
+    ensures { event_of result ≡ call_event call }
+{
+    match call {
+        Call::Write(ops) => Event::Write(ops),
+        Call::Flush => Event::Flush,
+        Call::Snap => Event::Snap,
+        Call::Release(id) => Event::Release(id),
+        Call::Get(key, at) => Event::Get(key, at),
+        Call::Scan(range) => Event::Scan(range),
+        Call::Show => Event::Show,
+    }
+}
+
+/// One call of a store.
+fn one_call(alloc: Global, call: Call) -> Result<Vec<Event>, Refused<Reason>>
+    ensures { Gives (λ events. map event_of events.items) result (Ok (call_event call ∷ [])) }
+{
+    one(alloc, as_event(call))
+}
+
 /// The events of a command with these arguments.
 fn asked(
     alloc: Global,
@@ -172,15 +104,15 @@ fn asked(
 {
     match command {
         None => Err(Refused::Fault(Reason::UnknownCommand)),
-        Some(Command::Put) => one(alloc, put(alloc, args)?),
-        Some(Command::Delete) => one(alloc, delete(alloc, args)?),
-        Some(Command::Batch) => one(alloc, batch(alloc, args)?),
+        Some(Command::Put) => one_call(alloc, lsm_line::put(alloc, args)?),
+        Some(Command::Delete) => one_call(alloc, lsm_line::delete(alloc, args)?),
+        Some(Command::Batch) => one_call(alloc, lsm_line::batch(alloc, args)?),
         Some(Command::Freeze) => one(alloc, freeze(args)?),
-        Some(Command::Flush) => one(alloc, flush(args)?),
-        Some(Command::Snap) => one(alloc, snap(args)?),
-        Some(Command::Release) => one(alloc, release(args)?),
-        Some(Command::Get) => one(alloc, get(alloc, args)?),
-        Some(Command::Scan) => one(alloc, scan(alloc, args)?),
+        Some(Command::Flush) => one_call(alloc, lsm_line::flush(args)?),
+        Some(Command::Snap) => one_call(alloc, lsm_line::snap(args)?),
+        Some(Command::Release) => one_call(alloc, lsm_line::release(args)?),
+        Some(Command::Get) => one_call(alloc, lsm_line::get(alloc, args)?),
+        Some(Command::Scan) => one_call(alloc, lsm_line::scan(alloc, args)?),
         Some(Command::Show) => one(alloc, show(args)?),
         Some(Command::Trim) => one(alloc, trim(args)?),
         Some(Command::Pick) => one(alloc, pick(args)?),

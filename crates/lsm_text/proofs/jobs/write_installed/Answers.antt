@@ -1,7 +1,7 @@
 use Rattle.std.proofs.Common.{◌++◌, ◌∙◌, ap, ℕ, codes}
 use Rattle.std.specs.Fmt.{decimal}
 use Rattle.lsm_text.specs.Lines.{made_text}
-use Rattle.lsm_text.proofs.JoinedText.{joined}
+use Rattle.lsm_line.proofs.JoinedText.{joined}
 use Rattle.std.proofs.lemmas.Result.{on_ok_weaker}
 use Rattle.lsm_text.proofs.jobs.write_installed.Goals as goal
 

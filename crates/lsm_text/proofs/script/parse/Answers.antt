@@ -1,10 +1,11 @@
 use Rattle.std.proofs.Common.{◌≡◌, ◌+◌, ◌∷◌, ◌++◌, [], ℕ, List, Some, Err, ap, sym, ◌∙◌, length, map, rules, arith}
 use Rattle.std.proofs.lemmas.List.{map-append}
-use Rattle.lsm_text.specs.Text.{words, lines, lines_left}
+use Rattle.lsm_line.specs.Text.{words, lines, lines_left}
 use Rattle.lsm_world.specs.Events.{event_of}
 use Rattle.lsm_coord.specs.Model.Event as say
 use Rattle.lsm_text.specs.Script.{events_of_words, events_from}
-use Rattle.lsm_text.proofs.ScriptSteps.{after, after_none, one_line, at_fault, at_end, lines-few}
+use Rattle.lsm_line.proofs.BatchSteps.{after, after_none}
+use Rattle.lsm_text.proofs.ScriptSteps.{one_line, at_fault, at_end, lines-few}
 use Rattle.lsm_text.proofs.script.parse.Goals as goal
 
 pub loop-line-init : goal.loop-line-init

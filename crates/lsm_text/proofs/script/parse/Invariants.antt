@@ -1,9 +1,9 @@
 -- the events so far, before those of the lines that are left
 use Rattle.std.proofs.Common.{◌≡◌, ◌+◌, ◌≤◌, map, length}
-use Rattle.lsm_text.specs.Text.{lines_left}
+use Rattle.lsm_line.specs.Text.{lines_left}
 use Rattle.lsm_world.specs.Events.{event_of}
 use Rattle.lsm_text.specs.Script.{script, events_from}
-use Rattle.lsm_text.proofs.ScriptSteps.{after}
+use Rattle.lsm_line.proofs.BatchSteps.{after}
 use Rattle.lsm_text.proofs.script.parse.Given as goal
 
 abbrev pub invariant-loop-line : goal.invariant-loop-line

@@ -1,0 +1,187 @@
+//! The commands that are one call of a store: each opens a folder, does one thing there, and ends.
+
+mod error;
+mod import;
+mod pairs;
+mod work;
+
+use crate::error::FAILED;
+use crate::session::answer::{Answer, answer_call};
+use crate::session::compact::{compact_all, write_due};
+use crate::session::lines::write_answer;
+use crate::session::stats::write_stats;
+use crate::{FolderStore, OpenStore, Place, Screen, check_streams};
+use bytes::Bytes;
+use error::OnceError;
+use import::import;
+use lsm_key::{Items, Op};
+use lsm_line::{Call, write_line_end};
+use lsm_stream::write_out;
+use pairs::write_pairs;
+use std::alloc::Global;
+use std::io::{self, Write};
+use std::process::ExitCode;
+use work::Work;
+
+/// How a value is written.
+#[derive(Clone, Copy, Debug, PartialEq, Eq)]
+pub enum Form {
+    /// Its bytes, and nothing else.
+    Bytes,
+    /// A line of two hexadecimal digits a byte.
+    Hex,
+}
+
+/// A command that is one call of a store. Keys and values are words, as a session reads them.
+#[derive(Clone, Copy)]
+pub enum Once<'a> {
+    /// Write the value of a key.
+    Get(&'a str, Form),
+    /// Put a key with its value.
+    Put(&'a str, &'a str),
+    /// Delete a key.
+    Delete(&'a str),
+    /// Write the first pairs from a key up to another one, at most so many.
+    Scan(&'a str, &'a str, u64),
+    /// Write the sequences and what each level has.
+    Stats,
+    /// Bring all into tables, and run the compactions that are due.
+    Compact,
+    /// Write all pairs as lines that a session or an import reads.
+    Export,
+    /// Put the pairs of such lines.
+    Import,
+}
+
+/// Does a command that is one call of the store of a folder. What it says that it wrote is synced. Only a put and an import make a
+/// folder that is not there. The exit status is 0 if it is done, 1 if the store or a stream failed, or a key has no value, and 2 if
+/// a word, or a line of an import, is refused.
+pub fn run_once(rt: &HostRuntime, place: Place<'_>, once: &Once<'_>) -> ExitCode {
+    let screen = match once {
+        Once::Compact | Once::Import => Screen::new(rt),
+        _ => Screen::still(rt),
+    };
+    let work = match begin(rt, once) {
+        Ok(work) => work,
+        Err(error) => return error.end(&screen),
+    };
+    let opened = if work.makes_folder() {
+        place.open(rt, &screen)
+    } else {
+        place.open_made(rt, &screen)
+    };
+    let mut opened = match opened {
+        Ok(opened) => opened,
+        Err(error) => return place.fail(rt, &screen, &error),
+    };
+    match act(rt, &mut opened, &screen, work) {
+        Ok(status) => status,
+        Err(error) => {
+            let status = error.end(&screen);
+            screen.report_device(&opened.incidents.take_error());
+            status
+        }
+    }
+}
+
+// Reads the words, before anything is touched.
+fn begin(rt: &HostRuntime, once: &Once<'_>) -> Result<Work, OnceError> {
+    check_streams(rt)?;
+    Work::of(rt.alloc(), once)
+}
+
+// Does it in an opened store.
+fn act(
+    rt: &HostRuntime,
+    opened: &mut OpenStore,
+    screen: &Screen<'_>,
+    work: Work,
+) -> Result<ExitCode, OnceError> {
+    let (alloc, store) = (rt.alloc(), &mut opened.store);
+    let writer = &mut io::writer(rt);
+    match work {
+        Work::Get(key, form) => return get(alloc, store, screen, &key, form, writer),
+        Work::Write(op) => write(alloc, store, op, writer)?,
+        Work::Pairs(range) => write_pairs(alloc, store, &range, writer)?,
+        Work::Stats => show_stats(alloc, store, writer)?,
+        Work::Compact => compact(alloc, store, screen, writer)?,
+        Work::Import => return import(rt, store, screen, writer),
+    }
+    Ok(ExitCode::SUCCESS)
+}
+
+// Writes the value of a key, or reports that it has none.
+fn get<W: Write>(
+    alloc: Global,
+    store: &mut FolderStore,
+    screen: &Screen<'_>,
+    key: &Bytes,
+    form: Form,
+    writer: &mut W,
+) -> Result<ExitCode, OnceError> {
+    let Some(value) = store.get(key.as_slice(), None)? else {
+        screen.report(&"the key has no value");
+        return Ok(ExitCode::from(FAILED));
+    };
+    let mut out = Vec::new(alloc);
+    match form {
+        Form::Bytes => out.extend_from_slice(value.as_slice())?,
+        Form::Hex => write_hex(&mut out, value.as_slice())?,
+    }
+    write_out(writer, &mut out)?;
+    Ok(ExitCode::SUCCESS)
+}
+
+// Appends a line of two hexadecimal digits a byte.
+fn write_hex(out: &mut Vec<u8>, bytes: &[u8]) -> Result<(), OnceError> {
+    for byte in bytes {
+        write!(out, "{byte:02x}").map_err(|_| OnceError::OutOfMemory)?;
+    }
+    Ok(write_line_end(out)?)
+}
+
+// Writes an operation, syncs it, and then writes its sequence.
+fn write<W: Write>(
+    alloc: Global,
+    store: &mut FolderStore,
+    op: Op,
+    writer: &mut W,
+) -> Result<(), OnceError> {
+    let ops = Items::from_vec(vec![in alloc; op]?);
+    let answer = answer_call(alloc, store, Call::Write(ops));
+    if let Answer::Refused(why) = answer {
+        return Err(OnceError::Refused(why));
+    }
+    store.sync().map_err(OnceError::NotSynced)?;
+    let mut out = Vec::new(alloc);
+    write_answer(alloc, &mut out, &answer)?;
+    Ok(write_out(writer, &mut out)?)
+}
+
+// Writes what a session's `stats` does.
+fn show_stats<W: Write>(
+    alloc: Global,
+    store: &mut FolderStore,
+    writer: &mut W,
+) -> Result<(), OnceError> {
+    let written = store.written()?;
+    let mut out = Vec::new(alloc);
+    write_stats(store, &mut out, written)?;
+    write_line_end(&mut out)?;
+    Ok(write_out(writer, &mut out)?)
+}
+
+// Brings all into tables, runs the compactions that are due, and writes what is still due.
+fn compact<W: Write>(
+    alloc: Global,
+    store: &mut FolderStore,
+    screen: &Screen<'_>,
+    writer: &mut W,
+) -> Result<(), OnceError> {
+    store.flush()?;
+    let due = compact_all(store, screen)?;
+    let mut out = Vec::new(alloc);
+    write_due(&mut out, due)?;
+    write_line_end(&mut out)?;
+    Ok(write_out(writer, &mut out)?)
+}

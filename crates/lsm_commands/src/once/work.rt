@@ -1,0 +1,59 @@
+//! What a command of one call does, once its words are read.
+
+use super::error::OnceError;
+use super::pairs::PairRange;
+use super::{Form, Once};
+use bytes::Bytes;
+use lsm_key::{Op, Refused};
+use lsm_line::key_or_value;
+use std::alloc::Global;
+
+/// What a command of one call does.
+#[derive(Drop)]
+pub(crate) enum Work {
+    Get(Bytes, Form),
+    Write(Op),
+    /// Write the pairs of a range.
+    Pairs(PairRange),
+    Stats,
+    Compact,
+    Import,
+}
+
+impl Work {
+    /// What a command does. Its words are read, and nothing else.
+    pub(crate) fn of(alloc: Global, once: &Once<'_>) -> Result<Work, OnceError> {
+        match once {
+            Once::Get(key, form) => Ok(Work::Get(bytes_of(alloc, key)?, *form)),
+            Once::Put(key, value) => {
+                let key = bytes_of(alloc, key)?;
+                let value = bytes_of(alloc, value)?;
+                Ok(Work::Write(Op::Put(key, value)))
+            }
+            Once::Delete(key) => Ok(Work::Write(Op::Delete(bytes_of(alloc, key)?))),
+            Once::Scan(lo, hi, limit) => {
+                let lo = bytes_of(alloc, lo)?;
+                let hi = bytes_of(alloc, hi)?;
+                Ok(Work::Pairs(PairRange::between(lo, hi, *limit)))
+            }
+            Once::Stats => Ok(Work::Stats),
+            Once::Compact => Ok(Work::Compact),
+            Once::Export => Ok(Work::Pairs(PairRange::all(alloc)?)),
+            Once::Import => Ok(Work::Import),
+        }
+    }
+
+    /// Whether it makes a folder that is not there.
+    pub(crate) fn makes_folder(&self) -> bool {
+        matches!(self, Work::Import | Work::Write(Op::Put(_, _)))
+    }
+}
+
+// The bytes that a word of the arguments stands for. An argument without a byte is the empty text.
+fn bytes_of(alloc: Global, word: &str) -> Result<Bytes, OnceError> {
+    match key_or_value(alloc, word.as_bytes()) {
+        Ok(bytes) => Ok(bytes),
+        Err(Refused::OutOfMemory) => Err(OnceError::OutOfMemory),
+        Err(Refused::Fault(_)) => Err(OnceError::NotAWord(String::from_str(alloc, word)?)),
+    }
+}

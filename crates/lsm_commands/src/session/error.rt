@@ -1,0 +1,44 @@
+//! Why a session ends before its input does.
+
+use lsm_store::StoreError;
+use lsm_stream::StreamError;
+use std::alloc::{AllocError, AllocFailed};
+use thiserror::Error;
+
+/// Why a session ends before its input does.
+#[derive(Clone, Copy, Debug, PartialEq, Eq, Error)]
+pub(crate) enum SessionError {
+    /// A command could not be read.
+    #[error("read fault")]
+    ReadFault,
+    /// An answer could not be written. A part of it may have been.
+    #[error("write fault")]
+    WriteFault,
+    #[error("out of memory")]
+    OutOfMemory,
+    /// The store could not be synced. What was written since the last sync is not answered, and may be lost.
+    #[error("error: not synced: {0}")]
+    NotSynced(StoreError),
+}
+
+impl From<AllocError> for SessionError {
+    fn from(_e: AllocError) -> SessionError {
+        SessionError::OutOfMemory
+    }
+}
+
+impl<T: Drop> From<AllocFailed<T>> for SessionError {
+    fn from(_e: AllocFailed<T>) -> SessionError {
+        SessionError::OutOfMemory
+    }
+}
+
+impl From<StreamError> for SessionError {
+    fn from(why: StreamError) -> SessionError {
+        match why {
+            StreamError::ReadFault => SessionError::ReadFault,
+            StreamError::WriteFault => SessionError::WriteFault,
+            StreamError::OutOfMemory => SessionError::OutOfMemory,
+        }
+    }
+}

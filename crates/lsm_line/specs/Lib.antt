@@ -1,0 +1,5 @@
+pub mod Text
+pub mod Numbers
+pub mod Tokens
+pub mod Commands
+pub mod Lines

@@ -1,0 +1,107 @@
+//! What the options of a command of a store ask for, and its run.
+
+use crate::limits::limits_in;
+use clap::ArgMatches;
+use lsm_commands::{
+    LogSync, Place, check_folder, dispatch_jobs, dump_folder, dump_log, run_session, serve_folder,
+    serve_memory, work,
+};
+use lsm_key::Limits;
+use lsm_msg::NodeIndex;
+use std::process::ExitCode;
+
+/// A command of a store.
+#[derive(Clone, Copy)]
+pub enum StoreCommand<'a> {
+    /// Answer commands to the store of a folder.
+    Store(Place<'a>),
+    /// Verify the files of a folder.
+    Check(&'a str),
+    /// Print the records of the log of a folder.
+    DumpLog(&'a str),
+    /// Print the entries of the tables of a folder.
+    Dump(&'a str),
+    /// Answer requests of Redis clients, to the store of a folder.
+    Serve(Place<'a>),
+    /// Answer requests of Redis clients, to a new store in memory.
+    ServeMemory(Limits),
+    /// Merge the jobs that come, as the worker of this index.
+    Work(NodeIndex),
+    /// Have the compactions of a folder's store made by workers, of which the last has this index.
+    Dispatch(Place<'a>, NodeIndex),
+}
+
+impl<'a> StoreCommand<'a> {
+    /// The command of this name, by its options, or `None` if the name is another one or a limit is outside its range.
+    pub fn of(name: &str, options: &ArgMatches<'a>) -> Option<StoreCommand<'a>> {
+        match name {
+            "store" => Some(StoreCommand::Store(place_in(options, LogSync::Each)?)),
+            "check" => Some(StoreCommand::Check(options.get_str("dir")?)),
+            "dump" if options.get_flag("log") => {
+                Some(StoreCommand::DumpLog(options.get_str("dir")?))
+            }
+            "dump" => Some(StoreCommand::Dump(options.get_str("dir")?)),
+            "serve" if options.get_str("dir").is_some() => {
+                Some(StoreCommand::Serve(place_in(options, LogSync::Asked)?))
+            }
+            "serve" => Some(StoreCommand::ServeMemory(limits_in(options)?)),
+            "worker" => Some(StoreCommand::Work(index_in(options, "index", 1)?)),
+            "dispatch" => {
+                let workers = index_in(options, "workers", 2)?;
+                Some(StoreCommand::Dispatch(place_in(options, LogSync::Each)?, workers))
+            }
+            _ => None,
+        }
+    }
+
+    /// Its name, as it is typed.
+    pub fn name(&self) -> &'static str {
+        match self {
+            StoreCommand::Store(_) => "store",
+            StoreCommand::Check(_) => "check",
+            StoreCommand::DumpLog(_) | StoreCommand::Dump(_) => "dump",
+            StoreCommand::Serve(_) | StoreCommand::ServeMemory(_) => "serve",
+            StoreCommand::Work(_) => "worker",
+            StoreCommand::Dispatch(_, _) => "dispatch",
+        }
+    }
+
+    /// Runs it, and returns the exit status.
+    pub fn run(self, rt: &HostRuntime) -> ExitCode {
+        match self {
+            StoreCommand::Store(place) => run_session(rt, place),
+            StoreCommand::Check(folder) => check_folder(rt, folder),
+            StoreCommand::DumpLog(folder) => dump_log(rt, folder),
+            StoreCommand::Dump(folder) => dump_folder(rt, folder),
+            StoreCommand::Serve(place) => serve_folder(rt, place),
+            StoreCommand::ServeMemory(limits) => serve_memory(rt, limits),
+            StoreCommand::Work(index) => work(rt, index),
+            StoreCommand::Dispatch(place, workers) => dispatch_jobs(rt, place, workers),
+        }
+    }
+}
+
+/// When the option `--sync` has the log of a folder synced.
+fn log_sync_in(options: &ArgMatches<'_>, default: LogSync) -> LogSync {
+    match options.get_str("sync") {
+        Some("each") => LogSync::Each,
+        Some("asked") => LogSync::Asked,
+        Some("gathered") => LogSync::Gathered,
+        _ => default,
+    }
+}
+
+/// The folder, the limits and the way of syncing that the options of a command ask for.
+fn place_in<'a>(options: &ArgMatches<'a>, default: LogSync) -> Option<Place<'a>> {
+    Some(Place {
+        folder: options.get_str("dir")?,
+        limits: limits_in(options)?,
+        log_sync: log_sync_in(options, default),
+    })
+}
+
+/// The index that an option names, or its default.
+fn index_in(options: &ArgMatches<'_>, name: &str, default: u64) -> Option<NodeIndex> {
+    let number = options.get_one(name).unwrap_or(default);
+    NodeIndex::new(u8::try_from(number).ok()?)
+}

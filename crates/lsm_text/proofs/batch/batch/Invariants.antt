@@ -1,9 +1,0 @@
--- the operations so far, before those of the words that are left
-use Rattle.std.proofs.Common.{◌≡◌}
-use Rattle.lsm_text.specs.Text.{words}
-use Rattle.lsm_text.specs.Script.{operations}
-use Rattle.lsm_text.proofs.ScriptSteps.{after}
-use Rattle.lsm_text.proofs.batch.batch.Given as goal
-
-abbrev pub invariant-loop-name : goal.invariant-loop-name
-invariant-loop-name l = operations (words l.fn.args.rest.now) ≡ after l.ops.items (operations (words l.args.rest.now))
