@@ -9,7 +9,9 @@ use Rattle.lsm_line.specs.declared.fault.Reason.{Reason}
 use Rattle.lsm_line.specs.declared.fault.Reason.TheVariants.{WrongWordCount, BadNumber, BadName, BadToken}
 use Rattle.lsm_line.specs.declared.call.Call.{Call}
 use Rattle.lsm_line.specs.declared.call.Call.TheVariants as call
+use Rattle.lsm_line.specs.declared.words.Words.{Words}
 use Rattle.lsm_line.specs.Numbers.{number}
+use Rattle.lsm_line.specs.Text.{words}
 use Rattle.lsm_line.specs.Tokens.{token}
 use Rattle.lsm_coord.specs.declared.snapshot.SnapId.{SnapId}
 use Rattle.lsm_coord.specs.Model.Event as say
@@ -23,6 +25,10 @@ call_event (call.Release id) = say.Release id
 call_event (call.Get key at) = say.Get key at
 call_event (call.Scan range) = say.Scan range.lo range.hi range.at range.limit
 call_event call.Show = say.Show say.Coordinator
+
+-- the words that are left of a line
+abbrev pub words_left : Words → List (List ℕ)
+words_left line = words line.rest.now
 
 -- a key or value word
 abbrev pub key_or_value : List ℕ → Result (List ℕ) Reason

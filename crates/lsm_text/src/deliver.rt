@@ -3,7 +3,7 @@
 ghost use Rattle.std.specs.Prelude.{◌≡◌, ◌+◌, ◌≤◌, IfOk, IfSome, map, position};
 ghost use Rattle.lsm_key.specs.Reading.{Gives};
 ghost use Rattle.lsm_world.specs.Events.{event_of};
-ghost use Rattle.lsm_line.specs.Text.{words};
+ghost use Rattle.lsm_line.specs.Commands.{words_left};
 ghost use Rattle.lsm_text.specs.Deliveries.{is_dash, range_between, read_range, deliveries, deliver};
 
 use lsm_key::Refused;
@@ -16,7 +16,7 @@ const MAX_DELIVERIES: u64 = 1_000;
 
 /// `deliver M`, or `deliver A-B`
 pub fn deliver(alloc: Global, mut args: Words<'_>) -> Result<Vec<Event>, Refused<Reason>>
-    ensures { Gives (λ events. map event_of events.items) result (deliver (words args.entry.rest.now)) }
+    ensures { Gives (λ events. map event_of events.items) result (deliver (words_left args.entry)) }
 {
     let (Some(word), None) = (args.next(), args.next()) else {
         return Err(Refused::Fault(Reason::WrongWordCount));

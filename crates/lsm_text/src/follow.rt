@@ -2,7 +2,7 @@
 
 ghost use Rattle.lsm_key.specs.Reading.{Gives};
 ghost use Rattle.lsm_world.specs.Events.{event_of};
-ghost use Rattle.lsm_line.specs.Text.{words};
+ghost use Rattle.lsm_line.specs.Commands.{words_left};
 ghost use Rattle.lsm_text.specs.Script.{ask, read};
 
 use crate::names::read_index;
@@ -14,7 +14,7 @@ use std::alloc::Global;
 
 /// `ask I`
 pub fn ask(mut args: Words<'_>) -> Result<Event, Refused<Reason>>
-    ensures { Gives event_of result (ask (words args.entry.rest.now)) }
+    ensures { Gives event_of result (ask (words_left args.entry)) }
 {
     let (Some(word), None) = (args.next(), args.next()) else {
         return Err(Refused::Fault(Reason::WrongWordCount));
@@ -25,7 +25,7 @@ pub fn ask(mut args: Words<'_>) -> Result<Event, Refused<Reason>>
 
 /// `read I K`
 pub fn read(alloc: Global, mut args: Words<'_>) -> Result<Event, Refused<Reason>>
-    ensures { Gives event_of result (read (words args.entry.rest.now)) }
+    ensures { Gives event_of result (read (words_left args.entry)) }
 {
     let (Some(word), Some(key), None) = (args.next(), args.next(), args.next()) else {
         return Err(Refused::Fault(Reason::WrongWordCount));

@@ -3,7 +3,7 @@
 ghost use Rattle.std.specs.Prelude.{◌≡◌};
 ghost use Rattle.lsm_key.specs.Reading.{Gives};
 ghost use Rattle.lsm_world.specs.Events.{event_of};
-ghost use Rattle.lsm_line.specs.Text.{words};
+ghost use Rattle.lsm_line.specs.Commands.{words_left};
 ghost use Rattle.lsm_text.specs.Nodes.{index_of, index_or_fault};
 ghost use Rattle.lsm_line.specs.Numbers.{number};
 ghost use Rattle.lsm_text.specs.Script.{pick, give_up, restart, restart_other};
@@ -16,7 +16,7 @@ use lsm_world::Event;
 
 /// `pick D`
 pub fn pick(mut args: Words<'_>) -> Result<Event, Refused<Reason>>
-    ensures { Gives event_of result (pick (words args.entry.rest.now)) }
+    ensures { Gives event_of result (pick (words_left args.entry)) }
 {
     let (Some(word), None) = (args.next(), args.next()) else {
         return Err(Refused::Fault(Reason::WrongWordCount));
@@ -27,7 +27,7 @@ pub fn pick(mut args: Words<'_>) -> Result<Event, Refused<Reason>>
 
 /// `giveup D`
 pub fn give_up(mut args: Words<'_>) -> Result<Event, Refused<Reason>>
-    ensures { Gives event_of result (give_up (words args.entry.rest.now)) }
+    ensures { Gives event_of result (give_up (words_left args.entry)) }
 {
     let (Some(word), None) = (args.next(), args.next()) else {
         return Err(Refused::Fault(Reason::WrongWordCount));
@@ -38,7 +38,7 @@ pub fn give_up(mut args: Words<'_>) -> Result<Event, Refused<Reason>>
 
 /// `restart c`, `restart wD`, `restart fI`
 pub fn restart(mut args: Words<'_>) -> Result<Event, Refused<Reason>>
-    ensures { Gives event_of result (restart (words args.entry.rest.now)) }
+    ensures { Gives event_of result (restart (words_left args.entry)) }
 {
     let (Some(node), None) = (args.next(), args.next()) else {
         return Err(Refused::Fault(Reason::WrongWordCount));

@@ -5,7 +5,7 @@ ghost use Rattle.std.specs.Prelude.{◌≡◌, ◌∷◌, [], Ok, map};
 ghost use Rattle.lsm_key.specs.Reading.{Gives};
 ghost use Rattle.lsm_world.specs.Events.{event_of};
 ghost use Rattle.lsm_line.specs.Text.{words};
-ghost use Rattle.lsm_line.specs.Commands.{call_event};
+ghost use Rattle.lsm_line.specs.Commands.{call_event, words_left};
 ghost use Rattle.lsm_text.specs.Script.{events_of_command, events_of_words, script, freeze, show, show_follower, trim};
 
 use crate::command::Command;
@@ -22,7 +22,7 @@ use std::alloc::Global;
 
 /// `freeze`
 fn freeze(mut args: Words<'_>) -> Result<Event, Refused<Reason>>
-    ensures { Gives event_of result (freeze (words args.entry.rest.now)) }
+    ensures { Gives event_of result (freeze (words_left args.entry)) }
 {
     match args.next() {
         None => Ok(Event::Freeze),
@@ -32,7 +32,7 @@ fn freeze(mut args: Words<'_>) -> Result<Event, Refused<Reason>>
 
 /// `show c`, `show fI`
 fn show(mut args: Words<'_>) -> Result<Event, Refused<Reason>>
-    ensures { Gives event_of result (show (words args.entry.rest.now)) }
+    ensures { Gives event_of result (show (words_left args.entry)) }
 {
     let (Some(node), None) = (args.next(), args.next()) else {
         return Err(Refused::Fault(Reason::WrongWordCount));
@@ -56,7 +56,7 @@ fn show_follower(follower: Option<NodeIndex>) -> Result<Event, Refused<Reason>>
 
 /// `trim N`
 fn trim(mut args: Words<'_>) -> Result<Event, Refused<Reason>>
-    ensures { Gives event_of result (trim (words args.entry.rest.now)) }
+    ensures { Gives event_of result (trim (words_left args.entry)) }
 {
     let (Some(version), None) = (args.next(), args.next()) else {
         return Err(Refused::Fault(Reason::WrongWordCount));
@@ -100,7 +100,7 @@ fn asked(
     command: Option<Command>,
     args: Words<'_>,
 ) -> Result<Vec<Event>, Refused<Reason>>
-    ensures { Gives (λ events. map event_of events.items) result (events_of_command command (words args.entry.rest.now)) }
+    ensures { Gives (λ events. map event_of events.items) result (events_of_command command (words_left args.entry)) }
 {
     match command {
         None => Err(Refused::Fault(Reason::UnknownCommand)),
