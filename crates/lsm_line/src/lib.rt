@@ -6,29 +6,29 @@
 //! snapshots, listings and refusals, and on `lsm_key` for operations.
 #![tactic(auto)]
 
-mod batch;
 mod call;
 mod commands;
 mod fault;
 mod lines;
 mod listing;
 mod number;
+mod operations;
+mod ranges;
 mod refusals;
-mod scan;
 mod snapshot;
 mod text;
 mod token;
 mod words;
 
-pub use batch::batch;
 pub use call::Call;
 pub use commands::{delete, flush, get, put, release, show_store, snap};
 pub use fault::Reason;
 pub use lines::{write_got, write_released, write_scanned, write_snapped, write_wrote};
 pub use listing::write_shown;
 pub use number::read_number;
+pub use operations::batch;
+pub use ranges::{counted, scan};
 pub use refusals::{coord_name, key_name};
-pub use scan::{counted, scan};
 pub use text::{write_bytes, write_line_end, write_name, write_number, write_numbers, write_text};
 pub use token::key_or_value;
 pub use words::{Lines, Words};

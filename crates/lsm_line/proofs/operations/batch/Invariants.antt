@@ -3,7 +3,7 @@ use Rattle.std.proofs.Common.{◌≡◌}
 use Rattle.lsm_line.specs.Text.{words}
 use Rattle.lsm_line.specs.Commands.{operations}
 use Rattle.lsm_line.proofs.BatchSteps.{after}
-use Rattle.lsm_line.proofs.batch.batch.Given as goal
+use Rattle.lsm_line.proofs.operations.batch.Given as goal
 
 abbrev pub invariant-loop-name : goal.invariant-loop-name
 invariant-loop-name l = operations (words l.fn.args.rest.now) ≡ after l.ops.items (operations (words l.args.rest.now))

@@ -3,7 +3,7 @@ use Rattle.lsm_key.specs.Reading.{Fails}
 use Rattle.lsm_line.specs.Text.{words}
 use Rattle.lsm_line.specs.Commands.{operations}
 use Rattle.lsm_line.proofs.BatchSteps.{after, after_none, one_operation, batch_fails, batch_ends}
-use Rattle.lsm_line.proofs.batch.batch.Goals as goal
+use Rattle.lsm_line.proofs.operations.batch.Goals as goal
 
 pub loop-name-init : goal.loop-name-init
 loop-name-init c = rw c.new-ops.ensures.items (sym (after_none (operations (words c.args.args.rest.now))))
