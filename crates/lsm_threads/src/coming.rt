@@ -8,8 +8,10 @@ ghost use Rattle.lsm_threads.specs.declared.ending.Ending.TheVariants.{OutOfMemo
 
 use crate::ending::{Ending, OfMail};
 use crate::follower::follower_loop;
+use crate::mail::ChannelPort;
 use crate::serve::serve_loop;
-use crossbeam_channel::unbounded;
+use bytes::Bytes;
+use crossbeam_channel::{Receiver, Sender, unbounded};
 use lsm_follow::Follower;
 use lsm_key::VersionNumber;
 use lsm_nodes::{Hub, Start, Witness};
@@ -64,21 +66,29 @@ pub fn come_to<
                 OfMail,
                 move || -> Ending
                     ensures { IsOfMail result }
-                { serve_loop(rt, alloc, hub, questions, answers) },
+                { serve(rt, alloc, hub, questions, answers) },
             );
             let Ok(answering) = answering else {
                 return Err((follower, writer));
             };
-            let (follower, writer, ending) = follower_loop(
-                rt,
-                alloc,
-                follower,
-                writer,
-                inbox,
-                to_coordinator,
-                goal,
-            );
+            let mut port = ChannelPort::new(rt, alloc, inbox, to_coordinator);
+            let (follower, writer, ending) = follower_loop(rt, follower, writer, &mut port, goal);
+            drop(port);
             Ok((follower, writer, ending.cause(answering.join(rt))))
         },
     )
+}
+
+// The loop that answers a follower, and how it ended.
+fn serve<V: Vault, J: Start, N: Witness + Drop, R: Wait>(
+    rt: &R,
+    alloc: Global,
+    hub: &Hub<V, J, N>,
+    from: Receiver<Bytes>,
+    to: Sender<Bytes>,
+) -> Ending
+    ensures { IsOfMail result }
+{
+    let mut port = ChannelPort::new(rt, alloc, from, to);
+    serve_loop(rt, hub, &mut port)
 }

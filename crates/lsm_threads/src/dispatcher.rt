@@ -5,7 +5,8 @@ ghost use Rattle.lsm_nodes.specs.Tallies.{IsDispatched};
 ghost use Rattle.lsm_threads.specs.Endings.{IsOfWorker};
 
 use crate::ending::Ending;
-use crate::link::ChannelLink;
+use crate::link::WorkerLink;
+use crate::mail::ChannelPort;
 use crate::worker::worker_loop;
 use bytes::Bytes;
 use crossbeam_channel::{Receiver, Sender, unbounded};
@@ -59,7 +60,8 @@ pub fn dispatch_with_worker<
             let Ok(working) = scope.spawn(move || work(rt, alloc, index, inbox, outbox)) else {
                 return Err(tally);
             };
-            let mut link = ChannelLink::new(rt, alloc, hub, index, to_worker, from_worker);
+            let port = ChannelPort::new(rt, alloc, from_worker, to_worker);
+            let mut link = WorkerLink::new(rt, hub, index, port);
             let tally = rounds_by(rt, hub, &mut link, rounds, is_over, tally);
             let lost = link.lost();
             drop(link);
@@ -79,7 +81,8 @@ fn work<R: Wait>(
 ) -> Ending
     ensures { IsOfWorker result }
 {
-    let (_worker, ending) = worker_loop(rt, alloc, Worker::new(alloc, index), from, to);
+    let mut port = ChannelPort::new(rt, alloc, from, to);
+    let (_worker, ending) = worker_loop(rt, Worker::new(alloc, index), &mut port);
     ending
 }
 

@@ -9,14 +9,11 @@ ghost use Rattle.lsm_threads.specs.Following.{IsInStep, LeavesFollower, IsShown}
 ghost use Rattle.lsm_threads.specs.declared.ending.Ending.TheVariants.{OutOfMemory};
 
 use crate::ending::Ending;
-use crate::mail::{receive, send, send_all};
-use bytes::Bytes;
-use crossbeam_channel::{Receiver, Sender};
+use crate::port::{Port, send_all};
 use lsm_follow::{FollowChange, Follower};
 use lsm_key::VersionNumber;
 use lsm_msg::Message;
 use lsm_readers::{LogName, Publisher};
-use std::alloc::Global;
 use std::sync::Wait;
 
 /// Publishes a follower's version if readers are not shown it, asks for what comes after it, hands the follower what comes, sends what it
@@ -24,13 +21,11 @@ use std::sync::Wait;
 /// it, or if it is told that it is current, a channel is closed, what came is no message, or memory runs out. Unless memory ran out,
 /// readers are then shown the follower's version; if it did, what was taken last is that or an earlier one, and the next call publishes it.
 #[tactic(auto, using(lsm_readers::proofs::Beginnings::prefix_trans))]
-pub fn follower_loop<J: LogName, R: Wait, W: Wait + Drop>(
+pub fn follower_loop<J: LogName, P: Port, R: Wait, W: Wait + Drop>(
     rt: &R,
-    alloc: Global,
     mut follower: Follower,
     mut writer: Publisher<J, W>,
-    from: Receiver<Bytes>,
-    to: Sender<Bytes>,
+    port: &mut P,
     goal: VersionNumber,
 ) -> (Follower, Publisher<J, W>, Ending)
     requires { IsInStep follower.served writer.taken }
@@ -40,11 +35,11 @@ pub fn follower_loop<J: LogName, R: Wait, W: Wait + Drop>(
     ensures shown { result.2 ≢ OutOfMemory → IsShown result.0.served result.1 }
     ensures ends { EndsAt goal result.0.served.version.number result.2 }
 {
-    if let Err(ending) = begin(rt, alloc, &follower, &mut writer, &to, goal) {
+    if let Err(ending) = begin(&follower, &mut writer, port, goal) {
         return (follower, writer, ending);
     }
     for _ in rt.forever() {
-        if let Err(ending) = turn(rt, alloc, &mut follower, &mut writer, &from, &to, goal) {
+        if let Err(ending) = turn(&mut follower, &mut writer, port, goal) {
             return (follower, writer, ending);
         }
     }
@@ -53,12 +48,10 @@ pub fn follower_loop<J: LogName, R: Wait, W: Wait + Drop>(
 
 // Publishes the follower's version if readers are not shown it, and asks for what comes after it, unless the loop ends.
 #[tactic(auto, using(crate::proofs::Ended::left_by_mail))]
-fn begin<J: LogName, R: Wait, W: Wait + Drop>(
-    rt: &R,
-    alloc: Global,
+fn begin<J: LogName, P: Port, W: Wait + Drop>(
     follower: &Follower,
     writer: &mut Publisher<J, W>,
-    to: &Sender<Bytes>,
+    port: &mut P,
     goal: VersionNumber,
 ) -> Result<(), Ending>
     requires { IsInStep follower.now.served writer.old.taken }
@@ -68,19 +61,16 @@ fn begin<J: LogName, R: Wait, W: Wait + Drop>(
     ensures err { IfErr result (LeavesFollower goal follower.now.served writer.new) }
 {
     show(follower, writer, goal)?;
-    send(rt, alloc, to, &follower.ask())
+    port.send(&follower.ask())
 }
 
 // Waits for a message, hands it to the follower, publishes the version that it moves to, and sends what it answers and asks, unless the
 // loop ends.
 #[tactic(auto, using(crate::proofs::InStep::in_step_onward, crate::proofs::Ended::left_by_mail, lsm_readers::proofs::Beginnings::prefix_self))]
-fn turn<J: LogName, R: Wait, W: Wait + Drop>(
-    rt: &R,
-    alloc: Global,
+fn turn<J: LogName, P: Port, W: Wait + Drop>(
     follower: &mut Follower,
     writer: &mut Publisher<J, W>,
-    from: &Receiver<Bytes>,
-    to: &Sender<Bytes>,
+    port: &mut P,
     goal: VersionNumber,
 ) -> Result<(), Ending>
     requires shown { IsShown follower.old.served writer.old }
@@ -91,28 +81,26 @@ fn turn<J: LogName, R: Wait, W: Wait + Drop>(
     ensures ok { OnOk result (IsShown follower.new.served writer.new × (follower.new.served.version.number < goal)) }
     ensures err { IfErr result (LeavesFollower goal follower.new.served writer.new) }
 {
-    let (change, sent) = hand_over(rt, alloc, follower, from)?;
+    let (change, sent) = hand_over(follower, port)?;
     show(follower, writer, goal)?;
-    send_all(rt, alloc, to, sent.as_slice())?;
+    send_all(port, sent.as_slice())?;
     match change {
-        FollowChange::Version(_) | FollowChange::Dropped => send(rt, alloc, to, &follower.ask()),
+        FollowChange::Version(_) | FollowChange::Dropped => port.send(&follower.ask()),
         FollowChange::Waiting(_) | FollowChange::Ignored => Ok(()),
         FollowChange::Current => Err(Ending::Current),
     }
 }
 
 // What comes of the next message, unless the channel is closed, what came is no message, or memory runs out, which changes nothing.
-fn hand_over<R: Wait>(
-    rt: &R,
-    alloc: Global,
+fn hand_over<P: Port>(
     follower: &mut Follower,
-    from: &Receiver<Bytes>,
+    port: &mut P,
 ) -> Result<(FollowChange, Vec<Message>), Ending>
     ensures onward { IsOnward follower.old.served follower.new.served }
     ensures sound { IfOk result (λ r. All IsMessage r.1.items) }
     ensures err { IfErr result (λ e. IsOfMail e × (follower.new.served ≡ follower.old.served)) }
 {
-    let message = receive(rt, alloc, from)?;
+    let message = port.receive()?;
     let made = follower.on_message(&message);
     drop(message);
     match made {

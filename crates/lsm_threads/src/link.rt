@@ -1,49 +1,63 @@
 //! The link to a worker that runs in a thread of its own.
 
-ghost use Rattle.std.specs.Prelude.{◌≡◌, IfErr, IfOk, IfSome};
+ghost use Rattle.std.specs.Prelude.{◌≡◌, ◌∷◌, [], IfErr, IfOk, IfSome, OnOk};
+ghost use Rattle.lsm_msg.specs.declared.message.Body.TheVariants as body;
+ghost use Rattle.lsm_threads.specs.Ports.{Traffic};
+ghost use Rattle.lsm_threads.specs.Serving.{BringsBack, FindsNext, sent_job};
 
 use crate::ending::Ending;
-use crate::mail::{receive, send};
+use crate::port::Port;
 use crate::serve::answer;
-use bytes::Bytes;
-use crossbeam_channel::{Receiver, Sender};
 use lsm_claim::JobId;
 use lsm_msg::{Body, Job, JobResult, Message, NodeIndex};
 use lsm_nodes::{Hub, Link, Start, Witness};
 use lsm_vault::Vault;
-use std::alloc::Global;
+use std::marker::Model;
 use std::sync::Wait;
 
-/// Carries jobs to a worker over a channel, answers what it asks, and takes the result that names the job. It carries
-/// nothing back if a channel is closed, what came is no message, a message is too large, or memory runs out, and remembers which.
+/// Carries jobs to a worker over a port, answers what it asks, and takes the result that names the job. It carries nothing back if a
+/// channel is closed, what came is no message, a message is too large, or memory runs out, and remembers which. Contracts see what came
+/// and was sent, if the port knows it.
 #[derive(Drop)]
-pub struct ChannelLink<'a, V: Vault, J: Start, N: Witness + Drop, R: Wait> {
+pub struct WorkerLink<'a, V: Vault, J: Start, N: Witness + Drop, P: Port + Drop, R: Wait> {
     rt: &'a R,
-    alloc: Global,
     hub: &'a Hub<V, J, N>,
     worker: NodeIndex,
-    to: Sender<Bytes>,
-    from: Receiver<Bytes>,
+    port: P,
     lost: Option<Ending>,
 }
 
-impl<'a, V: Vault, J: Start, N: Witness + Drop, R: Wait> ChannelLink<'a, V, J, N, R> {
-    /// A link to the worker of this index, by a channel to it and one from it.
+impl<'a, V: Vault, J: Start, N: Witness + Drop, P: Port + Drop, R: Wait> Model
+    for WorkerLink<'a, V, J, N, P, R> {
+    ghost use Rattle.lsm_threads.specs.Serving.{LinkValue};
+
+    ghost Value = { LinkValue };
+
+    ghost view = { λ l. record { worker = l.worker; got = P.got l.port; sent = P.sent l.port } };
+}
+
+impl<'a, V: Vault, J: Start, N: Witness + Drop, P: Port + Drop, R: Wait> WorkerLink<
+    'a,
+    V,
+    J,
+    N,
+    P,
+    R,
+> {
+    /// A link to the worker of this index, by a port to it.
     pub fn new(
         rt: &'a R,
-        alloc: Global,
         hub: &'a Hub<V, J, N>,
         worker: NodeIndex,
-        to: Sender<Bytes>,
-        from: Receiver<Bytes>,
-    ) -> ChannelLink<'a, V, J, N, R> {
-        ChannelLink {
+        port: P,
+    ) -> WorkerLink<'a, V, J, N, P, R>
+        ensures { result ≡ record { worker = worker; got = P.got port; sent = P.sent port } }
+    {
+        WorkerLink {
             rt,
-            alloc,
             hub,
             worker,
-            to,
-            from,
+            port,
             lost: None,
         }
     }
@@ -52,51 +66,15 @@ impl<'a, V: Vault, J: Start, N: Witness + Drop, R: Wait> ChannelLink<'a, V, J, N
     pub fn lost(&self) -> Option<Ending> {
         self.lost
     }
-
-    // Sends the worker a job.
-    fn hand_out(&self, job: Job) -> Result<(), Ending> {
-        let message = Message::to_worker(self.worker, job);
-        let sent = send(self.rt, self.alloc, &self.to, &message);
-        drop(message);
-        sent
-    }
-
-    // Waits for a message: the result of this job, or a question, which it answers.
-    fn next_result(&self, id: JobId) -> Result<Option<JobResult>, Ending>
-        ensures { IfOk result (λ found. IfSome found (λ made. made.job ≡ id)) }
-    {
-        let message = receive(self.rt, self.alloc, &self.from)?;
-        match result_of(message, id) {
-            Ok(made) => Ok(Some(made)),
-            Err(asked) => {
-                let answered = answer(self.rt, self.alloc, self.hub, &asked, &self.to);
-                drop(asked);
-                answered?;
-                Ok(None)
-            }
-        }
-    }
-
-    // Hands the job out, and waits for its result.
-    fn result_for(&self, job: Job) -> Result<JobResult, Ending>
-        ensures { IfOk result (λ made. made.job ≡ job.id) }
-    {
-        let id = job.id();
-        self.hand_out(job)?;
-        for _ in self.rt.forever() {
-            if let Some(made) = self.next_result(id)? {
-                return Ok(made);
-            }
-        }
-        unreachable!()
-    }
 }
 
-impl<V: Vault, J: Start, N: Witness + Drop, R: Wait> Link for ChannelLink<'_, V, J, N, R> {
+impl<V: Vault, J: Start, N: Witness + Drop, P: Port + Drop, R: Wait> Link
+    for WorkerLink<'_, V, J, N, P, R> {
     fn carry(&mut self, job: Job) -> Option<JobResult>
-        ensures { IfSome result (λ made. made.job ≡ job.id) }
+        ensures named { IfSome result (λ made. made.job ≡ job.id) }
+        ensures brought { IfSome result (BringsBack self.old.worker job self.old.got self.new.got self.old.sent self.new.sent) }
     {
-        match self.result_for(job) {
+        match result_for(self.rt, self.hub, &mut self.port, self.worker, job) {
             Ok(made) => {
                 self.lost = None;
                 Some(made)
@@ -109,9 +87,60 @@ impl<V: Vault, J: Start, N: Witness + Drop, R: Wait> Link for ChannelLink<'_, V,
     }
 }
 
+// Hands the job out, and waits for its result.
+#[tactic(auto, using(crate::proofs::LinkSteps::carries_none, crate::proofs::LinkSteps::carries_more, crate::proofs::LinkSteps::brings_back))]
+fn result_for<V: Vault, J: Start, N: Witness + Drop, P: Port, R: Wait>(
+    rt: &R,
+    hub: &Hub<V, J, N>,
+    port: &mut P,
+    worker: NodeIndex,
+    job: Job,
+) -> Result<JobResult, Ending>
+    ensures named { IfOk result (λ made. made.job ≡ job.id) }
+    ensures brought { IfOk result (BringsBack worker job (P.got port.old) (P.got port.new) (P.sent port.old) (P.sent port.new)) }
+{
+    let id = job.id();
+    hand_out(port, worker, job)?;
+    for _ in rt.forever() {
+        if let Some(made) = next_result(rt, hub, port, id)? {
+            return Ok(made);
+        }
+    }
+    unreachable!()
+}
+
+// Sends the worker a job.
+fn hand_out<P: Port>(port: &mut P, worker: NodeIndex, job: Job) -> Result<(), Ending>
+    ensures { OnOk result (Traffic (P.got port.old) (P.got port.new) (P.sent port.old) (P.sent port.new) [] (sent_job worker job ∷ [])) }
+{
+    let message = Message::to_worker(worker, job);
+    port.send(&message)?;
+    Ok(())
+}
+
+// Waits for a message: the result of this job, or a question, which it answers.
+#[tactic(auto, using(crate::proofs::LinkSteps::finds_result, crate::proofs::LinkSteps::finds_question))]
+fn next_result<V: Vault, J: Start, N: Witness + Drop, P: Port, R: Wait>(
+    rt: &R,
+    hub: &Hub<V, J, N>,
+    port: &mut P,
+    id: JobId,
+) -> Result<Option<JobResult>, Ending>
+    ensures { IfOk result (FindsNext id (P.got port.old) (P.got port.new) (P.sent port.old) (P.sent port.new)) }
+{
+    let message = port.receive()?;
+    match result_of(message, id) {
+        Ok(made) => Ok(Some(made)),
+        Err(asked) => {
+            answer(rt, hub, &asked, port)?;
+            Ok(None)
+        }
+    }
+}
+
 // The result of this job, or else the message.
 fn result_of(message: Message, id: JobId) -> Result<JobResult, Message>
-    ensures ok { IfOk result (λ made. made.job ≡ id) }
+    ensures ok { IfOk result (λ made. (made.job ≡ id) × (message.body ≡ body.Result made)) }
     ensures err { IfErr result (λ m. m ≡ message) }
 {
     let Message { src, dst, body } = message;

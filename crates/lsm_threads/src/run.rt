@@ -1,11 +1,12 @@
 //! A store that threads share, from its writes to the reads of a follower.
 
-ghost use Rattle.std.specs.Prelude.{◌≡◌, ◌≤◌, All, IfOk, []};
+ghost use Rattle.std.specs.Prelude.{◌≡◌, ◌≢◌, ◌≤◌, All, IfOk, []};
 ghost use Rattle.lsm_threads.specs.Rounds.{AreSettled};
 
 mod fill;
 mod follow;
 mod merge;
+mod script;
 
 use crate::ending::Ending;
 use crate::error::ThreadsError;
@@ -19,6 +20,7 @@ use lsm_nodes::{Hub, PARTS, Start, Tally, Witness};
 use lsm_readers::{LogName, NewLog};
 use lsm_vault::{MemoryVault, Vault};
 use merge::merge;
+pub use script::{KeyPuts, ThreadsScript};
 use std::alloc::Global;
 use std::marker::Brand;
 use std::snapshot::Snapshot;
@@ -48,14 +50,27 @@ pub struct FollowerRead {
     pub value: Option<Bytes>,
 }
 
-/// Four flushes of two keys, two dispatchers of one round with a worker each, and a follower with a reader, all in threads of their
-/// own over one new store in memory, whose level 0 is due at two files. Each dispatcher installs a compaction, and the follower's reads are at
-/// the coordinator's version or a later one.
-/// Refuses: `OutOfMemory` if a loop or a call found no memory, or no thread could be made; `ReadFault` if what came is not what was sent.
+/// `run_threads_of` of the script that the program runs: a is put as 1 and 2, m as 1 and 2, and both are read.
 pub fn run_threads<R: Threads + Wait + Sync>(
     rt: &R,
     alloc: Global,
 ) -> Result<ThreadsReport, ThreadsError>
+    ensures settled { IfOk result (λ r. AreSettled r.picked r.installed r.returned r.stale) }
+    ensures fresh { IfOk result (λ r. All (λ read. r.shown.number ≤ read.at) r.reads.items) }
+{
+    run_threads_of(rt, alloc, &script::SHOWN)
+}
+
+/// The flushes of a script, two dispatchers of one round with a worker each, and a follower with a reader, all in threads of their own
+/// over one new store in memory, whose level 0 is due at two files. Each dispatcher installs a compaction, and the follower's reads are at
+/// the coordinator's version or a later one.
+/// Refuses: `OutOfMemory` if a loop or a call found no memory, or no thread could be made; `ReadFault` if what came is not what was sent.
+pub fn run_threads_of<R: Threads + Wait + Sync>(
+    rt: &R,
+    alloc: Global,
+    script: &ThreadsScript,
+) -> Result<ThreadsReport, ThreadsError>
+    requires { script.now.first.key ≢ script.now.second.key }
     ensures settled { IfOk result (λ r. AreSettled r.picked r.installed r.returned r.stale) }
     ensures fresh { IfOk result (λ r. All (λ read. r.shown.number ≤ read.at) r.reads.items) }
 {
@@ -68,6 +83,7 @@ pub fn run_threads<R: Threads + Wait + Sync>(
     over_hub::<MemoryVault, Brand, Snapshot<Served>, R>(
         rt,
         alloc,
+        script,
         coord,
         Blank::new(PARTS),
         NewLog::new(),
@@ -83,6 +99,7 @@ fn over_hub<
 >(
     rt: &R,
     alloc: Global,
+    script: &ThreadsScript,
     coord: Coord<V>,
     blank: Blank,
     log: NewLog,
@@ -95,7 +112,7 @@ fn over_hub<
     ensures fresh { IfOk result (λ r. All (λ read. r.shown.number ≤ read.at) r.reads.items) }
 {
     let (hub, tally) = Hub::<V, J, N>::new(alloc, coord, blank);
-    let (tally, report) = in_turn(rt, alloc, &hub, tally, log)?;
+    let (tally, report) = in_turn(rt, alloc, &hub, script, tally, log)?;
     match hub.close(tally) {
         Ok(history) => {
             drop(history);
@@ -118,6 +135,7 @@ fn in_turn<
     rt: &R,
     alloc: Global,
     hub: &Hub<V, J, N>,
+    script: &ThreadsScript,
     tally: Tally<J>,
     log: NewLog,
 ) -> Result<(Tally<J>, ThreadsReport), ThreadsError>
@@ -127,13 +145,13 @@ fn in_turn<
     ensures fresh { IfOk result (λ r. All (λ read. r.1.shown.number ≤ read.at) r.1.reads.items) }
 {
     let mut tally = tally;
-    fill(rt, alloc, hub, &mut tally)?;
+    fill(rt, alloc, hub, script, &mut tally)?;
     let mut tally = merge(rt, alloc, hub, tally)?;
     let shown = match hub.show(rt, &mut tally) {
         Ok(shown) => shown,
         Err(why) => return Err(reason_of(why)),
     };
-    let reads = follow(rt, alloc, hub, shown.number, log)?;
+    let reads = follow(rt, alloc, hub, script.reads, shown.number, log)?;
     let report = ThreadsReport {
         picked: tally.picked(),
         installed: tally.installed(),

@@ -1,32 +1,31 @@
 //! The loop that answers questions.
 
-ghost use Rattle.std.specs.Prelude.{IfErr};
+ghost use Rattle.std.specs.Prelude.{IfErr, OnErr, OnOk, []};
 ghost use Rattle.lsm_msg.specs.Messages.{IsMessage};
 ghost use Rattle.lsm_threads.specs.Endings.{IsOfMail};
+ghost use Rattle.lsm_threads.specs.Ports.{Traffic};
+ghost use Rattle.lsm_threads.specs.Serving.{AnswersOver, ServesOver, ServesUntil, StopsServing};
 
 use crate::ending::Ending;
-use crate::mail::{receive, send};
-use bytes::Bytes;
-use crossbeam_channel::{Receiver, Sender};
+use crate::port::Port;
 use lsm_msg::Message;
 use lsm_nodes::{Hub, Start, Witness};
 use lsm_vault::Vault;
-use std::alloc::Global;
 use std::sync::Wait;
 
-/// Answers what nodes ask a shared coordinator, by `Hub::serve`. Ends if a channel is closed, what came is no message, an answer is
-/// too large, or memory runs out.
-pub fn serve_loop<V: Vault, J: Start, N: Witness + Drop, R: Wait>(
+/// Answers what nodes ask a shared coordinator, by `Hub::serve`, each before it takes the next. Ends if a channel is closed, what came is
+/// no message, an answer is too large, or memory runs out: then the last message may be without an answer.
+
+pub fn serve_loop<V: Vault, J: Start, N: Witness + Drop, P: Port, R: Wait>(
     rt: &R,
-    alloc: Global,
     hub: &Hub<V, J, N>,
-    from: Receiver<Bytes>,
-    to: Sender<Bytes>,
+    port: &mut P,
 ) -> Ending
-    ensures { IsOfMail result }
+    ensures ends { IsOfMail result }
+    ensures serves { ServesUntil (P.got port.old) (P.got port.new) (P.sent port.old) (P.sent port.new) }
 {
     for _ in rt.forever() {
-        if let Err(ending) = serve_next(rt, alloc, hub, &from, &to) {
+        if let Err(ending) = serve_next(rt, hub, port) {
             return ending;
         }
     }
@@ -34,37 +33,38 @@ pub fn serve_loop<V: Vault, J: Start, N: Witness + Drop, R: Wait>(
 }
 
 // Waits for a message, and answers it, unless the loop ends.
-fn serve_next<V: Vault, J: Start, N: Witness + Drop, R: Wait>(
+#[tactic(auto, using(crate::proofs::ServeSteps::serves_over, crate::proofs::ServeSteps::stops_before, crate::proofs::ServeSteps::stops_at))]
+fn serve_next<V: Vault, J: Start, N: Witness + Drop, P: Port, R: Wait>(
     rt: &R,
-    alloc: Global,
     hub: &Hub<V, J, N>,
-    from: &Receiver<Bytes>,
-    to: &Sender<Bytes>,
+    port: &mut P,
 ) -> Result<(), Ending>
-    ensures { IfErr result IsOfMail }
+    ensures ends { IfErr result IsOfMail }
+    ensures ok { OnOk result (ServesOver (P.got port.old) (P.got port.new) (P.sent port.old) (P.sent port.new)) }
+    ensures err { OnErr result (StopsServing (P.got port.old) (P.got port.new) (P.sent port.old) (P.sent port.new)) }
 {
-    let message = receive(rt, alloc, from)?;
-    let answered = answer(rt, alloc, hub, &message, to);
-    drop(message);
-    answered
+    let message = port.receive()?;
+    answer(rt, hub, &message, port)?;
+    Ok(())
 }
 
 // Answers a question, and ignores any other message.
-pub(crate) fn answer<V: Vault, J: Start, N: Witness + Drop, R: Wait>(
+#[tactic(auto, using(crate::proofs::ServeSteps::answers_one, crate::proofs::ServeSteps::answers_none, crate::proofs::Passing::passes_none))]
+pub(crate) fn answer<V: Vault, J: Start, N: Witness + Drop, P: Port, R: Wait>(
     rt: &R,
-    alloc: Global,
     hub: &Hub<V, J, N>,
     message: &Message,
-    to: &Sender<Bytes>,
+    port: &mut P,
 ) -> Result<(), Ending>
     requires { IsMessage message.now }
-    ensures { IfErr result IsOfMail }
+    ensures ends { IfErr result IsOfMail }
+    ensures ok { OnOk result (AnswersOver message.now (P.got port.old) (P.got port.new) (P.sent port.old) (P.sent port.new)) }
+    ensures err { OnErr result (Traffic (P.got port.old) (P.got port.new) (P.sent port.old) (P.sent port.new) [] []) }
 {
     match hub.serve(rt, message) {
         Ok(Some(answer)) => {
-            let sent = send(rt, alloc, to, &answer);
-            drop(answer);
-            sent
+            port.send(&answer)?;
+            Ok(())
         }
         Ok(None) => Ok(()),
         Err(_) => Err(Ending::OutOfMemory),

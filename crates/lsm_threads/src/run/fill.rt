@@ -2,7 +2,7 @@
 
 ghost use Rattle.std.specs.Prelude.{◌≡◌, ◌<◌};
 
-use super::ThreadsError;
+use super::{KeyPuts, ThreadsError, ThreadsScript};
 use bytes::Bytes;
 use lsm_coord::CoordError;
 use lsm_key::{Batch, Op};
@@ -11,21 +11,34 @@ use lsm_vault::Vault;
 use std::alloc::Global;
 use std::sync::Wait;
 
-// Each becomes a file.
-const WRITES: [(&[u8], &[u8]); 4] = [(b"a", b"1"), (b"a", b"2"), (b"m", b"1"), (b"m", b"2")];
-
-// Writes and flushes four times.
+// Writes and flushes each value of the script.
 pub(super) fn fill<V: Vault, J: Start, N: Witness + Drop, R: Wait>(
     rt: &R,
     alloc: Global,
     hub: &Hub<V, J, N>,
+    script: &ThreadsScript,
     tally: &mut Tally<J>,
 ) -> Result<(), ThreadsError>
     requires { 0 < tally.old.parts }
     ensures { tally.new.parts ≡ tally.old.parts }
 {
-    for (key, value) in WRITES {
-        put(rt, alloc, hub, key, value, tally)?;
+    put_each(rt, alloc, hub, script.first, tally)?;
+    put_each(rt, alloc, hub, script.second, tally)
+}
+
+// Writes and flushes each value of a key.
+fn put_each<V: Vault, J: Start, N: Witness + Drop, R: Wait>(
+    rt: &R,
+    alloc: Global,
+    hub: &Hub<V, J, N>,
+    puts: KeyPuts,
+    tally: &mut Tally<J>,
+) -> Result<(), ThreadsError>
+    requires { 0 < tally.old.parts }
+    ensures { tally.new.parts ≡ tally.old.parts }
+{
+    for value in puts.values {
+        put(rt, alloc, hub, puts.key, value, tally)?;
         match hub.flush(rt, tally) {
             Ok(_) => {}
             Err(why) => return Err(reason_of(why)),

@@ -16,9 +16,7 @@ use std::alloc::Global;
 use std::sync::Wait;
 use std::thread::Threads;
 
-const KEYS: [&[u8]; 2] = [b"a", b"m"];
-
-// The reads of a follower that has come to a version.
+// The reads of these keys by a follower that has come to a version.
 pub(super) fn follow<
     V: Vault + Send,
     J: Start + LogName + Send + Sync,
@@ -28,6 +26,7 @@ pub(super) fn follow<
     rt: &R,
     alloc: Global,
     hub: &Hub<V, J, N>,
+    keys: &[&'static [u8]],
     goal: VersionNumber,
     log: NewLog,
 ) -> Result<Vec<FollowerRead>, ThreadsError>
@@ -40,7 +39,7 @@ pub(super) fn follow<
     let (writer, mut reader) = writer_and_reader::<J, R>(rt, alloc, log)?;
     let writer = published_to(rt, alloc, hub, index, writer, goal)?;
     reader.learn(writer.tell());
-    let reads = reads_of(alloc, &mut reader, goal);
+    let reads = reads_of(alloc, &mut reader, keys, goal);
     drop(reader);
     drop(writer);
     reads
@@ -110,13 +109,14 @@ fn published_to<
 fn reads_of<J: LogName>(
     alloc: Global,
     reader: &mut FollowerReader<J>,
+    keys: &[&'static [u8]],
     least: VersionNumber,
 ) -> Result<Vec<FollowerRead>, ThreadsError>
     ensures { IfOk result (λ reads. All (λ read. least ≤ read.at) reads.items) }
 {
     let mut reads = Vec::new(alloc);
-    for key in KEYS {
-        let read = read(reader, key, least)?;
+    for key in keys {
+        let read = read(reader, *key, least)?;
         if reads.push(read).is_err() {
             return Err(ThreadsError::OutOfMemory);
         }

@@ -1,5 +1,5 @@
 -- The ledger and the log are the ones that were begun, and the history starts at the coordinator that was opened.
-use Rattle.lsm_threads.proofs.run.run_threads.Given as goal
+use Rattle.lsm_threads.proofs.run.run_threads_of.Given as goal
 
 abbrev pub ghosts-over_hub-J-Ledger : goal.ghosts-over_hub-J-Ledger
 ghosts-over_hub-J-Ledger g a = record { name = a.blank.name; parts = a.blank.parts }
