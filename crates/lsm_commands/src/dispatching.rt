@@ -9,7 +9,7 @@ use lsm_coord::Coord;
 use lsm_dispatch::{DispatchError, dispatch};
 use lsm_msg::NodeIndex;
 use lsm_store::Due;
-use lsm_stream::{CountedReader, CountedWriter};
+use lsm_io::{CountedReader, CountedWriter};
 use lsm_vault::Vault;
 use std::alloc::Global;
 use std::io;

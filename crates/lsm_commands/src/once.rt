@@ -16,7 +16,7 @@ use error::OnceError;
 use import::import;
 use lsm_key::{Items, Op};
 use lsm_line::{Call, write_line_end};
-use lsm_stream::write_out;
+use lsm_io::write_out;
 use pairs::write_pairs;
 use std::alloc::Global;
 use std::io::{self, Write};

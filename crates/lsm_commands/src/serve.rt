@@ -4,7 +4,7 @@ use crate::{CommandError, Place, Screen, check_streams};
 use lsm_key::Limits;
 use lsm_serve::serve;
 use lsm_store::{Options, Store};
-use lsm_stream::{CountedReader, CountedWriter};
+use lsm_io::{CountedReader, CountedWriter};
 use lsm_vault::{MemoryVault, Vault};
 use std::io;
 use std::process::ExitCode;

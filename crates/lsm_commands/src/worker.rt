@@ -2,7 +2,7 @@
 
 use crate::{Screen, check_streams};
 use lsm_msg::NodeIndex;
-use lsm_stream::{CountedReader, CountedWriter};
+use lsm_io::{CountedReader, CountedWriter};
 use std::io;
 use std::process::ExitCode;
 
@@ -15,7 +15,7 @@ pub fn work(rt: &HostRuntime, index: NodeIndex) -> ExitCode {
     }
     let mut reader = CountedReader::new(rt.reader());
     let mut writer = CountedWriter::new(io::writer(rt));
-    match lsm_frame::work(rt.alloc(), index, &mut reader, &mut writer) {
+    match lsm_pipe::work(rt.alloc(), index, &mut reader, &mut writer) {
         Ok(()) => ExitCode::SUCCESS,
         Err(error) => screen.fail(&error),
     }

@@ -1,9 +1,9 @@
 -- What a turn counts, by what its read and its write do.
 use Rattle.std.proofs.Common.{◌≡◌, ℕ, ◌+◌, ◌<◌, ◌≤◌, List, Result, Ok, Err, IfErr, refl, arith, inr}
 use Rattle.std.specs.Prelude.{OnOk}
-use Rattle.lsm_frame.specs.declared.error.PipeError.{PipeError}
-use Rattle.lsm_frame.specs.declared.error.PipeError.TheVariants as pipe
-use Rattle.lsm_frame.specs.Counting.{MayFollow, read_faults_of, write_faults_of}
+use Rattle.lsm_pipe.specs.declared.error.PipeError.{PipeError}
+use Rattle.lsm_pipe.specs.declared.error.PipeError.TheVariants as pipe
+use Rattle.lsm_pipe.specs.Counting.{MayFollow, read_faults_of, write_faults_of}
 use Rattle.lsm_dispatch.specs.declared.error.DispatchError.{DispatchError}
 use Rattle.lsm_dispatch.specs.Counting.{DispatchCounts, DispatchCountsBoth, DispatchCountsReadFaults, read_faults_in}
 use Rattle.lsm_dispatch.specs.Letters.{NoLetter}

@@ -9,10 +9,10 @@ use Rattle.std.proofs.lemmas.Grind.{flat_map-append}
 use Rattle.lsm_key.specs.declared.limits.TheConstants.{MAX_NODES}
 use Rattle.lsm_msg.specs.declared.message.Message.{Message}
 use Rattle.lsm_msg.specs.Messages.{IsSpelled, sized}
-use Rattle.lsm_frame.specs.declared.error.PipeError.{PipeError}
-use Rattle.lsm_frame.specs.declared.error.PipeError.TheVariants as pipe
-use Rattle.lsm_frame.specs.Frames.{FrameRefuses, framed}
-use Rattle.lsm_frame.proofs.WorkSteps.{framed_then}
+use Rattle.lsm_pipe.specs.declared.error.PipeError.{PipeError}
+use Rattle.lsm_pipe.specs.declared.error.PipeError.TheVariants as pipe
+use Rattle.lsm_pipe.specs.Frames.{FrameRefuses, framed}
+use Rattle.lsm_pipe.proofs.WorkSteps.{framed_then}
 use Rattle.lsm_coord.specs.declared.error.CoordError.{CoordError}
 use Rattle.lsm_coord.specs.Contract.Value.{CoordValue}
 use Rattle.lsm_store.specs.declared.due.Due.{Due}

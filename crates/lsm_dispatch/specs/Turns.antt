@@ -5,9 +5,9 @@ use Rattle.std.specs.Io.KnownBytes.{Appends, Consumes, IsAtEnd}
 use Rattle.lsm_key.specs.declared.limits.TheConstants.{MAX_NODES}
 use Rattle.lsm_msg.specs.declared.message.Message.{Message}
 use Rattle.lsm_msg.specs.Messages.{IsSpelled, sized}
-use Rattle.lsm_frame.specs.declared.error.PipeError.{PipeError}
-use Rattle.lsm_frame.specs.declared.error.PipeError.TheVariants as pipe
-use Rattle.lsm_frame.specs.Frames.{FrameRefuses, SendRefuses, framed}
+use Rattle.lsm_pipe.specs.declared.error.PipeError.{PipeError}
+use Rattle.lsm_pipe.specs.declared.error.PipeError.TheVariants as pipe
+use Rattle.lsm_pipe.specs.Frames.{FrameRefuses, SendRefuses, framed}
 use Rattle.lsm_coord.specs.declared.error.CoordError.{CoordError}
 use Rattle.lsm_coord.specs.Contract.Serving.{answer_message}
 use Rattle.lsm_coord.specs.Contract.Value.{CoordValue}

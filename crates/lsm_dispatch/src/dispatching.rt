@@ -4,7 +4,7 @@ ghost use Rattle.std.specs.Prelude.{◌≡◌, ℕ, ◌+◌, ◌<◌, ◌≤◌,
 ghost use Rattle.std.specs.Io.KnownBytes.{Appends};
 ghost use Rattle.lsm_key.specs.declared.limits.TheConstants.{MAX_NODES};
 ghost use Rattle.lsm_msg.specs.Messages.{IsMessage};
-ghost use Rattle.lsm_frame.specs.Frames.{framed};
+ghost use Rattle.lsm_pipe.specs.Frames.{framed};
 ghost use Rattle.lsm_dispatch.specs.Counting.{DispatchCounts, DispatchCountsBoth, DispatchCountsReadFaults, DispatchCountsWriteFaults, read_faults_in};
 ghost use Rattle.lsm_dispatch.specs.Crews.{has_busy, new_crew};
 ghost use Rattle.lsm_dispatch.specs.Dispatching.{IsLeftDue, KeepsIfMerged, RunKeeps};
@@ -15,11 +15,11 @@ use crate::error::DispatchError;
 use crate::install::due_of;
 use crate::letter::{Letter, letter_in};
 use lsm_coord::Coord;
-use lsm_frame::{PipeError, read_frame, send};
+use lsm_pipe::{PipeError, read_frame, send};
 use lsm_key::MAX_NODES;
 use lsm_msg::{Message, NodeIndex};
 use lsm_store::Due;
-use lsm_stream::{Sink, Source};
+use lsm_io::{Sink, Source};
 use lsm_vault::Vault;
 use std::alloc::Global;
 
@@ -168,7 +168,7 @@ fn take_letter<V: Vault, R: Source, W: Sink>(
 }
 
 // Sends a message, if there is one.
-#[tactic(auto, using(lsm_frame::proofs::Counted::send_not_read))]
+#[tactic(auto, using(lsm_pipe::proofs::Counted::send_not_read))]
 fn send_some<W: Sink>(
     alloc: Global,
     writer: &mut W,

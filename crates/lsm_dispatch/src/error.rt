@@ -4,7 +4,7 @@ ghost use Rattle.std.specs.Prelude.{◌≡◌};
 ghost use Rattle.lsm_dispatch.specs.declared.error.DispatchError.TheVariants as dispatch;
 
 use lsm_coord::CoordError;
-use lsm_frame::PipeError;
+use lsm_pipe::PipeError;
 use thiserror::Error;
 
 /// Why a dispatch ends before everything is compacted. No claim is left, and what was installed stays.

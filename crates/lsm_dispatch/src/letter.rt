@@ -7,7 +7,7 @@ ghost use Rattle.std.specs.Prelude.{IfErr, IfOk};
 ghost use Rattle.lsm_dispatch.specs.Letters.{IsLetter, NoLetter};
 
 use bytes::Bytes;
-use lsm_frame::{PipeError, message_in};
+use lsm_pipe::{PipeError, message_in};
 use lsm_msg::{Message, NodeIndex};
 use std::alloc::Global;
 

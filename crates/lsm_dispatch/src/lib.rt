@@ -6,7 +6,7 @@
 //! limit; that it stops early only for a reason, by what is left of its input then; that a result is installed only for the job
 //! that its worker has; that every claim is settled whatever comes or fails; and that the store holds what it held before, as long
 //! as each result that was installed is the merge of its job: an install tests only the keys and the block target. It stands on
-//! `lsm_coord` for picks and installs, on `lsm_store` for what a store holds, and on `lsm_frame` for the pipe.
+//! `lsm_coord` for picks and installs, on `lsm_store` for what a store holds, and on `lsm_pipe` for the pipe.
 #![tactic(auto)]
 
 mod crew;

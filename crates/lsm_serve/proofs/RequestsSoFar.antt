@@ -5,7 +5,7 @@ use Rattle.std.proofs.lemmas.List.Elements.{All-append, All-cons}
 use Rattle.std.specs.Io.KnownBytes.{Appends}
 use Rattle.lsm_coord.specs.Contract.Value.{CoordValue}
 use Rattle.std.proofs.KnownBytes.{Appends-nil, Appends-trans}
-use Rattle.lsm_stream.specs.Streams.{AppendsPart}
+use Rattle.lsm_io.specs.Streams.{AppendsPart}
 use Rattle.lsm_serve.specs.declared.http_word.HttpWord.{HttpWord}
 use Rattle.lsm_serve.specs.HttpWords.{BeginsHttp}
 use Rattle.lsm_serve.specs.Serving.{EndsStream, RepliesBefore, RepliesInTurn, RepliesTo, RepliesToSome}

@@ -7,9 +7,9 @@ use Rattle.lsm_resp.specs.declared.reply.RespReply.TheVariants as reply
 use Rattle.lsm_resp.specs.Wire.{reply_bytes}
 use Rattle.lsm_serve.specs.declared.error.ServeError.{ServeError}
 use Rattle.lsm_serve.specs.declared.error.ServeError.TheVariants.{Http, NoEnd, NotSynced, OutOfMemory, Protocol, ReadFault, Truncated, WriteFault}
-use Rattle.lsm_stream.specs.Streams.{AppendsPart}
-use Rattle.lsm_stream.specs.declared.sink.SinkError.{SinkError}
-use Rattle.lsm_stream.specs.declared.sink.SinkError.TheVariants as sink
+use Rattle.lsm_io.specs.Streams.{AppendsPart}
+use Rattle.lsm_io.specs.declared.sink.SinkError.{SinkError}
+use Rattle.lsm_io.specs.declared.sink.SinkError.TheVariants as sink
 use Rattle.lsm_serve.specs.Errors.{error_of_sink}
 use Rattle.lsm_serve.specs.Counting.{ReportsCalls, ReportsReadFaults, ReportsReads, ReportsWriteFaults, ReportsWrites}
 use Rattle.lsm_serve.specs.Serving.{AnswersLast, error_text}

@@ -3,7 +3,7 @@ use Rattle.std.proofs.Common.{◌≡◌, ◌∙◌, ℕ, List, [], ◌∷◌, �
 use Rattle.std.specs.Io.KnownBytes.{Appends}
 use Rattle.lsm_coord.specs.Contract.Value.{CoordValue}
 use Rattle.std.proofs.KnownBytes.{Appends-trans}
-use Rattle.lsm_stream.specs.Streams.{AppendsPart, Gains}
+use Rattle.lsm_io.specs.Streams.{AppendsPart, Gains}
 use Rattle.lsm_serve.specs.declared.serving.Reached.{Reached}
 use Rattle.lsm_serve.specs.declared.serving.Reached.TheVariants.{Http, Quit, Waits}
 use Rattle.lsm_serve.specs.Serving.{RepliesInTurn, RepliesToSome}

@@ -13,7 +13,7 @@ use Rattle.lsm_resp.specs.declared.request.Parsed.{Parsed}
 use Rattle.lsm_serve.specs.declared.error.ServeError.{ServeError}
 use Rattle.lsm_serve.specs.declared.error.ServeError.TheVariants.{NoEnd, OutOfMemory, ReadFault}
 use Rattle.lsm_resp.specs.declared.request.Parsed.TheVariants.{Partial, Request}
-use Rattle.lsm_stream.specs.Streams.{AppendsPart}
+use Rattle.lsm_io.specs.Streams.{AppendsPart}
 use Rattle.lsm_resp.specs.Wire.{reply_bytes}
 use Rattle.lsm_resp.specs.declared.reply.RespReply.TheVariants as reply
 use Rattle.lsm_serve.specs.declared.answer.Answer.{Answer}

@@ -4,7 +4,7 @@ use Rattle.std.specs.Io.KnownBytes.{Appends}
 use Rattle.std.proofs.KnownBytes.{Appends-nil}
 use Rattle.lsm_coord.specs.Contract.Calls.{MayHaveFailed}
 use Rattle.lsm_coord.specs.Contract.Value.{CoordValue}
-use Rattle.lsm_stream.specs.Streams.{AppendsPart}
+use Rattle.lsm_io.specs.Streams.{AppendsPart}
 use Rattle.lsm_serve.specs.declared.error.ServeError.{ServeError}
 use Rattle.lsm_serve.specs.declared.error.ServeError.TheVariants.{Http, NoEnd, NotSynced, OutOfMemory, Protocol, ReadFault, Truncated, WriteFault}
 use Rattle.lsm_serve.specs.declared.http_word.HttpWord.{HttpWord}

@@ -6,7 +6,7 @@ use Rattle.lsm_coord.specs.Contract.Value.{CoordValue}
 use Rattle.lsm_resp.specs.declared.reply.RespReply.TheVariants as reply
 use Rattle.lsm_resp.specs.Lines.{IsLine, line_words}
 use Rattle.lsm_resp.specs.Requests.{AreWords}
-use Rattle.lsm_stream.specs.Streams.{AppendsPart}
+use Rattle.lsm_io.specs.Streams.{AppendsPart}
 use Rattle.lsm_resp.specs.Wire.{reply_bytes, request_bytes}
 use Rattle.lsm_serve.specs.declared.answer.Answer.{Answer}
 use Rattle.lsm_serve.specs.declared.answer.Answer.TheVariants.{Refused, Reply}

@@ -6,7 +6,7 @@ use Rattle.lsm_resp.specs.Enough.{enough_for_request}
 use Rattle.lsm_resp.specs.declared.fault.ProtocolFault.{ProtocolFault}
 use Rattle.lsm_resp.specs.declared.reply.RespReply.TheVariants as reply
 use Rattle.lsm_resp.specs.Wire.{reply_bytes}
-use Rattle.lsm_stream.specs.Streams.{AppendsPart}
+use Rattle.lsm_io.specs.Streams.{AppendsPart}
 use Rattle.lsm_serve.specs.declared.answer.Answer.{Answer}
 use Rattle.lsm_serve.specs.declared.error.ServeError.{ServeError}
 use Rattle.lsm_serve.specs.declared.error.ServeError.TheVariants.{NoEnd, NotSynced, OutOfMemory, Protocol, ReadFault, WriteFault}

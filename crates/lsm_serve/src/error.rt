@@ -3,7 +3,7 @@
 use crate::HttpWord;
 use lsm_resp::{ParseError, ProtocolFault};
 use lsm_store::StoreError;
-use lsm_stream::{SinkError, SourceError};
+use lsm_io::{SinkError, SourceError};
 use std::alloc::{AllocError, AllocFailed};
 use thiserror::Error;
 

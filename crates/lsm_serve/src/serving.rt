@@ -4,7 +4,7 @@ ghost use Rattle.std.specs.Prelude.{◌≡◌, ◌≢◌, ◌<◌, ◌≤◌, �
 ghost use Rattle.std.specs.Io.KnownBytes.{Appends};
 ghost use Rattle.lsm_coord.specs.Contract.Value.{CoordValue};
 ghost use Rattle.lsm_store.specs.Store.{IsLatestSequence};
-ghost use Rattle.lsm_stream.specs.Streams.{Gains};
+ghost use Rattle.lsm_io.specs.Streams.{Gains};
 ghost use Rattle.lsm_resp.specs.Requests.{words_of};
 ghost use Rattle.lsm_resp.specs.Wire.{reply_bytes};
 ghost use Rattle.lsm_resp.specs.declared.reply.RespReply.TheVariants.{Error};
@@ -21,7 +21,7 @@ use bytes::Bytes;
 use lsm_key::Seq;
 use lsm_resp::{ParseError, Parsed, ProtocolFault, RespReply, parse_request, write_reply};
 use lsm_store::Store;
-use lsm_stream::{Sink, Source, buffer_of, read_next, write_kept};
+use lsm_io::{Sink, Source, buffer_of, read_next, write_kept};
 use lsm_vault::Vault;
 use std::alloc::{AllocError, Global};
 

@@ -14,9 +14,9 @@ use Rattle.lsm_world.specs.Replies.{reply_of}
 use Rattle.lsm_world.specs.Schedules.{WorldValue, IsNew, replies_in}
 use Rattle.lsm_world.specs.Shown.{FollowsStore}
 use Rattle.lsm_world.proofs.RunningSchedules.{asked_none, asked_more, runs_none, runs_more}
-use Rattle.lsm_text.specs.Replies.{line, reply_lines}
+use Rattle.lsm_script.specs.Replies.{line, reply_lines}
 use Rattle.lsm_sim.specs.Runs.{Happens, Prints, PrintsScript}
-use Rattle.lsm_text.specs.Script.{script}
+use Rattle.lsm_script.specs.Script.{script}
 
 pub happens_none : (n : StoreValue) → Happens n [] [] n
 happens_none n = record { events_are = refl; asked = asked_none n; runs = runs_none n }

@@ -10,9 +10,9 @@ use Rattle.lsm_world.specs.Nodes.{StoreValue}
 use Rattle.lsm_world.specs.Schedules.{WorldValue, IsNew, replies_in}
 use Rattle.lsm_sim.specs.declared.error.RunError.{RunError}
 use Rattle.lsm_sim.specs.declared.error.RunError.TheVariants.{WriteFault, OutOfMemory}
-use Rattle.lsm_text.specs.Replies.{reply_lines}
+use Rattle.lsm_script.specs.Replies.{reply_lines}
 use Rattle.lsm_sim.specs.Runs.{Happens, HappensInPart, PrintsAPart, StopsFor}
-use Rattle.lsm_text.specs.Script.{script}
+use Rattle.lsm_script.specs.Script.{script}
 use Rattle.lsm_sim.proofs.RunSteps.{IsSoFar, happens_prints}
 
 -- a beginning of what waits was written

@@ -5,13 +5,13 @@ use Rattle.lsm_coord.specs.Model.Run.{RunOfNew}
 use Rattle.lsm_key.specs.declared.limits.Limits.{Limits}
 use Rattle.lsm_key.specs.declared.refused.Refused.{Refused}
 use Rattle.lsm_key.specs.declared.refused.Refused.TheVariants as refused
-use Rattle.lsm_text.specs.declared.fault.Fault.{Fault}
+use Rattle.lsm_script.specs.declared.fault.Fault.{Fault}
 use Rattle.lsm_sim.specs.declared.error.RunError.{RunError}
 use Rattle.lsm_sim.specs.declared.error.RunError.TheVariants.{Script, ReadFault, WriteFault, OutOfMemory}
-use Rattle.lsm_text.specs.Replies.{reply_lines}
-use Rattle.lsm_text.specs.Script.{script}
-use Rattle.lsm_stream.specs.declared.error.StreamError.{StreamError}
-use Rattle.lsm_stream.specs.declared.error.StreamError.TheVariants as stream
+use Rattle.lsm_script.specs.Replies.{reply_lines}
+use Rattle.lsm_script.specs.Script.{script}
+use Rattle.lsm_io.specs.declared.error.StreamError.{StreamError}
+use Rattle.lsm_io.specs.declared.error.StreamError.TheVariants as stream
 use Rattle.lsm_world.specs.declared.event.Event.{Event}
 use Rattle.lsm_world.specs.declared.reply.Reply.{Reply}
 use Rattle.lsm_world.specs.Events.{event_of}

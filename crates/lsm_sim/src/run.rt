@@ -5,13 +5,13 @@ ghost use Rattle.std.specs.Io.KnownBytes.{Appends};
 ghost use Rattle.lsm_world.specs.declared.event.Event.{Event};
 ghost use Rattle.lsm_world.specs.declared.reply.Reply.{Reply};
 ghost use Rattle.lsm_world.specs.Schedules.{IsNew, replies_in};
-ghost use Rattle.lsm_text.specs.Replies.{reply_lines};
+ghost use Rattle.lsm_script.specs.Replies.{reply_lines};
 ghost use Rattle.lsm_sim.specs.Runs.{Happens, HappensInPart, PrintsScript, StopsFor};
 
 use crate::error::RunError;
 use lsm_key::Limits;
-use lsm_stream::{read_all, write_all};
-use lsm_text::{parse, write_line};
+use lsm_io::{read_all, write_all};
+use lsm_script::{parse, write_line};
 use lsm_vault::MemoryVault;
 use lsm_world::{Event, World};
 use std::alloc::{AllocError, Global};

@@ -2,8 +2,8 @@
 
 use crate::error::RunError;
 use lsm_line::{write_bytes, write_line_end, write_number, write_shown, write_text};
-use lsm_stream::write_out;
-use lsm_text::write_read;
+use lsm_io::write_out;
+use lsm_script::write_read;
 use lsm_threads::{FollowerRead, ThreadsError, ThreadsReport, run_threads};
 use std::alloc::{AllocError, Global};
 use std::io::Write;

@@ -4,7 +4,7 @@ use crate::Screen;
 use crate::error::{CommandError, FAILED, REFUSED};
 use crate::session::error::SessionError;
 use lsm_store::StoreError;
-use lsm_stream::StreamError;
+use lsm_io::StreamError;
 use std::alloc::{AllocError, AllocFailed};
 use std::process::ExitCode;
 use thiserror::Error;

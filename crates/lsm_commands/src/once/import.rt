@@ -8,7 +8,7 @@ use crate::{FolderStore, Screen};
 use lsm_key::{Batch, KeyError, MAX_BATCH_OPS, Op, Refused};
 use lsm_line::{Call, Words, put, write_line_end, write_number, write_text};
 use lsm_store::{Store, StoreError};
-use lsm_stream::write_out;
+use lsm_io::write_out;
 use lsm_vault::Vault;
 use std::alloc::Global;
 use std::fmt;

@@ -5,7 +5,7 @@ use bytes::Bytes;
 use lsm_key::MAX_KEY_BYTES;
 use lsm_line::{write_bytes, write_line_end, write_text};
 use lsm_store::Store;
-use lsm_stream::write_out;
+use lsm_io::write_out;
 use lsm_vault::Vault;
 use std::alloc::{AllocError, Global};
 use std::io::Write;

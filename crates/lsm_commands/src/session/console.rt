@@ -3,7 +3,7 @@
 use super::error::SessionError;
 use lsm_key::MAX_BATCH_WEIGHT;
 use lsm_line::write_text;
-use lsm_stream::write_out;
+use lsm_io::write_out;
 use std::alloc::Global;
 use std::io::{BufRead, BufReader, ErrorKind, Read, Write};
 

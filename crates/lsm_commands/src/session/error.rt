@@ -1,7 +1,7 @@
 //! Why a session ends before its input does.
 
 use lsm_store::StoreError;
-use lsm_stream::StreamError;
+use lsm_io::StreamError;
 use std::alloc::{AllocError, AllocFailed};
 use thiserror::Error;
 

@@ -1,8 +1,8 @@
 use Rattle.std.proofs.Common.{◌≡◌, None, refl, subst, inl, arith, rules}
 use Rattle.std.proofs.KnownBytes.{Appends-nil}
 use Rattle.std.proofs.lemmas.Result.{err_from_is_err_and}
-use Rattle.lsm_frame.specs.Frames.{ReadsFrame}
-use Rattle.lsm_frame.proofs.Counted.{frame_not_written}
+use Rattle.lsm_pipe.specs.Frames.{ReadsFrame}
+use Rattle.lsm_pipe.proofs.Counted.{frame_not_written}
 use Rattle.lsm_dispatch.specs.declared.letter.Letter.TheVariants as letter
 use Rattle.lsm_dispatch.specs.Letters.{IsLetter}
 use Rattle.lsm_dispatch.specs.Turns.{Takes}

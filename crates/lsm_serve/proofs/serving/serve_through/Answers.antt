@@ -1,7 +1,7 @@
 use Rattle.std.proofs.Common.{◌∙◌, Bool, ◌<◌, ◌++◌, ℕ, List, [], drop, length, ap, subst, sym, rules, refl, arith}
 use Rattle.std.proofs.lemmas.Result.{err_from_is_err_and}
 use Rattle.lsm_coord.specs.Contract.Calls.{MayHaveFailed}
-use Rattle.lsm_stream.specs.Streams.{Gains}
+use Rattle.lsm_io.specs.Streams.{Gains}
 use Rattle.lsm_serve.specs.declared.serving.Reached.{Reached}
 use Rattle.lsm_serve.specs.ServingSteps.{IsReachable, ServedSoFar, ServedTo}
 use Rattle.lsm_serve.proofs.RequestsSoFar.{before_written}

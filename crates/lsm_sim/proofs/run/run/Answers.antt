@@ -2,7 +2,7 @@ use Rattle.std.proofs.Common.{◌++◌, [], refl, sym, ◌∙◌, rules}
 use Rattle.std.proofs.KnownBytes.{Appends-nil, Keeps-refl}
 use Rattle.std.proofs.lemmas.List.{nil_from_length}
 use Rattle.lsm_key.proofs.Results.{on_err}
-use Rattle.lsm_text.specs.Replies.{line}
+use Rattle.lsm_script.specs.Replies.{line}
 use Rattle.lsm_sim.proofs.RunSteps.{happens_none, IsSoFar-step, IsSoFar-written, IsSoFar-end, done_more, on_ok}
 use Rattle.lsm_sim.proofs.StoppedRuns.{IsSoFar-stops, IsSoFar-halts}
 use Rattle.lsm_sim.proofs.run.run.Goals as goal

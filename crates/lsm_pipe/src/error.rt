@@ -1,0 +1,80 @@
+//! Why messages over a pipe end.
+
+ghost use Rattle.std.specs.Prelude.{◌≡◌};
+ghost use Rattle.lsm_pipe.specs.declared.error.PipeError.TheVariants.{OutOfMemory};
+ghost use Rattle.lsm_pipe.specs.Frames.{sink_error_of, source_error_of};
+
+use lsm_io::{SinkError, SourceError};
+use std::alloc::{AllocError, AllocFailed};
+use thiserror::Error;
+
+/// Why messages over a pipe end.
+#[derive(Clone, Copy, Debug, PartialEq, Eq, Error)]
+pub enum PipeError {
+    /// The input ends inside a frame.
+    #[error("the input ends inside a frame")]
+    EndsInside,
+    /// A frame announces more bytes than a message may have.
+    #[error("a frame announces more bytes than a message may have")]
+    TooLong,
+    /// The bytes of a frame are no message.
+    #[error("a frame has no message")]
+    NotMessage,
+    /// A message has too many bytes to be sent.
+    #[error("a message has too many bytes")]
+    TooLarge,
+    /// The worker gave its job up: one of its inputs is no longer served, or two inputs share an entry.
+    #[error("the worker gave its job up")]
+    GaveUp,
+    /// A stream was read or written as often as is counted, 2^64 - 1 times.
+    #[error("the input does not end")]
+    NoEnd,
+    /// The input could not be read.
+    #[error("read fault")]
+    ReadFault,
+    /// The output could not be written.
+    #[error("write fault")]
+    WriteFault,
+    /// Memory ran out.
+    #[error("out of memory")]
+    OutOfMemory,
+}
+
+impl From<AllocError> for PipeError {
+    ghost from_gives = { λ _ e. e ≡ OutOfMemory };
+
+    fn from(_e: AllocError) -> PipeError {
+        PipeError::OutOfMemory
+    }
+}
+
+impl<T: Drop> From<AllocFailed<T>> for PipeError {
+    ghost from_gives = { λ _ e. e ≡ OutOfMemory };
+
+    fn from(_e: AllocFailed<T>) -> PipeError {
+        PipeError::OutOfMemory
+    }
+}
+
+impl From<SourceError> for PipeError {
+    ghost from_gives = { λ why e. e ≡ source_error_of why };
+
+    fn from(why: SourceError) -> PipeError {
+        match why {
+            SourceError::ReadFault => PipeError::ReadFault,
+            SourceError::NoEnd => PipeError::NoEnd,
+            SourceError::OutOfMemory => PipeError::OutOfMemory,
+        }
+    }
+}
+
+impl From<SinkError> for PipeError {
+    ghost from_gives = { λ why e. e ≡ sink_error_of why };
+
+    fn from(why: SinkError) -> PipeError {
+        match why {
+            SinkError::WriteFault => PipeError::WriteFault,
+            SinkError::NoEnd => PipeError::NoEnd,
+        }
+    }
+}
