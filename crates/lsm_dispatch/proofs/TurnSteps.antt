@@ -204,7 +204,7 @@ run_ends crew crew_new old mid at was left held holds runs none asked closed = r
   asked = subst (NoneWaits crew_new) (sym (closed ∙ none_leaves mid crew_new none)) asked;
 }
 
--- what is due is told, and asking has changed nothing
+-- what is due is returned, and asking has changed nothing
 pub due_runs : (crew : List WorkerState) (old at new : CoordValue) (was left held holds : Option (List ℕ)) (d : Due) → RunEnds crew old was left held holds at → (d ≡ due.More → ⊥) → IsDue at new d → RunEnds crew old was left held holds new
 due_runs crew old at new was left held holds due.Nothing ends other h = subst (RunEnds crew old was left held holds) (sym h.0) ends
 due_runs crew old at new was left held holds due.TooLarge ends other h = subst (RunEnds crew old was left held holds) (sym h.0) ends

@@ -37,7 +37,7 @@ IsBusyWith (Busy job) id = job.id ≡ id
 
 -- ---- four workers
 
--- a worker is idle at first if it is one of so many
+-- a worker is idle at first if it is one of the first
 abbrev pub start_state : ℕ → ℕ → WorkerState
 start_state count number = if nat_le number count then Idle else Gone
 

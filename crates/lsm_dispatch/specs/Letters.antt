@@ -1,4 +1,4 @@
--- Letters: what comes to a coordinator in a frame (RocksDB wiki, Remote Compaction: the host tells the primary if a worker fails; the bytes are the store's own).
+-- Letters: what comes to a coordinator in a frame (RocksDB wiki, Remote Compaction: the host reports to the primary that a worker failed; the bytes are the store's own).
 use Rattle.std.specs.Prelude.{◌≡◌, ◌⊎◌, ℕ, ◌≤◌, List, [], ◌∷◌}
 use Rattle.lsm_key.specs.declared.limits.TheConstants.{MAX_NODES}
 use Rattle.lsm_msg.specs.declared.message.Message.{Message}
@@ -14,7 +14,7 @@ IsLetter bytes (letter.Message m) = IsSpelled bytes m
 IsLetter bytes (letter.Gone index) = bytes ≡ index ∷ []
 IsLetter bytes (letter.There index) = bytes ≡ index ∷ 1 ∷ []
 
--- they tell of a worker that there can't be
+-- they name a worker that there can't be
 pub record IsNoWorker (bytes : List ℕ) : Type 0 where
   pub number : ℕ
   pub tells : (bytes ≡ number ∷ []) ⊎ (bytes ≡ number ∷ 1 ∷ [])

@@ -155,7 +155,7 @@ abbrev pub OneRefuses : Option Message → DispatchError → Type 0
 OneRefuses sent e = (m : Message) × (sent ≡ Some m) × (why : PipeError) × SendRefuses m why × (e ≡ error.Pipe why)
 
 -- Why a dispatch ends early: it stopped; or all its turns were done, and a compaction was due then for which there was no worker, or what is
--- due could not be told.
+-- due could not be found out.
 abbrev pub DispatchRefuses : List WorkerState → CoordValue → Option (List ℕ) → Option (List ℕ) → Option (List ℕ) → Option (List ℕ) → CoordValue → DispatchError → Type 0
 DispatchRefuses crew old was left held last new error.NoWorker = (at : CoordValue) × RunEnds crew old was left held last at × IsDue at new due.More
 DispatchRefuses crew old was left held last new (error.Coord e) = RunStops crew old was held last (error.Coord e) ⊎ ((at : CoordValue) × RunEnds crew old was left held last at × JobRefuses at e)

@@ -72,7 +72,7 @@ impl WorkerState {
     }
 }
 
-// A worker of this number, if so many are there at first.
+// A worker of this number, if `count` are there at first.
 fn start_state(count: NodeIndex, number: u8) -> WorkerState
     ensures { result ≡ start_state count number }
 {
@@ -83,7 +83,7 @@ fn start_state(count: NodeIndex, number: u8) -> WorkerState
 }
 
 impl Crew {
-    /// The first workers, so many, are there and idle.
+    /// The first `count` workers are there and idle.
     pub fn new(count: NodeIndex) -> Crew
         ensures { result ≡ new_crew count }
     {

@@ -15,15 +15,15 @@ use crate::error::DispatchError;
 use crate::install::due_of;
 use crate::letter::{Letter, letter_in};
 use lsm_coord::Coord;
-use lsm_pipe::{PipeError, read_frame, send};
+use lsm_io::{Sink, Source};
 use lsm_key::MAX_NODES;
 use lsm_msg::{Message, NodeIndex};
+use lsm_pipe::{PipeError, read_frame, send};
 use lsm_store::Due;
-use lsm_io::{Sink, Source};
 use lsm_vault::Vault;
 use std::alloc::Global;
 
-/// Has the compactions of an idle coordinator made by workers, of which so many are there at first, until none is due, and returns
+/// Has the compactions of an idle coordinator made by workers, of which `workers` are there at first, until none is due, and returns
 /// what is still due: nothing, or compactions that exceed a job size limit. The host takes each frame that is written to the
 /// worker that its message names, and brings what comes back, with a letter when a worker goes or comes.
 ///

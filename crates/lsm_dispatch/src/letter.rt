@@ -1,14 +1,14 @@
 //! Letters: what comes to a coordinator in a frame.
 //!
-//! A letter is a message, or tells of a worker: a frame of one byte, its number, if the worker is gone; a frame of two bytes, its number
+//! A letter is a message, or news of a worker: a frame of one byte, its number, if the worker is gone; a frame of two bytes, its number
 //! and 1, if it is there, or there again. No message has so few bytes.
 
 ghost use Rattle.std.specs.Prelude.{IfErr, IfOk};
 ghost use Rattle.lsm_dispatch.specs.Letters.{IsLetter, NoLetter};
 
 use bytes::Bytes;
-use lsm_pipe::{PipeError, message_in};
 use lsm_msg::{Message, NodeIndex};
+use lsm_pipe::{PipeError, message_in};
 use std::alloc::Global;
 
 /// What comes to a coordinator in a frame.

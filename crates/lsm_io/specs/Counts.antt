@@ -1,11 +1,11 @@
--- When a stream may be told to have failed, or not to end (RocksDB: I/O errors; here they are counted, so that none is made up).
+-- When a stream may be reported to have failed, or not to end (RocksDB: I/O errors; here they are counted, so that none is made up).
 use Rattle.std.specs.Prelude.{◌≡◌, ℕ, ◌+◌, ◌<◌, ◌≤◌, ◌^◌, Result, Ok, Err}
 use Rattle.lsm_io.specs.declared.sink.SinkError.{SinkError}
 use Rattle.lsm_io.specs.declared.sink.SinkError.TheVariants as sink
 use Rattle.lsm_io.specs.declared.source.SourceError.{SourceError}
 use Rattle.lsm_io.specs.declared.source.SourceError.TheVariants as source
 
--- of an answer, with the reads counted before and after it: one was made, and that there is no end is told only after so many
+-- of an answer, with the reads counted before and after it: one was made, and that there is no end is reported only after 2^64 - 1 of them
 abbrev pub CountsReads : {T : Type 0} → Result T SourceError → ℕ → ℕ → Type 0
 CountsReads (Ok value) before after = before < after
 CountsReads (Err source.NoEnd) before after = (before ≤ after) × (2 ^ 64 ≤ after + 1)

@@ -1,8 +1,8 @@
--- What is read and written, if the streams tell their bytes (Rust, std::io::Read and Write).
+-- What is read and written, if the bytes of the streams are known (Rust, std::io::Read and Write).
 use Rattle.std.specs.Prelude.{◌≡◌, ◌<◌, ◌≤◌, ℕ, Bool, true, false, List, [], ◌++◌, Option, length, take}
 use Rattle.std.specs.Io.KnownBytes.{Appends, Consumes, IsAtEnd}
 
--- what a reader lost, some bytes and at most so many, stands behind the input; none only at its end
+-- what a reader lost, at least one byte and at most `most`, was appended to the input; nothing was only at its end
 abbrev pub Gains : ℕ → Option (List ℕ) → Option (List ℕ) → List ℕ → List ℕ → Bool → Type 0
 Gains most before after old new true = (bytes : List ℕ) × (new ≡ old ++ bytes) × (0 < length bytes) × (length bytes ≤ most) × Consumes before after bytes
 Gains most before after old new false = (new ≡ old) × Consumes before after [] × IsAtEnd after

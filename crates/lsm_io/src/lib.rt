@@ -1,8 +1,8 @@
 //! Reads and writes over streams: what comes, until the input ends, and all bytes of an output.
 //!
 //! It promises that what is read is what the reader lost, that what is written is what the writer was given, whole or up to a fault, and
-//! that a call that is interrupted is made again. It says so of streams that tell their bytes. Of streams that are counted it promises too
-//! that a fault is told exactly if it was counted. It stands on no other crate of the store.
+//! that a call that is interrupted is made again. It says so of streams whose bytes are known. Of streams that are counted it promises too
+//! that a fault is reported exactly if it was counted. It stands on no other crate of the store.
 #![tactic(auto)]
 
 mod error;

@@ -65,7 +65,7 @@ IsReadError ReadFault = Unit {0}
 IsReadError OutOfMemory = Unit {0}
 IsReadError e = ⊥
 
--- what a reader loses is these bytes, so many or fewer before its end
+-- what a reader loses is these bytes, as many as asked for, or fewer before its end
 pub record TakesUpTo (count : ℕ) (old new : Option (List ℕ)) (bytes : List ℕ) : Type 0 where
   pub consumed : Consumes old new bytes
   pub few : length bytes ≤ count

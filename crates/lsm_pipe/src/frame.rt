@@ -12,9 +12,9 @@ ghost use Rattle.lsm_pipe.specs.Frames.{FrameRefuses, IsHead, IsReadError, Reads
 
 use crate::error::PipeError;
 use bytes::Bytes;
+use lsm_io::{Sink, Source, buffer_of, read_next, write_whole};
 use lsm_key::{know_slice, u32_in};
 use lsm_msg::MAX_MESSAGE_BYTES;
-use lsm_io::{Sink, Source, buffer_of, read_next, write_whole};
 use std::alloc::{AllocError, Global};
 
 /// How many bytes of a frame stand before those that it holds.
@@ -79,7 +79,7 @@ fn read_up_to<R: Source>(alloc: Global, reader: &mut R, count: usize) -> Result<
     Ok(bytes)
 }
 
-/// A buffer for so many bytes that are to come, as far as they are read at once.
+/// A buffer for `count` bytes that are to come, as far as they are read at once.
 fn piece(alloc: Global, count: usize) -> Result<Vec<u8>, AllocError>
     ensures len { IfOk result (λ buffer. length buffer.items ≡ min count PIECE_BYTES) }
     ensures few { IfOk result (λ buffer. length buffer.items ≤ 65536) }

@@ -9,9 +9,9 @@ ghost use Rattle.lsm_pipe.specs.Frames.{MessageRefuses, NoMessage, SendRefuses, 
 use crate::error::PipeError;
 use crate::frame::{read_frame, write_frame};
 use bytes::Bytes;
+use lsm_io::{Sink, Source};
 use lsm_key::Refused;
 use lsm_msg::{Message, MsgError, decode, encode};
-use lsm_io::{Sink, Source};
 use std::alloc::Global;
 
 /// The next message, or `None` if the input ends before its frame. After a refusal nothing more may be read.

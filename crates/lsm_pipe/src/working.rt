@@ -7,8 +7,8 @@ ghost use Rattle.lsm_pipe.specs.Working.{StopsAfter, TakeStops, TakesOver, WorkS
 
 use crate::error::PipeError;
 use crate::mail::{receive, send_all};
-use lsm_msg::{Message, Node, NodeIndex};
 use lsm_io::{Sink, Source};
+use lsm_msg::{Message, Node, NodeIndex};
 use lsm_work::{WorkChange, Worker};
 use std::alloc::Global;
 

@@ -1,4 +1,4 @@
--- How many bytes are enough to tell what they begin with: a request, or none within the limits.
+-- How many bytes are enough to know what they begin with: a request, or none within the limits.
 use Rattle.std.specs.Prelude.{ℕ, ◌+◌, ◌*◌, ◌<◌, ◌≤◌, List, length}
 use Rattle.lsm_resp.specs.declared.limits.TheConstants.{MAX_HEADER_BYTES, MAX_REQUEST_BYTES, MAX_WORD_BYTES, MAX_WORDS}
 use Rattle.lsm_resp.specs.declared.request.Parsed.{Parsed}
@@ -12,7 +12,7 @@ enough_for_header = MAX_HEADER_BYTES + 2
 abbrev pub enough_for_bulk : ℕ
 enough_for_bulk = enough_for_header + MAX_WORD_BYTES + 2
 
--- so many words as bulk strings: the one that makes them too long has to come whole
+-- a number of words as bulk strings: the one that makes them too long has to come whole
 abbrev pub enough_for_bulks : ℕ → ℕ
 enough_for_bulks count = count * (enough_for_header + 2) + MAX_REQUEST_BYTES + MAX_WORD_BYTES
 

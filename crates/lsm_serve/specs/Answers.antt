@@ -79,7 +79,7 @@ abbrev pub KeyHasValue : CoordValue → List ℕ → Bool → Type 0
 KeyHasValue c key true = (value : List ℕ) × ReadsValue c key None (Some value)
 KeyHasValue c key false = ReadsValue c key None None
 
--- so many of the keys have a value, a key that is named twice being counted twice
+-- how many of the keys have a value, a key that is named twice being counted twice
 abbrev pub CountsKeys : CoordValue → List (List ℕ) → ℕ → Type 0
 CountsKeys c [] count = count ≡ 0
 CountsKeys c (key ∷ keys) count = (has : Bool) × (rest : ℕ) × KeyHasValue c key has × CountsKeys c keys rest × (count ≡ from_bool has + rest)
@@ -159,7 +159,7 @@ abbrev pub DeletesKey : CoordValue → List ℕ → Bool → CoordValue → Type
 DeletesKey old key true new = KeyHasValue old key true × Accepts old (Delete key ∷ []) new
 DeletesKey old key false new = KeyHasValue old key false × (new ≡ old)
 
--- the keys are deleted in turn, and so many of them had a value
+-- the keys are deleted in turn, and this is how many of them had a value
 abbrev pub DeletesKeys : CoordValue → List (List ℕ) → ℕ → CoordValue → Type 0
 DeletesKeys old [] count new = (count ≡ 0) × (new ≡ old)
 DeletesKeys old (key ∷ keys) count new =

@@ -1,16 +1,10 @@
--- Why serving ends, by why a request is not read, no more comes, or no more is written.
-use Rattle.lsm_resp.specs.declared.fault.ParseError.{ParseError}
-use Rattle.lsm_resp.specs.declared.fault.ParseError.TheVariants as parse
+-- Why serving ends, by why no more comes, or no more is written.
 use Rattle.lsm_io.specs.declared.sink.SinkError.{SinkError}
 use Rattle.lsm_io.specs.declared.sink.SinkError.TheVariants as sink
 use Rattle.lsm_io.specs.declared.source.SourceError.{SourceError}
 use Rattle.lsm_io.specs.declared.source.SourceError.TheVariants as source
 use Rattle.lsm_serve.specs.declared.error.ServeError.{ServeError}
 use Rattle.lsm_serve.specs.declared.error.ServeError.TheVariants as serve
-
-abbrev pub error_of_parse : ParseError → ServeError
-error_of_parse parse.OutOfMemory = serve.OutOfMemory
-error_of_parse (parse.Protocol fault) = serve.Protocol fault
 
 abbrev pub error_of_source : SourceError → ServeError
 error_of_source source.ReadFault = serve.ReadFault

@@ -33,7 +33,7 @@ IsReplyTo (Reply reply) bytes = bytes ≡ reply_bytes reply
 IsReplyTo (Refused why) bytes = (text : List ℕ) × (bytes ≡ reply_bytes (reply.Error (error_text text)))
 
 -- the bytes that a request gets: those of its answer, and none if it has no words; a request of HTTP gets no answer. Where INFO
--- tells up to which sequence the store was synced, that is some sequence: what outlives a device is no part of a store's value.
+-- says up to which sequence the store was synced, that is some sequence: what outlives a device is no part of a store's value.
 abbrev pub RepliesTo : CoordValue → List (List ℕ) → List ℕ → CoordValue → Type 0
 RepliesTo old [] bytes new = (bytes ≡ []) × (new ≡ old)
 RepliesTo old (name ∷ args) bytes new = (synced : ℕ) × (answer : Answer) × AnswersRequest synced old (name ∷ args) answer new × IsReplyTo answer bytes × IsNoHttp (name ∷ args)
@@ -64,7 +64,7 @@ abbrev pub AreSentAs : List (List (List ℕ)) → List ℕ → Type 0
 AreSentAs [] bytes = bytes ≡ []
 AreSentAs (request ∷ requests) bytes = (first : List ℕ) × (rest : List ℕ) × IsSentAs request first × AreSentAs requests rest × (bytes ≡ first ++ rest)
 
--- a reader that tells its bytes has these requests left, each within the limits, and nothing else
+-- a reader whose bytes are known has these requests left, each within the limits, and nothing else
 pub record AreAhead (known : Option (List ℕ)) (requests : List (List (List ℕ))) : Type 0 where
   pub bytes : List ℕ
   pub bytes_are : known ≡ Some bytes

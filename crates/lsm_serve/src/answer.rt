@@ -27,7 +27,7 @@ pub enum Answer {
     Refused(CommandRefusal),
 }
 
-/// Answers a request: a command's name, and its arguments. Without a name it is refused as unknown. `INFO` tells up to which sequence
+/// Answers a request: a command's name, and its arguments. Without a name it is refused as unknown. `INFO` has the sequence up to which
 /// the store was synced last. If memory runs out before it is answered, the store is as it was.
 pub fn answer_request<V: Vault>(
     alloc: Global,

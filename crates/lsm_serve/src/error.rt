@@ -1,9 +1,9 @@
 //! Why serving ends before the input does.
 
 use crate::HttpWord;
-use lsm_resp::{ParseError, ProtocolFault};
-use lsm_store::StoreError;
 use lsm_io::{SinkError, SourceError};
+use lsm_resp::ProtocolFault;
+use lsm_store::StoreError;
 use std::alloc::{AllocError, AllocFailed};
 use thiserror::Error;
 
@@ -28,7 +28,7 @@ pub enum ServeError {
     /// A stream was read or written as often as is counted, 2^64 - 1 times.
     #[error("the input does not end")]
     NoEnd,
-    /// The store could not be synced. No reply was written that tells of a write since the last sync.
+    /// The store could not be synced. No reply was written that answers a write since the last sync.
     #[error("not synced: {0}")]
     NotSynced(StoreError),
     #[error("out of memory")]
@@ -54,20 +54,6 @@ impl<T: Drop> From<AllocFailed<T>> for ServeError {
 
     fn from(_e: AllocFailed<T>) -> ServeError {
         ServeError::OutOfMemory
-    }
-}
-
-impl From<ParseError> for ServeError {
-    ghost use Rattle.std.specs.Prelude.{◌≡◌};
-    ghost use Rattle.lsm_serve.specs.Errors.{error_of_parse};
-
-    ghost from_gives = { λ why e. e ≡ error_of_parse why };
-
-    fn from(why: ParseError) -> ServeError {
-        match why {
-            ParseError::OutOfMemory => ServeError::OutOfMemory,
-            ParseError::Protocol(fault) => ServeError::Protocol(fault),
-        }
     }
 }
 

@@ -1,6 +1,6 @@
 //! A store behind a stream of requests in Redis's protocol, RESP2.
 //!
-//! It promises, for streams that tell their bytes, that the replies to a stream of requests, arrays of words or lines of them, are those of
+//! It promises, for streams whose bytes are known, that the replies to a stream of requests, arrays of words or lines of them, are those of
 //! a run of the requests: each by what the store held after those before it, in their order, up to a `QUIT`, or to one that begins as a
 //! request of HTTP does. After a fault of a stream or of memory, or a sync that is refused, a beginning of them is written. The store is
 //! synced before each write of replies, once for all requests that have come, and if that is refused, none of these replies is written.

@@ -18,10 +18,10 @@ ghost use Rattle.lsm_serve.specs.ServingSteps.{AnswersFault, AnswersOne, Appends
 use crate::answer::{Answer, answer_request, one};
 use crate::{Command, CommandRefusal, HttpWord, ServeError};
 use bytes::Bytes;
+use lsm_io::{Sink, Source, buffer_of, read_next, write_kept};
 use lsm_key::Seq;
 use lsm_resp::{ParseError, Parsed, ProtocolFault, RespReply, parse_request, write_reply};
 use lsm_store::Store;
-use lsm_io::{Sink, Source, buffer_of, read_next, write_kept};
 use lsm_vault::Vault;
 use std::alloc::{AllocError, Global};
 
@@ -290,7 +290,7 @@ fn fail<V: Vault, W: Sink>(
     synced: &mut Seq,
     fault: ProtocolFault,
 ) -> ServeError
-    ensures told { AnswersFault fault (W.contents writer.old) (W.contents writer.new) out.old.items result }
+    ensures answered { AnswersFault fault (W.contents writer.old) (W.contents writer.new) out.old.items result }
     ensures writes { ReportsWrites {T = Unit {0}} (Err result) (W.writes writer.old) (W.writes writer.new) }
     ensures faults { ReportsWriteFaults {T = Unit {0}} (Err result) (W.faults writer.old) (W.faults writer.new) }
 {

@@ -24,7 +24,7 @@ pub(crate) fn set<V: Vault>(store: &mut Store<V>, args: &[&[u8]]) -> Answer
     }
 }
 
-/// Why so many arguments are refused.
+/// Why this number of arguments is refused.
 fn refused_set(count: usize) -> Answer
     ensures { result ≡ refused_set count }
 {

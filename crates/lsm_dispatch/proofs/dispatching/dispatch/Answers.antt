@@ -42,7 +42,7 @@ returns-in_err-ended-clause-settled g c = c.close.ensures.none (c.run-ended.ensu
 pub returns-in_err-ended-clause-keeps : goal.returns-in_err-ended-clause-keeps
 returns-in_err-ended-clause-keeps g c = ended_keeps c.args.coord.now c.run-ended.new.coord c.close.new.coord c.close.new.coord (c.run-ended.ensures.keeps.results, c.run-ended.ensures.keeps.passes) c.close.ensures.keeps (keeps_same c.close.new.coord)
 
--- what is due can't be told
+-- what is due can't be found out
 pub returns-in_err-due-clause-refused : goal.returns-in_err-due-clause-refused
 returns-in_err-due-clause-refused g c =
     let p = err_from_is_err_and c.from_residual-in_err-due.result c.from_residual-in_err-due.ensures.1 in
@@ -73,7 +73,7 @@ returns-in-More-clause-settled g c =
 pub returns-in-More-clause-keeps : goal.returns-in-More-clause-keeps
 returns-in-More-clause-keeps g c = ended_keeps c.args.coord.now c.run-ended.new.coord c.close.new.coord c.due_of.new.coord (c.run-ended.ensures.keeps.results, c.run-ended.ensures.keeps.passes) c.close.ensures.keeps c.due_of.ensures.keeps
 
--- it is told what is left
+-- what is left is returned
 pub returns-in_default : goal.returns-in_default
 returns-in_default g c =
     let none : c.close.new.coord.book.live ≡ [] = c.close.ensures.none (c.run-ended.ensures.keeps.held (held_at_first c.args.coord.now.book c.new-crew.result c.requires)) in

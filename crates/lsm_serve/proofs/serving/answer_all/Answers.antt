@@ -127,10 +127,10 @@ returns-clause-served g c old requests held later first =
     (c.loop-at.invariant.so old requests held later first, λ none. drop_all c.loop-at.at c.args.input.now (omega (arith, c.loop-at-test.false)))
 
 pub returns-in-Err-Protocol-clause-answered : goal.returns-in-Err-Protocol-clause-answered
-returns-in-Err-Protocol-clause-answered g c = fault_last Reached _ _ _ _ _ _ c.loop-at.invariant.wrote c.fail.ensures.told
+returns-in-Err-Protocol-clause-answered g c = fault_last Reached _ _ _ _ _ _ c.loop-at.invariant.wrote c.fail.ensures.answered
 
 pub returns-in-Err-Protocol-clause-why : goal.returns-in-Err-Protocol-clause-why
-returns-in-Err-Protocol-clause-why g c = fault_reason _ _ _ _ c.fail.result c.fail.ensures.told
+returns-in-Err-Protocol-clause-why g c = fault_reason _ _ _ _ c.fail.result c.fail.ensures.answered
 
 pub returns-in-Err-Protocol-clause-writes : goal.returns-in-Err-Protocol-clause-writes
 returns-in-Err-Protocol-clause-writes g c = writes_then (Unit {0}) Reached c.fail.result _ _ _ c.loop-at.invariant.writes c.fail.ensures.writes

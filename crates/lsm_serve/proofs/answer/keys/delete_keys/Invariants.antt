@@ -1,4 +1,4 @@
--- the keys so far are deleted, and so many of them had a value
+-- the keys so far are deleted, and this is how many of them had a value
 use Rattle.std.proofs.Common.{◌≤◌, take}
 use Rattle.lsm_resp.specs.Requests.{words_of}
 use Rattle.lsm_serve.specs.Answers.{DeletesKeys}
