@@ -5,7 +5,8 @@ ghost use Rattle.std.specs.Io.KnownBytes.{Appends};
 ghost use Rattle.lsm_key.specs.declared.limits.TheConstants.{MAX_NODES};
 ghost use Rattle.lsm_msg.specs.Messages.{IsMessage};
 ghost use Rattle.lsm_pipe.specs.Frames.{framed};
-ghost use Rattle.lsm_dispatch.specs.Counting.{DispatchCounts, DispatchCountsBoth, DispatchCountsReadFaults, DispatchCountsWriteFaults, read_faults_in};
+ghost use Rattle.lsm_io.specs.Reports.{ReportsAfter, ReportsAfterBoth, ReportsFaults};
+ghost use Rattle.lsm_dispatch.specs.Counting.{MayStopAfter, read_faults_in, write_faults_in};
 ghost use Rattle.lsm_dispatch.specs.Crews.{has_busy, new_crew};
 ghost use Rattle.lsm_dispatch.specs.Dispatching.{IsLeftDue, KeepsIfMerged, RunKeeps};
 ghost use Rattle.lsm_dispatch.specs.Turns.{AsksWorker, AsksBefore, DispatchRefuses, NoneWaits, OneRefuses, RunEnds, RunStops, RunsOver, one_or_none};
@@ -46,9 +47,9 @@ pub fn dispatch<V: Vault, R: Source, W: Sink>(
     ensures refused { IfErr result (DispatchRefuses (new_crew count) coord.old (R.remaining reader.old) (R.remaining reader.new) (W.contents writer.old) (W.contents writer.new) coord.new) }
     ensures settled { coord.new.book.live ≡ [] }
     ensures keeps { KeepsIfMerged coord.old coord.new }
-    ensures counted { DispatchCountsBoth result (R.reads reader.old) (R.reads reader.new) (W.writes writer.old) (W.writes writer.new) }
-    ensures read_faults { DispatchCountsReadFaults result (R.faults reader.old) (R.faults reader.new) }
-    ensures write_faults { DispatchCountsWriteFaults result (W.faults writer.old) (W.faults writer.new) }
+    ensures counted { ReportsAfterBoth MayStopAfter result (R.reads reader.old) (R.reads reader.new) (W.writes writer.old) (W.writes writer.new) }
+    ensures read_faults { ReportsFaults read_faults_in result (R.faults reader.old) (R.faults reader.new) }
+    ensures write_faults { ReportsFaults write_faults_in result (W.faults writer.old) (W.faults writer.new) }
 {
     let mut crew = Crew::new(count);
     let ended = run(alloc, coord, &mut crew, reader, writer);
@@ -72,9 +73,9 @@ fn run<V: Vault, R: Source, W: Sink>(
     ensures idle { OnOk result ((has_busy crew.new ≡ false) × NoneWaits crew.new coord.new) }
     ensures refused { IfErr result (RunStops crew.old coord.old (R.remaining reader.old) (W.contents writer.old) (W.contents writer.new)) }
     ensures keeps { RunKeeps crew.old coord.old crew.new coord.new }
-    ensures counted { DispatchCountsBoth result (R.reads reader.old) (R.reads reader.new) (W.writes writer.old) (W.writes writer.new) }
-    ensures read_faults { DispatchCountsReadFaults result (R.faults reader.old) (R.faults reader.new) }
-    ensures write_faults { DispatchCountsWriteFaults result (W.faults writer.old) (W.faults writer.new) }
+    ensures counted { ReportsAfterBoth MayStopAfter result (R.reads reader.old) (R.reads reader.new) (W.writes writer.old) (W.writes writer.new) }
+    ensures read_faults { ReportsFaults read_faults_in result (R.faults reader.old) (R.faults reader.new) }
+    ensures write_faults { ReportsFaults write_faults_in result (W.faults writer.old) (W.faults writer.new) }
 {
     for _turn in 0..u64::MAX {
         hand_out_all(alloc, coord, crew, writer)?;
@@ -97,8 +98,8 @@ fn hand_out_all<V: Vault, W: Sink>(
     ensures refused { IfErr result (λ e. (input : Option (List ℕ)) → RunStops crew.old coord.old input (W.contents writer.old) (W.contents writer.new) e) }
     ensures asks { OnOk result (AsksBefore (MAX_NODES + 1) crew.old coord.old crew.new coord.new) }
     ensures keeps { RunKeeps crew.old coord.old crew.new coord.new }
-    ensures counted { DispatchCounts result (W.writes writer.old) (W.writes writer.new) }
-    ensures faults { DispatchCountsWriteFaults result (W.faults writer.old) (W.faults writer.new) }
+    ensures counted { ReportsAfter MayStopAfter result (W.writes writer.old) (W.writes writer.new) }
+    ensures faults { ReportsFaults write_faults_in result (W.faults writer.old) (W.faults writer.new) }
     ensures unread { IfErr result (λ e. read_faults_in e ≡ 0) }
 {
     for number in 1..MAX_NODES + 1 {
@@ -120,8 +121,8 @@ fn hand_out_to<V: Vault, W: Sink>(
     ensures refused { IfErr result (λ e. (input : Option (List ℕ)) → RunStops crew.old coord.old input (W.contents writer.old) (W.contents writer.new) e) }
     ensures asks { OnOk result (AsksWorker number crew.old coord.old crew.new coord.new) }
     ensures keeps { RunKeeps crew.old coord.old crew.new coord.new }
-    ensures counted { DispatchCounts result (W.writes writer.old) (W.writes writer.new) }
-    ensures faults { DispatchCountsWriteFaults result (W.faults writer.old) (W.faults writer.new) }
+    ensures counted { ReportsAfter MayStopAfter result (W.writes writer.old) (W.writes writer.new) }
+    ensures faults { ReportsFaults write_faults_in result (W.faults writer.old) (W.faults writer.new) }
     ensures unread { IfErr result (λ e. read_faults_in e ≡ 0) }
 {
     let Some(index) = NodeIndex::new(number) else {
@@ -144,9 +145,9 @@ fn take_letter<V: Vault, R: Source, W: Sink>(
     ensures refused { IfErr result (RunStops crew.old coord.old (R.remaining reader.old) (W.contents writer.old) (W.contents writer.new)) }
     ensures keeps { RunKeeps crew.old coord.old crew.new coord.new }
     ensures turns { OnOk result (R.reads reader.old < R.reads reader.new) }
-    ensures counted { DispatchCountsBoth result (R.reads reader.old) (R.reads reader.new) (W.writes writer.old) (W.writes writer.new) }
-    ensures read_faults { DispatchCountsReadFaults result (R.faults reader.old) (R.faults reader.new) }
-    ensures write_faults { DispatchCountsWriteFaults result (W.faults writer.old) (W.faults writer.new) }
+    ensures counted { ReportsAfterBoth MayStopAfter result (R.reads reader.old) (R.reads reader.new) (W.writes writer.old) (W.writes writer.new) }
+    ensures read_faults { ReportsFaults read_faults_in result (R.faults reader.old) (R.faults reader.new) }
+    ensures write_faults { ReportsFaults write_faults_in result (W.faults writer.old) (W.faults writer.new) }
 {
     let Some(payload) = read_frame(alloc, reader)? else {
         return Err(DispatchError::EndsEarly);
@@ -177,8 +178,8 @@ fn send_some<W: Sink>(
     requires { IfSome message IsMessage }
     ensures ok { OnOk result (Appends (W.contents writer.old) (W.contents writer.new) (framed (one_or_none message))) }
     ensures refused { IfErr result (OneRefuses message) }
-    ensures counted { DispatchCounts result (W.writes writer.old) (W.writes writer.new) }
-    ensures faults { DispatchCountsWriteFaults result (W.faults writer.old) (W.faults writer.new) }
+    ensures counted { ReportsAfter MayStopAfter result (W.writes writer.old) (W.writes writer.new) }
+    ensures faults { ReportsFaults write_faults_in result (W.faults writer.old) (W.faults writer.new) }
     ensures unread { IfErr result (λ e. read_faults_in e ≡ 0) }
 {
     if let Some(message) = message {

@@ -16,23 +16,3 @@ write_faults_of e = 0
 abbrev pub MayFollow : PipeError → ℕ → Type 0
 MayFollow NoEnd calls = 2 ^ 64 ≤ calls + 1
 MayFollow e calls = Unit {0}
-
--- of an answer, with the faults of the source counted before and after it: one more exactly if it is one
-abbrev pub PipeCountsReadFaults : {T : Type 0} → Result T PipeError → ℕ → ℕ → Type 0
-PipeCountsReadFaults (Ok value) before after = after ≡ before
-PipeCountsReadFaults (Err why) before after = after ≡ before + read_faults_of why
-
--- with those of the sink
-abbrev pub PipeCountsWriteFaults : {T : Type 0} → Result T PipeError → ℕ → ℕ → Type 0
-PipeCountsWriteFaults (Ok value) before after = after ≡ before
-PipeCountsWriteFaults (Err why) before after = after ≡ before + write_faults_of why
-
--- with the calls of a stream counted before and after it
-abbrev pub PipeCounts : {T : Type 0} → Result T PipeError → ℕ → ℕ → Type 0
-PipeCounts (Ok value) before after = before ≤ after
-PipeCounts (Err why) before after = (before ≤ after) × MayFollow why after
-
--- with the reads of the source and the writes of the sink
-abbrev pub PipeCountsBoth : {T : Type 0} → Result T PipeError → ℕ → ℕ → ℕ → ℕ → Type 0
-PipeCountsBoth (Ok value) reads read writes written = (reads ≤ read) × (writes ≤ written)
-PipeCountsBoth (Err why) reads read writes written = (reads ≤ read) × (writes ≤ written) × (MayFollow why read ⊎ MayFollow why written)

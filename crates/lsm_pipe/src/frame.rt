@@ -7,7 +7,8 @@ ghost use Rattle.std.specs.Io.KnownBytes.{Appends, Consumes, IsAtEnd};
 ghost use Rattle.lsm_msg.specs.Messages.{sized};
 ghost use Rattle.lsm_msg.specs.declared.message.TheConstants.{MAX_MESSAGE_BYTES};
 ghost use Rattle.lsm_pipe.specs.declared.frame.TheConstants.{HEAD_BYTES, PIECE_BYTES};
-ghost use Rattle.lsm_pipe.specs.Counting.{PipeCounts, PipeCountsReadFaults, PipeCountsWriteFaults};
+ghost use Rattle.lsm_io.specs.Reports.{ReportsAfter, ReportsFaults};
+ghost use Rattle.lsm_pipe.specs.Counting.{MayFollow, read_faults_of, write_faults_of};
 ghost use Rattle.lsm_pipe.specs.Frames.{FrameRefuses, IsHead, IsReadError, ReadsFrame, TakesUpTo};
 
 use crate::error::PipeError;
@@ -29,9 +30,9 @@ const PIECE_BYTES: usize = 65_536;
 pub fn read_frame<R: Source>(alloc: Global, reader: &mut R) -> Result<Option<Bytes>, PipeError>
     ensures ok { IfOk result (ReadsFrame (R.remaining reader.old) (R.remaining reader.new)) }
     ensures refused { IfErr result (FrameRefuses (R.remaining reader.old)) }
-    ensures counted { PipeCounts result (R.reads reader.old) (R.reads reader.new) }
+    ensures counted { ReportsAfter MayFollow result (R.reads reader.old) (R.reads reader.new) }
     ensures turns { OnOk result (R.reads reader.old < R.reads reader.new) }
-    ensures faults { PipeCountsReadFaults result (R.faults reader.old) (R.faults reader.new) }
+    ensures faults { ReportsFaults read_faults_of result (R.faults reader.old) (R.faults reader.new) }
 {
     let head = read_up_to(alloc, reader, HEAD_BYTES)?;
     if head.is_empty() {
@@ -64,9 +65,9 @@ fn length_in(head: &[u8]) -> Result<usize, PipeError>
 fn read_up_to<R: Source>(alloc: Global, reader: &mut R, count: usize) -> Result<Vec<u8>, PipeError>
     ensures ok { IfOk result (λ bytes. TakesUpTo count (R.remaining reader.old) (R.remaining reader.new) bytes.items) }
     ensures refused { IfErr result IsReadError }
-    ensures counted { PipeCounts result (R.reads reader.old) (R.reads reader.new) }
+    ensures counted { ReportsAfter MayFollow result (R.reads reader.old) (R.reads reader.new) }
     ensures turns { 0 < count → OnOk result (R.reads reader.old < R.reads reader.new) }
-    ensures faults { PipeCountsReadFaults result (R.faults reader.old) (R.faults reader.new) }
+    ensures faults { ReportsFaults read_faults_of result (R.faults reader.old) (R.faults reader.new) }
 {
     let mut buffer = piece(alloc, count)?;
     let mut bytes = Vec::new(alloc);
@@ -93,8 +94,8 @@ pub fn write_frame<W: Sink>(writer: &mut W, payload: &[u8]) -> Result<(), PipeEr
     ensures ok { OnOk result (Appends (W.contents writer.old) (W.contents writer.new) (sized payload.now)) }
     ensures flushed { OnOk result (W.is_flushed writer.new ≡ true) }
     ensures refused { IfErr result (λ e. (e ≡ PipeError.WriteFault) ⊎ (e ≡ PipeError.NoEnd)) }
-    ensures counted { PipeCounts result (W.writes writer.old) (W.writes writer.new) }
-    ensures faults { PipeCountsWriteFaults result (W.faults writer.old) (W.faults writer.new) }
+    ensures counted { ReportsAfter MayFollow result (W.writes writer.old) (W.writes writer.new) }
+    ensures faults { ReportsFaults write_faults_of result (W.faults writer.old) (W.faults writer.new) }
 {
     let head = (payload.len() as u32).to_be_bytes();
     write_whole(writer, &head)?;

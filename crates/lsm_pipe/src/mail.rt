@@ -3,7 +3,8 @@
 ghost use Rattle.std.specs.Prelude.{◌≡◌, ◌<◌, All, IfErr, IfOk, IfSome, OnOk, true};
 ghost use Rattle.std.specs.Io.KnownBytes.{Appends};
 ghost use Rattle.lsm_msg.specs.Messages.{IsMessage, IsSpelled, message, sized};
-ghost use Rattle.lsm_pipe.specs.Counting.{PipeCounts, PipeCountsReadFaults, PipeCountsWriteFaults};
+ghost use Rattle.lsm_io.specs.Reports.{ReportsAfter, ReportsFaults};
+ghost use Rattle.lsm_pipe.specs.Counting.{MayFollow, read_faults_of, write_faults_of};
 ghost use Rattle.lsm_pipe.specs.Frames.{MessageRefuses, NoMessage, SendRefuses, SendStops, TakesMessage, framed};
 
 use crate::error::PipeError;
@@ -18,9 +19,9 @@ use std::alloc::Global;
 pub fn receive<R: Source>(alloc: Global, reader: &mut R) -> Result<Option<Message>, PipeError>
     ensures ok { IfOk result (TakesMessage (R.remaining reader.old) (R.remaining reader.new)) }
     ensures refused { IfErr result (MessageRefuses (R.remaining reader.old)) }
-    ensures counted { PipeCounts result (R.reads reader.old) (R.reads reader.new) }
+    ensures counted { ReportsAfter MayFollow result (R.reads reader.old) (R.reads reader.new) }
     ensures turns { OnOk result (R.reads reader.old < R.reads reader.new) }
-    ensures faults { PipeCountsReadFaults result (R.faults reader.old) (R.faults reader.new) }
+    ensures faults { ReportsFaults read_faults_of result (R.faults reader.old) (R.faults reader.new) }
 {
     match read_frame(alloc, reader)? {
         Some(payload) => Ok(Some(message_in(alloc, payload)?)),
@@ -46,8 +47,8 @@ pub fn send<W: Sink>(alloc: Global, writer: &mut W, m: &Message) -> Result<(), P
     ensures ok { OnOk result (Appends (W.contents writer.old) (W.contents writer.new) (sized (message m.now))) }
     ensures flushed { OnOk result (W.is_flushed writer.new ≡ true) }
     ensures refused { IfErr result (SendRefuses m.now) }
-    ensures counted { PipeCounts result (W.writes writer.old) (W.writes writer.new) }
-    ensures faults { PipeCountsWriteFaults result (W.faults writer.old) (W.faults writer.new) }
+    ensures counted { ReportsAfter MayFollow result (W.writes writer.old) (W.writes writer.new) }
+    ensures faults { ReportsFaults write_faults_of result (W.faults writer.old) (W.faults writer.new) }
 {
     match encode(alloc, m) {
         Ok(bytes) => write_frame(writer, bytes.as_slice()),
@@ -66,8 +67,8 @@ pub(crate) fn send_all<W: Sink>(
     requires { All IsMessage messages.now }
     ensures ok { OnOk result (Appends (W.contents writer.old) (W.contents writer.new) (framed messages.now)) }
     ensures refused { IfErr result SendStops }
-    ensures counted { PipeCounts result (W.writes writer.old) (W.writes writer.new) }
-    ensures faults { PipeCountsWriteFaults result (W.faults writer.old) (W.faults writer.new) }
+    ensures counted { ReportsAfter MayFollow result (W.writes writer.old) (W.writes writer.new) }
+    ensures faults { ReportsFaults write_faults_of result (W.faults writer.old) (W.faults writer.new) }
 {
     for message in messages {
         send(alloc, writer, message)?;

@@ -2,7 +2,8 @@
 
 ghost use Rattle.std.specs.Prelude.{◌≡◌, ◌<◌, IfErr, IfOk, None, OnOk};
 ghost use Rattle.lsm_msg.specs.Messages.{IsMessage};
-ghost use Rattle.lsm_pipe.specs.Counting.{PipeCounts, PipeCountsBoth, PipeCountsReadFaults, PipeCountsWriteFaults};
+ghost use Rattle.lsm_io.specs.Reports.{ReportsAfter, ReportsAfterBoth, ReportsFaults};
+ghost use Rattle.lsm_pipe.specs.Counting.{MayFollow, read_faults_of, write_faults_of};
 ghost use Rattle.lsm_pipe.specs.Working.{StopsAfter, TakeStops, TakesOver, WorkStops, WorksAll, WorksOnce};
 
 use crate::error::PipeError;
@@ -26,9 +27,9 @@ pub fn work<R: Source, W: Sink>(
 ) -> Result<(), PipeError>
     ensures ok { OnOk result (WorksAll index (record { index = index; task = None }) (R.remaining reader.old) (W.contents writer.old) (W.contents writer.new)) }
     ensures err { IfErr result (StopsAfter index (record { index = index; task = None }) (R.remaining reader.old)) }
-    ensures counted { PipeCountsBoth result (R.reads reader.old) (R.reads reader.new) (W.writes writer.old) (W.writes writer.new) }
-    ensures read_faults { PipeCountsReadFaults result (R.faults reader.old) (R.faults reader.new) }
-    ensures write_faults { PipeCountsWriteFaults result (W.faults writer.old) (W.faults writer.new) }
+    ensures counted { ReportsAfterBoth MayFollow result (R.reads reader.old) (R.reads reader.new) (W.writes writer.old) (W.writes writer.new) }
+    ensures read_faults { ReportsFaults read_faults_of result (R.faults reader.old) (R.faults reader.new) }
+    ensures write_faults { ReportsFaults write_faults_of result (W.faults writer.old) (W.faults writer.new) }
 {
     let mut worker = Worker::new(alloc, index);
     for _turn in 0..u64::MAX {
@@ -49,10 +50,10 @@ fn turn<R: Source, W: Sink>(
 ) -> Result<bool, PipeError>
     ensures ok { IfOk result (WorksOnce index worker.old (R.remaining reader.old) (R.remaining reader.new) (W.contents writer.old) (W.contents writer.new) worker.new) }
     ensures err { IfErr result (WorkStops index worker.old (R.remaining reader.old)) }
-    ensures counted { PipeCountsBoth result (R.reads reader.old) (R.reads reader.new) (W.writes writer.old) (W.writes writer.new) }
+    ensures counted { ReportsAfterBoth MayFollow result (R.reads reader.old) (R.reads reader.new) (W.writes writer.old) (W.writes writer.new) }
     ensures turns { OnOk result (R.reads reader.old < R.reads reader.new) }
-    ensures read_faults { PipeCountsReadFaults result (R.faults reader.old) (R.faults reader.new) }
-    ensures write_faults { PipeCountsWriteFaults result (W.faults writer.old) (W.faults writer.new) }
+    ensures read_faults { ReportsFaults read_faults_of result (R.faults reader.old) (R.faults reader.new) }
+    ensures write_faults { ReportsFaults write_faults_of result (W.faults writer.old) (W.faults writer.new) }
 {
     match receive(alloc, reader)? {
         Some(message) => {
@@ -74,8 +75,8 @@ fn take<W: Sink>(
     requires { IsMessage message.now }
     ensures ok { OnOk result (TakesOver index worker.old message.now (W.contents writer.old) (W.contents writer.new) worker.new) }
     ensures err { IfErr result (TakeStops index worker.old message.now) }
-    ensures counted { PipeCounts result (W.writes writer.old) (W.writes writer.new) }
-    ensures faults { PipeCountsWriteFaults result (W.faults writer.old) (W.faults writer.new) }
+    ensures counted { ReportsAfter MayFollow result (W.writes writer.old) (W.writes writer.new) }
+    ensures faults { ReportsFaults write_faults_of result (W.faults writer.old) (W.faults writer.new) }
 {
     if message.dst != Node::Worker(index) {
         return Ok(());
