@@ -7,7 +7,7 @@ ghost use Rattle.lsm_line.specs.Lines.{level_files, level_text, levels_text, sho
 use crate::text::{write_number, write_numbers, write_text};
 use lsm_coord::ShownVersion;
 use lsm_edit::FileMeta;
-use lsm_key::FileNumber;
+use lsm_key::{ALL_LEVELS, FileNumber};
 use std::alloc::{AllocError, Global};
 
 /// ` L0 F,F,..`, or nothing for a level without files
@@ -60,5 +60,5 @@ pub fn write_shown(alloc: Global, out: &mut Vec<u8>, shown: &ShownVersion) -> Re
     write_number(out, shown.number.number())?;
     write_text(out, " flushed ")?;
     write_number(out, shown.flushed.number())?;
-    write_levels(alloc, out, &[0, 1, 2, 3, 4, 5, 6], shown.files.as_slice())
+    write_levels(alloc, out, &ALL_LEVELS, shown.files.as_slice())
 }
