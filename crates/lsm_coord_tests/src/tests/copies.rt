@@ -26,12 +26,20 @@ fn scan_to_c() -> Call {
     })
 }
 
+// A call and its copy are let go before the exit.
+fn copy_call(alloc: Global, call: Call) -> Result<(), AllocError> {
+    let copy = call.copy(alloc);
+    drop(call);
+    drop(copy?);
+    Ok(())
+}
+
 #[test]
 fn calls_are_copied(rt: HostRuntime) -> Result<(), Fail> {
     let alloc = rt.alloc();
-    write_of_a(alloc)?.copy(alloc)?;
-    scan_to_c().copy(alloc)?;
-    Call::Get(Bytes::from_static(b"a"), Some(SNAPSHOT)).copy(alloc)?;
+    copy_call(alloc, write_of_a(alloc)?)?;
+    copy_call(alloc, scan_to_c())?;
+    copy_call(alloc, Call::Get(Bytes::from_static(b"a"), Some(SNAPSHOT)))?;
     Ok(())
 }
 
@@ -46,11 +54,18 @@ fn trim_of_a_file(alloc: Global) -> Result<Answer, AllocError> {
     Ok(Answer::Trimmed(VersionNumber::new(2), Items::from_vec(files)))
 }
 
+fn copy_answer(alloc: Global, answer: Answer) -> Result<(), AllocError> {
+    let copy = answer.copy(alloc);
+    drop(answer);
+    drop(copy?);
+    Ok(())
+}
+
 #[test]
 fn answers_are_copied(rt: HostRuntime) -> Result<(), Fail> {
     let alloc = rt.alloc();
-    scan_of_a(alloc)?.copy(alloc)?;
-    trim_of_a_file(alloc)?.copy(alloc)?;
-    Answer::Got(Some(Bytes::from_static(b"1"))).copy(alloc)?;
+    copy_answer(alloc, scan_of_a(alloc)?)?;
+    copy_answer(alloc, trim_of_a_file(alloc)?)?;
+    copy_answer(alloc, Answer::Got(Some(Bytes::from_static(b"1"))))?;
     Ok(())
 }

@@ -1,14 +1,15 @@
 //! How often the calls of a coordinator ask their vault: no more often than they need.
 
-use super::results::{MERGED, result_of};
+use super::results::{MERGED, flush, result_of};
 use bytes::Bytes;
-use lsm_coord::{Coord, Install, Seat};
-use lsm_key::{Batch, DEFAULT_BLOCK, Limits, Op, VersionNumber};
-use lsm_vault::{FusedVault, MemoryVault};
+use lsm_coord::{Coord, CoordError, Install, Seat};
+use lsm_key::{DEFAULT_BLOCK, Limits, Op, VersionNumber};
+use lsm_msg::JobResult;
+use lsm_vault::{FusedVault, MemoryVault, Vault};
+use lsm_versions::OpenError;
 use std::alloc::{AllocError, Global};
+use std::process::Abort;
 use std::test::Fail;
-
-type Fused = FusedVault<MemoryVault>;
 
 #[derive(Clone, Copy, Debug)]
 enum Call {
@@ -20,7 +21,6 @@ enum Call {
     Trim,
     /// The log is synced.
     Sync,
-    Restart,
 }
 
 /// More calls than these ask of their vault.
@@ -31,29 +31,26 @@ const OPENING: u64 = 5;
 
 /// What is called, and how often it has to ask the vault: for each table that it puts, reads or removes, for each edit and each record
 /// that it appends, for the edits, the log and the numbers, and for each cut and each sync of the log.
-const CALLS: [(Call, u64); 6] = [
+const CALLS: [(Call, u64); 5] = [
     (Call::Flush, 4),
     (Call::Flush, 4),
     (Call::Install, 2),
     (Call::Trim, 3),
     (Call::Sync, 1),
-    (Call::Restart, 6),
 ];
 
-fn flush(alloc: Global, coord: &mut Coord<Fused>) -> Result<(), Fail> {
-    let mut batch = Batch::new(alloc);
-    batch.push(Op::Put(Bytes::from_static(b"a"), Bytes::from_static(b"1")))?;
-    coord.write(&batch)?;
-    coord.flush()?;
-    Ok(())
+/// And a restart after them.
+const RESTART: u64 = 6;
+
+fn put_of_a() -> Op {
+    Op::Put(Bytes::from_static(b"a"), Bytes::from_static(b"1"))
 }
 
-fn install(alloc: Global, coord: &mut Coord<Fused>) -> Result<(), Fail> {
-    let made = result_of(alloc, 1, &[MERGED])?;
+fn install<V: Vault>(coord: &mut Coord<V>, made: &JobResult) -> Result<(), Fail> {
     let Some((claim, _job)) = coord.pick()? else {
         return Err("nothing is due".into());
     };
-    match coord.install(claim, &made) {
+    match coord.install(claim, made) {
         Install::Done(_number, _files) => Ok(()),
         Install::Kept(claim, why) => {
             coord.give_back(claim);
@@ -63,57 +60,94 @@ fn install(alloc: Global, coord: &mut Coord<Fused>) -> Result<(), Fail> {
     }
 }
 
-fn restart(alloc: Global, seat: Seat<Fused>) -> Result<Seat<Fused>, Fail> {
-    let (seat, opened) = seat.restart(alloc);
-    opened?;
-    Ok(seat)
+fn trim<V: Vault>(coord: &mut Coord<V>) -> Result<(), CoordError> {
+    let _trimmed = coord.trim(VersionNumber::new(4))?;
+    Ok(())
 }
 
-fn after(alloc: Global, mut seat: Seat<Fused>, call: Call) -> Result<Seat<Fused>, Fail> {
-    let Seat::Up(coord) = &mut seat else {
-        return Err("no coordinator".into());
-    };
+fn make<V: Vault>(
+    alloc: Global,
+    coord: &mut Coord<V>,
+    made: &JobResult,
+    call: Call,
+) -> Result<(), Fail> {
     match call {
-        Call::Flush => flush(alloc, coord)?,
-        Call::Install => install(alloc, coord)?,
-        Call::Trim => {
-            let _trimmed = coord.trim(VersionNumber::new(4))?;
-        }
-        Call::Sync => coord.sync_log()?,
-        Call::Restart => return restart(alloc, seat),
+        Call::Flush => flush(alloc, coord, put_of_a()),
+        Call::Install => install(coord, made),
+        Call::Trim => Ok(trim(coord)?),
+        Call::Sync => Ok(coord.sync_log()?),
     }
-    Ok(seat)
 }
 
-/// How often a vault is asked by an opening and these calls after it.
-fn asked(alloc: Global, calls: &[(Call, u64)]) -> Result<u64, Fail> {
+fn make_all<V: Vault>(
+    alloc: Global,
+    coord: &mut Coord<V>,
+    made: &JobResult,
+    calls: &[(Call, u64)],
+) -> Result<(), Fail> {
+    for (call, _needed) in calls {
+        make(alloc, coord, made, *call)?;
+    }
+    Ok(())
+}
+
+/// The seat of a coordinator, which is restarted if it is to be.
+fn seated<V: Vault>(
+    alloc: Global,
+    coord: Coord<V>,
+    restarts: bool,
+) -> (Seat<V>, Result<(), OpenError>) {
+    let seat = Seat::Up(coord);
+    if restarts {
+        return seat.restart(alloc);
+    }
+    (seat, Ok(()))
+}
+
+/// How often a vault is asked by an opening, these calls after it, and a restart if there is to be one.
+fn asked(
+    alloc: Global,
+    made: &JobResult,
+    calls: &[(Call, u64)],
+    restarts: bool,
+) -> Result<u64, Fail> {
     let limits = Limits::new(2, 10_485_760, DEFAULT_BLOCK).ok_or("no limits")?;
     let vault = FusedVault::new(MemoryVault::new(alloc), MOST);
-    let Ok(coord) = Coord::open(alloc, vault, limits) else {
+    let Ok(mut coord) = Coord::open(alloc, vault, limits) else {
         return Err(AllocError.into());
     };
-    let mut seat = Seat::Up(coord);
-    for (next, _needed) in calls {
-        seat = after(alloc, seat, *next)?;
-    }
-    let left = seat.close().left().ok_or("the device failed")?;
-    Ok(MOST.saturating_sub(left))
+    let are_made = make_all(alloc, &mut coord, made, calls);
+    let (seat, restarted) = seated(alloc, coord, restarts);
+    let left = seat.close().left();
+    are_made?;
+    restarted?;
+    Ok(MOST.saturating_sub(left.ok_or("the device failed")?))
 }
 
-#[test]
-fn a_call_asks_the_vault_no_more_than_it_needs(rt: HostRuntime) -> Result<(), Fail> {
+fn see(rt: &impl Abort, alloc: Global, made: &JobResult) -> Result<(), Fail> {
     let mut needed = OPENING;
-    assert!(rt;
-        asked(rt.alloc(), &[])? == needed,
-        "an opening asks too often"
-    );
+    let count = asked(alloc, made, &[], false)?;
+    assert!(rt; count == needed, "an opening asks too often");
     for (place, (call, needs)) in CALLS.iter().enumerate() {
         needed = needed.saturating_add(*needs);
-        let count = asked(rt.alloc(), &CALLS[..place + 1])?;
+        let count = asked(alloc, made, &CALLS[..place + 1], false)?;
         assert!(rt;
             count == needed,
             "{call:?}: {count} in all, and not {needed}"
         );
     }
+    let count = asked(alloc, made, &CALLS, true)?;
+    assert!(rt;
+        count == needed.saturating_add(RESTART),
+        "a restart: {count} in all"
+    );
     Ok(())
+}
+
+#[test]
+fn a_call_asks_the_vault_no_more_than_it_needs(rt: HostRuntime) -> Result<(), Fail> {
+    let made = result_of(rt.alloc(), 1, &[MERGED])?;
+    let seen = see(&rt, rt.alloc(), &made);
+    drop(made);
+    seen
 }

@@ -4,14 +4,12 @@ use bytes::Bytes;
 use lsm_claim::{Claim, JobId};
 use lsm_coord::{Coord, CoordError, Desk, Install, InstallError, Seat};
 use lsm_edit::FileMeta;
-use lsm_key::{Batch, DEFAULT_BLOCK, Items, Limits, Op};
+use lsm_key::{Batch, DEFAULT_BLOCK, Items, KeyError, Limits, Op};
 use lsm_msg::{JobResult, NodeIndex};
-use lsm_vault::MemoryVault;
+use lsm_vault::{MemoryVault, Vault};
 use std::alloc::{AllocError, Global};
 use std::process::Abort;
 use std::test::Fail;
-
-type Store = Coord<MemoryVault>;
 
 /// What became of a result.
 #[derive(Clone, Copy, Debug, PartialEq)]
@@ -59,25 +57,36 @@ const RESULTS: [(u64, &[&[u8]], Became); 7] = [
     (1, &[], DONE),
 ];
 
+// The store, its desk and each result are owned by functions of one exit behind them: each exit of a function is proved with all that it
+// owns.
+
 /// Writes an operation and flushes it.
-fn flush(alloc: Global, coord: &mut Store, op: Op) -> Result<(), Fail> {
+pub(crate) fn flush<V: Vault>(alloc: Global, coord: &mut Coord<V>, op: Op) -> Result<(), Fail> {
+    let batch = batch_of(alloc, op)?;
+    let written = write(coord, &batch);
+    drop(batch);
+    Ok(written?)
+}
+
+fn batch_of(alloc: Global, op: Op) -> Result<Batch, KeyError> {
     let mut batch = Batch::new(alloc);
-    batch.push(op)?;
-    coord.write(&batch)?;
+    match batch.push(op) {
+        Ok(()) => Ok(batch),
+        Err(why) => Err(why),
+    }
+}
+
+fn write<V: Vault>(coord: &mut Coord<V>, batch: &Batch) -> Result<(), CoordError> {
+    coord.write(batch)?;
     coord.flush()?;
     Ok(())
 }
 
-/// A store with two files: a put of a and its deletion.
-fn store_of_two(alloc: Global) -> Result<Store, Fail> {
-    let limits = Limits::new(2, 10_485_760, DEFAULT_BLOCK).ok_or("no limits")?;
-    let Ok(mut coord) = Coord::open(alloc, MemoryVault::new(alloc), limits) else {
-        return Err(AllocError.into());
-    };
+/// Makes two files: a put of a and its deletion.
+fn fill<V: Vault>(alloc: Global, coord: &mut Coord<V>) -> Result<(), Fail> {
     let key = Bytes::from_static(b"a");
-    flush(alloc, &mut coord, Op::Put(key, Bytes::from_static(b"1")))?;
-    flush(alloc, &mut coord, Op::Delete(Bytes::from_static(b"a")))?;
-    Ok(coord)
+    flush(alloc, coord, Op::Put(key, Bytes::from_static(b"1")))?;
+    flush(alloc, coord, Op::Delete(Bytes::from_static(b"a")))
 }
 
 /// The first dispatcher.
@@ -86,7 +95,7 @@ fn first() -> Result<NodeIndex, Fail> {
 }
 
 /// Lets a dispatcher hold a claim. One that it held before is given back.
-fn hold(coord: &mut Store, desk: &mut Desk, index: NodeIndex, claim: Claim) {
+fn hold<V: Vault>(coord: &mut Coord<V>, desk: &mut Desk, index: NodeIndex, claim: Claim) {
     match desk.hold(index, claim) {
         None => {}
         Some(before) => {
@@ -96,7 +105,11 @@ fn hold(coord: &mut Store, desk: &mut Desk, index: NodeIndex, claim: Claim) {
 }
 
 /// Picks a job, whose claim the dispatcher holds then.
-fn pick(coord: &mut Store, desk: &mut Desk, index: NodeIndex) -> Result<(), CoordError> {
+fn pick<V: Vault>(
+    coord: &mut Coord<V>,
+    desk: &mut Desk,
+    index: NodeIndex,
+) -> Result<(), CoordError> {
     match coord.pick()? {
         None => {}
         Some((claim, _job)) => hold(coord, desk, index, claim),
@@ -105,7 +118,12 @@ fn pick(coord: &mut Store, desk: &mut Desk, index: NodeIndex) -> Result<(), Coor
 }
 
 /// Installs a result under the claim that the dispatcher holds, which it holds again if that is handed back.
-fn install(coord: &mut Store, desk: &mut Desk, index: NodeIndex, made: &JobResult) -> Became {
+fn install<V: Vault>(
+    coord: &mut Coord<V>,
+    desk: &mut Desk,
+    index: NodeIndex,
+    made: &JobResult,
+) -> Became {
     let Some(claim) = desk.take(index) else {
         return Became::Other;
     };
@@ -133,15 +151,14 @@ pub(crate) fn result_of(
     Ok(JobResult { job, tables: list })
 }
 
-/// A result of the first job that no merge of two files gives: a thousand tables, and one of 4 MB that is none.
-fn large_result(alloc: Global) -> Result<JobResult, Fail> {
-    let mut made = result_of(alloc, 1, &[])?;
+/// A thousand tables, and one of 4 MB that is none.
+fn add_large(alloc: Global, tables: &mut Items<Bytes>) -> Result<(), Fail> {
     for _ in 0..1_000 {
-        made.tables.push(Bytes::from_static(MERGED))?;
+        tables.push(Bytes::from_static(MERGED))?;
     }
     let zeros = vec![in alloc; 0u8; 4_000_000]?;
-    made.tables.push(Bytes::from_vec(zeros)?)?;
-    Ok(made)
+    tables.push(Bytes::from_vec(zeros)?)?;
+    Ok(())
 }
 
 /// Whether there is a file of this number at a place of a listing.
@@ -150,7 +167,7 @@ fn is_file(files: &[FileMeta], place: usize, number: u64) -> bool {
 }
 
 /// Whether the current version is that of the two flushes: both files are in it, and no other.
-fn shows_both(coord: &Store) -> bool {
+fn shows_both<V: Vault>(coord: &Coord<V>) -> bool {
     let listing = coord.show();
     let has_both = is_file(listing.files, 0, 1) && is_file(listing.files, 1, 2);
     listing.number.number() == 3
@@ -159,49 +176,72 @@ fn shows_both(coord: &Store) -> bool {
         && has_both
 }
 
-/// What becomes of a result of the first dispatcher's job, if memory suffices.
-fn see_result(
-    rt: &impl Abort,
-    coord: &mut Store,
+/// What becomes of a result of the first dispatcher's job, if memory suffices, and whether the version is that of the two flushes then.
+fn outcome<V: Vault>(
+    coord: &mut Coord<V>,
     desk: &mut Desk,
-    made: &JobResult,
-    wanted: Became,
-) -> Result<(), Fail> {
-    let became = install(coord, desk, first()?, made);
+    index: NodeIndex,
+    made: JobResult,
+) -> Result<(Became, bool), AllocError> {
+    let became = install(coord, desk, index, &made);
+    drop(made);
     if became == Became::Kept(InstallError::OutOfMemory) {
-        return Err(AllocError.into());
+        return Err(AllocError);
     }
-    assert!(rt; became == wanted, "{wanted:?}, and not {became:?}");
-    assert!(rt;
-        became == DONE || shows_both(coord),
-        "{became:?} changed the version"
-    );
+    Ok((became, shows_both(coord)))
+}
+
+/// A result of the first job that no merge of two files gives.
+fn large_result(alloc: Global) -> Result<JobResult, Fail> {
+    let mut made = result_of(alloc, 1, &[])?;
+    match add_large(alloc, &mut made.tables) {
+        Ok(()) => Ok(made),
+        Err(why) => Err(why),
+    }
+}
+
+fn see<V: Vault>(
+    rt: &impl Abort,
+    alloc: Global,
+    coord: &mut Coord<V>,
+    desk: &mut Desk,
+) -> Result<(), Fail> {
+    let index = first()?;
+    fill(alloc, coord)?;
+    pick(coord, desk, index)?;
+    let (kept, is_left) = outcome(coord, desk, index, large_result(alloc)?)?;
+    assert!(rt; kept == BAD && is_left, "{kept:?} of a large one");
+    for (number, tables, wanted) in RESULTS {
+        let made = result_of(alloc, number, tables)?;
+        let (became, is_left) = outcome(coord, desk, index, made)?;
+        assert!(rt; became == wanted, "{wanted:?}, and not {became:?}");
+        assert!(rt; is_left || became == DONE, "{became:?} changed the version");
+    }
     Ok(())
 }
 
-fn see(
+fn see_in<V: Vault>(
     rt: &impl Abort,
     alloc: Global,
-    seat: &mut Seat<MemoryVault>,
+    seat: &mut Seat<V>,
     desk: &mut Desk,
 ) -> Result<(), Fail> {
-    let Seat::Up(coord) = seat else {
-        return Err("no coordinator".into());
-    };
-    pick(coord, desk, first()?)?;
-    see_result(rt, coord, desk, &large_result(alloc)?, BAD)?;
-    for (number, tables, wanted) in RESULTS {
-        let made = result_of(alloc, number, tables)?;
-        see_result(rt, coord, desk, &made, wanted)?;
+    match seat {
+        Seat::Up(coord) => see(rt, alloc, coord, desk),
+        Seat::Down(_, _, _) => Err("no coordinator".into()),
     }
-    Ok(())
 }
 
 #[test]
 fn results_that_are_no_outputs_are_kept_back(rt: HostRuntime) -> Result<(), Fail> {
-    let mut seat = Seat::Up(store_of_two(rt.alloc())?);
+    let alloc = rt.alloc();
+    let limits = Limits::new(2, 10_485_760, DEFAULT_BLOCK).ok_or("no limits")?;
+    let Ok(coord) = Coord::open(alloc, MemoryVault::new(alloc), limits) else {
+        return Err(AllocError.into());
+    };
+    let mut seat = Seat::Up(coord);
     let mut desk = Desk::new();
-    let seen = see(&rt, rt.alloc(), &mut seat, &mut desk);
+    let seen = see_in(&rt, alloc, &mut seat, &mut desk);
     desk.close(&mut seat);
     seen
 }
