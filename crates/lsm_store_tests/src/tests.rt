@@ -7,10 +7,10 @@ use bytes::Bytes;
 use lsm_claim::Claim;
 use lsm_coord::{Coord, CoordError, Desk, Seat, SnapId};
 use lsm_edit::FileMeta;
-use lsm_key::{Batch, DEFAULT_BLOCK, FileNumber, Limits, Op, VersionNumber};
-use lsm_msg::NodeIndex;
+use lsm_key::{Batch, DEFAULT_BLOCK, FileNumber, KeyError, Limits, Op, VersionNumber};
+use lsm_msg::{Job, NodeIndex};
 use lsm_store::{compact_once, result_of};
-use lsm_vault::MemoryVault;
+use lsm_vault::{MemoryVault, Vault};
 use std::alloc::Global;
 use std::process::Abort;
 use std::test::Fail;
@@ -73,64 +73,45 @@ const AT_LAST: [Step; 7] = [
     Step::Read(None),
 ];
 
-// The calls without their promises, which a test that runs does not need: so its proof is short.
+// The calls without their promises, which a test that runs does not need: so its proof is short. They take a store by reference: each
+// exit of a function is proved with all that it owns, so a store is owned by a few functions of one exit behind it.
 
-fn compact(
+fn compact<V: Vault>(
     alloc: Global,
-    coord: &mut Coord<MemoryVault>,
+    coord: &mut Coord<V>,
 ) -> Result<Option<(VersionNumber, Vec<FileNumber>)>, CoordError> {
     compact_once(alloc, coord)
 }
 
-fn flush(coord: &mut Coord<MemoryVault>) -> Result<(), CoordError> {
+fn write<V: Vault>(coord: &mut Coord<V>, batch: &Batch) -> Result<(), CoordError> {
+    coord.write(batch)?;
     coord.flush()?;
     Ok(())
 }
 
-fn write(coord: &mut Coord<MemoryVault>, batch: &Batch) -> Result<(), CoordError> {
-    coord.write(batch)?;
-    Ok(())
-}
-
-fn snapshot(coord: &mut Coord<MemoryVault>) -> Result<(), CoordError> {
+fn snapshot<V: Vault>(coord: &mut Coord<V>) -> Result<(), CoordError> {
     coord.snapshot()?;
     Ok(())
 }
 
-fn get(
-    coord: &mut Coord<MemoryVault>,
+fn get<V: Vault>(
+    coord: &mut Coord<V>,
     key: &[u8],
     at: Option<SnapId>,
 ) -> Result<Option<Bytes>, CoordError> {
     coord.get(key, at)
 }
 
-fn pick(coord: &mut Coord<MemoryVault>) -> Result<Option<Claim>, CoordError> {
-    match coord.pick()? {
-        Some((claim, _)) => Ok(Some(claim)),
-        None => Ok(None),
-    }
+fn pick<V: Vault>(coord: &mut Coord<V>) -> Result<Option<(Claim, Job)>, CoordError> {
+    coord.pick()
 }
 
-fn give_back(coord: &mut Coord<MemoryVault>, claim: Claim) {
+fn give_back<V: Vault>(coord: &mut Coord<V>, claim: Claim) {
     coord.give_back(claim);
 }
 
-/// How many tables the result of the next job has. Its claim is given back.
-fn tables_made(alloc: Global, coord: &mut Coord<MemoryVault>) -> Result<Option<usize>, Fail> {
-    let Some((claim, job)) = coord.pick()? else {
-        return Ok(None);
-    };
-    let made = result_of(alloc, coord, &job);
-    give_back(coord, claim);
-    match made? {
-        Some(made) => Ok(Some(made.tables.len())),
-        None => Ok(None),
-    }
-}
-
 /// The number of the version.
-fn number_of(coord: &Coord<MemoryVault>) -> u64 {
+fn number_of<V: Vault>(coord: &Coord<V>) -> u64 {
     coord.show().number.number()
 }
 
@@ -139,17 +120,24 @@ fn store_due(alloc: Global, files: u64, base: u64) -> Result<Coord<MemoryVault>,
     let limits = Limits::new(files, base, DEFAULT_BLOCK).ok_or("no limits")?;
     match Coord::open(alloc, MemoryVault::new(alloc), limits) {
         Ok(coord) => Ok(coord),
-        Err((why, _vault)) => Err(why)?,
+        Err((why, _vault)) => Err(why.into()),
+    }
+}
+
+fn batch_of(alloc: Global, op: Op) -> Result<Batch, KeyError> {
+    let mut batch = Batch::new(alloc);
+    match batch.push(op) {
+        Ok(()) => Ok(batch),
+        Err(why) => Err(why),
     }
 }
 
 /// Writes one operation, and flushes.
-fn flush_op(alloc: Global, coord: &mut Coord<MemoryVault>, op: Op) -> Result<(), Fail> {
-    let mut batch = Batch::new(alloc);
-    batch.push(op)?;
-    write(coord, &batch)?;
-    flush(coord)?;
-    Ok(())
+fn flush_op<V: Vault>(alloc: Global, coord: &mut Coord<V>, op: Op) -> Result<(), Fail> {
+    let batch = batch_of(alloc, op)?;
+    let written = write(coord, &batch);
+    drop(batch);
+    Ok(written?)
 }
 
 fn put(key: &'static [u8], value: &'static [u8]) -> Op {
@@ -157,9 +145,9 @@ fn put(key: &'static [u8], value: &'static [u8]) -> Op {
 }
 
 /// Whether a compaction makes a version of this number, with these new files.
-fn is_compacted(
+fn is_compacted<V: Vault>(
     alloc: Global,
-    coord: &mut Coord<MemoryVault>,
+    coord: &mut Coord<V>,
     number: u64,
     files: &[u64],
 ) -> Result<bool, CoordError> {
@@ -179,7 +167,7 @@ fn are_numbered(files: &[FileNumber], numbers: &[u64]) -> bool {
 }
 
 /// Compacts again if memory ran out, and then says whether the version was left as it was.
-fn is_compacted_at_last(alloc: Global, coord: &mut Coord<MemoryVault>) -> Result<bool, CoordError> {
+fn is_compacted_at_last<V: Vault>(alloc: Global, coord: &mut Coord<V>) -> Result<bool, CoordError> {
     let before = number_of(coord);
     match compact(alloc, coord) {
         Err(CoordError::OutOfMemory) => {}
@@ -192,8 +180,8 @@ fn is_compacted_at_last(alloc: Global, coord: &mut Coord<MemoryVault>) -> Result
 }
 
 /// Whether the key a has this value.
-fn has_value(
-    coord: &mut Coord<MemoryVault>,
+fn has_value<V: Vault>(
+    coord: &mut Coord<V>,
     at: Option<SnapId>,
     wanted: Option<&[u8]>,
 ) -> Result<bool, CoordError> {
@@ -209,7 +197,7 @@ fn placed(file: &FileMeta) -> (u8, u64) {
 }
 
 /// Whether the version is of this number, flushed up to sequence 2, and has these two files.
-fn lists(coord: &Coord<MemoryVault>, number: u64, first: (u8, u64), second: (u8, u64)) -> bool {
+fn lists<V: Vault>(coord: &Coord<V>, number: u64, first: (u8, u64), second: (u8, u64)) -> bool {
     let listing = coord.show();
     match listing.files {
         [one, other] => {
@@ -223,7 +211,7 @@ fn lists(coord: &Coord<MemoryVault>, number: u64, first: (u8, u64), second: (u8,
 }
 
 /// Whether a step gives what it is to give.
-fn is_done(alloc: Global, coord: &mut Coord<MemoryVault>, step: Step) -> Result<bool, Fail> {
+fn is_done<V: Vault>(alloc: Global, coord: &mut Coord<V>, step: Step) -> Result<bool, Fail> {
     let first = SnapId {
         epoch: 1,
         number: 1,
@@ -242,91 +230,137 @@ fn is_done(alloc: Global, coord: &mut Coord<MemoryVault>, step: Step) -> Result<
     Ok(true)
 }
 
-/// Sees that each step in a store gives what it is to give.
-fn see(
-    rt: &impl Abort,
+/// The place of the first step in a store that does not give what it is to give.
+fn first_wrong<V: Vault>(
     alloc: Global,
-    coord: &mut Coord<MemoryVault>,
+    coord: &mut Coord<V>,
     steps: &[Step],
-) -> Result<(), Fail> {
+) -> Result<Option<usize>, Fail> {
     for (at, step) in steps.iter().enumerate() {
-        assert!(rt; is_done(alloc, coord, *step)?, "step {at}");
+        if !is_done(alloc, coord, *step)? {
+            return Ok(Some(at));
+        }
     }
+    Ok(None)
+}
+
+/// Sees that each step in a new store with these limits gives what it is to give.
+fn see(rt: &impl Abort, alloc: Global, files: u64, base: u64, steps: &[Step]) -> Result<(), Fail> {
+    let mut coord = store_due(alloc, files, base)?;
+    let wrong = first_wrong(alloc, &mut coord, steps);
+    drop(coord);
+    let wrong = wrong?;
+    assert!(rt; wrong.is_none(), "step {wrong:?}");
     Ok(())
 }
 
 #[test]
 fn a_deletion_goes_with_what_it_hides(rt: HostRuntime) -> Result<(), Fail> {
-    let mut coord = store_due(rt.alloc(), 2, 10_485_760)?;
-    see(&rt, rt.alloc(), &mut coord, &DELETION)
+    see(&rt, rt.alloc(), 2, 10_485_760, &DELETION)
 }
 
 #[test]
 fn a_snapshot_reads_on_after_a_compaction(rt: HostRuntime) -> Result<(), Fail> {
-    let mut coord = store_due(rt.alloc(), 2, 10_485_760)?;
-    see(&rt, rt.alloc(), &mut coord, &SNAPSHOT)
+    see(&rt, rt.alloc(), 2, 10_485_760, &SNAPSHOT)
 }
 
 #[test]
 fn a_level_after_another_is_compacted(rt: HostRuntime) -> Result<(), Fail> {
-    let mut coord = store_due(rt.alloc(), 1, 1)?;
-    see(&rt, rt.alloc(), &mut coord, &DEEPER)
+    see(&rt, rt.alloc(), 1, 1, &DEEPER)
 }
 
 #[test]
 fn a_compaction_is_made_after_want_of_memory(rt: HostRuntime) -> Result<(), Fail> {
-    let mut coord = store_due(rt.alloc(), 1, 1)?;
-    see(&rt, rt.alloc(), &mut coord, &AT_LAST)
+    see(&rt, rt.alloc(), 1, 1, &AT_LAST)
 }
 
 #[test]
 fn a_new_store_has_nothing_to_compact(rt: HostRuntime) -> Result<(), Fail> {
-    let mut coord = store_due(rt.alloc(), 1, 1)?;
-    see(&rt, rt.alloc(), &mut coord, &[Step::Idle])
+    see(&rt, rt.alloc(), 1, 1, &[Step::Idle])
+}
+
+/// How many tables the result of a job has, if there is one.
+fn count_made<V: Vault>(
+    alloc: Global,
+    coord: &mut Coord<V>,
+    job: &Job,
+) -> Result<Option<usize>, CoordError> {
+    match result_of(alloc, coord, job)? {
+        Some(made) => Ok(Some(made.tables.len())),
+        None => Ok(None),
+    }
+}
+
+/// How many tables the result of the job of a put has. Its claim is given back.
+fn tables_made<V: Vault>(alloc: Global, coord: &mut Coord<V>) -> Result<Option<usize>, Fail> {
+    flush_op(alloc, coord, put(b"a", b"1"))?;
+    let Some((claim, job)) = pick(coord)? else {
+        return Ok(None);
+    };
+    let count = count_made(alloc, coord, &job);
+    give_back(coord, claim);
+    drop(job);
+    Ok(count?)
 }
 
 #[test]
 fn a_picked_job_has_a_result(rt: HostRuntime) -> Result<(), Fail> {
     let mut coord = store_due(rt.alloc(), 1, 1)?;
-    flush_op(rt.alloc(), &mut coord, put(b"a", b"1"))?;
-    assert_eq!(rt; tables_made(rt.alloc(), &mut coord)?, Some(1));
+    let count = tables_made(rt.alloc(), &mut coord);
+    drop(coord);
+    assert_eq!(rt; count?, Some(1));
     Ok(())
 }
 
 /// Gives a claim to a dispatcher, which holds none yet.
-fn hold(coord: &mut Coord<MemoryVault>, desk: &mut Desk, index: NodeIndex, claim: Claim) {
+fn hold<V: Vault>(coord: &mut Coord<V>, desk: &mut Desk, index: NodeIndex, claim: Claim) {
     match desk.hold(index, claim) {
         None => {}
         Some(before) => give_back(coord, before),
     }
 }
 
-/// A new store with five files of one key each, each of which is due.
-fn store_of_five(alloc: Global) -> Result<Coord<MemoryVault>, Fail> {
-    let mut coord = store_due(alloc, 1, 1)?;
-    for key in [b"a", b"b", b"c", b"d", b"e"] {
-        flush_op(alloc, &mut coord, put(key, b"1"))?;
+/// Picks a job for a dispatcher.
+fn pick_for<V: Vault>(coord: &mut Coord<V>, desk: &mut Desk, number: u8) -> Result<(), Fail> {
+    let index = NodeIndex::new(number).ok_or("no such dispatcher")?;
+    match pick(coord)? {
+        None => Err("nothing is picked".into()),
+        Some((claim, _job)) => {
+            hold(coord, desk, index, claim);
+            Ok(())
+        }
     }
-    Ok(coord)
+}
+
+/// Makes five files of one key each, each of which is due, and picks jobs for the four dispatchers.
+fn pick_four<V: Vault>(alloc: Global, coord: &mut Coord<V>, desk: &mut Desk) -> Result<(), Fail> {
+    for key in [b"a", b"b", b"c", b"d", b"e"] {
+        flush_op(alloc, coord, put(key, b"1"))?;
+    }
+    for number in 1..5 {
+        pick_for(coord, desk, number)?;
+    }
+    Ok(())
+}
+
+/// Why nothing is compacted.
+fn refusal<V: Vault>(alloc: Global, coord: &mut Coord<V>) -> Option<CoordError> {
+    match compact(alloc, coord) {
+        Ok(_) => None,
+        Err(why) => Some(why),
+    }
 }
 
 #[test]
 fn four_live_claims_fill_the_book(rt: HostRuntime) -> Result<(), Fail> {
-    let alloc = rt.alloc();
-    let mut coord = store_of_five(alloc)?;
+    let mut coord = store_due(rt.alloc(), 1, 1)?;
     let mut desk = Desk::new();
-    for number in 1..5 {
-        let index = NodeIndex::new(number).expect(&rt, "no such dispatcher");
-        let picked = pick(&mut coord).expect(&rt, "a pick is refused");
-        let claim = picked.expect(&rt, "nothing is picked");
-        hold(&mut coord, &mut desk, index, claim);
-    }
-    let refused = match compact(alloc, &mut coord) {
-        Ok(_) => None,
-        Err(why) => Some(why),
-    };
+    let picked = pick_four(rt.alloc(), &mut coord, &mut desk);
+    let refused = refusal(rt.alloc(), &mut coord);
     let mut seat = Seat::Up(coord);
     desk.close(&mut seat);
+    drop(seat);
+    picked?;
     assert_eq!(rt; refused, Some(CoordError::BookFull));
     Ok(())
 }

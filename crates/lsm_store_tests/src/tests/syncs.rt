@@ -33,8 +33,12 @@ fn sync(store: &mut Fused) -> Result<(), StoreError> {
 #[test]
 fn a_sync_is_refused_by_the_vault_and_done_again(rt: HostRuntime) -> Result<(), Fail> {
     let mut store = opened(rt.alloc(), BEFORE)?;
-    put(&mut store, b"a", b"1")?;
-    assert!(rt; sync(&mut store).is_err());
-    assert!(rt; sync(&mut store).is_ok());
+    let is_put = put(&mut store, b"a", b"1");
+    let first = sync(&mut store);
+    let second = sync(&mut store);
+    drop(store);
+    is_put?;
+    assert!(rt; first.is_err());
+    assert!(rt; second.is_ok());
     Ok(())
 }
