@@ -1,6 +1,6 @@
 //! Two dispatchers whose jobs are away at the same time, and a hub that closes with both tallies alone.
 
-ghost use Rattle.std.specs.Prelude.{◌≡◌, ◌<◌, ◌≤◌, []};
+ghost use Rattle.std.specs.Prelude.{◌≡◌, ◌<◌, ◌≤◌, IfSome, []};
 
 mod calls;
 mod claims;
@@ -58,40 +58,56 @@ impl Link for Meeting<'_> {
             self.answered.store(true, Ordering::SeqCst);
             return made;
         }
-        for _turn in 0..TURNS {
-            if self.answered.load(Ordering::SeqCst) {
-                return made;
-            }
-            thread::yield_now();
+        if !is_soon(self.answered) {
+            drop(made);
+            return None;
         }
-        None
+        made
     }
+}
+
+// Whether the second job is answered before so many turns.
+fn is_soon(answered: &AtomicBool) -> bool {
+    for _turn in 0..TURNS {
+        if answered.load(Ordering::SeqCst) {
+            return true;
+        }
+        thread::yield_now();
+    }
+    false
 }
 
 // The merge of a job's inputs.
 fn merged(alloc: Global, tables: &[(u64, Bytes)], job: &Job) -> Option<JobResult> {
     let mut inputs = Vec::new(alloc);
-    for file in job.inputs() {
-        let table = table_of(alloc, tables, file.number)?;
-        if inputs.push(table).is_err() {
-            return None;
-        }
-    }
-    let Ok(outputs) = merge(alloc, inputs.as_slice(), job) else {
-        return None;
+    let outputs = match add_inputs(alloc, tables, job, &mut inputs) {
+        Some(()) => merge(alloc, inputs.as_slice(), job).ok(),
+        None => None,
     };
+    drop(inputs);
     Some(JobResult {
         job: job.id(),
-        tables: Items::from_vec(outputs),
+        tables: Items::from_vec(outputs?),
     })
+}
+
+fn add_inputs(
+    alloc: Global,
+    tables: &[(u64, Bytes)],
+    job: &Job,
+    inputs: &mut Vec<Table>,
+) -> Option<()> {
+    for file in job.inputs() {
+        let table = table_of(alloc, tables, file.number)?;
+        inputs.push(table).ok()?;
+    }
+    Some(())
 }
 
 fn table_of(alloc: Global, tables: &[(u64, Bytes)], number: u64) -> Option<Table> {
     for (file, bytes) in tables {
         if *file == number {
-            let Ok(shared) = bytes.clone() else {
-                return None;
-            };
+            let shared = bytes.clone().ok()?;
             return Table::open(alloc, shared).ok();
         }
     }
@@ -106,17 +122,39 @@ fn tables_of<V: Vault, J: Start, N: Witness + Drop, R: Wait>(
 ) -> Option<Vec<(u64, Bytes)>> {
     let worker = NodeIndex::new(1)?;
     let mut tables = Vec::new(alloc);
-    for number in 1..5u64 {
-        let question = Message::from_worker(worker, Body::Fetch(FileNumber::new(number)));
-        let Ok(Some(answer)) = hub.serve(rt, &question) else {
-            return None;
-        };
-        let table = table_in(&answer)?;
-        if tables.push((number, table)).is_err() {
-            return None;
-        }
+    match add_tables(rt, hub, worker, &mut tables) {
+        Some(()) => Some(tables),
+        None => None,
     }
-    Some(tables)
+}
+
+fn add_tables<V: Vault, J: Start, N: Witness + Drop, R: Wait>(
+    rt: &R,
+    hub: &Hub<V, J, N>,
+    worker: NodeIndex,
+    tables: &mut Vec<(u64, Bytes)>,
+) -> Option<()> {
+    for number in 1..5u64 {
+        let table = fetched(rt, hub, worker, number)?;
+        tables.push((number, table)).ok()?;
+    }
+    Some(())
+}
+
+// The bytes of a file, as a worker gets them.
+fn fetched<V: Vault, J: Start, N: Witness + Drop, R: Wait>(
+    rt: &R,
+    hub: &Hub<V, J, N>,
+    worker: NodeIndex,
+    number: u64,
+) -> Option<Bytes> {
+    let question = Message::from_worker(worker, Body::Fetch(FileNumber::new(number)));
+    let answer = hub.serve(rt, &question);
+    drop(question);
+    match answer {
+        Ok(Some(answer)) => table_in(&answer),
+        _ => None,
+    }
 }
 
 fn table_in(answer: &Message) -> Option<Bytes> {
@@ -137,14 +175,37 @@ fn fill<V: Vault, J: Start, N: Witness + Drop, R: Wait>(
     ensures { tally.new.parts ≡ tally.old.parts }
 {
     for (key, value) in WRITES {
-        let mut batch = Batch::new(alloc);
-        batch
-            .push(Op::Put(Bytes::from_static(key), Bytes::from_static(value)))
-            .ok()?;
-        hub.write(rt, &batch, tally).ok()?;
-        hub.flush(rt, tally).ok()?;
+        put(rt, alloc, hub, tally, key, value)?;
     }
     Some(())
+}
+
+// A write of one key, and its flush.
+fn put<V: Vault, J: Start, N: Witness + Drop, R: Wait>(
+    rt: &R,
+    alloc: Global,
+    hub: &Hub<V, J, N>,
+    tally: &mut Tally<J>,
+    key: &'static [u8],
+    value: &'static [u8],
+) -> Option<()>
+    requires { 0 < tally.old.parts }
+    ensures { tally.new.parts ≡ tally.old.parts }
+{
+    let batch = batch_of(alloc, key, value)?;
+    let written = hub.write(rt, &batch, tally);
+    drop(batch);
+    written.ok()?;
+    hub.flush(rt, tally).ok()?;
+    Some(())
+}
+
+fn batch_of(alloc: Global, key: &'static [u8], value: &'static [u8]) -> Option<Batch> {
+    let mut batch = Batch::new(alloc);
+    match batch.push(Op::Put(Bytes::from_static(key), Bytes::from_static(value))) {
+        Ok(()) => Some(batch),
+        Err(_) => None,
+    }
 }
 
 // A dispatcher of one round.
@@ -216,25 +277,26 @@ fn both<
     )
 }
 
-// Closes a hub, which takes the tally that is missing, too.
-fn closed<V: Vault + Drop, J: Start, N: Witness + Drop>(
-    hub: Hub<V, J, N>,
-    tally: Tally<J>,
-    missing: Tally<J>,
-) -> Option<Counts>
-    requires ledger { J.parts ≡ PARTS }
+// The tally of a hub that was not closed, with the one that was missing.
+fn joined<J: Start>(why: CloseError, mut tally: Tally<J>, missing: Tally<J>) -> Option<Tally<J>>
     requires missing { (missing.parts ≡ 1) × (missing.picked ≤ 1) }
 {
-    let Err(refused) = hub.close(tally) else {
-        return None;
-    };
-    let (why, hub, mut tally) = refused;
     if why != CloseError::MissingTally || tally.parts() > 3 || tally.picked() > 1 {
         return None;
     }
-    if tally.merge(missing).is_err() {
-        return None;
+    match tally.merge(missing) {
+        Ok(()) => Some(tally),
+        Err(_missing) => None,
     }
+}
+
+// Closes a hub, and counts.
+fn settled_in<V: Vault + Drop, J: Start, N: Witness + Drop>(
+    hub: Hub<V, J, N>,
+    tally: Tally<J>,
+) -> Option<Counts>
+    requires ledger { J.parts ≡ PARTS }
+{
     let (picked, installed) = (tally.picked(), tally.installed());
     let (returned, stale) = (tally.returned(), tally.stale());
     let shared = hub.close(tally).ok()?;
@@ -245,6 +307,49 @@ fn closed<V: Vault + Drop, J: Start, N: Witness + Drop>(
         stale,
         calls: shared.history().len(),
     })
+}
+
+// Closes a hub, which takes the tally that is missing, too.
+fn closed<V: Vault + Drop, J: Start, N: Witness + Drop>(
+    hub: Hub<V, J, N>,
+    tally: Tally<J>,
+    missing: Tally<J>,
+) -> Option<Counts>
+    requires ledger { J.parts ≡ PARTS }
+    requires missing { (missing.parts ≡ 1) × (missing.picked ≤ 1) }
+{
+    match hub.close(tally) {
+        Ok(_shared) => None,
+        Err((why, hub, tally)) => match joined(why, tally, missing) {
+            Some(tally) => settled_in(hub, tally),
+            None => None,
+        },
+    }
+}
+
+// The tallies after two dispatchers over a store of four files, the second one's apart.
+fn dispatched<
+    V: Vault + Send,
+    J: Start + Send + Sync,
+    N: Witness + Drop + Send,
+    R: Threads + Wait + Sync,
+>(rt: &R, alloc: Global, hub: &Hub<V, J, N>, mut tally: Tally<J>) -> Option<(Tally<J>, Tally<J>)>
+    requires { tally.parts ≡ PARTS }
+    ensures { IfSome result (λ t. (t.1.parts ≡ 1) × (t.1.picked ≤ 1)) }
+{
+    fill(rt, alloc, hub, &mut tally)?;
+    if tally.picked() > 0 {
+        return None;
+    }
+    let tables = tables_of(rt, alloc, hub)?;
+    let first = tally.split();
+    let second = tally.split();
+    let (first, second) = both(rt, alloc, hub, tables.as_slice(), first, second);
+    drop(tables);
+    match tally.merge(first) {
+        Ok(()) => Some((tally, second)),
+        Err(_first) => None,
+    }
 }
 
 // Two dispatchers over a store of four files.
@@ -258,27 +363,27 @@ fn counted<
     requires start { coord ≡ J.start }
     requires idle { coord.book.live ≡ [] }
 {
-    let (hub, mut tally) = Hub::<V, J, N>::new(alloc, coord, blank);
-    fill(rt, alloc, &hub, &mut tally)?;
-    let tables = tables_of(rt, alloc, &hub)?;
-    if tally.picked() > 0 {
-        return None;
+    let (hub, tally) = Hub::<V, J, N>::new(alloc, coord, blank);
+    match dispatched(rt, alloc, &hub, tally) {
+        Some((tally, missing)) => closed(hub, tally, missing),
+        None => None,
     }
-    let first = tally.split();
-    let second = tally.split();
-    let (first, second) = both(rt, alloc, &hub, tables.as_slice(), first, second);
-    if tally.merge(first).is_err() {
-        return None;
+}
+
+// A new store.
+fn new_store(alloc: Global) -> Option<Coord<MemoryVault>>
+    ensures { IfSome result (λ c. c.book.live ≡ []) }
+{
+    let limits = Limits::new(2, DEFAULT_BASE, DEFAULT_BLOCK)?;
+    match Coord::open(alloc, MemoryVault::new(alloc), limits) {
+        Ok(coord) => Some(coord),
+        Err(_) => None,
     }
-    closed(hub, tally, second)
 }
 
 // The same of a new store.
 fn counted_anew<R: Threads + Wait + Sync>(rt: &R, alloc: Global) -> Option<Counts> {
-    let limits = Limits::new(2, DEFAULT_BASE, DEFAULT_BLOCK)?;
-    let Ok(coord) = Coord::open(alloc, MemoryVault::new(alloc), limits) else {
-        return None;
-    };
+    let coord = new_store(alloc)?;
     counted::<MemoryVault, Brand, Snapshot<Served>, R>(rt, alloc, coord, Blank::new(PARTS))
 }
 

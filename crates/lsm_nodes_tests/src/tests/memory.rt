@@ -1,11 +1,11 @@
 //! Calls of which one finds no memory: the hub is closed with the tallies all the same.
 
-ghost use Rattle.std.specs.Prelude.{◌≡◌, ◌+◌, ◌<◌, ◌≤◌, ◌^◌, []};
+ghost use Rattle.std.specs.Prelude.{◌≡◌, ◌<◌, ◌≤◌, []};
 
-use super::{Meeting, fill, one_round, tables_of};
+use super::{Meeting, fill, new_store, one_round, tables_of};
 use lsm_coord::Coord;
 use lsm_edit::Served;
-use lsm_key::{DEFAULT_BASE, DEFAULT_BLOCK, Limits, VersionNumber};
+use lsm_key::VersionNumber;
 use lsm_nodes::{Hub, PARTS, Start, Tally, Witness};
 use lsm_vault::{MemoryVault, Vault};
 use std::alloc::Global;
@@ -73,8 +73,11 @@ fn compact<V: Vault, J: Start, N: Witness + Drop, R: Wait>(
 
 // Merges a tally into another, the second time if there is no memory the first time.
 fn merge_twice<J: Start>(tally: &mut Tally<J>, other: Tally<J>) -> bool
-    requires { (tally.old.parts ≤ 3) × (other.parts ≡ 1) × (tally.old.picked ≤ 1) × (other.picked ≤ 1) }
+    requires { (other.parts ≡ 1) × (other.picked ≤ 1) }
 {
+    if tally.parts() > 3 || tally.picked() > 1 {
+        return false;
+    }
     match tally.merge(other) {
         Ok(()) => true,
         Err(other) => tally.merge(other).is_ok(),
@@ -98,18 +101,12 @@ fn closes<V: Vault + Drop, J: Start, N: Witness + Drop, R: Wait>(
     let other = compact(rt, alloc, &hub, other);
     read(rt, &hub, &mut tally);
     change(rt, &hub, &mut tally);
-    if tally.parts() > 3 || tally.picked() > 1 {
-        return false;
-    }
     merge_twice(&mut tally, other) && hub.close(tally).is_ok()
 }
 
 // The same of a new store, if it can be opened.
 fn closes_anew<R: Wait>(rt: &R, alloc: Global) -> Option<bool> {
-    let limits = Limits::new(2, DEFAULT_BASE, DEFAULT_BLOCK)?;
-    let Ok(coord) = Coord::open(alloc, MemoryVault::new(alloc), limits) else {
-        return None;
-    };
+    let coord = new_store(alloc)?;
     Some(closes::<MemoryVault, Brand, Snapshot<Served>, R>(rt, alloc, coord, Blank::new(PARTS)))
 }
 

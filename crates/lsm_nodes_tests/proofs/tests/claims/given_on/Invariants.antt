@@ -1,5 +1,5 @@
 -- The ledger of the second hub is the one that was begun there, and its history starts at the coordinator that was restarted.
-use Rattle.lsm_nodes_tests.proofs.tests.claims.outlives.Given as goal
+use Rattle.lsm_nodes_tests.proofs.tests.claims.given_on.Given as goal
 
 abbrev pub ghosts-given_to_another-J-Ledger : goal.ghosts-given_to_another-J-Ledger
 ghosts-given_to_another-J-Ledger g a = record { name = a.blank.name; parts = a.blank.parts }
