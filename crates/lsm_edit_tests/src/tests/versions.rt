@@ -67,6 +67,31 @@ pub(super) fn are_numbered(files: &[FileMeta], numbers: &[u64]) -> bool {
 
 // Whether the edit is the same as its copy, and as the next one, either way.
 fn compared(alloc: Global, flush: &Edit) -> Result<(bool, bool, bool), Fail> {
+    let (copy, next) = (flush.copy(alloc)?, edit_of(alloc, &NEXT)?);
+    Ok((flush.same(&copy), flush.same(&next), next.same(flush)))
+}
+
+#[test]
+fn a_copied_edit_is_the_same_and_another_is_not(rt: HostRuntime) -> Result<(), Fail> {
+    let flush = edit_of(rt.alloc(), &FLUSH)?;
+    let found = compared(rt.alloc(), &flush);
+    drop(flush);
+    assert!(rt; found? == (true, false, false));
+    Ok(())
+}
+
+// Whether the version is the same as its copy, both ways, and as the one of three edits, one way or the other.
+fn compared_version(alloc: Global, version: &Version) -> Result<(bool, bool), Fail> {
+    let copy = version.copy(alloc)?;
+    let is_copy = version.same(&copy) && copy.same(version);
+    drop(copy);
+    let next = version_after(alloc, &[&EPOCH, &FLUSH, &NEXT])?;
+    Ok((is_copy, version.same(&next) || next.same(version)))
+}
+
+#[test]
+fn a_copied_version_is_the_same_and_the_next_is_not(rt: HostRuntime) -> Result<(), Fail> {
+    let version = version_after(rt.alloc(), &[&EPOCH, &FLUSH])?;
     let found = compared_version(rt.alloc(), &version);
     drop(version);
     assert!(rt; found? == (true, false));
