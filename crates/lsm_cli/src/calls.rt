@@ -90,7 +90,7 @@ fn scan<'a>(alloc: Global) -> Result<Command<'a>, AllocError> {
     let limit = Arg::new(alloc, "limit")
         .long("limit")
         .value_name("N")
-        .help("At most so many of them, the first ones [default: all]")
+        .help("At most N of them, the first ones [default: all]")
         .value_parser(value_parser!(u64));
     Command::new(alloc, "scan")
         .about("Print the keys from one up to another one, each with its value: lines 'KEY VALUE'")

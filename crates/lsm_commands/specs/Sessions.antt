@@ -20,7 +20,7 @@ HaveNextSequences old ops first last =
     (writes : List Op) (snapshots : List Snapshot) → Holds old writes snapshots
     → (first ≡ length writes + 1) × (last ≡ length writes + length ops)
 
--- What is answered to a call, by what the store held and holds: what was told is so, and a refusal has a reason of that call and
+-- What is answered to a call, by what the store held and holds: what was answered is so, and a refusal has a reason of that call and
 -- loses nothing.
 abbrev pub AnswersCall : CoordValue → Call → Answer → CoordValue → Type 0
 AnswersCall old (call.Write ops) (Wrote first last) new = Accepts old ops new × HaveNextSequences old ops first last

@@ -41,7 +41,7 @@ pub enum Once<'a> {
     Put(&'a str, &'a str),
     /// Delete a key.
     Delete(&'a str),
-    /// Write the first pairs from a key up to another one, at most so many.
+    /// Write the first pairs from a key up to another one, at most this number of them.
     Scan(&'a str, &'a str, u64),
     /// Write the sequences and what each level has.
     Stats,

@@ -26,7 +26,7 @@ fn fail(rt: &impl Eprint, error: RunError) -> ExitCode {
     ExitCode::from(code_of(error))
 }
 
-/// Runs a command of a store, and tells who sees it on a terminal where it has its home.
+/// Runs a command of a store, and names its new home on a terminal.
 fn run_store(rt: &HostRuntime, command: StoreCommand<'_>) -> ExitCode {
     if rt.stderr().is_terminal() {
         let name = command.name();

@@ -23,7 +23,7 @@ pub(crate) struct PairRange {
 }
 
 impl PairRange {
-    /// The first pairs from a key up to another one, at most so many: lines `KEY VALUE`.
+    /// The first pairs from a key up to another one, at most `limit` of them: lines `KEY VALUE`.
     pub(crate) fn between(lo: Bytes, hi: Bytes, limit: u64) -> PairRange {
         PairRange {
             lo,
