@@ -1,11 +1,13 @@
-//! A claim that outlives its hub, and is given back to one over the same store, which was restarted.
+//! A claim that outlives its hub, and is given back to one over the same store, which was restarted, or installed there.
 
-ghost use Rattle.std.specs.Prelude.{◌≡◌, ◌<◌, IfOk, []};
+ghost use Rattle.std.specs.Prelude.{◌≡◌, ◌<◌, ◌+◌, ◌^◌, IfOk, []};
 
 use super::{fill, new_store};
 use lsm_claim::{Claim, Settled};
-use lsm_coord::{Coord, Seat};
+use lsm_coord::{Coord, Install, Seat};
 use lsm_edit::Served;
+use lsm_key::Items;
+use lsm_msg::JobResult;
 use lsm_nodes::{Hub, PARTS, Start, Tally, Witness};
 use lsm_vault::{MemoryVault, Vault};
 use std::alloc::Global;
@@ -15,6 +17,14 @@ use std::snapshot::Snapshot;
 use std::sync::Wait;
 use std::sync::ledger::Blank;
 use std::test::Fail;
+
+/// How a hub gets a claim of another one.
+#[derive(Clone, Copy)]
+enum Handing {
+    GivenBack,
+    /// With a result that has no table.
+    Installed,
+}
 
 // The coordinator, restarted, or the seat if it is not.
 fn restarted<V: Vault>(alloc: Global, seat: Seat<V>) -> Result<Coord<V>, Seat<V>>
@@ -30,20 +40,47 @@ fn restarted<V: Vault>(alloc: Global, seat: Seat<V>) -> Result<Coord<V>, Seat<V>
     }
 }
 
+// How a hub settles a claim.
+fn settled<V: Vault, J: Start, N: Witness + Drop, R: Wait>(
+    rt: &R,
+    alloc: Global,
+    hub: &Hub<V, J, N>,
+    tally: &mut Tally<J>,
+    handing: Handing,
+    claim: Claim,
+) -> Settled
+    requires part { 0 < tally.old.parts }
+    requires fits { tally.old.picked + 1 < 2 ^ 64 }
+{
+    let made = JobResult {
+        job: claim.id(),
+        tables: Items::new(alloc),
+    };
+    match handing {
+        Handing::GivenBack => hub.give_back(rt, claim),
+        Handing::Installed => match hub.install(rt, claim, &made, tally) {
+            Install::Done(_number, _files) => Settled::Live,
+            Install::Stale(_, _) => Settled::Stale,
+            Install::Kept(claim, _) => hub.give_back(rt, claim),
+        },
+    }
+}
+
 // How a claim ends at a new hub.
 fn given_to_another<V: Vault + Drop, J: Start, N: Witness + Drop, R: Wait>(
     rt: &R,
     alloc: Global,
     coord: Coord<V>,
     blank: Blank,
+    handing: Handing,
     claim: Claim,
 ) -> Settled
     requires ledger { (blank.name ≡ J.name) × (blank.parts ≡ J.parts) × (J.parts ≡ PARTS) }
     requires start { coord ≡ J.start }
     requires idle { coord.book.live ≡ [] }
 {
-    let (hub, _tally) = Hub::<V, J, N>::new(alloc, coord, blank);
-    hub.give_back(rt, claim)
+    let (hub, mut tally) = Hub::<V, J, N>::new(alloc, coord, blank);
+    settled(rt, alloc, &hub, &mut tally, handing, claim)
 }
 
 // How a claim ends at a new hub over a seat, restarted.
@@ -51,6 +88,7 @@ fn given_on<V: Vault + Drop, N: Witness + Drop, R: Wait>(
     rt: &R,
     alloc: Global,
     seat: Seat<V>,
+    handing: Handing,
     claim: Claim,
 ) -> Option<Settled> {
     match restarted(alloc, seat) {
@@ -59,6 +97,7 @@ fn given_on<V: Vault + Drop, N: Witness + Drop, R: Wait>(
             alloc,
             coord,
             Blank::new(PARTS),
+            handing,
             claim,
         )),
         Err(mut seat) => {
@@ -90,6 +129,7 @@ fn outlives<V: Vault + Drop, J: Start, N: Witness + Drop, R: Wait>(
     alloc: Global,
     coord: Coord<V>,
     blank: Blank,
+    handing: Handing,
 ) -> Option<Settled>
     requires ledger { (blank.name ≡ J.name) × (blank.parts ≡ J.parts) × (J.parts ≡ PARTS) }
     requires start { coord ≡ J.start }
@@ -100,7 +140,7 @@ fn outlives<V: Vault + Drop, J: Start, N: Witness + Drop, R: Wait>(
         return None;
     };
     match hub.close(tally) {
-        Ok(shared) => given_on::<V, N, R>(rt, alloc, shared.into_seat(), claim),
+        Ok(shared) => given_on::<V, N, R>(rt, alloc, shared.into_seat(), handing, claim),
         Err((_why, hub, _tally)) => {
             let _settled = hub.give_back(rt, claim);
             None
@@ -109,14 +149,17 @@ fn outlives<V: Vault + Drop, J: Start, N: Witness + Drop, R: Wait>(
 }
 
 // The same of a new store.
-fn outlives_anew<R: Wait>(rt: &R, alloc: Global) -> Option<Settled> {
+fn outlives_anew<R: Wait>(rt: &R, alloc: Global, handing: Handing) -> Option<Settled> {
     let coord = new_store(alloc)?;
-    outlives::<MemoryVault, Brand, Snapshot<Served>, R>(rt, alloc, coord, Blank::new(PARTS))
+    let blank = Blank::new(PARTS);
+    outlives::<MemoryVault, Brand, Snapshot<Served>, R>(rt, alloc, coord, blank, handing)
 }
 
 #[test]
 fn a_claim_that_outlives_its_hub_is_stale(rt: HostRuntime) -> Result<(), Fail> {
-    let settled = outlives_anew(&rt, rt.alloc()).ok_or("out of memory")?;
-    assert!(rt; settled == Settled::Stale);
+    for handing in [Handing::GivenBack, Handing::Installed] {
+        let settled = outlives_anew(&rt, rt.alloc(), handing).ok_or("out of memory")?;
+        assert!(rt; settled == Settled::Stale);
+    }
     Ok(())
 }
