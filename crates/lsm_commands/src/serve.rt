@@ -1,10 +1,10 @@
 //! The command `serve`: requests of Redis clients.
 
 use crate::{CommandError, Place, Screen, check_streams};
+use lsm_io::{CountedReader, CountedWriter};
 use lsm_key::Limits;
 use lsm_serve::serve;
 use lsm_store::{Options, Store};
-use lsm_io::{CountedReader, CountedWriter};
 use lsm_vault::{MemoryVault, Vault};
 use std::io;
 use std::process::ExitCode;

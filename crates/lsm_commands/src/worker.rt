@@ -1,8 +1,8 @@
 //! The command `worker`: jobs that come over a pipe.
 
 use crate::{Screen, check_streams};
-use lsm_msg::NodeIndex;
 use lsm_io::{CountedReader, CountedWriter};
+use lsm_msg::NodeIndex;
 use std::io;
 use std::process::ExitCode;
 

@@ -3,8 +3,8 @@
 use crate::error::RunError;
 use crate::run::new_world;
 use lsm_draw::{Chart, write_svg};
-use lsm_key::Limits;
 use lsm_io::{read_all, write_out};
+use lsm_key::Limits;
 use lsm_script::{parse, write_line};
 use lsm_vault::MemoryVault;
 use lsm_world::{Event, World};

@@ -3,9 +3,8 @@
 use crate::error::RunError;
 use crate::options::Exploration;
 use lsm_explore::{Progress, Report, Settings, Wrong, explore};
-use lsm_script::ScriptLine;
 use lsm_io::write_out;
-use lsm_script::write_line;
+use lsm_script::{ScriptLine, write_line};
 use std::alloc::{AllocError, Global};
 use std::io::Write;
 use std::rt::Clock;

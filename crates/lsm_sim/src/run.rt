@@ -9,8 +9,8 @@ ghost use Rattle.lsm_script.specs.Replies.{reply_lines};
 ghost use Rattle.lsm_sim.specs.Runs.{Happens, HappensInPart, PrintsScript, StopsFor};
 
 use crate::error::RunError;
-use lsm_key::Limits;
 use lsm_io::{read_all, write_all};
+use lsm_key::Limits;
 use lsm_script::{parse, write_line};
 use lsm_vault::MemoryVault;
 use lsm_world::{Event, World};

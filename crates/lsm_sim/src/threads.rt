@@ -1,8 +1,8 @@
 //! A store that threads share.
 
 use crate::error::RunError;
-use lsm_line::{write_bytes, write_line_end, write_number, write_shown, write_text};
 use lsm_io::write_out;
+use lsm_line::{write_bytes, write_line_end, write_number, write_shown, write_text};
 use lsm_script::write_read;
 use lsm_threads::{FollowerRead, ThreadsError, ThreadsReport, run_threads};
 use std::alloc::{AllocError, Global};

@@ -3,8 +3,8 @@
 use crate::Screen;
 use crate::error::{CommandError, FAILED, REFUSED};
 use crate::session::error::SessionError;
-use lsm_store::StoreError;
 use lsm_io::StreamError;
+use lsm_store::StoreError;
 use std::alloc::{AllocError, AllocFailed};
 use std::process::ExitCode;
 use thiserror::Error;

@@ -2,10 +2,10 @@
 
 use super::error::OnceError;
 use bytes::Bytes;
+use lsm_io::write_out;
 use lsm_key::MAX_KEY_BYTES;
 use lsm_line::{write_bytes, write_line_end, write_text};
 use lsm_store::Store;
-use lsm_io::write_out;
 use lsm_vault::Vault;
 use std::alloc::{AllocError, Global};
 use std::io::Write;

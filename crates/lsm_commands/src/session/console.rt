@@ -1,9 +1,9 @@
 //! Where a session's commands come from, and where its answers go.
 
 use super::error::SessionError;
+use lsm_io::write_out;
 use lsm_key::MAX_BATCH_WEIGHT;
 use lsm_line::write_text;
-use lsm_io::write_out;
 use std::alloc::Global;
 use std::io::{BufRead, BufReader, ErrorKind, Read, Write};
 

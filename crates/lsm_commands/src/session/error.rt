@@ -1,7 +1,7 @@
 //! Why a session ends before its input does.
 
-use lsm_store::StoreError;
 use lsm_io::StreamError;
+use lsm_store::StoreError;
 use std::alloc::{AllocError, AllocFailed};
 use thiserror::Error;
 
