@@ -80,16 +80,22 @@ fn answer<V: Vault + Drop, J: Start, N: Witness + Drop, R: Wait>(
     Ok(ending)
 }
 
+// The same over a new store.
+fn answer_anew<R: Wait>(
+    rt: &R,
+    alloc: Global,
+    come: Messages,
+    wanted: Messages,
+) -> Result<Ending, Fail> {
+    let coord = new_coord(alloc).ok_or("out of memory")?;
+    let blank = Blank::new(PARTS);
+    answer::<MemoryVault, Brand, Snapshot<Served>, R>(rt, alloc, coord, blank, come, wanted)
+}
+
 #[test]
 fn each_question_is_answered_and_nothing_else(rt: HostRuntime) -> Result<(), Fail> {
-    let alloc = rt.alloc();
     for (come, wanted, ending) in ANSWERS {
-        let coord = new_coord(alloc).ok_or("out of memory")?;
-        let blank = Blank::new(PARTS);
-        let ended = answer::<MemoryVault, Brand, Snapshot<Served>, HostRuntime>(
-            &rt, alloc, coord, blank, come, wanted,
-        )?;
-        if ended != ending {
+        if answer_anew(&rt, rt.alloc(), come, wanted)? != ending {
             return Err("out of memory, or another ending")?;
         }
     }

@@ -93,12 +93,21 @@ fn shown<J: LogName>(all: &mut [FollowerReader<J>]) -> Result<u64, Fail> {
     Ok(number.number())
 }
 
+// The same of a new log of publications.
+fn followed_anew<R: Wait>(
+    rt: &R,
+    alloc: Global,
+    come: Messages,
+    wanted: Messages,
+) -> Result<(Ending, u64), Fail> {
+    let log = NewLog::new();
+    followed::<Brand, R>(rt, alloc, log, come, wanted)
+}
+
 #[test]
 fn a_follower_shows_each_version_that_it_comes_to(rt: HostRuntime) -> Result<(), Fail> {
     for (come, wanted, ending, number) in COURSES {
-        let log = NewLog::new();
-        let found = followed::<Brand, HostRuntime>(&rt, rt.alloc(), log, come, wanted)?;
-        if found != (ending, number) {
+        if followed_anew(&rt, rt.alloc(), come, wanted)? != (ending, number) {
             return Err("out of memory, or another version or ending")?;
         }
     }

@@ -89,16 +89,22 @@ fn carry<V: Vault + Drop, J: Start, N: Witness + Drop, R: Wait>(
     })
 }
 
+// The same over a new store.
+fn carry_anew<R: Wait>(
+    rt: &R,
+    alloc: Global,
+    come: Messages,
+    wanted: Messages,
+) -> Result<Left, Fail> {
+    let coord = new_coord(alloc).ok_or("out of memory")?;
+    let blank = Blank::new(PARTS);
+    carry::<MemoryVault, Brand, Snapshot<Served>, R>(rt, alloc, coord, blank, come, wanted)
+}
+
 #[test]
 fn a_link_takes_the_result_of_its_job(rt: HostRuntime) -> Result<(), Fail> {
-    let alloc = rt.alloc();
     for (come, wanted, left) in ROUNDS {
-        let coord = new_coord(alloc).ok_or("out of memory")?;
-        let blank = Blank::new(PARTS);
-        let found = carry::<MemoryVault, Brand, Snapshot<Served>, HostRuntime>(
-            &rt, alloc, coord, blank, come, wanted,
-        )?;
-        if found != left {
+        if carry_anew(&rt, rt.alloc(), come, wanted)? != left {
             return Err("out of memory, or the job ended otherwise")?;
         }
     }

@@ -1,7 +1,7 @@
 //! Whole threads over a store, for another script than the program's.
 
 use bytes::Bytes;
-use lsm_threads::{KeyPuts, ThreadsScript, run_threads_of};
+use lsm_threads::{FollowerRead, KeyPuts, ThreadsReport, ThreadsScript, run_threads_of};
 use std::test::Fail;
 
 const SCRIPT: ThreadsScript = ThreadsScript {
@@ -27,17 +27,30 @@ fn is_found(found: &Option<Bytes>, wanted: Option<&[u8]>) -> bool {
     }
 }
 
+// Whether the reads found the values, in turn.
+fn are_found(reads: &[FollowerRead]) -> bool {
+    match reads {
+        [first, second, third] => {
+            is_found(&first.value, VALUES[0])
+                && is_found(&second.value, VALUES[1])
+                && is_found(&third.value, VALUES[2])
+        }
+        _ => false,
+    }
+}
+
+// Whether the coordinator is at version 7 with all of the script in its files, and the reads found the values.
+fn is_right(report: &ThreadsReport) -> bool {
+    report.shown.number.number() == 7
+        && report.shown.flushed.number() == 4
+        && are_found(report.reads.as_slice())
+}
+
 #[test]
 fn threads_read_what_another_script_writes(rt: HostRuntime) -> Result<(), Fail> {
     let report = run_threads_of(&rt, rt.alloc(), &SCRIPT)?;
-    let shown = (report.shown.number.number(), report.shown.flushed.number());
-    if shown != (7, 4) || report.reads.len() != VALUES.len() {
-        return Err("another version, or another count of reads")?;
-    }
-    for (read, wanted) in report.reads.iter().zip(VALUES) {
-        if !is_found(&read.value, wanted) {
-            return Err("another value")?;
-        }
+    if !is_right(&report) {
+        return Err("another version, or other values")?;
     }
     Ok(())
 }
