@@ -1,6 +1,6 @@
 //! The loop that answers, over a store of one file.
 
-ghost use Rattle.std.specs.Prelude.{◌≡◌, ◌<◌, []};
+ghost use Rattle.std.specs.Prelude.{◌≡◌, ◌<◌, IfOk, []};
 
 use super::vectors::{ASK_NEW, FETCH, FETCH_OTHER, GONE_OTHER, JUNK, OPENING, RESULT, TABLE};
 use super::{Messages, are_sent, waiting};
@@ -31,9 +31,16 @@ const ANSWERS: [(Messages, Messages, Ending); 3] = [
 ];
 
 /// A new coordinator whose level 0 is due at one file.
-pub(super) fn new_coord(alloc: Global) -> Option<Coord<MemoryVault>> {
-    let limits = Limits::new(1, DEFAULT_BASE, DEFAULT_BLOCK)?;
-    Coord::open(alloc, MemoryVault::new(alloc), limits).ok()
+pub(super) fn new_coord(alloc: Global) -> Result<Coord<MemoryVault>, Fail>
+    ensures { IfOk result (λ c. c.book.live ≡ []) }
+{
+    let Some(limits) = Limits::new(1, DEFAULT_BASE, DEFAULT_BLOCK) else {
+        return Err("no limits")?;
+    };
+    match Coord::open(alloc, MemoryVault::new(alloc), limits) {
+        Ok(coord) => Ok(coord),
+        Err(_) => Err("out of memory")?,
+    }
 }
 
 /// Writes a, and flushes it to file 1.
@@ -87,7 +94,7 @@ fn answer_anew<R: Wait>(
     come: Messages,
     wanted: Messages,
 ) -> Result<Ending, Fail> {
-    let coord = new_coord(alloc).ok_or("out of memory")?;
+    let coord = new_coord(alloc)?;
     let blank = Blank::new(PARTS);
     answer::<MemoryVault, Brand, Snapshot<Served>, R>(rt, alloc, coord, blank, come, wanted)
 }

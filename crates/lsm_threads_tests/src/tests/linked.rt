@@ -96,7 +96,7 @@ fn carry_anew<R: Wait>(
     come: Messages,
     wanted: Messages,
 ) -> Result<Left, Fail> {
-    let coord = new_coord(alloc).ok_or("out of memory")?;
+    let coord = new_coord(alloc)?;
     let blank = Blank::new(PARTS);
     carry::<MemoryVault, Brand, Snapshot<Served>, R>(rt, alloc, coord, blank, come, wanted)
 }
