@@ -1,13 +1,12 @@
 //! What the options of a command of a store ask for, and its run.
 
 use crate::limits::limits_in;
+use crate::workers::{dispatch_to, work_as};
 use clap::ArgMatches;
 use lsm_commands::{
-    LogSync, Place, check_folder, dispatch_jobs, dump_folder, dump_log, run_session, serve_folder,
-    serve_memory, work,
+    LogSync, Place, check_folder, dump_folder, dump_log, run_session, serve_folder, serve_memory,
 };
 use lsm_key::Limits;
-use lsm_msg::NodeIndex;
 use std::process::ExitCode;
 
 /// A command of a store.
@@ -25,10 +24,10 @@ pub enum StoreCommand<'a> {
     Serve(Place<'a>),
     /// Answer requests of Redis clients, to a new store in memory.
     ServeMemory(Limits),
-    /// Merge the jobs that come, as the worker of this index.
-    Work(NodeIndex),
-    /// Have the compactions of a folder's store made by workers, of which the last has this index.
-    Dispatch(Place<'a>, NodeIndex),
+    /// Merge the jobs that come, as the worker of this number.
+    Work(u8),
+    /// Have the compactions of a folder's store made by workers, of which the last has this number.
+    Dispatch(Place<'a>, u8),
 }
 
 impl<'a> StoreCommand<'a> {
@@ -45,9 +44,9 @@ impl<'a> StoreCommand<'a> {
                 Some(StoreCommand::Serve(place_in(options, LogSync::Asked)?))
             }
             "serve" => Some(StoreCommand::ServeMemory(limits_in(options)?)),
-            "worker" => Some(StoreCommand::Work(index_in(options, "index", 1)?)),
+            "worker" => Some(StoreCommand::Work(number_in(options, "index", 1)?)),
             "dispatch" => {
-                let workers = index_in(options, "workers", 2)?;
+                let workers = number_in(options, "workers", 2)?;
                 Some(StoreCommand::Dispatch(place_in(options, LogSync::Each)?, workers))
             }
             _ => None,
@@ -75,8 +74,8 @@ impl<'a> StoreCommand<'a> {
             StoreCommand::Dump(folder) => dump_folder(rt, folder),
             StoreCommand::Serve(place) => serve_folder(rt, place),
             StoreCommand::ServeMemory(limits) => serve_memory(rt, limits),
-            StoreCommand::Work(index) => work(rt, index),
-            StoreCommand::Dispatch(place, workers) => dispatch_jobs(rt, place, workers),
+            StoreCommand::Work(number) => work_as(rt, number),
+            StoreCommand::Dispatch(place, number) => dispatch_to(rt, place, number),
         }
     }
 }
@@ -100,8 +99,7 @@ fn place_in<'a>(options: &ArgMatches<'a>, default: LogSync) -> Option<Place<'a>>
     })
 }
 
-/// The index that an option names, or its default.
-fn index_in(options: &ArgMatches<'_>, name: &str, default: u64) -> Option<NodeIndex> {
-    let number = options.get_one(name).unwrap_or(default);
-    NodeIndex::new(u8::try_from(number).ok()?)
+/// The number that an option has, or its default.
+fn number_in(options: &ArgMatches<'_>, name: &str, default: u64) -> Option<u8> {
+    u8::try_from(options.get_one(name).unwrap_or(default)).ok()
 }

@@ -9,6 +9,7 @@ mod asked;
 mod commands;
 mod limits;
 mod program;
+mod workers;
 
 pub use asked::StoreCommand;
 pub use commands::{dir, with_store_commands};
