@@ -5,7 +5,7 @@
 mod calls;
 mod options;
 
-use lsm_commands::run_once;
+use lsm_commands::{run_command, run_once};
 use lsm_options::{answer_words, refuse_words, words_of};
 use options::{Subcommand, subcommand_of};
 use std::process::ExitCode;
@@ -16,7 +16,7 @@ fn main(rt: HostRuntime) -> ExitCode {
         Err(error) => return refuse_words(&rt, &error),
     };
     match subcommand_of(rt.alloc(), words.as_slice()) {
-        Ok(Subcommand::Store(command)) => command.run(&rt),
+        Ok(Subcommand::Store(command)) => run_command(&rt, command),
         Ok(Subcommand::Once(place, once)) => run_once(&rt, place, &once),
         Err(error) => answer_words(&rt, error),
     }

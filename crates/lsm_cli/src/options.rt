@@ -3,8 +3,8 @@
 use crate::calls::{once_of, with_calls};
 use clap::error::ErrorKind;
 use clap::{ArgMatches, Command, Error};
-use lsm_commands::{LogSync, Once, Place};
-use lsm_options::{StoreCommand, limits_from, with_store_commands};
+use lsm_commands::Once;
+use lsm_options::{LogSync, Place, StoreCommand, limits_from, with_store_commands};
 use std::alloc::{AllocError, Global};
 
 /// What a command line asks for.

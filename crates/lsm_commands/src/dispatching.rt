@@ -3,28 +3,36 @@
 ghost use Rattle.std.specs.Prelude.{◌≡◌};
 
 use crate::made::Made;
-use crate::place::OpenCoord;
-use crate::{Place, Screen, check_streams};
+use crate::opening::{OpenCoord, fail_to_open, open_coord};
+use crate::{Screen, check_streams};
 use lsm_coord::Coord;
 use lsm_dispatch::{DispatchError, dispatch};
 use lsm_io::{CountedReader, CountedWriter};
 use lsm_msg::NodeIndex;
+use lsm_options::{Place, REFUSED};
 use lsm_store::Due;
 use lsm_vault::Vault;
 use std::alloc::Global;
 use std::io;
 use std::process::ExitCode;
 
-/// Has the compactions of a folder's store made by workers, of which so many are there, behind standard input and output, until none
-/// is due. What they made, and what exceeds a job size limit, is reported.
-pub fn dispatch_jobs(rt: &HostRuntime, place: Place<'_>, workers: NodeIndex) -> ExitCode {
+/// Has the compactions of a folder's store made by this number of workers behind standard input and output, until none is due. What they
+/// made, and what exceeds a job size limit, is reported.
+pub(crate) fn dispatch_jobs(rt: &HostRuntime, place: Place<'_>, number: u8) -> ExitCode {
+    match NodeIndex::new(number) {
+        Some(workers) => dispatch_to(rt, place, workers),
+        None => ExitCode::from(REFUSED),
+    }
+}
+
+fn dispatch_to(rt: &HostRuntime, place: Place<'_>, workers: NodeIndex) -> ExitCode {
     let screen = Screen::new(rt);
     if let Err(error) = check_streams(rt) {
         return screen.fail(&error);
     }
-    let opened = match place.open_coord(rt, &screen) {
+    let opened = match open_coord(rt, place, &screen) {
         Ok(opened) => opened,
-        Err(error) => return place.fail(rt, &screen, &error),
+        Err(error) => return fail_to_open(rt, place.folder, &screen, &error),
     };
     let OpenCoord { coord, incidents } = opened;
     let mut coord = coord;

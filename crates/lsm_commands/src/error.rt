@@ -5,15 +5,9 @@ use std::alloc::AllocError;
 use std::io;
 use thiserror::Error;
 
-/// The exit status if the arguments, a script or a line are refused.
-pub const REFUSED: u8 = 2;
-
-/// The exit status after a read or write fault, if memory runs out, or after a wrong answer.
-pub const FAILED: u8 = 1;
-
 /// Why a command fails.
 #[derive(Debug, Drop, Error)]
-pub enum CommandError {
+pub(crate) enum CommandError {
     /// The folder is not opened.
     #[error("{0}")]
     Folder(lsm_file_vault::FolderError),

@@ -1,14 +1,14 @@
 //! The commands `check` and `dump`: what the folder of a store holds. They change nothing there.
 
-use crate::error::FAILED;
 use crate::{CommandError, Screen};
 use lsm_file_vault::read;
 use lsm_inspect::{Report, check};
+use lsm_options::FAILED;
 use std::io;
 use std::process::ExitCode;
 
 /// Verifies each file of a folder, the log over what is flushed too, and prints what was found. The exit status is 0 only if nothing is damaged.
-pub fn check_folder(rt: &HostRuntime, folder: &str) -> ExitCode {
+pub(crate) fn check_folder(rt: &HostRuntime, folder: &str) -> ExitCode {
     let screen = Screen::new(rt);
     match print_report(rt, folder, &screen) {
         Ok(true) => ExitCode::SUCCESS,
@@ -18,14 +18,14 @@ pub fn check_folder(rt: &HostRuntime, folder: &str) -> ExitCode {
 }
 
 /// Prints the entries of the tables of a folder, and reports what is damaged there. The exit status is 0 only if nothing is.
-pub fn dump_folder(rt: &HostRuntime, folder: &str) -> ExitCode {
+pub(crate) fn dump_folder(rt: &HostRuntime, folder: &str) -> ExitCode {
     let screen = Screen::new(rt);
     let dumped = print_entries(rt, folder);
     status_of(dumped, &screen)
 }
 
 /// Prints the records of the log of a folder, and reports what is damaged there. The exit status is 0 only if nothing is.
-pub fn dump_log(rt: &HostRuntime, folder: &str) -> ExitCode {
+pub(crate) fn dump_log(rt: &HostRuntime, folder: &str) -> ExitCode {
     let screen = Screen::new(rt);
     let dumped = print_records(rt, folder);
     status_of(dumped, &screen)

@@ -3,31 +3,25 @@
 //! It opens folders, reports what is wrong with them, and hands standard input and output to the layers below. It promises that a session
 //! answers each call by what the store held and holds; for the rest no more than these layers do: an exit status other than 0 is reported
 //! with its reason on standard error, and what a command has answered is synced, as its folder is to be synced, or it says that it is
-//! not. It reads no arguments. It stands on the store, on the vault of files, on the words of lines, on what checks and dumps a folder,
-//! and on what serves it.
+//! not. It reads no arguments: `lsm_options` says what they ask for. It stands on the store, on the vault of files, on the words of
+//! lines, on what checks and dumps a folder, and on what serves it.
 #![tactic(auto)]
 
+mod command;
 mod dispatching;
 mod error;
 mod inspect;
 mod made;
 mod once;
-mod place;
+mod opening;
 mod screen;
 mod serve;
 mod session;
 mod streams;
 mod worker;
 
-pub use dispatching::dispatch_jobs;
-pub use error::{CommandError, FAILED, REFUSED};
-pub use inspect::{check_folder, dump_folder, dump_log};
-pub use lsm_file_vault::{Incidents, LogSync};
+pub use command::run_command;
+pub(crate) use error::CommandError;
 pub use once::{Form, Once, run_once};
-pub use place::{FolderStore, FolderVault, OpenStore, Place};
-pub use screen::Screen;
-pub use serve::{serve_folder, serve_memory};
-pub use session::run_session;
-pub use session::usage::STORE_COMMANDS;
-pub use streams::check_streams;
-pub use worker::work;
+pub(crate) use screen::Screen;
+pub(crate) use streams::check_streams;

@@ -5,18 +5,19 @@ mod import;
 mod pairs;
 mod work;
 
-use crate::error::FAILED;
+use crate::opening::{FolderStore, OpenStore, fail_to_open, open_made_store, open_store};
 use crate::session::answer::{Answer, answer_call};
 use crate::session::compact::{compact_all, write_due};
 use crate::session::lines::write_answer;
 use crate::session::stats::write_stats;
-use crate::{FolderStore, OpenStore, Place, Screen, check_streams};
+use crate::{Screen, check_streams};
 use bytes::Bytes;
 use error::OnceError;
 use import::import;
 use lsm_io::write_out;
 use lsm_key::{Items, Op};
 use lsm_line::{Call, write_line_end};
+use lsm_options::{FAILED, Place};
 use pairs::write_pairs;
 use std::alloc::Global;
 use std::io::{self, Write};
@@ -66,13 +67,13 @@ pub fn run_once(rt: &HostRuntime, place: Place<'_>, once: &Once<'_>) -> ExitCode
         Err(error) => return error.end(&screen),
     };
     let opened = if work.makes_folder() {
-        place.open(rt, &screen)
+        open_store(rt, place, &screen)
     } else {
-        place.open_made(rt, &screen)
+        open_made_store(rt, place, &screen)
     };
     let mut opened = match opened {
         Ok(opened) => opened,
-        Err(error) => return place.fail(rt, &screen, &error),
+        Err(error) => return fail_to_open(rt, place.folder, &screen, &error),
     };
     match act(rt, &mut opened, &screen, work) {
         Ok(status) => status,

@@ -1,14 +1,14 @@
 //! What a command shows on standard error: why it fails, and on a terminal how far it has come.
 
-use crate::FAILED;
 use lsm_file_vault::Incidents;
 use lsm_key::Seq;
+use lsm_options::FAILED;
 use std::fmt::Display;
 use std::io::{self, IsTerminal};
 use std::process::ExitCode;
 
 /// Standard error.
-pub struct Screen<'a> {
+pub(crate) struct Screen<'a> {
     rt: &'a HostRuntime,
     is_terminal: bool,
 }
@@ -23,7 +23,7 @@ impl Drop for Screen<'_> {
 }
 
 impl<'a> Screen<'a> {
-    pub fn new(rt: &'a HostRuntime) -> Screen<'a> {
+    pub(crate) fn new(rt: &'a HostRuntime) -> Screen<'a> {
         Screen {
             rt,
             is_terminal: rt.stderr().is_terminal(),
@@ -31,7 +31,7 @@ impl<'a> Screen<'a> {
     }
 
     /// The same, which shows nothing of how far a command has come, on a terminal either.
-    pub fn still(rt: &'a HostRuntime) -> Screen<'a> {
+    pub(crate) fn still(rt: &'a HostRuntime) -> Screen<'a> {
         Screen {
             rt,
             is_terminal: false,
@@ -39,13 +39,13 @@ impl<'a> Screen<'a> {
     }
 
     /// Reports an error, and returns the exit status after it.
-    pub fn fail<E: Display>(&self, error: &E) -> ExitCode {
+    pub(crate) fn fail<E: Display>(&self, error: &E) -> ExitCode {
         self.report(error);
         ExitCode::from(FAILED)
     }
 
     /// Reports something in a line of its own.
-    pub fn report<E: Display>(&self, what: &E) {
+    pub(crate) fn report<E: Display>(&self, what: &E) {
         let _ = eprintln!(self.rt; "{what}");
     }
 
@@ -55,14 +55,14 @@ impl<'a> Screen<'a> {
     }
 
     /// Shows how far a command has come, on a terminal alone, in a line that the next one is written over.
-    pub fn show<E: Display>(&self, what: &E) {
+    pub(crate) fn show<E: Display>(&self, what: &E) {
         if self.is_terminal {
             let _ = eprint!(self.rt; "\r{what}");
         }
     }
 
     /// Ends the line of what was shown.
-    pub fn end_line(&self) {
+    pub(crate) fn end_line(&self) {
         if self.is_terminal {
             let _ = self.rt.eprintln("");
         }
@@ -98,7 +98,7 @@ impl<'a> Screen<'a> {
     }
 
     /// Reports what the system says of a device that failed, if it did.
-    pub fn report_device(&self, error: &Option<io::Error>) {
+    pub(crate) fn report_device(&self, error: &Option<io::Error>) {
         if let Some(error) = error {
             let _ = eprintln!(self.rt; "the device failed: {error}");
         }

@@ -1,8 +1,10 @@
 //! The command `serve`: requests of Redis clients.
 
-use crate::{CommandError, Place, Screen, check_streams};
+use crate::opening::{fail_to_open, open_store};
+use crate::{CommandError, Screen, check_streams};
 use lsm_io::{CountedReader, CountedWriter};
 use lsm_key::Limits;
+use lsm_options::Place;
 use lsm_serve::serve;
 use lsm_store::{Options, Store};
 use lsm_vault::{MemoryVault, Vault};
@@ -11,14 +13,14 @@ use std::process::ExitCode;
 
 /// Answers the requests of standard input on standard output, to the store of a folder, until the input ends. What was answered is
 /// synced; the store is not flushed.
-pub fn serve_folder(rt: &HostRuntime, place: Place<'_>) -> ExitCode {
+pub(crate) fn serve_folder(rt: &HostRuntime, place: Place<'_>) -> ExitCode {
     let screen = Screen::new(rt);
     if let Err(error) = check_streams(rt) {
         return screen.fail(&error);
     }
-    let mut opened = match place.open(rt, &screen) {
+    let mut opened = match open_store(rt, place, &screen) {
         Ok(opened) => opened,
-        Err(error) => return place.fail(rt, &screen, &error),
+        Err(error) => return fail_to_open(rt, place.folder, &screen, &error),
     };
     let status = serve_from(rt, &mut opened.store, &screen);
     screen.report_device(&opened.incidents.take_error());
@@ -26,7 +28,7 @@ pub fn serve_folder(rt: &HostRuntime, place: Place<'_>) -> ExitCode {
 }
 
 /// The same, to a new store in memory, which is lost at the end.
-pub fn serve_memory(rt: &HostRuntime, limits: Limits) -> ExitCode {
+pub(crate) fn serve_memory(rt: &HostRuntime, limits: Limits) -> ExitCode {
     let screen = Screen::new(rt);
     let vault = MemoryVault::new(rt.alloc());
     match Store::open(rt.alloc(), vault, Options { limits }) {

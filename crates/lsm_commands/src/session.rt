@@ -10,9 +10,11 @@ pub(crate) mod stats;
 mod talk;
 pub(crate) mod usage;
 
-use crate::{OpenStore, Place, REFUSED, Screen, check_streams};
+use crate::opening::{OpenStore, fail_to_open, open_store};
+use crate::{Screen, check_streams};
 use console::Console;
 use error::SessionError;
+use lsm_options::{Place, REFUSED};
 use std::io;
 use std::io::IsTerminal;
 use std::process::ExitCode;
@@ -20,14 +22,14 @@ use talk::talk;
 
 /// Opens the store of a folder, and answers the commands of standard input on standard output until the input ends. What was answered
 /// is synced; the store is not flushed. Faults are reported on standard error.
-pub fn run_session(rt: &HostRuntime, place: Place<'_>) -> ExitCode {
+pub(crate) fn run_session(rt: &HostRuntime, place: Place<'_>) -> ExitCode {
     let screen = Screen::new(rt);
     if let Err(error) = check_streams(rt) {
         return screen.fail(&error);
     }
-    let mut opened = match place.open(rt, &screen) {
+    let mut opened = match open_store(rt, place, &screen) {
         Ok(opened) => opened,
-        Err(error) => return place.fail(rt, &screen, &error),
+        Err(error) => return fail_to_open(rt, place.folder, &screen, &error),
     };
     match talk_to(rt, &mut opened, &screen) {
         Ok(true) => ExitCode::SUCCESS,

@@ -4,7 +4,7 @@ use crate::CommandError;
 use std::io::{Read, Write};
 
 /// Whether the standard streams are open: the next file that is opened would take the place of one that is closed.
-pub fn check_streams(rt: &HostRuntime) -> Result<(), CommandError> {
+pub(crate) fn check_streams(rt: &HostRuntime) -> Result<(), CommandError> {
     let read = rt.stdin().read(&mut []);
     read.map_err(|_| CommandError::ReadFault)?;
     let written = rt.stdout().write(&[]);

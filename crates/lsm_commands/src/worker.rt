@@ -3,12 +3,20 @@
 use crate::{Screen, check_streams};
 use lsm_io::{CountedReader, CountedWriter};
 use lsm_msg::NodeIndex;
+use lsm_options::REFUSED;
 use std::io;
 use std::process::ExitCode;
 
-/// Merges the jobs that come as messages on standard input, and writes the messages that it sends to standard output, until the
-/// input ends.
-pub fn work(rt: &HostRuntime, index: NodeIndex) -> ExitCode {
+/// Merges the jobs that come as messages on standard input, as the worker of this number, and writes the messages that it sends to
+/// standard output, until the input ends.
+pub(crate) fn work_as(rt: &HostRuntime, number: u8) -> ExitCode {
+    match NodeIndex::new(number) {
+        Some(index) => work(rt, index),
+        None => ExitCode::from(REFUSED),
+    }
+}
+
+fn work(rt: &HostRuntime, index: NodeIndex) -> ExitCode {
     let screen = Screen::new(rt);
     if let Err(error) = check_streams(rt) {
         return screen.fail(&error);

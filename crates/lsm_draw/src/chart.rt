@@ -3,7 +3,6 @@
 use crate::label::Label;
 use crate::lanes::{Lane, Lanes};
 use crate::mark::{Mark, mark_of};
-use lsm_script::ScriptLine;
 use lsm_world::{Event, Reply, Sent};
 use std::alloc::{AllocError, Global};
 
@@ -50,6 +49,13 @@ pub(crate) struct Row {
     pub arrival: Option<Arrival>,
 }
 
+/// An event and its reply as lines of text, without their ends.
+#[derive(Clone, Copy)]
+pub struct Lines<'a> {
+    pub event: &'a str,
+    pub reply: &'a str,
+}
+
 /// The events of a run, in order, from the first of a world on.
 #[derive(Drop)]
 pub struct Chart {
@@ -74,8 +80,13 @@ impl Chart {
         }
     }
 
-    /// Puts an event below the others, with its reply and the reply's line. After an error the chart is not to be drawn.
-    pub fn row(&mut self, event: &Event, reply: &Reply, line: &str) -> Result<(), AllocError> {
+    /// Puts an event below the others, with its reply and their lines. After an error the chart is not to be drawn.
+    pub fn row(
+        &mut self,
+        event: &Event,
+        reply: &Reply,
+        lines: Lines<'_>,
+    ) -> Result<(), AllocError> {
         let alloc = self.alloc;
         let arrival = self.arrival_of(event);
         let lane = lane_of(event, arrival);
@@ -84,9 +95,15 @@ impl Chart {
         let row = Row {
             lane,
             mark: mark_of(reply),
-            label: format!(in alloc; "{}", Label { reply, line })?,
-            script: format!(in alloc; "{}", ScriptLine(event))?,
-            reply: String::from_str(alloc, line)?,
+            label: format!(in alloc;
+                "{}",
+                Label {
+                    reply,
+                    line: lines.reply
+                }
+            )?,
+            script: String::from_str(alloc, lines.event)?,
+            reply: String::from_str(alloc, lines.reply)?,
             arrival,
         };
         self.rows.push(row)?;

@@ -2,8 +2,8 @@
 //! delivery.
 //!
 //! It promises that texts can't become markup, that no text is longer than its column, and that rows and columns keep their
-//! distances, so that no two labels overlap. It stands on `lsm_world` for events and replies, of which alone it derives who sent which
-//! message, and on `lsm_script` for an event's line.
+//! distances, so that no two labels overlap. It is given the lines of events and replies. It stands on `lsm_world` for events and replies,
+//! of which alone it derives who sent which message.
 #![tactic(auto)]
 
 mod arrows;
@@ -17,7 +17,7 @@ mod place;
 mod svg;
 mod text;
 
-pub use chart::Chart;
+pub use chart::{Chart, Lines};
 pub use laws::{columns_hold_their_texts, no_text_is_markup, rows_are_apart};
 pub use svg::write_svg;
 pub use text::Escaped;

@@ -1,13 +1,10 @@
-//! What the options of a command of a store ask for, and its run.
+//! What the options of a command of a store ask for.
 
+use crate::Place;
 use crate::limits::limits_in;
-use crate::workers::{dispatch_to, work_as};
 use clap::ArgMatches;
-use lsm_commands::{
-    LogSync, Place, check_folder, dump_folder, dump_log, run_session, serve_folder, serve_memory,
-};
+use lsm_file_vault::LogSync;
 use lsm_key::Limits;
-use std::process::ExitCode;
 
 /// A command of a store.
 #[derive(Clone, Copy)]
@@ -62,20 +59,6 @@ impl<'a> StoreCommand<'a> {
             StoreCommand::Serve(_) | StoreCommand::ServeMemory(_) => "serve",
             StoreCommand::Work(_) => "worker",
             StoreCommand::Dispatch(_, _) => "dispatch",
-        }
-    }
-
-    /// Runs it, and returns the exit status.
-    pub fn run(self, rt: &HostRuntime) -> ExitCode {
-        match self {
-            StoreCommand::Store(place) => run_session(rt, place),
-            StoreCommand::Check(folder) => check_folder(rt, folder),
-            StoreCommand::DumpLog(folder) => dump_log(rt, folder),
-            StoreCommand::Dump(folder) => dump_folder(rt, folder),
-            StoreCommand::Serve(place) => serve_folder(rt, place),
-            StoreCommand::ServeMemory(limits) => serve_memory(rt, limits),
-            StoreCommand::Work(number) => work_as(rt, number),
-            StoreCommand::Dispatch(place, number) => dispatch_to(rt, place, number),
         }
     }
 }

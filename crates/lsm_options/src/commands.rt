@@ -1,9 +1,9 @@
 //! The commands of a store, with their options.
 
 use crate::limits::{base, block, l0};
+use crate::session::STORE_COMMANDS;
 use clap::builder::ValueParser;
 use clap::{Arg, Command, value_parser};
-use lsm_commands::STORE_COMMANDS;
 use std::alloc::{AllocError, Global};
 
 const STORE_SYNC_HELP: &str =

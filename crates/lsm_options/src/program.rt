@@ -1,8 +1,8 @@
 //! What a program does with its words: it reads them, and reports what is wrong with them.
 
+use crate::{FAILED, REFUSED};
 use clap::Error;
 use clap::error::ErrorKind;
-use lsm_commands::{FAILED, REFUSED};
 use std::process::ExitCode;
 use std::rt::Env;
 use std::{env, io};

@@ -2,10 +2,10 @@
 
 use crate::error::RunError;
 use crate::run::new_world;
-use lsm_draw::{Chart, write_svg};
+use lsm_draw::{Chart, Lines, write_svg};
 use lsm_io::{read_all, write_out};
 use lsm_key::Limits;
-use lsm_script::{parse, write_line};
+use lsm_script::{ScriptLine, parse, write_line};
 use lsm_vault::MemoryVault;
 use lsm_world::{Event, World};
 use std::alloc::{AllocError, Global};
@@ -41,11 +41,13 @@ fn chart(
         let reply = world.step(event.copy(alloc)?);
         line.clear();
         write_line(alloc, &mut line, &reply)?;
-        chart.row(
-            event,
-            &reply,
-            String::from_utf8_lossy(alloc, line.trim_ascii_end())?.as_str(),
-        )?;
+        let asked = format!(in alloc; "{}", ScriptLine(event))?;
+        let answered = String::from_utf8_lossy(alloc, line.trim_ascii_end())?;
+        let lines = Lines {
+            event: asked.as_str(),
+            reply: answered.as_str(),
+        };
+        chart.row(event, &reply, lines)?;
     }
     Ok(chart)
 }

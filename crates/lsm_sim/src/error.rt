@@ -3,10 +3,10 @@
 ghost use Rattle.std.specs.Prelude.{◌≡◌};
 ghost use Rattle.lsm_sim.specs.Runs.{exit_status};
 
-use lsm_commands::{FAILED, REFUSED};
 use lsm_io::StreamError;
 use lsm_key::Refused;
 use lsm_line::Reason;
+use lsm_options::{FAILED, REFUSED};
 use lsm_script::Fault;
 use std::alloc::{AllocError, AllocFailed};
 use thiserror::Error;

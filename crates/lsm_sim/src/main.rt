@@ -12,8 +12,8 @@ mod threads;
 use draw::draw_script;
 use error::{RunError, code_of};
 use explore::explore_schedules;
-use lsm_commands::FAILED;
-use lsm_options::{StoreCommand, answer_words, refuse_words, words_of};
+use lsm_commands::run_command;
+use lsm_options::{FAILED, StoreCommand, answer_words, refuse_words, words_of};
 use options::{Subcommand, subcommand_of};
 use run::run_script;
 use std::io::{self, IsTerminal};
@@ -32,7 +32,7 @@ fn run_store(rt: &HostRuntime, command: StoreCommand<'_>) -> ExitCode {
         let name = command.name();
         let _ = eprintln!(rt; "lsmsim: './luddimpa {name}' is this command's new home");
     }
-    command.run(rt)
+    run_command(rt, command)
 }
 
 fn main(rt: HostRuntime) -> ExitCode {

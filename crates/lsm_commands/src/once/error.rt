@@ -1,9 +1,10 @@
 //! Why a command of one call fails.
 
 use crate::Screen;
-use crate::error::{CommandError, FAILED, REFUSED};
+use crate::error::CommandError;
 use crate::session::error::SessionError;
 use lsm_io::StreamError;
+use lsm_options::{FAILED, REFUSED};
 use lsm_store::StoreError;
 use std::alloc::{AllocError, AllocFailed};
 use std::process::ExitCode;

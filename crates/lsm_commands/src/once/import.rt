@@ -1,13 +1,14 @@
 //! The command `import`: the pairs of lines, in batches.
 
 use super::error::OnceError;
-use crate::error::REFUSED;
+use crate::Screen;
+use crate::opening::FolderStore;
 use crate::session::console::{NextLine, read_line};
 use crate::session::request::{FaultyLine, LineFault};
-use crate::{FolderStore, Screen};
 use lsm_io::write_out;
 use lsm_key::{Batch, KeyError, MAX_BATCH_OPS, Op, Refused};
 use lsm_line::{Call, Words, put, write_line_end, write_number, write_text};
+use lsm_options::REFUSED;
 use lsm_store::{Store, StoreError};
 use lsm_vault::Vault;
 use std::alloc::Global;
