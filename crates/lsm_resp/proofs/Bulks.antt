@@ -13,7 +13,7 @@ use Rattle.lsm_resp.specs.declared.fault.ParseError.TheVariants.{OutOfMemory, Pr
 use Rattle.lsm_resp.specs.declared.fault.ProtocolFault.{ProtocolFault}
 use Rattle.lsm_resp.specs.declared.fault.ProtocolFault.TheVariants.{BadLength, LineTooLong, NoBulk, NoLineEnd, RequestTooLong, TooManyWords, WordTooLong}
 use Rattle.lsm_resp.specs.declared.limits.TheConstants.{MAX_REQUEST_BYTES, MAX_WORD_BYTES}
-use Rattle.lsm_resp.specs.Outcomes.{AreRead, ArePassed, IsFaultOfNext, IsFaultOfWord, Refuses}
+use Rattle.lsm_resp.specs.Outcomes.{AreRead, ArePassed, IsFaultOfNext, IsFaultOfWord, OfProtocol}
 use Rattle.lsm_resp.specs.Pieces.{FindsAll, FindsBulk}
 use Rattle.lsm_resp.specs.Requests.{AreWords, FindsWords, IsAhead, words_weight, words_of}
 use Rattle.lsm_resp.specs.Wire.{bulk_bytes}
@@ -172,6 +172,6 @@ same_error input bytes words OutOfMemory found = tt
 same_error input bytes words (Protocol why) found = absurd found
 
 -- a fault that is handed on is refused as it was
-pub refused_so : {T : Type 0} (r : Result T ParseError) (IsWhy : ProtocolFault → Type 0) (why : ProtocolFault) → IsErrAnd r (λ e. e ≡ Protocol why) → IsWhy why → IfErr r (Refuses IsWhy)
+pub refused_so : {T : Type 0} (r : Result T ParseError) (IsWhy : ProtocolFault → Type 0) (why : ProtocolFault) → IsErrAnd r (λ e. e ≡ Protocol why) → IsWhy why → IfErr r (OfProtocol IsWhy)
 refused_so (Ok value) IsWhy why is h = tt
-refused_so (Err e) IsWhy why is h = subst (Refuses IsWhy) (sym is) h
+refused_so (Err e) IsWhy why is h = subst (OfProtocol IsWhy) (sym is) h

@@ -8,7 +8,7 @@ use Rattle.lsm_resp.specs.declared.fault.ParseError.{ParseError}
 use Rattle.lsm_resp.specs.declared.fault.ParseError.TheVariants.{OutOfMemory, Protocol}
 use Rattle.lsm_resp.specs.declared.fault.ProtocolFault.TheVariants.{BadLength, LineTooLong, NoBulk, NoLineEnd, RequestTooLong, TooManyWords, WordTooLong}
 use Rattle.lsm_resp.specs.declared.limits.TheConstants.{MAX_WORDS}
-use Rattle.lsm_resp.specs.Outcomes.{IsFault, IsFaultOfWords, Refuses}
+use Rattle.lsm_resp.specs.Outcomes.{IsFault, IsFaultOfWords, OfProtocol}
 use Rattle.lsm_resp.specs.Requests.{IsAhead}
 use Rattle.lsm_resp.specs.Wire.{bulk_bytes, header_bytes, request_bytes}
 use Rattle.lsm_resp.proofs.Ahead.{ahead_rest, ahead_front, ahead_take, ahead_at}
@@ -87,7 +87,7 @@ request_read words input len more n e front back =
     ∙ ap (λ (k : ℕ). header_bytes 42 k ++ flat_map bulk_bytes words) (sym e)
 
 -- the fault of the words is that of the request
-pub fault_of_words : (input : List ℕ) (n : ℕ) (bytes : List ℕ) (why : ParseError) → n ≤ MAX_WORDS → input ≡ header_bytes 42 n ++ bytes → Refuses (IsFaultOfWords n bytes) why → Refuses (IsFault input) why
+pub fault_of_words : (input : List ℕ) (n : ℕ) (bytes : List ℕ) (why : ParseError) → n ≤ MAX_WORDS → input ≡ header_bytes 42 n ++ bytes → OfProtocol (IsFaultOfWords n bytes) why → OfProtocol (IsFault input) why
 fault_of_words input n bytes OutOfMemory few is h = tt
 fault_of_words input n bytes (Protocol BadLength) few is h = inr (n, bytes, few, is, h)
 fault_of_words input n bytes (Protocol TooManyWords) few is (words, rest, passed, h) = absurd h

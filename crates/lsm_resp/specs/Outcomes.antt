@@ -88,10 +88,10 @@ pub data IsRequest (words : List (List ℕ)) (bytes : List ℕ) : Type 0 where
   line : (line : List ℕ) → IsLine line → bytes ≡ line ++ 10 ∷ [] → words ≡ line_words line → IsRequest words bytes
 
 -- it has not come whole
-pub data IsPart (input : List ℕ) : Type 0 where
-  of_line : get_or input 0 0 ≢ 42 → bytes_before 10 input ≡ length input → length input ≤ MAX_LINE_BYTES → IsPart input
-  of_length : get_or input 0 0 ≡ 42 → IsPartOfLength (drop 1 input) → IsPart input
-  of_words : (n : ℕ) (bytes : List ℕ) → n ≤ MAX_WORDS → input ≡ header_bytes 42 n ++ bytes → IsPartOfWords n bytes → IsPart input
+pub data IsPartOfRequest (input : List ℕ) : Type 0 where
+  of_line : get_or input 0 0 ≢ 42 → bytes_before 10 input ≡ length input → length input ≤ MAX_LINE_BYTES → IsPartOfRequest input
+  of_length : get_or input 0 0 ≡ 42 → IsPartOfLength (drop 1 input) → IsPartOfRequest input
+  of_words : (n : ℕ) (bytes : List ℕ) → n ≤ MAX_WORDS → input ≡ header_bytes 42 n ++ bytes → IsPartOfWords n bytes → IsPartOfRequest input
 
 -- why it is none within the limits: the first reason
 abbrev pub IsFault : List ℕ → ProtocolFault → Type 0
@@ -110,9 +110,9 @@ TakesRequest input Partial = Unit {0}
 -- more is asked for only of a request that has not come whole
 abbrev pub WaitsForMore : List ℕ → Parsed → Type 0
 WaitsForMore input (Request lent len) = Unit {0}
-WaitsForMore input Partial = IsPart input
+WaitsForMore input Partial = IsPartOfRequest input
 
 -- a fault is this one
-abbrev pub Refuses : (ProtocolFault → Type 0) → ParseError → Type 0
-Refuses IsWhy OutOfMemory = Unit {0}
-Refuses IsWhy (Protocol why) = IsWhy why
+abbrev pub OfProtocol : (ProtocolFault → Type 0) → ParseError → Type 0
+OfProtocol IsWhy OutOfMemory = Unit {0}
+OfProtocol IsWhy (Protocol why) = IsWhy why

@@ -3,7 +3,7 @@
 ghost use Rattle.std.specs.Prelude.{◌≡◌, ◌≢◌, ◌+◌, ◌<◌, ◌≤◌, ◌∷◌, ◌++◌, [], IfErr, IfNone, IfOk, IfSome, OnSome, drop, length, take};
 ghost use Rattle.lsm_resp.specs.declared.limits.TheConstants.{MAX_WORD_BYTES};
 ghost use Rattle.lsm_resp.specs.Enough.{enough_for_bulk, enough_for_bulks, enough_for_header};
-ghost use Rattle.lsm_resp.specs.Outcomes.{AreRead, IsFaultOfWord, IsFaultOfWords, IsPartOfWord, IsPartOfWords, Refuses};
+ghost use Rattle.lsm_resp.specs.Outcomes.{AreRead, IsFaultOfWord, IsFaultOfWords, IsPartOfWord, IsPartOfWords, OfProtocol};
 ghost use Rattle.lsm_resp.specs.Pieces.{FindsBulk, FindsBulks, FindsBytes};
 ghost use Rattle.lsm_resp.specs.Requests.{words_of};
 ghost use Rattle.lsm_resp.specs.Wire.{bulk_bytes};
@@ -89,7 +89,7 @@ pub(crate) fn read_bulks(
     ensures enough { IfOk result (λ found. IfNone found (length input.now < enough_for_bulks count)) }
     ensures words { IfOk result (λ found. IfSome found (λ bulks. AreRead count (words_of bulks.words.items) (take bulks.len input.now))) }
     ensures part { IfOk result (λ found. IfNone found (IsPartOfWords count input.now)) }
-    ensures refused { IfErr result (Refuses (IsFaultOfWords count input.now)) }
+    ensures refused { IfErr result (OfProtocol (IsFaultOfWords count input.now)) }
 {
     let mut words = Vec::new(alloc);
     let mut len = 0;

@@ -3,7 +3,7 @@
 ghost use Rattle.std.specs.Prelude.{◌≡◌, ◌≢◌, ◌+◌, ◌<◌, ◌≤◌, IfErr, IfNone, IfOk, IfSome, get_or, length, take};
 ghost use Rattle.lsm_resp.specs.declared.limits.TheConstants.{MAX_LINE_BYTES};
 ghost use Rattle.lsm_resp.specs.Lines.{FindsEnd, FindsLine, is_blank, line_words};
-ghost use Rattle.lsm_resp.specs.Outcomes.{IsRequest, Refuses, bytes_before};
+ghost use Rattle.lsm_resp.specs.Outcomes.{IsRequest, OfProtocol, bytes_before};
 ghost use Rattle.lsm_resp.specs.Requests.{words_of};
 ghost use Rattle.lsm_resp.specs.declared.fault.ProtocolFault.TheVariants.{LineTooLong};
 
@@ -21,7 +21,7 @@ pub(crate) fn read_inline(alloc: Global, input: &[u8]) -> Result<Option<Bulks<'_
     ensures enough { IfOk result (λ found. IfNone found (length input.now ≤ MAX_LINE_BYTES)) }
     ensures words { IfOk result (λ found. IfSome found (λ bulks. IsRequest (words_of bulks.words.items) (take bulks.len input.now))) }
     ensures part { IfOk result (λ found. IfNone found (bytes_before 10 input.now ≡ length input.now)) }
-    ensures refused { IfErr result (Refuses (λ why. (why ≡ LineTooLong) × (MAX_LINE_BYTES < bytes_before 10 input.now))) }
+    ensures refused { IfErr result (OfProtocol (λ why. (why ≡ LineTooLong) × (MAX_LINE_BYTES < bytes_before 10 input.now))) }
 {
     let Some(end) = line_end(input)? else {
         return Ok(None);

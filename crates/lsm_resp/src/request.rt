@@ -3,7 +3,7 @@
 ghost use Rattle.std.specs.Prelude.{◌≡◌, ◌<◌, ◌≤◌, [], IfErr, IfNone, IfOk, IfSome, None, Ok, get_or, length, take};
 ghost use Rattle.lsm_resp.specs.Enough.{IsEnough, enough_for_request};
 ghost use Rattle.lsm_resp.specs.Lines.{FindsLine, FindsLineRequest};
-ghost use Rattle.lsm_resp.specs.Outcomes.{IsFault, IsPart, IsRequest, Refuses, TakesRequest, WaitsForMore};
+ghost use Rattle.lsm_resp.specs.Outcomes.{IsFault, IsPartOfRequest, IsRequest, OfProtocol, TakesRequest, WaitsForMore};
 ghost use Rattle.lsm_resp.specs.Pieces.{FindsArray};
 ghost use Rattle.lsm_resp.specs.Requests.{FindsRequest, TakesWithin, words_of};
 ghost use Rattle.lsm_resp.specs.declared.request.Parsed.TheVariants.{Partial};
@@ -33,7 +33,7 @@ pub fn parse_request(alloc: Global, input: &[u8]) -> Result<Parsed<'_>, ParseErr
     ensures enough { IfOk result (IsEnough input.now) }
     ensures request { IfOk result (TakesRequest input.now) }
     ensures partial { IfOk result (WaitsForMore input.now) }
-    ensures refused { IfErr result (Refuses (IsFault input.now)) }
+    ensures refused { IfErr result (OfProtocol (IsFault input.now)) }
 {
     match read_any(alloc, input) {
         Ok(Some(found)) => Ok(Parsed::Request(found.words, found.len)),
@@ -51,8 +51,8 @@ fn read_any(alloc: Global, input: &[u8]) -> Result<Option<Bulks<'_>>, ParseError
     ensures light { IfOk result (λ found. IfSome found (λ bulks. bulks.len ≤ enough_for_request)) }
     ensures enough { IfOk result (λ found. IfNone found (length input.now < enough_for_request)) }
     ensures request { IfOk result (λ found. IfSome found (λ bulks. IsRequest (words_of bulks.words.items) (take bulks.len input.now))) }
-    ensures partial { IfOk result (λ found. IfNone found (IsPart input.now)) }
-    ensures refused { IfErr result (Refuses (IsFault input.now)) }
+    ensures partial { IfOk result (λ found. IfNone found (IsPartOfRequest input.now)) }
+    ensures refused { IfErr result (OfProtocol (IsFault input.now)) }
 {
     if input.is_empty() {
         return Ok(None);
@@ -72,8 +72,8 @@ fn read_array(alloc: Global, input: &[u8]) -> Result<Option<Bulks<'_>>, ParseErr
     ensures light { IfOk result (λ found. IfSome found (λ bulks. bulks.len ≤ enough_for_request)) }
     ensures enough { IfOk result (λ found. IfNone found (length input.now < enough_for_request)) }
     ensures request { IfOk result (λ found. IfSome found (λ bulks. IsRequest (words_of bulks.words.items) (take bulks.len input.now))) }
-    ensures partial { IfOk result (λ found. IfNone found (IsPart input.now)) }
-    ensures refused { IfErr result (Refuses (IsFault input.now)) }
+    ensures partial { IfOk result (λ found. IfNone found (IsPartOfRequest input.now)) }
+    ensures refused { IfErr result (OfProtocol (IsFault input.now)) }
 {
     let Some(header) = read_header(input)? else {
         return Ok(None);

@@ -3,7 +3,7 @@ use Rattle.std.specs.List.{flat_map}
 use Rattle.lsm_resp.specs.declared.bulk.Bulks.{Bulks}
 use Rattle.lsm_resp.specs.declared.header.Header.{Header}
 use Rattle.lsm_resp.specs.Pieces.{FindsBulks, FindsHeader}
-use Rattle.lsm_resp.specs.Outcomes.{AreRead, IsPart, IsPartOfWords, IsRequest}
+use Rattle.lsm_resp.specs.Outcomes.{AreRead, IsPartOfRequest, IsPartOfWords, IsRequest}
 use Rattle.lsm_resp.specs.Requests.{AreWords, IsAhead, words_of}
 use Rattle.lsm_resp.specs.Wire.{bulk_bytes, header_bytes, request_bytes}
 use Rattle.lsm_resp.proofs.Bulks.{same_fault}
@@ -76,7 +76,7 @@ returns-in-Ok-None-clause-partial c =
     let number = subst (λ (o : Option Header). IfSome o (λ h. (h.number < 2 ^ 64) × (take h.len input ≡ header_bytes (get_or input 0 0) h.number))) c.in-Some.is c.in_ok-header.ensures.number in
     let front = number.1 ∙ ap (λ (m : ℕ). header_bytes m c.in-Some.header.number) c.requires in
     let part = subst (λ (o : Option Bulks). IfNone o (IsPartOfWords c.in-Some.header.number rest)) c.in-Ok-None.field-0-is c.in-Ok-None.ensures.part in
-    IsPart.of_words c.in-Some.header.number rest c.if-header-gt-MAX_WORDS.false (rw c.split_at.ensures.back (read_front (header_bytes 42 c.in-Some.header.number) input c.in-Some.header.len front)) part
+    IsPartOfRequest.of_words c.in-Some.header.number rest c.if-header-gt-MAX_WORDS.false (rw c.split_at.ensures.back (read_front (header_bytes 42 c.in-Some.header.number) input c.in-Some.header.len front)) part
 
 pub returns-in-Err-clause-refused : goal.returns-in-Err-clause-refused
 returns-in-Err-clause-refused c =
