@@ -1,5 +1,5 @@
--- What bytes are if a request is found in them, none yet, or a fault. Each comes only of its own bytes, and no bytes are of two of them
--- (Redis serialization protocol specification, RESP2: sending commands, inline commands).
+-- What bytes are if a request is found in them, none yet, or a fault: each is answered only of its own bytes (Redis serialization protocol
+-- specification, RESP2: sending commands, inline commands).
 use Rattle.std.specs.Prelude.{◌≡◌, ◌≢◌, ◌⊎◌, ℕ, ◌+◌, ◌==◌, ◌<◌, ◌≤◌, ◌^◌, not, List, [], ◌∷◌, ◌++◌, All, drop, get_or, length, take}
 use Rattle.std.specs.Fmt.{decimal}
 use Rattle.std.specs.Io.{StartsWith}
