@@ -1,11 +1,10 @@
-use Rattle.std.proofs.Common.{◌≡◌, ℕ, ◌+◌, ◌<◌, ◌≤◌, ◌^◌, List, [], ◌∷◌, ◌++◌, length, take, drop, get_or, Option, Ok, IfNone, IfSome, sym, ap, ◌∙◌, subst, arith, rules}
+use Rattle.std.proofs.Common.{◌≡◌, ℕ, ◌+◌, ◌<◌, ◌≤◌, ◌^◌, List, [], ◌∷◌, ◌++◌, length, take, get_or, Option, Ok, IfNone, IfSome, ap, ◌∙◌, subst, arith, rules}
 use Rattle.std.specs.Borrow.{Bor}
 use Rattle.lsm_resp.specs.declared.header.Header.{Header}
 use Rattle.lsm_resp.specs.declared.limits.TheConstants.{MAX_WORD_BYTES}
 use Rattle.lsm_resp.specs.Pieces.{FindsBytes, FindsHeader}
 use Rattle.lsm_resp.specs.Requests.{IsAhead}
 use Rattle.lsm_resp.proofs.Words.{mark_is, bulk_front, bulk_rest, bulk_len, bulk_read, read_front}
-use Rattle.lsm_resp.specs.Outcomes.{IsPartOfWord}
 use Rattle.lsm_resp.specs.Outcomes.IsPartOfWord.{of_bytes}
 use Rattle.lsm_resp.specs.Wire.{header_bytes}
 use Rattle.lsm_resp.proofs.bulk.read_bulk.Goals as goal

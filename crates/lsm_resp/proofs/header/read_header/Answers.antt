@@ -1,5 +1,4 @@
-use Rattle.std.proofs.Common.{◌∙◌, ◌≡◌, ◌<◌, ◌≤◌, ◌+◌, ◌^◌, List, ℕ, get_or, length, refl, subst, sym, take, rules, arith}
-use Rattle.std.specs.Fmt.{decimal}
+use Rattle.std.proofs.Common.{◌∙◌, ◌≡◌, ◌≤◌, ◌+◌, get_or, length, refl, sym, rules, arith}
 use Rattle.lsm_resp.proofs.Headers.{none_come, too_far, not_come, line_feed, digits_are, len_is, is_number, is_no_length}
 use Rattle.lsm_resp.proofs.header.read_header.Goals as goal
 
