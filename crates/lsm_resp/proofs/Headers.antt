@@ -1,11 +1,13 @@
 -- Where the digits of a header end.
-use Rattle.std.proofs.Common.{◌≡◌, ℕ, ◌+◌, ◌≤◌, ◌<◌, ◌^◌, ◌%◌, List, [], ◌∷◌, ◌++◌, length, take, get_or, sym, ap, ◌∙◌, arith, subst, length-append}
+use Rattle.std.proofs.Common.{◌≡◌, ℕ, ◌+◌, ◌≤◌, ◌<◌, ◌^◌, ◌%◌, List, [], ◌∷◌, ◌++◌, length, take, drop, get_or, inr, sym, ap, ◌∙◌, arith, subst, length-append}
 use Prim.Native.Nat.{zero, suc}
 use Rattle.std.proofs.Math.Seq.{get_or-append_seam}
-use Rattle.std.proofs.lemmas.List.{get_or_append_left, get_or-append-add}
+use Rattle.std.proofs.lemmas.Grind.{common_steps}
+use Rattle.std.proofs.lemmas.List.{append_cancel_right, get_or_append_left, get_or-append-add}
 use Rattle.std.proofs.Math.Nat.{lt_of_not-le}
 use Rattle.std.proofs.lemmas.Fmt.{decimal_by_steps, length-decimal-le}
 use Rattle.std.specs.Fmt.{decimal}
+use Rattle.lsm_resp.specs.Outcomes.{IsNoLength, bytes_before}
 use Rattle.lsm_resp.specs.Requests.{IsAhead}
 use Rattle.lsm_resp.specs.Wire.{header_bytes}
 use Rattle.lsm_resp.proofs.Ahead.{ahead_rest, ahead_front, ahead_take, ahead_at}
@@ -98,3 +100,18 @@ module _ (mark n first at : ℕ) (input rest : List ℕ) (small : n < 2 ^ 64) (a
 pub none_come : (mark n : ℕ) (input : List ℕ) → length input ≡ 0 → length input < length (header_bytes mark n)
 unfolding header_bytes
 none_come mark n input none = omega arith
+
+-- ---- the other way round: what a line is, once it has come with the byte behind its end
+
+pub line_is : (rest : List ℕ) (at : ℕ) → at + 2 ≤ length rest → get_or rest at 0 ≡ 13 → get_or rest (at + 1) 0 ≡ 10 → take (at + 2) rest ≡ take at rest ++ 13 ∷ 10 ∷ []
+line_is rest at come first second = grind (arith, common_steps)
+
+pub is_number : (mark n first at : ℕ) (input rest : List ℕ) → input ≡ first ∷ rest → at + 2 ≤ length rest → get_or rest at 0 ≡ 13 → get_or rest (at + 1) 0 ≡ 10 → take at rest ≡ decimal n → take (at + 3) input ≡ header_bytes (get_or input 0 0) n
+unfolding header_bytes
+is_number mark n first at input rest is come here next digits =
+    let three : at + 3 ≡ suc (at + 2) = omega arith in
+    rw (is, three) (ap (λ (xs : List ℕ). first ∷ xs) (line_is rest at come here next ∙ ap (λ (xs : List ℕ). xs ++ 13 ∷ 10 ∷ []) digits))
+
+pub is_no_length : (first at : ℕ) (input rest : List ℕ) → input ≡ first ∷ rest → at ≡ bytes_before 13 rest → at + 2 ≤ length rest → get_or rest at 0 ≡ 13 → get_or rest (at + 1) 0 ≡ 10 → ((n : ℕ) → n < 2 ^ 64 → take at rest ≡ decimal n → ⊥) → IsNoLength (drop 1 input)
+is_no_length first at input rest is e come here next none =
+    rw (is, ← e) (inr (come, λ n small spelled. none n small (append_cancel_right (take at rest) (decimal n) (13 ∷ 10 ∷ []) (sym (line_is rest at come here next) ∙ spelled))))

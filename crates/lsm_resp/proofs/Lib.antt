@@ -1,3 +1,4 @@
+pub mod Before
 pub mod Ahead
 pub mod Headers
 pub mod Words

@@ -1,12 +1,16 @@
 -- Where a line ends.
-use Rattle.std.proofs.Common.{◌≡◌, ℕ, ◌+◌, ◌≤◌, ◌<◌, List, [], ◌∷◌, ◌++◌, length, take, get_or, sym, ap, ◌∙◌, arith, length-append}
-use Rattle.std.proofs.Math.Seq.{get_or-append_seam}
-use Rattle.std.proofs.lemmas.List.{get_or_append_left}
+use Rattle.std.proofs.Common.{◌≡◌, ◌≢◌, ℕ, ◌+◌, ◌≤◌, ◌<◌, List, [], ◌∷◌, ◌++◌, length, take, get_or, sym, ap, ◌∙◌, arith, length-append}
+use Prim.Native.Nat.{zero, suc}
+use Rattle.std.proofs.Math.Seq.{get_or-append_seam, take-suc}
+use Rattle.std.proofs.Math.Numerals.{add-one}
+use Rattle.std.proofs.lemmas.List.{get_or_append_left, get_or-take, length-take}
 use Rattle.std.proofs.Math.Nat.{lt_of_not-le}
 use Rattle.lsm_resp.specs.declared.limits.TheConstants.{MAX_LINE_BYTES}
 use Rattle.lsm_resp.specs.Lines.{IsLine}
 use Rattle.lsm_resp.specs.Requests.{IsAhead}
+use Rattle.lsm_resp.specs.Outcomes.{bytes_before}
 use Rattle.lsm_resp.proofs.Ahead.{ahead_at, ahead_front, ahead_take}
+use Rattle.lsm_resp.proofs.Before.{none_before, value_behind}
 
 -- A line and its line feed, ahead of an input whose first line feed is at an index.
 module _ (line input : List ℕ) (at : ℕ) (is : IsLine line) (ahead : IsAhead (line ++ 10 ∷ []) input)
@@ -42,3 +46,21 @@ module _ (line input : List ℕ) (at : ℕ) (is : IsLine line) (ahead : IsAhead 
 -- the line before its end
 pub line_is : (line input : List ℕ) (at : ℕ) → IsAhead (line ++ 10 ∷ []) input → at ≡ length line → at < length input → take at input ≡ line
 line_is line input at ahead e come = ap (λ (i : ℕ). take i input) e ∙ ahead_take line input (ahead_front line (10 ∷ []) input ahead) (omega arith)
+
+first_of_line : (input : List ℕ) (end : ℕ) → get_or input 0 0 ≢ 42 → get_or (take end input) 0 0 ≢ 42
+first_of_line input zero inline = λ e. absurd (omega arith)
+first_of_line input (suc end) inline = rw (get_or-take (suc end) input 0 0 (omega arith)) inline
+
+-- ---- the other way round: what a line is that has come
+
+pub line_come : (input : List ℕ) (end : ℕ) → get_or input 0 0 ≢ 42 → end ≡ bytes_before 10 input → end < length input → end ≤ MAX_LINE_BYTES → IsLine (take end input)
+line_come input end inline e come short = record {
+  short = omega (arith, length-take end input);
+  one = λ k d lt. (let before : k < end = omega (arith, lt, length-take end input) in rw (get_or-take end input k d before) (none_before 10 input k d (omega arith)));
+  inline = first_of_line input end inline;
+}
+
+pub line_taken : (input : List ℕ) (end : ℕ) → end ≡ bytes_before 10 input → end < length input → take (end + 1) input ≡ take end input ++ 10 ∷ []
+line_taken input end e come =
+    let here : get_or input end 0 ≡ 10 = rw e (value_behind 10 input 0 (omega arith)) in
+    rw add-one (take-suc input end 0 come ∙ ap (λ (x : ℕ). take end input ++ x ∷ []) here)

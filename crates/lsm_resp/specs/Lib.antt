@@ -3,3 +3,4 @@ pub mod Requests
 pub mod Pieces
 pub mod Enough
 pub mod Lines
+pub mod Outcomes

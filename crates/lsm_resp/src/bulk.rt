@@ -1,9 +1,13 @@
 //! Bulk strings: the words of a request.
 
-ghost use Rattle.std.specs.Prelude.{◌≡◌, ◌+◌, ◌<◌, ◌≤◌, IfNone, IfOk, IfSome, OnSome, length};
+ghost use Rattle.std.specs.Prelude.{◌≡◌, ◌≢◌, ◌+◌, ◌<◌, ◌≤◌, ◌∷◌, ◌++◌, [], IfErr, IfNone, IfOk, IfSome, OnSome, drop, length, take};
 ghost use Rattle.lsm_resp.specs.declared.limits.TheConstants.{MAX_WORD_BYTES};
 ghost use Rattle.lsm_resp.specs.Enough.{enough_for_bulk, enough_for_bulks, enough_for_header};
+ghost use Rattle.lsm_resp.specs.Outcomes.{AreRead, IsFaultOfWord, IsFaultOfWords, IsPartOfWord, IsPartOfWords, OfProtocol};
 ghost use Rattle.lsm_resp.specs.Pieces.{FindsBulk, FindsBulks, FindsBytes};
+ghost use Rattle.lsm_resp.specs.Requests.{words_of};
+ghost use Rattle.lsm_resp.specs.Wire.{bulk_bytes};
+ghost use Rattle.lsm_resp.specs.declared.fault.ProtocolFault.TheVariants.{NoLineEnd};
 
 use crate::header::read_header;
 use crate::{MAX_REQUEST_BYTES, MAX_WORD_BYTES, ParseError, ProtocolFault};
@@ -30,6 +34,8 @@ fn read_bytes(input: &[u8], len: usize) -> Result<Option<&[u8]>, ProtocolFault>
     ensures within { IfOk result (λ found. OnSome found (len + 2 ≤ length input.now)) }
     ensures enough { IfOk result (λ found. IfNone found (length input.now < len + 2)) }
     ensures len { IfOk result (λ found. IfSome found (λ bytes. length bytes.now ≡ len)) }
+    ensures ended { IfOk result (λ found. IfSome found (λ bytes. take (len + 2) input.now ≡ bytes.now ++ 13 ∷ 10 ∷ [])) }
+    ensures refused { IfErr result (λ why. (why ≡ NoLineEnd) × (len + 2 ≤ length input.now) × (take 2 (drop len input.now) ≢ 13 ∷ 10 ∷ [])) }
 {
     if input.len() < len + 2 {
         return Ok(None);
@@ -48,6 +54,9 @@ pub(crate) fn read_bulk(input: &[u8]) -> Result<Option<Bulk<'_>>, ProtocolFault>
     ensures light { IfOk result (λ found. IfSome found (λ bulk. bulk.len ≤ enough_for_header + length bulk.word.now + 2)) }
     ensures enough { IfOk result (λ found. IfNone found (length input.now < enough_for_bulk)) }
     ensures short { IfOk result (λ found. IfSome found (λ bulk. length bulk.word.now ≤ MAX_WORD_BYTES)) }
+    ensures word { IfOk result (λ found. IfSome found (λ bulk. take bulk.len input.now ≡ bulk_bytes bulk.word.now)) }
+    ensures part { IfOk result (λ found. IfNone found (IsPartOfWord input.now)) }
+    ensures refused { IfErr result (IsFaultOfWord input.now) }
 {
     if !input.is_empty() && input[0] != b'$' {
         return Err(ProtocolFault::NoBulk);
@@ -78,6 +87,9 @@ pub(crate) fn read_bulks(
     ensures within { IfOk result (λ found. IfSome found (λ bulks. bulks.len ≤ length input.now)) }
     ensures light { IfOk result (λ found. IfSome found (λ bulks. bulks.len ≤ enough_for_bulks count)) }
     ensures enough { IfOk result (λ found. IfNone found (length input.now < enough_for_bulks count)) }
+    ensures words { IfOk result (λ found. IfSome found (λ bulks. AreRead count (words_of bulks.words.items) (take bulks.len input.now))) }
+    ensures part { IfOk result (λ found. IfNone found (IsPartOfWords count input.now)) }
+    ensures refused { IfErr result (OfProtocol (IsFaultOfWords count input.now)) }
 {
     let mut words = Vec::new(alloc);
     let mut len = 0;

@@ -1,9 +1,12 @@
 //! Lines that announce how many words or bytes follow: a mark, decimal digits, and a line end.
 
-ghost use Rattle.std.specs.Prelude.{◌≡◌, ◌<◌, ◌≤◌, ◌↔◌, IfNone, IfOk, IfSome, IsTrue, length};
+ghost use Rattle.std.specs.Prelude.{◌≡◌, ◌<◌, ◌≤◌, ◌↔◌, ◌^◌, IfErr, IfNone, IfOk, IfSome, IsTrue, drop, get_or, length, take};
 ghost use Rattle.std.specs.Fmt.{decimal};
 ghost use Rattle.lsm_resp.specs.Enough.{enough_for_header};
+ghost use Rattle.lsm_resp.specs.Outcomes.{IsNoLength, IsPartOfLength};
 ghost use Rattle.lsm_resp.specs.Pieces.{FindsHeader, IsPlainNumber, ReadsNumber};
+ghost use Rattle.lsm_resp.specs.Wire.{header_bytes};
+ghost use Rattle.lsm_resp.specs.declared.fault.ProtocolFault.TheVariants.{BadLength};
 
 use crate::ProtocolFault;
 use crate::find::index_of;
@@ -43,6 +46,9 @@ pub(crate) fn read_header(input: &[u8]) -> Result<Option<Header>, ProtocolFault>
     ensures within { IfOk result (λ found. IfSome found (λ header. (0 < header.len) × (header.len ≤ length input.now))) }
     ensures light { IfOk result (λ found. IfSome found (λ header. header.len ≤ enough_for_header)) }
     ensures enough { IfOk result (λ found. IfNone found (length input.now < enough_for_header)) }
+    ensures number { IfOk result (λ found. IfSome found (λ header. (header.number < 2 ^ 64) × (take header.len input.now ≡ header_bytes (get_or input.now 0 0) header.number))) }
+    ensures part { IfOk result (λ found. IfNone found (IsPartOfLength (drop 1 input.now))) }
+    ensures refused { IfErr result (λ why. (why ≡ BadLength) × IsNoLength (drop 1 input.now)) }
 {
     let Some((_, rest)) = input.split_first() else {
         return Ok(None);

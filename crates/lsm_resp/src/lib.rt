@@ -1,8 +1,9 @@
 //! The wire of Redis, RESP2: requests in, replies out.
 //!
 //! It promises that a request, an array of words or a line of them, is read as the words whose bytes lie ahead, however few of the
-//! bytes that follow have come, and that a reply is written as its bytes. No more of a request is asked for or read than the limits
-//! allow, whatever it announces, and a word is lent, not copied. It stands on `lsm_key` for the limits of keys, values and batches.
+//! bytes that follow have come, that nothing else is read as one, that a fault is the first one, and that a reply is written as its
+//! bytes. No more of a request is asked for or read than the limits allow, whatever it announces, and a word is lent, not copied. It
+//! stands on `lsm_key` for the limits of keys, values and batches.
 #![tactic(auto)]
 
 mod bulk;

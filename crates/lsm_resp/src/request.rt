@@ -1,10 +1,11 @@
 //! Requests: arrays of bulk strings, and inline ones.
 
-ghost use Rattle.std.specs.Prelude.{◌≡◌, ◌<◌, ◌≤◌, [], IfNone, IfOk, IfSome, None, Ok, length};
+ghost use Rattle.std.specs.Prelude.{◌≡◌, ◌<◌, ◌≤◌, [], IfErr, IfNone, IfOk, IfSome, None, Ok, get_or, length, take};
 ghost use Rattle.lsm_resp.specs.Enough.{IsEnough, enough_for_request};
 ghost use Rattle.lsm_resp.specs.Lines.{FindsLine, FindsLineRequest};
+ghost use Rattle.lsm_resp.specs.Outcomes.{IsFault, IsPartOfRequest, IsRequest, OfProtocol, TakesRequest, WaitsForMore};
 ghost use Rattle.lsm_resp.specs.Pieces.{FindsArray};
-ghost use Rattle.lsm_resp.specs.Requests.{FindsRequest, TakesWithin};
+ghost use Rattle.lsm_resp.specs.Requests.{FindsRequest, TakesWithin, words_of};
 ghost use Rattle.lsm_resp.specs.declared.request.Parsed.TheVariants.{Partial};
 
 use crate::bulk::{Bulks, read_bulks};
@@ -30,6 +31,9 @@ pub fn parse_request(alloc: Global, input: &[u8]) -> Result<Parsed<'_>, ParseErr
     ensures line { FindsLineRequest input.now result }
     ensures within { IfOk result (TakesWithin input.now) }
     ensures enough { IfOk result (IsEnough input.now) }
+    ensures request { IfOk result (TakesRequest input.now) }
+    ensures partial { IfOk result (WaitsForMore input.now) }
+    ensures refused { IfErr result (OfProtocol (IsFault input.now)) }
 {
     match read_any(alloc, input) {
         Ok(Some(found)) => Ok(Parsed::Request(found.words, found.len)),
@@ -46,6 +50,9 @@ fn read_any(alloc: Global, input: &[u8]) -> Result<Option<Bulks<'_>>, ParseError
     ensures within { IfOk result (λ found. IfSome found (λ bulks. (0 < bulks.len) × (bulks.len ≤ length input.now))) }
     ensures light { IfOk result (λ found. IfSome found (λ bulks. bulks.len ≤ enough_for_request)) }
     ensures enough { IfOk result (λ found. IfNone found (length input.now < enough_for_request)) }
+    ensures request { IfOk result (λ found. IfSome found (λ bulks. IsRequest (words_of bulks.words.items) (take bulks.len input.now))) }
+    ensures partial { IfOk result (λ found. IfNone found (IsPartOfRequest input.now)) }
+    ensures refused { IfErr result (OfProtocol (IsFault input.now)) }
 {
     if input.is_empty() {
         return Ok(None);
@@ -59,10 +66,14 @@ fn read_any(alloc: Global, input: &[u8]) -> Result<Option<Bulks<'_>>, ParseError
 
 /// The array of bulk strings ahead, or `None` if not all of it has come.
 fn read_array(alloc: Global, input: &[u8]) -> Result<Option<Bulks<'_>>, ParseError>
+    requires { get_or input.now 0 0 ≡ 42 }
     ensures found { FindsArray input.now result }
     ensures within { IfOk result (λ found. IfSome found (λ bulks. (0 < bulks.len) × (bulks.len ≤ length input.now))) }
     ensures light { IfOk result (λ found. IfSome found (λ bulks. bulks.len ≤ enough_for_request)) }
     ensures enough { IfOk result (λ found. IfNone found (length input.now < enough_for_request)) }
+    ensures request { IfOk result (λ found. IfSome found (λ bulks. IsRequest (words_of bulks.words.items) (take bulks.len input.now))) }
+    ensures partial { IfOk result (λ found. IfNone found (IsPartOfRequest input.now)) }
+    ensures refused { IfErr result (OfProtocol (IsFault input.now)) }
 {
     let Some(header) = read_header(input)? else {
         return Ok(None);
