@@ -1,8 +1,8 @@
 //! Reads and writes over streams: what comes, until the input ends, and all bytes of an output.
 //!
-//! It promises that what is read is what the reader lost, that what is written is what the writer was given, whole or up to a fault, and
-//! that a call that is interrupted is made again. It says so of streams whose bytes are known. Of streams that are counted it promises too
-//! that a fault is reported exactly if it was counted. It stands on no other crate of the store.
+//! It promises that what is read is what the reader lost, and that what is written is what the writer was given, whole or up to a fault. It
+//! says so of streams whose bytes are known. Of streams that are counted it promises too that a fault is reported exactly if it was
+//! counted. That a call which is interrupted is made again is tested. It stands on no other crate of the store.
 #![tactic(auto)]
 
 mod error;
