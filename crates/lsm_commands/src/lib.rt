@@ -1,7 +1,8 @@
 //! The commands of a store: sessions and single calls over the store of a folder, what checks and dumps it, and what serves it over pipes.
 //!
 //! It opens folders, reports what is wrong with them, and hands standard input and output to the layers below. It promises that a session
-//! answers each call by what the store held and holds; for the rest no more than these layers do: an exit status other than 0 is reported
+//! answers each call by what the store held and holds, and that a get, a put, a deletion, a scan and an export write what they have of it; for
+//! the rest no more than these layers do: an exit status other than 0 is reported
 //! with its reason on standard error, and what a command has answered is synced, as its folder is to be synced, or it says that it is
 //! not. It reads no arguments. It stands on the store, on the vault of files, on the words of lines, on what checks and dumps a folder,
 //! and on what serves it.
@@ -10,6 +11,7 @@
 mod dispatching;
 mod error;
 mod inspect;
+mod laws;
 mod made;
 mod once;
 mod place;
@@ -22,6 +24,7 @@ mod worker;
 pub use dispatching::dispatch_jobs;
 pub use error::{CommandError, FAILED, REFUSED};
 pub use inspect::{check_folder, dump_folder, dump_log};
+pub use laws::an_export_has_every_key;
 pub use lsm_file_vault::{Incidents, LogSync};
 pub use once::{Form, Once, run_once};
 pub use place::{FolderStore, FolderVault, OpenStore, Place};

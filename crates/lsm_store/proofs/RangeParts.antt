@@ -28,7 +28,7 @@ pub below_next : (key : List ℕ) → IsBelow key (next_key key)
 below_next [] = refl
 below_next (x ∷ xs) = rw (tied_itself nat_cmp_total x) (below_next xs)
 
-next_upto : (a b : List ℕ) → IsBelow a b → key_le (next_key a) b ≡ true
+pub next_upto : (a b : List ℕ) → IsBelow a b → key_le (next_key a) b ≡ true
 next_upto [] [] h = absurd cc
 next_upto [] (y ∷ ys) h = zero_first y ys
   where
