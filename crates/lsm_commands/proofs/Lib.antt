@@ -1,1 +1,2 @@
+mod RangeLines
 mod SessionSteps

@@ -1,1 +1,3 @@
+pub mod AnswerLines
+pub mod Once
 pub mod Sessions

@@ -1,8 +1,12 @@
 //! The commands that are one call of a store: each opens a folder, does one thing there, and ends.
 
+ghost use Rattle.std.specs.Prelude.{OnOk};
+ghost use Rattle.lsm_commands.specs.Once.{WritesSequence};
+
 mod error;
 mod import;
 mod pairs;
+mod value;
 mod work;
 
 use crate::opening::{FolderStore, OpenStore, fail_to_open, open_made_store, open_store};
@@ -11,17 +15,19 @@ use crate::session::compact::{compact_all, write_due};
 use crate::session::lines::write_answer;
 use crate::session::stats::write_stats;
 use crate::{Screen, check_streams};
-use bytes::Bytes;
 use error::OnceError;
 use import::import;
 use lsm_io::write_out;
 use lsm_key::{Items, Op};
 use lsm_line::{Call, write_line_end};
 use lsm_options::{FAILED, Place};
+use lsm_store::Store;
+use lsm_vault::Vault;
 use pairs::write_pairs;
 use std::alloc::Global;
 use std::io::{self, Write};
 use std::process::ExitCode;
+use value::write_value;
 use work::Work;
 
 /// How a value is written.
@@ -101,7 +107,12 @@ fn act(
     let (alloc, store) = (rt.alloc(), &mut opened.store);
     let writer = &mut io::writer(rt);
     match work {
-        Work::Get(key, form) => return get(alloc, store, screen, &key, form, writer),
+        Work::Get(key, form) => {
+            if !write_value(alloc, store, &key, form, writer)? {
+                screen.report(&"the key has no value");
+                return Ok(ExitCode::from(FAILED));
+            }
+        }
         Work::Write(op) => write(alloc, store, op, writer)?,
         Work::Pairs(range) => write_pairs(alloc, store, &range, writer)?,
         Work::Stats => show_stats(alloc, store, writer)?,
@@ -111,43 +122,15 @@ fn act(
     Ok(ExitCode::SUCCESS)
 }
 
-// Writes the value of a key, or reports that it has none.
-fn get<W: Write>(
-    alloc: Global,
-    store: &mut FolderStore,
-    screen: &Screen<'_>,
-    key: &Bytes,
-    form: Form,
-    writer: &mut W,
-) -> Result<ExitCode, OnceError> {
-    let Some(value) = store.get(key.as_slice(), None)? else {
-        screen.report(&"the key has no value");
-        return Ok(ExitCode::from(FAILED));
-    };
-    let mut out = Vec::new(alloc);
-    match form {
-        Form::Bytes => out.extend_from_slice(value.as_slice())?,
-        Form::Hex => write_hex(&mut out, value.as_slice())?,
-    }
-    write_out(writer, &mut out)?;
-    Ok(ExitCode::SUCCESS)
-}
-
-// Appends a line of two hexadecimal digits a byte.
-fn write_hex(out: &mut Vec<u8>, bytes: &[u8]) -> Result<(), OnceError> {
-    for byte in bytes {
-        write!(out, "{byte:02x}").map_err(|_| OnceError::OutOfMemory)?;
-    }
-    Ok(write_line_end(out)?)
-}
-
 // Writes an operation, syncs it, and then writes its sequence.
-fn write<W: Write>(
+fn write<V: Vault, W: Write>(
     alloc: Global,
-    store: &mut FolderStore,
+    store: &mut Store<V>,
     op: Op,
     writer: &mut W,
-) -> Result<(), OnceError> {
+) -> Result<(), OnceError>
+    ensures { OnOk result (WritesSequence store.old op store.new (W.contents writer.old) (W.contents writer.new)) }
+{
     let ops = Items::from_vec(vec![in alloc; op]?);
     let answer = answer_call(alloc, store, Call::Write(ops));
     if let Answer::Refused(why) = answer {

@@ -1,3 +1,4 @@
 pub mod Changes
 pub mod Frames
 pub mod EditsFile
+pub mod LogFiles

@@ -1,6 +1,6 @@
 //! The vault over a folder.
 
-ghost use Rattle.std.specs.Prelude.{◌≡◌, drop, IsErr};
+ghost use Rattle.std.specs.Prelude.{◌≡◌, ◌++◌, ◌∷◌, [], drop, IsErr, OnErr, OnOk};
 ghost use Rattle.lsm_vault.specs.Failures.{CountsFailures};
 
 use crate::Folder;
@@ -112,7 +112,12 @@ impl<F: Folder> Vault for FileVault<F> {
         }
     }
 
-    fn append_edit(&mut self, edit: Bytes) -> Result<(), VaultError> {
+    fn append_edit(&mut self, edit: Bytes) -> Result<(), VaultError>
+        ensures ok { OnOk result (⟦<FileVault<F> as Vault>⟧.stored self.new ≡ record (⟦<FileVault<F> as Vault>⟧.stored self.old) { edits = F.edits self.old.folder ++ edit ∷ [] }) }
+        ensures err { OnErr result (⟦<FileVault<F> as Vault>⟧.stored self.new ≡ ⟦<FileVault<F> as Vault>⟧.stored self.old) }
+        ensures counted { CountsFailures result self.old.failures self.new.failures }
+        ensures synced { OnOk result (F.is_synced self.new.folder) }
+    {
         self.edits.reserve(1)?;
         match self.folder.append_edit(&edit) {
             Ok(()) => {
@@ -163,7 +168,11 @@ impl<F: Folder> Vault for FileVault<F> {
         }
     }
 
-    fn sync_log(&mut self) -> Result<(), VaultError> {
+    fn sync_log(&mut self) -> Result<(), VaultError>
+        ensures stays { ⟦<FileVault<F> as Vault>⟧.stored self.new ≡ ⟦<FileVault<F> as Vault>⟧.stored self.old }
+        ensures counted { CountsFailures result self.old.failures self.new.failures }
+        ensures synced { OnOk result (F.is_synced self.new.folder) }
+    {
         match self.folder.sync_log() {
             Ok(()) => Ok(()),
             Err(error) => refusal(&mut self.failures, error),

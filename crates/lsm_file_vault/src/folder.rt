@@ -1,6 +1,6 @@
 //! What a vault asks of the folder that keeps its data.
 
-ghost use Rattle.std.specs.Prelude.{◌≡◌, ℕ, ◌++◌, ◌∷◌, [], List, drop, is_ok, if◌then◌else◌};
+ghost use Rattle.std.specs.Prelude.{◌≡◌, ℕ, ◌++◌, ◌∷◌, [], List, OnOk, drop, is_ok, if◌then◌else◌};
 ghost use Rattle.std.specs.FinMap as map;
 ghost use Rattle.lsm_vault.specs.Stored.{TableMap};
 
@@ -17,6 +17,9 @@ pub trait Folder {
 
     ghost log: { Self → List (List ℕ) };
 
+    /// Each record of the log outlives a power cut.
+    ghost is_synced: { Self → Type 0 };
+
     /// Stores a table under a number so that it outlives the process, in place of the one that the number had.
     fn put_table(&mut self, number: FileNumber, table: &Bytes) -> io::Result<()>
         ensures tables { tables self.new ≡ (if is_ok result then map.insert (tables self.old) number table.now else tables self.old) }
@@ -29,9 +32,10 @@ pub trait Folder {
         ensures edits { edits self.new ≡ edits self.old }
         ensures log { log self.new ≡ log self.old };
 
-    /// Adds an edit after the others so that it outlives the process.
+    /// Adds an edit after the others so that it outlives the process. The log is synced before.
     fn append_edit(&mut self, edit: &Bytes) -> io::Result<()>
         ensures edits { edits self.new ≡ (if is_ok result then edits self.old ++ edit.now ∷ [] else edits self.old) }
+        ensures synced { OnOk result (is_synced self.new) }
         ensures tables { tables self.new ≡ tables self.old }
         ensures log { log self.new ≡ log self.old };
 
@@ -51,6 +55,7 @@ pub trait Folder {
 
     /// Makes the records of the log outlive a power cut, those that do not yet.
     fn sync_log(&mut self) -> io::Result<()>
+        ensures synced { OnOk result (is_synced self.new) }
         ensures log { log self.new ≡ log self.old }
         ensures tables { tables self.new ≡ tables self.old }
         ensures edits { edits self.new ≡ edits self.old };

@@ -1,6 +1,8 @@
 //! A folder of the operating system.
 
-ghost use Rattle.std.specs.Prelude.{◌≡◌, IfOk};
+ghost use Rattle.std.specs.Prelude.{◌≡◌, ◌++◌, ◌∷◌, [], IfOk, OnOk, is_ok, if◌then◌else◌};
+ghost use Rattle.lsm_file_vault.specs.LogFiles.{AreSynced};
+ghost use Rattle.lsm_file_vault.specs.declared.log_sync.LogSync.TheVariants.{Each};
 
 use crate::aside::{rename_lost_table, write_lost_bytes};
 use crate::error::called;
@@ -61,6 +63,7 @@ impl<R: Files + AllocGlobal + Drop> HostFolder<R> {
         ensures tables { IfOk result (λ folder. ⟦<HostFolder<R> as Folder>⟧.tables folder ≡ contents.now.tables) }
         ensures edits { IfOk result (λ folder. ⟦<HostFolder<R> as Folder>⟧.edits folder ≡ contents.now.edits.items) }
         ensures log { IfOk result (λ folder. ⟦<HostFolder<R> as Folder>⟧.log folder ≡ contents.now.log.items) }
+        ensures synced { IfOk result ⟦<HostFolder<R> as Folder>⟧.is_synced }
     {
         let torn = contents.torn.clone()?;
         let last = last_of(contents.edits.as_slice());
@@ -138,7 +141,8 @@ impl<R: Files + AllocGlobal + Drop> HostFolder<R> {
     // Writes an edit behind the others, once the log is synced: else a power cut could leave a log that ends before what the edit says is
     // flushed. What a refused one may have left is cut off.
     fn write_edit(&mut self, edit: &[u8]) -> io::Result<()>
-        ensures { self.new.notes ≡ self.old.notes }
+        ensures same { self.new.notes ≡ self.old.notes }
+        ensures synced { OnOk result (AreSynced self.new.log_file.is_unsynced self.new.log_file.gathered.items) }
     {
         self.refuse_if_broken()?;
         let mut framed = BytesMut::new(self.files.alloc());
@@ -337,6 +341,8 @@ impl<R: Files + AllocGlobal + Drop> Folder for HostFolder<R> {
 
     ghost log = { λ f. f.notes.log };
 
+    ghost is_synced = { λ f. AreSynced f.log_file.is_unsynced f.log_file.gathered.items };
+
     fn put_table(&mut self, number: FileNumber, table: &Bytes) -> io::Result<()> {
         self.incidents
             .noting(self.write_table(number, table.as_slice()))?;
@@ -359,7 +365,12 @@ impl<R: Files + AllocGlobal + Drop> Folder for HostFolder<R> {
         Ok(())
     }
 
-    fn append_log(&mut self, logged: &Bytes) -> io::Result<()> {
+    fn append_log(&mut self, logged: &Bytes) -> io::Result<()>
+        ensures log { self.new.notes.log ≡ (if is_ok result then self.old.notes.log ++ logged.now ∷ [] else self.old.notes.log) }
+        ensures tables { self.new.notes.tables ≡ self.old.notes.tables }
+        ensures edits { self.new.notes.edits ≡ self.old.notes.edits }
+        ensures synced { OnOk result (self.old.log_file.log_sync ≡ Each → AreSynced self.new.log_file.is_unsynced self.new.log_file.gathered.items) }
+    {
         let path = self.path.as_str();
         let written = self
             .log_file

@@ -3,7 +3,8 @@
 //! It promises of `FileVault`, over any `Folder`, all that `Vault` does: what it shows is what the calls on its folder leave that
 //! returned `Ok`. It promises of an opening that the edits taken are the frames at the front of their file, and that what is left out
 //! behind them is what a stop may leave of appends that were not synced; anything else is refused by name. So it is with the records of the
-//! log, which are synced one by one, or when it is asked for, as `LogSync` says. An opening changes nothing: what it left out is set
+//! log, which are synced one by one, or when it is asked for, as `LogSync` says. A sync of the log is `Ok` only if the folder's was, and an
+//! edit only if the log before it is synced. An opening changes nothing: what it left out is set
 //! aside by the first append, and nothing is deleted but a table that is removed, records that are cut off, and a file that was never
 //! finished.
 //! It stands on `lsm_vault` for the contract and for tables in memory, and on `lsm_key` for fields.

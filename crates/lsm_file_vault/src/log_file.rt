@@ -1,5 +1,9 @@
 //! The file of a folder's log: a frame for each record.
 
+ghost use Rattle.std.specs.Prelude.{◌≡◌, ◌↔◌, [], IfOk, IsTrue, OnOk};
+ghost use Rattle.lsm_file_vault.specs.LogFiles.{AreSynced};
+ghost use Rattle.lsm_file_vault.specs.declared.log_sync.LogSync.TheVariants.{Each};
+
 use crate::aside::write_lost_bytes;
 use crate::host_folder::{
     cut_at, frames_of, put_at, put_frame, ready_file, remove_if_there, sync_folder, write_at,
@@ -48,7 +52,9 @@ impl<R: Files + AllocGlobal + Drop> LogFile<R> {
         path: &str,
         contents: &Contents,
         log_sync: LogSync,
-    ) -> Result<LogFile<R>, FolderError> {
+    ) -> Result<LogFile<R>, FolderError>
+        ensures { IfOk result (λ file. AreSynced file.is_unsynced file.gathered.items) }
+    {
         let torn = contents.torn_log.clone()?;
         let file = ready_file(
             files,
@@ -76,7 +82,9 @@ impl<R: Files + AllocGlobal + Drop> LogFile<R> {
         path: &str,
         incidents: &Incidents,
         logged: &[u8],
-    ) -> io::Result<()> {
+    ) -> io::Result<()>
+        ensures { OnOk result (self.old.log_sync ≡ Each → AreSynced self.new.is_unsynced self.new.gathered.items) }
+    {
         self.refuse_if_broken()?;
         self.clear_torn(files, path, incidents)?;
         let before = self.gathered.len();
@@ -92,7 +100,9 @@ impl<R: Files + AllocGlobal + Drop> LogFile<R> {
 
     // Gathers the frame of a record, and writes what is gathered when it is time. If that is refused, a part of the frame, or all of it,
     // may be gathered.
-    fn add(&mut self, logged: &[u8]) -> io::Result<()> {
+    fn add(&mut self, logged: &[u8]) -> io::Result<()>
+        ensures { OnOk result (self.old.log_sync ≡ Each → AreSynced self.new.is_unsynced self.new.gathered.items) }
+    {
         put_frame(&mut self.gathered, logged)?;
         if self.log_sync == LogSync::Gathered && self.gathered.len() < MOST_GATHERED {
             return Ok(());
@@ -101,7 +111,9 @@ impl<R: Files + AllocGlobal + Drop> LogFile<R> {
     }
 
     // Writes what is gathered behind the others, and syncs it if each record is to be synced.
-    fn write_gathered(&mut self) -> io::Result<()> {
+    fn write_gathered(&mut self) -> io::Result<()>
+        ensures { OnOk result (self.old.log_sync ≡ Each → AreSynced self.new.is_unsynced self.new.gathered.items) }
+    {
         let is_synced = self.log_sync == LogSync::Each;
         let written = if is_synced {
             write_at(&mut self.file, self.bytes, self.gathered.as_slice())
@@ -119,14 +131,19 @@ impl<R: Files + AllocGlobal + Drop> LogFile<R> {
     }
 
     // What was gathered stands in the file.
-    fn count_gathered(&mut self) {
+    fn count_gathered(&mut self)
+        ensures gathered { self.new.gathered.items ≡ [] }
+        ensures unsynced { self.new.is_unsynced ≡ self.old.is_unsynced }
+    {
         self.bytes = self.bytes.saturating_add(self.gathered.len() as u64);
         self.gathered.clear();
     }
 
     /// Syncs the records that were appended since the last sync, and writes those of them that are gathered. If it is refused, the log is
     /// broken, and each sync after it is refused until it no longer is.
-    pub(crate) fn sync(&mut self) -> io::Result<()> {
+    pub(crate) fn sync(&mut self) -> io::Result<()>
+        ensures { OnOk result (AreSynced self.new.is_unsynced self.new.gathered.items) }
+    {
         if self.is_synced() {
             return Ok(());
         }
@@ -141,7 +158,9 @@ impl<R: Files + AllocGlobal + Drop> LogFile<R> {
     }
 
     // Whether each record is in the file and synced.
-    fn is_synced(&self) -> bool {
+    fn is_synced(&self) -> bool
+        ensures { IsTrue result ↔ AreSynced self.now.is_unsynced self.now.gathered.items }
+    {
         !self.is_unsynced && self.gathered.is_empty()
     }
 
@@ -183,7 +202,9 @@ impl<R: Files + AllocGlobal + Drop> LogFile<R> {
         files: &R,
         path: &str,
         incidents: &Incidents,
-    ) -> io::Result<()> {
+    ) -> io::Result<()>
+        ensures { self.new.log_sync ≡ self.old.log_sync }
+    {
         if self.is_torn {
             self.set_torn_aside(files, path, incidents)?;
             cut_at(&self.file, self.bytes)?;
@@ -193,7 +214,9 @@ impl<R: Files + AllocGlobal + Drop> LogFile<R> {
     }
 
     // Keeps what is behind the records in a file of its own. It is done once, though the change is tried again.
-    fn set_torn_aside(&mut self, files: &R, path: &str, incidents: &Incidents) -> io::Result<()> {
+    fn set_torn_aside(&mut self, files: &R, path: &str, incidents: &Incidents) -> io::Result<()>
+        ensures { self.new.log_sync ≡ self.old.log_sync }
+    {
         if self.torn.is_empty() {
             return Ok(());
         }

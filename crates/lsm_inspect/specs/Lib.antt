@@ -1,3 +1,4 @@
 pub mod Check
 pub mod Log
 pub mod LogReading
+pub mod Reports

@@ -28,6 +28,7 @@ pub fn check(alloc: Global, contents: &Contents) -> Result<Report, InspectError>
     ensures beside { IfOk result (λ r. r.damaged_unneeded.items ≡ unneeded_numbers r.version.files contents.now.damaged_tables.items) }
     ensures torn { IfOk result (λ r. r.torn_bytes ≡ contents.now.torn_bytes) }
     ensures log { IfOk result (λ r. r.log_records ≡ length contents.now.log.items) }
+    ensures log_bytes { IfOk result (λ r. r.log_bytes ≡ contents.now.log_bytes) }
     ensures log_damage { IfOk result (λ r. IfSome r.log_damage (IsLogDamage r.version.flushed contents.now.log.items)) }
 
     // Without damage the log is not in the way of an opening.

@@ -33,6 +33,7 @@ pub fn dump<W: Write + Drop>(
     ensures beside { IfOk result (λ r. r.damaged_unneeded.items ≡ unneeded_numbers r.version.files contents.now.damaged_tables.items) }
     ensures torn { IfOk result (λ r. r.torn_bytes ≡ contents.now.torn_bytes) }
     ensures log { IfOk result (λ r. r.log_records ≡ length contents.now.log.items) }
+    ensures log_bytes { IfOk result (λ r. r.log_bytes ≡ contents.now.log_bytes) }
     ensures log_damage { IfOk result (λ r. IfSome r.log_damage (IsLogDamage r.version.flushed contents.now.log.items)) }
     ensures held { IfOk result (λ r. IfNone r.log_damage (HoldsSoMany r.version.flushed contents.now.log.items r.log_above)) }
     ensures torn_log { IfOk result (λ r. r.torn_log_bytes ≡ contents.now.torn_log_bytes) }
@@ -56,6 +57,7 @@ pub fn dump_log<W: Write + Drop>(
     ensures beside { IfOk result (λ r. r.damaged_unneeded.items ≡ unneeded_numbers r.version.files contents.now.damaged_tables.items) }
     ensures torn { IfOk result (λ r. r.torn_bytes ≡ contents.now.torn_bytes) }
     ensures log { IfOk result (λ r. r.log_records ≡ length contents.now.log.items) }
+    ensures log_bytes { IfOk result (λ r. r.log_bytes ≡ contents.now.log_bytes) }
     ensures log_damage { IfOk result (λ r. IfSome r.log_damage (IsLogDamage r.version.flushed contents.now.log.items)) }
     ensures held { IfOk result (λ r. IfNone r.log_damage (HoldsSoMany r.version.flushed contents.now.log.items r.log_above)) }
     ensures torn_log { IfOk result (λ r. r.torn_log_bytes ≡ contents.now.torn_log_bytes) }

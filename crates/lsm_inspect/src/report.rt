@@ -1,7 +1,9 @@
 //! What a check found.
 
-ghost use Rattle.std.specs.Prelude.{◌==◌, ◌≡◌, ◌&&◌, is_none, length};
+ghost use Rattle.std.specs.Prelude.{◌==◌, ◌≡◌, ◌+◌, ◌-◌, ◌^◌, ◌&&◌, is_none, length, min, not};
+ghost use Rattle.std.specs.Fmt.{WritesOnOk};
 ghost use Rattle.lsm_store.specs.Stats.{IsLevelStats};
+ghost use Rattle.lsm_inspect.specs.Reports.{torn_log_text};
 
 use crate::{Finding, LogDamage};
 use lsm_edit::Version;
@@ -53,15 +55,19 @@ impl Report {
     }
 
     // How many tables are damaged, as far as a count reaches.
-    fn damaged_tables(&self) -> usize {
+    fn damaged_tables(&self) -> usize
+        ensures { result ≡ min (length self.now.findings.items + length self.now.damaged_unneeded.items) (2 ^ 64 - 1) }
+    {
         self.findings
             .len()
             .saturating_add(self.damaged_unneeded.len())
     }
 
-    // Whether an opening is refused for what is damaged.
-    fn is_refused(&self) -> bool {
-        self.damaged_tables() > 0 || self.log_damage.is_some()
+    /// Whether an opening is refused for what is damaged: the table of a file, one beside, or the log.
+    pub fn is_refused(&self) -> bool
+        ensures { result ≡ not (length self.now.findings.items == 0 && length self.now.damaged_unneeded.items == 0 && is_none self.now.log_damage) }
+    {
+        !(self.findings.is_empty() && self.damaged_unneeded.is_empty() && self.log_damage.is_none())
     }
 
     /// What keeps it from being whole, as text.
@@ -146,7 +152,9 @@ fn write_torn<W: fmt::Write>(f: &mut fmt::Formatter<W>, report: &Report) -> fmt:
 }
 
 // A line for the bytes behind the last whole log record, and for what an opening does about them.
-fn write_torn_log<W: fmt::Write>(f: &mut fmt::Formatter<W>, report: &Report) -> fmt::Result {
+fn write_torn_log<W: fmt::Write>(f: &mut fmt::Formatter<W>, report: &Report) -> fmt::Result
+    ensures { WritesOnOk W.write_str_gives f.old result (torn_log_text report.now.torn_log_bytes (not (length report.now.findings.items == 0 && length report.now.damaged_unneeded.items == 0 && is_none report.now.log_damage))) f.new }
+{
     if report.torn_log_bytes == 0 {
         return Ok(());
     }

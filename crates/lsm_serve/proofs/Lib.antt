@@ -3,6 +3,7 @@ pub mod KeyCounts
 pub mod PutsSoFar
 pub mod ReadsSoFar
 pub mod RequestsSoFar
+pub mod RunsSoFar
 pub mod ServedCounts
 pub mod ServedReads
 pub mod ServedStreams

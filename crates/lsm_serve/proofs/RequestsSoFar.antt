@@ -1,5 +1,5 @@
 -- Requests of a stream that are answered so far, and their replies.
-use Rattle.std.proofs.Common.{◌≡◌, ◌∙◌, inl, inr, ℕ, ◌+◌, List, [], ◌∷◌, ◌++◌, Option, All, length, take, drop, append_assoc, append-nil, refl, sym, ap, subst, arith}
+use Rattle.std.proofs.Common.{◌≡◌, ◌∙◌, inl, inr, ℕ, ◌+◌, List, [], ◌∷◌, ◌++◌, Option, length, take, drop, append_assoc, append-nil, refl, sym, ap, subst, arith}
 use Rattle.std.proofs.Math.Seq.{drop-append_seam, take-add, take-append_seam}
 use Rattle.std.proofs.lemmas.List.Elements.{All-append, All-cons}
 use Rattle.std.specs.Io.KnownBytes.{Appends}
@@ -7,7 +7,6 @@ use Rattle.lsm_coord.specs.Contract.Value.{CoordValue}
 use Rattle.std.proofs.KnownBytes.{Appends-nil, Appends-trans}
 use Rattle.lsm_io.specs.Streams.{AppendsPart}
 use Rattle.lsm_serve.specs.declared.http_word.HttpWord.{HttpWord}
-use Rattle.lsm_serve.specs.HttpWords.{BeginsHttp}
 use Rattle.lsm_serve.specs.Serving.{EndsStream, RepliesBefore, RepliesInTurn, RepliesTo, RepliesToSome}
 use Rattle.lsm_serve.specs.ServingSteps.{RepliesSoFar, AreSent, ServedBefore}
 use Rattle.lsm_serve.proofs.Syncs.{may_stay}

@@ -1,42 +1,16 @@
 -- What calls in a row report, by what each of them did.
-use Rattle.std.proofs.Common.{◌≡◌, ◌∙◌, ℕ, ◌+◌, ◌≤◌, List, [], ◌++◌, Option, Result, Ok, Err, IfErr, OnOk, append_assoc, refl, sym, subst, arith, inl, inr}
-use Rattle.std.specs.Io.KnownBytes.{Appends}
-use Rattle.std.proofs.KnownBytes.{Appends-nil, Appends-trans}
+use Rattle.std.proofs.Common.{◌≡◌, ◌∙◌, ℕ, ◌≤◌, List, Option, Result, Ok, Err, IfErr, OnOk, arith, inl, inr}
+use Rattle.lsm_coord.specs.Contract.Value.{CoordValue}
 use Rattle.lsm_resp.specs.declared.fault.ProtocolFault.{ProtocolFault}
-use Rattle.lsm_resp.specs.declared.reply.RespReply.TheVariants as reply
-use Rattle.lsm_resp.specs.Wire.{reply_bytes}
 use Rattle.lsm_serve.specs.declared.error.ServeError.{ServeError}
-use Rattle.lsm_serve.specs.declared.error.ServeError.TheVariants.{Http, NoEnd, NotSynced, OutOfMemory, Protocol, ReadFault, Truncated, WriteFault}
+use Rattle.lsm_serve.specs.declared.error.ServeError.TheVariants.{NoEnd, NotSynced, Protocol, ReadFault, Truncated, WriteFault}
 use Rattle.lsm_io.specs.Streams.{AppendsPart}
 use Rattle.lsm_io.specs.declared.sink.SinkError.{SinkError}
 use Rattle.lsm_io.specs.declared.sink.SinkError.TheVariants as sink
 use Rattle.lsm_serve.specs.Errors.{error_of_sink}
 use Rattle.lsm_serve.specs.Counting.{ReportsCalls, ReportsReadFaults, ReportsReads, ReportsWriteFaults, ReportsWrites}
-use Rattle.lsm_serve.specs.Serving.{AnswersLast, error_text}
-use Rattle.lsm_serve.specs.ServingSteps.{AnswersFault, AppendsSome, IsAnswerReason, IsReadReason, IsWriteReason, LeftUnsent}
-
--- ---- bytes
-
-pub appends_none : (held : Option (List ℕ)) → AppendsSome held held
-appends_none held = ([], Appends-nil held)
-
-pub appends_more : (held mid holds : Option (List ℕ)) (bytes : List ℕ) → AppendsSome held mid → Appends mid holds bytes → AppendsSome held holds
-appends_more held mid holds bytes some more = (some.0 ++ bytes, Appends-trans held mid holds some.0 bytes some.1 more)
-
-pub appends_twice : (held mid holds : Option (List ℕ)) → AppendsSome held mid → AppendsSome mid holds → AppendsSome held holds
-appends_twice held mid holds some more = appends_more held mid holds more.0 some more.1
-
-pub fault_last : (U : Type 0) (held mid holds : Option (List ℕ)) (fault : ProtocolFault) (out : List ℕ) (why : ServeError) → AppendsSome held mid → AnswersFault fault mid holds out why → AnswersLast {A = U} held holds (Err why)
-fault_last U held mid holds fault out (Protocol other) some p =
-    let line : List ℕ = reply_bytes (reply.Error (error_text p.1)) in
-    (some.0 ++ out, p.1, subst (λ (b : List ℕ). Appends held holds b) (sym (append_assoc some.0 out line)) (Appends-trans held mid holds some.0 (out ++ line) some.1 p.2))
-fault_last U held mid holds fault out why some p = tt
-
-pub answers_last : (T U : Type 0) (held mid holds : Option (List ℕ)) (why : ServeError) → AppendsSome held mid → AnswersLast {A = T} mid holds (Err why) → AnswersLast {A = U} held holds (Err why)
-answers_last T U held mid holds (Protocol fault) some p =
-    let line : List ℕ = reply_bytes (reply.Error (error_text p.1)) in
-    (some.0 ++ p.0, p.1, subst (λ (b : List ℕ). Appends held holds b) (sym (append_assoc some.0 p.0 line)) (Appends-trans held mid holds some.0 (p.0 ++ line) some.1 p.2))
-answers_last T U held mid holds why some p = tt
+use Rattle.lsm_serve.specs.Serving.{AnswersLast}
+use Rattle.lsm_serve.specs.ServingSteps.{AnswersFault, IsAnswerReason, IsReadReason, IsWriteReason, LeftUnsent}
 
 -- ---- reasons
 
@@ -54,13 +28,17 @@ pub answer_reason : (why : ServeError) → IsWriteReason why → IsAnswerReason 
 answer_reason (Protocol fault) p = tt
 answer_reason why p = p
 
-pub no_last : (T : Type 0) (held holds : Option (List ℕ)) (why : ServeError) → IsWriteReason why → AnswersLast {A = T} held holds (Err why)
-no_last T held holds (Protocol fault) p = absurd p
-no_last T held holds why p = tt
+pub no_last : (T : Type 0) (old new : CoordValue) (held holds : Option (List ℕ)) (why : ServeError) → IsWriteReason why → AnswersLast {A = T} old held holds (Err why) new
+no_last T old new held holds (Protocol fault) p = absurd p
+no_last T old new held holds why p = tt
 
-pub read_is_no_last : (T : Type 0) (held holds : Option (List ℕ)) (why : ServeError) → IsReadReason why → AnswersLast {A = T} held holds (Err why)
-read_is_no_last T held holds (Protocol fault) p = absurd p
-read_is_no_last T held holds why p = tt
+pub same_last : (T U : Type 0) (old new : CoordValue) (held holds : Option (List ℕ)) (why : ServeError) → AnswersLast {A = T} old held holds (Err why) new → AnswersLast {A = U} old held holds (Err why) new
+same_last T U old new held holds (Protocol fault) p = p
+same_last T U old new held holds why p = tt
+
+pub read_is_no_last : (T : Type 0) (old new : CoordValue) (held holds : Option (List ℕ)) (why : ServeError) → IsReadReason why → AnswersLast {A = T} old held holds (Err why) new
+read_is_no_last T old new held holds (Protocol fault) p = absurd p
+read_is_no_last T old new held holds why p = tt
 
 -- why the last write fails is why what was asked for is not answered
 pub reason_answers : (fault : ProtocolFault) (held holds : Option (List ℕ)) (out : List ℕ) (why : ServeError) → IsWriteReason why → AnswersFault fault held holds out why
@@ -116,9 +94,9 @@ pub ends_write_faults : {T : Type 0} (r : Result T ServeError) (before after : �
 ends_write_faults (Ok x) before after why same = same
 ends_write_faults (Err e) before after why same = rw why same
 
-pub ends_last : {T : Type 0} (held holds : Option (List ℕ)) (r : Result T ServeError) → IfErr r (λ e. e ≡ Truncated) → AnswersLast held holds r
-ends_last held holds (Ok x) why = tt
-ends_last held holds (Err e) why = rw why tt
+pub ends_last : {T : Type 0} (old new : CoordValue) (held holds : Option (List ℕ)) (r : Result T ServeError) → IfErr r (λ e. e ≡ Truncated) → AnswersLast old held holds r new
+ends_last old new held holds (Ok x) why = tt
+ends_last old new held holds (Err e) why = rw why tt
 
 pub ends_flushed : {T : Type 0} (r : Result T ServeError) (P : Type 0) → P → OnOk r P
 ends_flushed (Ok x) P p = p

@@ -107,10 +107,12 @@ abbrev pub ServesSome : CoordValue → List (List (List ℕ)) → Option (List �
 ServesSome old requests held holds (Http word) new = RepliesBefore word old requests held holds new
 ServesSome old requests held holds why new = RepliesToSome old requests held holds new × IsNoFault why
 
--- bytes that are no request end serving, and an error line behind the replies is the last that is written
-abbrev pub AnswersLast : {A : Type 0} → Option (List ℕ) → Option (List ℕ) → Result A ServeError → Type 0
-AnswersLast held holds (Err (Protocol fault)) = (bytes : List ℕ) × (text : List ℕ) × Appends held holds (bytes ++ reply_bytes (reply.Error (error_text text)))
-AnswersLast held holds answer = Unit {0}
+-- Bytes that are no request end serving: then what is written is all replies to some requests, by which the store came to what it holds,
+-- and an error line behind them.
+abbrev pub AnswersLast : {A : Type 0} → CoordValue → Option (List ℕ) → Option (List ℕ) → Result A ServeError → CoordValue → Type 0
+AnswersLast old held holds (Err (Protocol fault)) new =
+    (requests : List (List (List ℕ))) × (bytes : List ℕ) × (text : List ℕ) × RepliesInTurn old requests bytes new × Appends held holds (bytes ++ reply_bytes (reply.Error (error_text text)))
+AnswersLast old held holds answer new = Unit {0}
 
 -- the replies to all requests are written, or to the first ones
 abbrev pub ServesRequests : {A : Type 0} → CoordValue → List (List (List ℕ)) → Option (List ℕ) → Option (List ℕ) → Result A ServeError → CoordValue → Type 0

@@ -40,6 +40,12 @@ LeftUnsent held holds out WriteFault = AppendsPart held holds out
 LeftUnsent held holds out NoEnd = AppendsPart held holds out
 LeftUnsent held holds out e = ⊥
 
+-- fewer bytes of them are kept back than so many, but for a QUIT, behind which none is answered
+abbrev pub KeepsFew : ℕ → List ℕ → Reached → Type 0
+KeepsFew most out (Waits at) = length out < most
+KeepsFew most out (Http word) = length out < most
+KeepsFew most out Quit = Unit {0}
+
 -- why replies are not written, and why no more is read
 abbrev pub IsWriteReason : ServeError → Type 0
 IsWriteReason (NotSynced why) = Unit {0}
@@ -68,9 +74,6 @@ AnswersFault fault held holds out why = IsWriteReason why
 
 -- ---- requests so far
 
-abbrev pub AppendsSome : Option (List ℕ) → Option (List ℕ) → Type 0
-AppendsSome held holds = (bytes : List ℕ) × Appends held holds bytes
-
 -- the first requests are answered, none of them a QUIT, and whatever comes of those that follow completes the replies
 pub record RepliesSoFar (old : CoordValue) (requests left : List (List (List ℕ))) (bytes : List ℕ) (now : CoordValue) : Type 0 where
   pub done : List (List (List ℕ))
@@ -83,6 +86,19 @@ pub record AreSent (held holds : Option (List ℕ)) (bytes out : List ℕ) : Typ
   pub sent : List ℕ
   pub kept : bytes ≡ sent ++ out
   pub written : Appends held holds sent
+
+-- some requests are answered, none of them a QUIT, and of their replies a first part is written and the rest is kept
+pub record RanSoFar (old : CoordValue) (held : Option (List ℕ)) (now : CoordValue) (out : List ℕ) (holds : Option (List ℕ)) : Type 0 where
+  pub done : List (List (List ℕ))
+  pub bytes : List ℕ
+  pub answered : RepliesSoFar old done [] bytes now
+  pub sent : AreSent held holds bytes out
+
+-- whatever the input has, unless a QUIT is reached
+abbrev pub RanTo : CoordValue → Option (List ℕ) → CoordValue → List ℕ → Option (List ℕ) → Reached → Type 0
+RanTo old held now out holds (Waits at) = RanSoFar old held now out holds
+RanTo old held now out holds (Http word) = RanSoFar old held now out holds
+RanTo old held now out holds Quit = Unit {0}
 
 -- the requests that are not answered yet lie ahead
 pub record ServedSoFar (old : CoordValue) (requests : List (List (List ℕ))) (held : Option (List ℕ)) (now : CoordValue) (ahead : List ℕ) (out : List ℕ) (holds : Option (List ℕ)) : Type 0 where

@@ -6,7 +6,7 @@
 //! synced before each write of replies, once for all requests that have come, and if that is refused, none of these replies is written.
 //! What is written is flushed before more input is waited for. What is answered to a request is promised for each command, by what the
 //! store held and what it holds then, with a reason of that call for each refusal. Bytes that are no request end serving, with an error
-//! line behind all replies. A fault of a stream is reported exactly if the stream counted it. Whatever comes is read within limits that
+//! line behind the replies to all requests that were run. A fault of a stream is reported exactly if the stream counted it. Whatever comes is read within limits that
 //! hold before memory is taken, and serving ends safely. The texts of refusals, and that a sync comes before each write of replies, have no
 //! clause. It stands on the store, and on the wire.
 #![tactic(auto)]
@@ -23,6 +23,6 @@ pub use answer::{Answer, answer_request};
 pub use command::Command;
 pub use error::ServeError;
 pub use http_word::HttpWord;
-pub use laws::range_limit_is_this;
+pub use laws::{kept_limit_is_this, range_limit_is_this};
 pub use refusal::CommandRefusal;
 pub use serving::serve;

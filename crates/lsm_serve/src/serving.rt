@@ -13,7 +13,7 @@ ghost use Rattle.lsm_serve.specs.Counting.{ReportsCalls, ReportsReadFaults, Repo
 ghost use Rattle.lsm_serve.specs.HttpWords.{IsNoHttp};
 ghost use Rattle.lsm_serve.specs.declared.error.ServeError.TheVariants.{Protocol, Truncated};
 ghost use Rattle.lsm_serve.specs.Serving.{AnswersLast, AreAhead, EndsStream, ServesRequests, error_text, in_line};
-ghost use Rattle.lsm_serve.specs.ServingSteps.{AnswersFault, AnswersOne, AppendsSome, IsAnswerReason, IsReachable, IsReadReason, IsWriteReason, LeftUnsent, ServedSoFar, ServesInput, WritesReply};
+ghost use Rattle.lsm_serve.specs.ServingSteps.{AnswersFault, AnswersOne, IsAnswerReason, IsReachable, IsReadReason, IsWriteReason, KeepsFew, LeftUnsent, RanSoFar, RanTo, ServedSoFar, ServesInput, WritesReply};
 
 use crate::answer::{Answer, answer_request, one};
 use crate::{Command, CommandRefusal, HttpWord, ServeError};
@@ -28,8 +28,8 @@ use std::alloc::{AllocError, Global};
 /// How much is read at once. In bytes.
 const READ_BYTES: usize = 65_536;
 
-/// How many bytes of replies are kept back while more requests have come.
-const KEPT_BYTES: usize = 65_536;
+/// Fewer bytes of replies than these are kept back when one more request is answered.
+pub(crate) const KEPT_BYTES: usize = 65_536;
 
 /// How far the requests that have come are answered.
 #[derive(Clone, Copy, Debug, PartialEq, Eq)]
@@ -53,7 +53,7 @@ pub fn serve<V: Vault, R: Source, W: Sink>(
     writer: &mut W,
 ) -> Result<(), ServeError>
     ensures replies { (requests : List (List (List ℕ))) → AreAhead (R.remaining reader.old) requests → ServesRequests store.old requests (W.contents writer.old) (W.contents writer.new) result store.new }
-    ensures answered { AnswersLast (W.contents writer.old) (W.contents writer.new) result }
+    ensures answered { AnswersLast store.old (W.contents writer.old) (W.contents writer.new) result store.new }
     ensures flushed { OnOk result (W.is_flushed writer.new ≡ true) }
     ensures counted { ReportsCalls result (R.reads reader.old) (R.reads reader.new) (W.writes writer.old) (W.writes writer.new) }
     ensures read_faults { ReportsReadFaults result (R.faults reader.old) (R.faults reader.new) }
@@ -73,7 +73,7 @@ fn serve_through<V: Vault, R: Source, W: Sink>(
 ) -> Result<(), ServeError>
     requires { 0 < length chunk.old }
     ensures replies { (requests : List (List (List ℕ))) → AreAhead (R.remaining reader.old) requests → ServesRequests store.old requests (W.contents writer.old) (W.contents writer.new) result store.new }
-    ensures answered { AnswersLast (W.contents writer.old) (W.contents writer.new) result }
+    ensures answered { AnswersLast store.old (W.contents writer.old) (W.contents writer.new) result store.new }
     ensures flushed { OnOk result (W.is_flushed writer.new ≡ true) }
     ensures counted { ReportsCalls result (R.reads reader.old) (R.reads reader.new) (W.writes writer.old) (W.writes writer.new) }
     ensures read_faults { ReportsReadFaults result (R.faults reader.old) (R.faults reader.new) }
@@ -160,7 +160,8 @@ fn send<V: Vault, W: Sink>(
     Ok(())
 }
 
-/// Answers the requests that have come whole. Tells up to where the store was synced.
+/// Answers the requests that have come whole, and writes the replies as often as many bytes of them are kept back. Tells up to where the
+/// store was synced.
 fn answer_all<V: Vault, W: Sink>(
     alloc: Global,
     store: &mut Store<V>,
@@ -169,10 +170,12 @@ fn answer_all<V: Vault, W: Sink>(
     out: &mut Vec<u8>,
     synced: &mut Seq,
 ) -> Result<Reached, ServeError>
+    requires { length out.old.items < KEPT_BYTES }
+    ensures few { IfOk result (KeepsFew KEPT_BYTES out.new.items) }
     ensures reach { IfOk result (IsReachable input.now) }
     ensures served { (old : CoordValue) (requests : List (List (List ℕ))) (held : Option (List ℕ)) (later : List ℕ) → ServedSoFar old requests held store.old (input.now ++ later) out.old.items (W.contents writer.old) → ServesInput old requests held store.new input.now later out.new.items (W.contents writer.new) result }
-    ensures wrote { OnOk result (AppendsSome (W.contents writer.old) (W.contents writer.new)) }
-    ensures answered { AnswersLast (W.contents writer.old) (W.contents writer.new) result }
+    ensures ran { (old : CoordValue) (held : Option (List ℕ)) → RanSoFar old held store.old out.old.items (W.contents writer.old) → IfOk result (RanTo old held store.new out.new.items (W.contents writer.new)) }
+    ensures answered { (old : CoordValue) (held : Option (List ℕ)) → RanSoFar old held store.old out.old.items (W.contents writer.old) → AnswersLast old held (W.contents writer.new) result store.new }
     ensures why { IfErr result IsAnswerReason }
     ensures writes { ReportsWrites result (W.writes writer.old) (W.writes writer.new) }
     ensures faults { ReportsWriteFaults result (W.faults writer.old) (W.faults writer.new) }
@@ -291,6 +294,8 @@ fn fail<V: Vault, W: Sink>(
     fault: ProtocolFault,
 ) -> ServeError
     ensures answered { AnswersFault fault (W.contents writer.old) (W.contents writer.new) out.old.items result }
+    ensures same { store.new ≡ record store.old { failures = store.new.failures } }
+    ensures counted { store.old.failures ≤ store.new.failures }
     ensures writes { ReportsWrites {T = Unit {0}} (Err result) (W.writes writer.old) (W.writes writer.new) }
     ensures faults { ReportsWriteFaults {T = Unit {0}} (Err result) (W.faults writer.old) (W.faults writer.new) }
 {
@@ -309,6 +314,8 @@ fn write_fault<V: Vault, W: Sink>(
     fault: ProtocolFault,
 ) -> Result<(), ServeError>
     ensures answered { OnOk result (AnswersFault fault (W.contents writer.old) (W.contents writer.new) out.old.items (Protocol fault)) }
+    ensures same { store.new ≡ record store.old { failures = store.new.failures } }
+    ensures counted { store.old.failures ≤ store.new.failures }
     ensures refused { IfErr result IsWriteReason }
     ensures writes { ReportsWrites result (W.writes writer.old) (W.writes writer.new) }
     ensures faults { ReportsWriteFaults result (W.faults writer.old) (W.faults writer.new) }

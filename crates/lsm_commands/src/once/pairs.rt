@@ -1,5 +1,8 @@
 //! The pairs of a range as lines.
 
+ghost use Rattle.std.specs.Prelude.{◌≡◌, ◌++◌, [], IfOk, OnOk};
+ghost use Rattle.lsm_commands.specs.Once.{IsOfAll, WritesPairs, pair_line};
+
 use super::error::OnceError;
 use bytes::Bytes;
 use lsm_io::write_out;
@@ -24,7 +27,9 @@ pub(crate) struct PairRange {
 
 impl PairRange {
     /// The first pairs from a key up to another one, at most `limit` of them: lines `KEY VALUE`.
-    pub(crate) fn between(lo: Bytes, hi: Bytes, limit: u64) -> PairRange {
+    pub(crate) fn between(lo: Bytes, hi: Bytes, limit: u64) -> PairRange
+        ensures { (result.lo ≡ lo) × (result.hi ≡ hi) × (result.limit ≡ limit) × (result.head.now ≡ []) }
+    {
         PairRange {
             lo,
             hi,
@@ -34,7 +39,9 @@ impl PairRange {
     }
 
     /// All pairs: lines `put KEY VALUE`.
-    pub(crate) fn all(alloc: Global) -> Result<PairRange, AllocError> {
+    pub(crate) fn all(alloc: Global) -> Result<PairRange, AllocError>
+        ensures { IfOk result IsOfAll }
+    {
         // No key is as long, so each comes before this one.
         let hi = vec![in alloc; 0xff; MAX_KEY_BYTES + 1]?;
         Ok(PairRange {
@@ -52,15 +59,18 @@ pub(crate) fn write_pairs<V: Vault, W: Write>(
     store: &Store<V>,
     range: &PairRange,
     writer: &mut W,
-) -> Result<(), OnceError> {
+) -> Result<(), OnceError>
+    ensures { OnOk result (WritesPairs store.now range.now (W.contents writer.old) (W.contents writer.new)) }
+{
     let mut out = Vec::new(alloc);
     let mut left = range.limit;
-    for pair in store.range(&range.lo, &range.hi, None)? {
-        if left == 0 {
+    let mut pairs = store.range(&range.lo, &range.hi, None)?;
+    while left > 0 {
+        let Some(pair) = pairs.next() else {
             break;
-        }
-        left -= 1;
+        };
         let (key, value) = pair?;
+        left -= 1;
         write_pair(&mut out, range.head, &key, &value)?;
         if out.len() >= BUFFER_BYTES {
             write_out(writer, &mut out)?;
@@ -70,7 +80,9 @@ pub(crate) fn write_pairs<V: Vault, W: Write>(
 }
 
 // The line of a pair.
-fn write_pair(out: &mut Vec<u8>, head: &str, key: &Bytes, value: &Bytes) -> Result<(), AllocError> {
+fn write_pair(out: &mut Vec<u8>, head: &str, key: &Bytes, value: &Bytes) -> Result<(), AllocError>
+    ensures { OnOk result (out.new.items ≡ out.old.items ++ pair_line head.now (key.now, value.now)) }
+{
     write_text(out, head)?;
     write_bytes(out, key.as_slice())?;
     write_text(out, " ")?;

@@ -1,5 +1,9 @@
 //! What a command of one call does, once its words are read.
 
+ghost use Rattle.std.specs.Prelude.{◌≡◌, IfOk, Ok};
+ghost use Rattle.lsm_line.specs.Commands.{key_or_value};
+ghost use Rattle.lsm_commands.specs.Once.{IsWorkOf};
+
 use super::error::OnceError;
 use super::pairs::PairRange;
 use super::{Form, Once};
@@ -22,7 +26,9 @@ pub(crate) enum Work {
 
 impl Work {
     /// What a command does. Its words are read, and nothing else.
-    pub(crate) fn of(alloc: Global, once: &Once<'_>) -> Result<Work, OnceError> {
+    pub(crate) fn of(alloc: Global, once: &Once<'_>) -> Result<Work, OnceError>
+        ensures { IfOk result (IsWorkOf once.now) }
+    {
         match once {
             Once::Get(key, form) => Ok(Work::Get(bytes_of(alloc, key)?, *form)),
             Once::Put(key, value) => {
@@ -50,7 +56,9 @@ impl Work {
 }
 
 // The bytes that a word of the arguments stands for. An argument without a byte is the empty text.
-fn bytes_of(alloc: Global, word: &str) -> Result<Bytes, OnceError> {
+fn bytes_of(alloc: Global, word: &str) -> Result<Bytes, OnceError>
+    ensures { IfOk result (λ bytes. key_or_value word.now ≡ Ok bytes) }
+{
     match key_or_value(alloc, word.as_bytes()) {
         Ok(bytes) => Ok(bytes),
         Err(Refused::OutOfMemory) => Err(OnceError::OutOfMemory),

@@ -1,5 +1,8 @@
 //! The lines of answers.
 
+ghost use Rattle.std.specs.Prelude.{◌≡◌, ◌++◌, ◌∷◌, [], OnOk};
+ghost use Rattle.lsm_commands.specs.AnswerLines.{answer_text, refusal_text};
+
 use super::answer::Answer;
 use lsm_line::{
     coord_name, key_name, write_got, write_line_end, write_number, write_released, write_scanned,
@@ -13,7 +16,9 @@ pub(crate) fn write_answer(
     alloc: Global,
     out: &mut Vec<u8>,
     answer: &Answer,
-) -> Result<(), AllocError> {
+) -> Result<(), AllocError>
+    ensures { OnOk result (out.new.items ≡ out.old.items ++ answer_text answer.now ++ 10 ∷ []) }
+{
     match answer {
         Answer::Wrote(first, last) => write_wrote(out, *first, *last)?,
         Answer::Stored(last) => {
@@ -31,7 +36,9 @@ pub(crate) fn write_answer(
 }
 
 /// Appends `refused Name`, without the end of a line.
-pub(crate) fn write_refused(out: &mut Vec<u8>, why: StoreError) -> Result<(), AllocError> {
+pub(crate) fn write_refused(out: &mut Vec<u8>, why: StoreError) -> Result<(), AllocError>
+    ensures { OnOk result (out.new.items ≡ out.old.items ++ refusal_text why) }
+{
     write_text(out, "refused ")?;
     match why {
         StoreError::Key(why) => write_text(out, key_name(why)),

@@ -1,4 +1,4 @@
-use Rattle.std.proofs.Common.{◌∙◌, ◌+◌, ◌<◌, ℕ, List, ◌++◌, Bool, Ok, Err, drop, length, subst, sym, arith}
+use Rattle.std.proofs.Common.{◌∙◌, ◌+◌, ◌<◌, ℕ, List, ◌++◌, Bool, Ok, Err, ap, drop, length, subst, sym, arith}
 use Rattle.std.specs.Borrow.{Bor}
 use Rattle.std.proofs.lemmas.List.{drop_all}
 use Rattle.std.proofs.lemmas.Result.{err_from_is_err_and}
@@ -9,8 +9,9 @@ use Rattle.lsm_resp.specs.Requests.{words_of}
 use Rattle.lsm_coord.specs.Contract.Calls.{MayHaveFailed}
 use Rattle.lsm_serve.specs.declared.serving.Reached.{Reached}
 use Rattle.lsm_serve.specs.HttpWords.{IsNoHttp}
-use Rattle.lsm_serve.specs.ServingSteps.{ServedSoFar}
-use Rattle.lsm_serve.proofs.ServedCounts.{appends_more, answer_reason, fault_last, fault_reason, no_last, unsent_reason, write_faults_then, writes_then}
+use Rattle.lsm_serve.specs.ServingSteps.{AnswersOne, ServedSoFar}
+use Rattle.lsm_serve.proofs.RunsSoFar.{ran_fault, ran_next, ran_synced, ran_written}
+use Rattle.lsm_serve.proofs.ServedCounts.{answer_reason, fault_reason, no_last, unsent_reason, write_faults_then, writes_then}
 use Rattle.lsm_serve.proofs.ServedStreams.{FindsSent, Leaves, WhenRequest, fault_at, finds_sent, http_at, leaves_at, request_is, served_part, served_some, served_written, waits_at}
 use Rattle.lsm_serve.proofs.Syncs.{part_sent, sends_some, so_far_synced, some_synced}
 use Rattle.lsm_serve.proofs.serving.answer_all.Goals as goal
@@ -79,6 +80,7 @@ loop-at-preserved-in-Continue-branch-2 g c =
     let found = subst (WhenRequest c.split_at.result.1.now) c.in-Ok-Request.field-0-is (request_is c.split_at.result.1.now c.in-Ok-Request.field-0 (finds_sent c.split_at.result.1.now (Ok c.in-Ok-Request.field-0) c.in-Ok-Request.ensures.found c.in-Ok-Request.ensures.line) (λ e. (let is = c.in-Ok-Request.ensures.nothing e in cc)) c.in-Ok-Request.ensures.within) in
     record {
       within = omega (arith, found.within, c.split_at.ensures.back_len, c.loop-at.invariant.within);
+      few = (let none = ap (λ (xs : List ℕ). length xs) c.in_ok-send.ensures.empty in omega (arith, none));
       so = λ old requests held later first.
           (let s = c.loop-at.invariant.so old requests held later first in
           let ahead = drop (c.loop-at.at + c.in-Ok-Request.len) c.args.input.now ++ later in
@@ -90,7 +92,12 @@ loop-at-preserved-in-Continue-branch-2 g c =
           let failed : MayHaveFailed c.answer_to.new.store c.send.new.store = record { rest = c.in_ok-send.ensures.same; counted = c.in_ok-send.ensures.counted } in
           let wrote = served_written old c.answer_to.new.store requests held (g.W.Sink.contents c.loop-at.writer) ahead c.answer_to.new.out.items next (g.W.Sink.contents c.send.new.writer) c.send.new.out.items c.in_ok-send.ensures.ok c.in_ok-send.ensures.empty in
           so_far_synced old c.answer_to.new.store c.send.new.store requests held (g.W.Sink.contents c.send.new.writer) failed ahead c.send.new.out.items wrote);
-      wrote = appends_more _ _ _ c.answer_to.new.out.items c.loop-at.invariant.wrote c.in_ok-send.ensures.ok;
+      ran = λ old held first.
+          (let next = ran_next old c.loop-at.store held (g.W.Sink.contents c.loop-at.writer) c.loop-at.out.items (c.loop-at.invariant.ran old held first) c.answer_to.new.store (words_of c.deref-in-Ok-Request.result.now) c.answer_to.new.out.items
+          (subst (λ (b : Bool). AnswersOne {E = Unit {0}} c.loop-at.store (words_of c.deref-in-Ok-Request.result.now) c.loop-at.out.items c.answer_to.new.out.items (Ok b) c.answer_to.new.store) c.if-branch.false c.in_ok-answer_to-in-Ok-Request.ensures) in
+          let failed : MayHaveFailed c.answer_to.new.store c.send.new.store = record { rest = c.in_ok-send.ensures.same; counted = c.in_ok-send.ensures.counted } in
+          let wrote = ran_written old c.answer_to.new.store held (g.W.Sink.contents c.loop-at.writer) c.answer_to.new.out.items next (g.W.Sink.contents c.send.new.writer) c.send.new.out.items c.in_ok-send.ensures.ok c.in_ok-send.ensures.empty in
+          ran_synced old c.answer_to.new.store held (g.W.Sink.contents c.send.new.writer) c.send.new.out.items wrote c.send.new.store failed);
       writes = omega (arith, c.loop-at.invariant.writes, c.in_ok-send.ensures.writes);
       faults = omega (arith, c.loop-at.invariant.faults, c.in_ok-send.ensures.faults);
     }
@@ -100,6 +107,7 @@ loop-at-preserved g c =
     let found = subst (WhenRequest c.split_at.result.1.now) c.in-Ok-Request.field-0-is (request_is c.split_at.result.1.now c.in-Ok-Request.field-0 (finds_sent c.split_at.result.1.now (Ok c.in-Ok-Request.field-0) c.in-Ok-Request.ensures.found c.in-Ok-Request.ensures.line) (λ e. (let is = c.in-Ok-Request.ensures.nothing e in cc)) c.in-Ok-Request.ensures.within) in
     record {
       within = omega (arith, found.within, c.split_at.ensures.back_len, c.loop-at.invariant.within);
+      few = omega arith;
       so = λ old requests held later first.
           (let s = c.loop-at.invariant.so old requests held later first in
           let ahead = drop (c.loop-at.at + c.in-Ok-Request.len) c.args.input.now ++ later in
@@ -109,7 +117,8 @@ loop-at-preserved g c =
           c.in-Ok-Request.words.items c.deref-in-Ok-Request.result.now c.in-Ok-Request.len c.answer_to.new.out.items c.answer_to.new.store (Ok c.in_ok-answer_to-in-Ok-Request.field-0) found c.deref-in-Ok-Request.ensures.value c.in_ok-answer_to-in-Ok-Request.ensures)
           in
           next);
-      wrote = c.loop-at.invariant.wrote;
+      ran = λ old held first. ran_next old c.loop-at.store held (g.W.Sink.contents c.loop-at.writer) c.loop-at.out.items (c.loop-at.invariant.ran old held first) c.answer_to.new.store (words_of c.deref-in-Ok-Request.result.now) c.answer_to.new.out.items
+          (subst (λ (b : Bool). AnswersOne {E = Unit {0}} c.loop-at.store (words_of c.deref-in-Ok-Request.result.now) c.loop-at.out.items c.answer_to.new.out.items (Ok b) c.answer_to.new.store) c.if-branch.false c.in_ok-answer_to-in-Ok-Request.ensures);
       writes = c.loop-at.invariant.writes;
       faults = c.loop-at.invariant.faults;
     }
@@ -127,7 +136,9 @@ returns-clause-served g c old requests held later first =
     (c.loop-at.invariant.so old requests held later first, λ none. drop_all c.loop-at.at c.args.input.now (omega (arith, c.loop-at-test.false)))
 
 pub returns-in-Err-Protocol-clause-answered : goal.returns-in-Err-Protocol-clause-answered
-returns-in-Err-Protocol-clause-answered g c = fault_last Reached _ _ _ _ _ _ c.loop-at.invariant.wrote c.fail.ensures.answered
+returns-in-Err-Protocol-clause-answered g c old held first =
+    let failed : MayHaveFailed c.loop-at.store c.fail.new.store = record { rest = c.fail.ensures.same; counted = c.fail.ensures.counted } in
+    ran_fault old c.loop-at.store held (g.W.Sink.contents c.loop-at.writer) c.loop-at.out.items (c.loop-at.invariant.ran old held first) Reached c.fail.new.store (g.W.Sink.contents c.fail.new.writer) c.in-Err-Protocol.fault c.fail.result failed c.fail.ensures.answered
 
 pub returns-in-Err-Protocol-clause-why : goal.returns-in-Err-Protocol-clause-why
 returns-in-Err-Protocol-clause-why g c = fault_reason _ _ _ _ c.fail.result c.fail.ensures.answered
@@ -139,9 +150,9 @@ pub returns-in-Err-Protocol-clause-faults : goal.returns-in-Err-Protocol-clause-
 returns-in-Err-Protocol-clause-faults g c = write_faults_then (Unit {0}) Reached c.fail.result _ _ _ c.loop-at.invariant.faults c.fail.ensures.faults
 
 pub returns-in_err-send-clause-answered : goal.returns-in_err-send-clause-answered
-returns-in_err-send-clause-answered g c =
+returns-in_err-send-clause-answered g c old held first =
     let p = err_from_is_err_and c.from_residual-in_err-send.result c.from_residual-in_err-send.ensures.1 in
-    rw (p.1, p.2) (no_last Reached _ _ c.in_err-send.field-0.0 (unsent_reason _ _ _ c.in_err-send.field-0.0 c.in_err-send.ensures.refused))
+    rw (p.1, p.2) (no_last Reached old c.send.new.store held _ c.in_err-send.field-0.0 (unsent_reason _ _ _ c.in_err-send.field-0.0 c.in_err-send.ensures.refused))
 
 pub returns-in_err-send-clause-why : goal.returns-in_err-send-clause-why
 returns-in_err-send-clause-why g c =

@@ -3,9 +3,10 @@ use Rattle.std.proofs.lemmas.Result.{err_from_is_err_and}
 use Rattle.lsm_coord.specs.Contract.Calls.{MayHaveFailed}
 use Rattle.lsm_io.specs.Streams.{Gains}
 use Rattle.lsm_serve.specs.declared.serving.Reached.{Reached}
-use Rattle.lsm_serve.specs.ServingSteps.{IsReachable, ServedSoFar, ServedTo}
+use Rattle.lsm_serve.specs.ServingSteps.{IsReachable, RanTo, ServedSoFar, ServedTo}
 use Rattle.lsm_serve.proofs.RequestsSoFar.{before_written}
-use Rattle.lsm_serve.proofs.ServedCounts.{answer_reads_no_fault, answer_reason, answers_last, appends_more, appends_none, appends_twice, calls_of_reads, calls_of_writes, ends_calls, ends_flushed, ends_last, ends_read_faults, ends_write_faults, no_last, read_faults_then, read_is_no_last, read_writes_no_fault, unsent_reason, write_faults_then}
+use Rattle.lsm_serve.proofs.ServedCounts.{answer_reads_no_fault, answer_reason, calls_of_reads, calls_of_writes, ends_calls, ends_flushed, ends_last, ends_read_faults, ends_write_faults, no_last, read_faults_then, read_is_no_last, read_writes_no_fault, same_last, unsent_reason, write_faults_then}
+use Rattle.lsm_serve.proofs.RunsSoFar.{ran_none, ran_synced, ran_written}
 use Rattle.lsm_serve.proofs.ServedReads.{ahead_after, all_written, all_written_at_end, input_is, next_input, none_after, part_to}
 use Rattle.lsm_serve.proofs.ServedStreams.{served_none, served_some, served_written, serves_some}
 use Rattle.lsm_serve.proofs.Syncs.{all_synced, before_synced, part_sent, sends_some, so_far_synced, some_synced}
@@ -89,7 +90,12 @@ loop-turn-preserved g c =
             so_far_synced c.args.store.now c.answer_all.new.store c.send.new.store requests (g.W.Sink.contents c.args.writer.now) (g.W.Sink.contents c.send.new.writer) failed (c.wait_for_more.new.input.items ++ more.0) []
                 (next_input c.args.store.now c.answer_all.new.store requests (g.W.Sink.contents c.args.writer.now) (g.W.Sink.contents c.answer_all.new.writer) (g.W.Sink.contents c.send.new.writer) (drop c.in-Waits.at c.deref.result.now) so.0 c.wait_for_more.new.input.items more.0 c.answer_all.new.out.items [] is waits.0 c.in_ok-send.ensures.ok refl),
           ));
-      wrote = appends_more _ _ _ c.answer_all.new.out.items (appends_twice _ _ _ c.loop-turn.invariant.wrote c.in_ok-reached.ensures.wrote) c.in_ok-send.ensures.ok;
+      ran =
+          (let held = g.W.Sink.contents c.args.writer.now in
+          let all = subst (RanTo c.args.store.now held c.answer_all.new.store c.answer_all.new.out.items (g.W.Sink.contents c.answer_all.new.writer)) c.in-Waits.is (c.in_ok-reached.ensures.ran c.args.store.now held c.loop-turn.invariant.ran) in
+          let failed : MayHaveFailed c.answer_all.new.store c.send.new.store = record { rest = c.in_ok-send.ensures.same; counted = c.in_ok-send.ensures.counted } in
+          let wrote = ran_written c.args.store.now c.answer_all.new.store held (g.W.Sink.contents c.answer_all.new.writer) c.answer_all.new.out.items all (g.W.Sink.contents c.send.new.writer) c.send.new.out.items c.in_ok-send.ensures.ok c.in_ok-send.ensures.empty in
+          ran_synced c.args.store.now c.answer_all.new.store held (g.W.Sink.contents c.send.new.writer) c.send.new.out.items wrote c.send.new.store failed);
       reads = omega (arith, c.loop-turn.invariant.reads, c.in_ok-wait_for_more.ensures.counted);
       writes = omega (arith, c.loop-turn.invariant.writes, c.in_ok-reached.ensures.writes, c.in_ok-send.ensures.writes);
       read_faults = omega (arith, c.loop-turn.invariant.read_faults, c.in_ok-wait_for_more.ensures.faults);
@@ -114,7 +120,7 @@ returns-in-Http-clause-replies g c requests ahead =
 pub returns-in_err-reached-clause-answered : goal.returns-in_err-reached-clause-answered
 returns-in_err-reached-clause-answered g c =
     let p = err_from_is_err_and c.from_residual.result c.from_residual.ensures.1 in
-    rw (p.1, p.2) (answers_last Reached (Unit {0}) _ _ _ c.in_err-reached.field-0.0 c.loop-turn.invariant.wrote c.in_err-reached.ensures.answered)
+    rw (p.1, p.2) (same_last Reached (Unit {0}) c.args.store.now c.answer_all.new.store _ _ c.in_err-reached.field-0.0 (c.in_err-reached.ensures.answered c.args.store.now (g.W.Sink.contents c.args.writer.now) c.loop-turn.invariant.ran))
 
 pub returns-in_err-reached-clause-counted : goal.returns-in_err-reached-clause-counted
 returns-in_err-reached-clause-counted g c =
@@ -134,7 +140,7 @@ returns-in_err-reached-clause-write_faults g c =
 pub returns-in_err-send-clause-answered : goal.returns-in_err-send-clause-answered
 returns-in_err-send-clause-answered g c =
     let p = err_from_is_err_and c.from_residual-in_err-send.result c.from_residual-in_err-send.ensures.1 in
-    rw (p.1, p.2) (no_last (Unit {0}) _ _ c.in_err-send.field-0.0 (unsent_reason _ _ _ c.in_err-send.field-0.0 c.in_err-send.ensures.refused))
+    rw (p.1, p.2) (no_last (Unit {0}) c.args.store.now c.send.new.store _ _ c.in_err-send.field-0.0 (unsent_reason _ _ _ c.in_err-send.field-0.0 c.in_err-send.ensures.refused))
 
 pub returns-in_err-send-clause-counted : goal.returns-in_err-send-clause-counted
 returns-in_err-send-clause-counted g c =
@@ -154,7 +160,7 @@ returns-in_err-send-clause-write_faults g c =
 pub returns-in_err-wait_for_more-clause-answered : goal.returns-in_err-wait_for_more-clause-answered
 returns-in_err-wait_for_more-clause-answered g c =
     let p = err_from_is_err_and c.from_residual-in_err-wait_for_more.result c.from_residual-in_err-wait_for_more.ensures.1 in
-    rw (p.1, p.2) (read_is_no_last (Unit {0}) _ _ c.in_err-wait_for_more.field-0.0 c.in_err-wait_for_more.ensures.why)
+    rw (p.1, p.2) (read_is_no_last (Unit {0}) c.args.store.now c.send.new.store _ _ c.in_err-wait_for_more.field-0.0 c.in_err-wait_for_more.ensures.why)
 
 pub returns-in_err-wait_for_more-clause-counted : goal.returns-in_err-wait_for_more-clause-counted
 returns-in_err-wait_for_more-clause-counted g c =
@@ -172,7 +178,7 @@ returns-in_err-wait_for_more-clause-write_faults g c =
     rw (p.1, p.2) (read_writes_no_fault (Unit {0}) c.in_err-wait_for_more.field-0.0 _ _ c.in_err-wait_for_more.ensures.why (omega (arith, c.loop-turn.invariant.write_faults, c.in_ok-reached.ensures.faults, c.in_ok-send.ensures.faults)))
 
 pub returns-then-not-branch-clause-answered : goal.returns-then-not-branch-clause-answered
-returns-then-not-branch-clause-answered g c = ends_last _ _ c.end_of.result c.end_of.ensures.why
+returns-then-not-branch-clause-answered g c = ends_last c.args.store.now c.send.new.store _ _ c.end_of.result c.end_of.ensures.why
 
 pub returns-then-not-branch-clause-flushed : goal.returns-then-not-branch-clause-flushed
 returns-then-not-branch-clause-flushed g c = ends_flushed c.end_of.result _ c.in_ok-send.ensures.flushed
@@ -197,7 +203,7 @@ loop-turn-init g c =
         ahead.bytes_are,
         subst (λ (i : List ℕ). ServedSoFar c.args.store.now requests held c.args.store.now (i ++ ahead.bytes) [] held) (sym c.new-input.ensures.items) (served_none c.args.store.now requests held ahead.bytes [] ahead.are refl),
       );
-      wrote = appends_none held;
+      ran = ran_none c.args.store.now held c.new-out.result.items c.new-out.ensures.items;
       reads = omega arith;
       writes = omega arith;
       read_faults = refl;
