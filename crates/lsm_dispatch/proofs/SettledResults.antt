@@ -1,6 +1,5 @@
 -- What becomes of a result: its claim ends, and the tables that it replaced are let go.
 use Rattle.std.proofs.Common.{◌≡◌, ℕ, Bool, true, List, [], ◌∷◌, Option, Some, Result, Ok, Err, IfErr, IfOk, refl, sym, ap, subst, ◌∙◌, inl, inr}
-use Rattle.std.specs.Prelude.{OnErr}
 use Rattle.lsm_claim.specs.declared.job.JobId.{JobId}
 use Rattle.lsm_claim.specs.declared.job.LiveJob.{LiveJob}
 use Rattle.lsm_claim.specs.Book.{BookValue}
@@ -52,14 +51,6 @@ pub refused_ok : (old new : CoordValue) (claim : LiveJob) (made : JobResult) (wh
 refused_ok old new claim made why (Ok stays) settles is = took old new new claim made (Err why) stays settles refl is
 refused_ok old new claim made why (Err e) settles is = tt
 
-pub refused_err : (old new : CoordValue) (claim : LiveJob) (made : JobResult) (why : InstallError) (r : Result Bool CoordError) → Settles old claim made (Err why) new → IfErr r (λ e. (stays_after (Err why) ≡ true) × (e ≡ error_of why)) → OnErr r (TakesClaim old claim made true new)
-refused_err old new claim made why (Ok stays) settles is = tt
-refused_err old new claim made why (Err e) settles is = took old new new claim made (Err why) true settles refl (sym is.0)
-
 pub refused_why : (old new : CoordValue) (claim : LiveJob) (made : JobResult) (why : InstallError) (r : Result Bool CoordError) → Settles old claim made (Err why) new → IfErr r (λ e. (stays_after (Err why) ≡ true) × (e ≡ error_of why)) → IfErr r (λ e. ResultRefuses old claim made e new)
 refused_why old new claim made why (Ok stays) settles is = tt
 refused_why old new claim made why (Err e) settles is = inl (why, settles, is.0, is.1)
-
-pub err_holds : (r : Result Bool CoordError) (P : Type 0) → P → OnErr r P
-err_holds (Ok x) P p = tt
-err_holds (Err e) P p = p

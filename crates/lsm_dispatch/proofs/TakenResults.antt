@@ -1,9 +1,12 @@
 -- What becomes of a result that comes, and what whole dispatches keep.
-use Rattle.std.proofs.Common.{◌≡◌, ℕ, ◌-◌, Bool, List, [], ◌∷◌, ◌++◌, None, Some, refl, sym, ap, subst, ◌∙◌}
+use Rattle.std.proofs.Common.{◌≡◌, ℕ, ◌-◌, Bool, List, [], ◌∷◌, ◌++◌, None, Some, Result, Ok, Err, refl, sym, ap, subst, ◌∙◌}
 use Rattle.std.specs.Bool.{if◌then◌else◌}
+use Rattle.std.specs.Prelude.{OnOk}
 use Rattle.lsm_claim.specs.declared.job.JobId.{JobId}
 use Rattle.lsm_claim.specs.declared.job.LiveJob.{LiveJob}
 use Rattle.lsm_msg.specs.declared.job.JobResult.{JobResult}
+use Rattle.lsm_msg.specs.declared.message.Body.TheVariants as body
+use Rattle.lsm_msg.specs.declared.node.Node.TheVariants as node
 use Rattle.lsm_coord.specs.declared.error.CoordError.{CoordError}
 use Rattle.lsm_coord.specs.Contract.Value.{CoordValue}
 use Rattle.lsm_coord.specs.Contract.Picking.{NothingToCompact, OnlyTooLarge}
@@ -14,7 +17,7 @@ use Rattle.lsm_store.proofs.StoreSteps.{keeps_then}
 use Rattle.lsm_dispatch.specs.declared.crew.WorkerState.{WorkerState}
 use Rattle.lsm_dispatch.specs.declared.crew.WorkerState.TheVariants.{Gone, Idle, Busy}
 use Rattle.lsm_dispatch.specs.Crews.{CrewHolds, Ends, IsBusyWith, after_leaving, busy_claim, busy_job, state_of, with_state}
-use Rattle.lsm_dispatch.specs.Dispatching.{CrewRefuses, CrewTakes, IsDue, IsLeftDue, KeepsIfMerged, Passes, ResultRefuses, Taken, TakesClaim}
+use Rattle.lsm_dispatch.specs.Dispatching.{ActsOn, CrewRefuses, CrewTakes, IsDue, IsLeftDue, KeepsIfMerged, Passes, ResultRefuses, Taken, TakesClaim}
 use Rattle.lsm_dispatch.proofs.HeldClaims.{held_after_end, set_twice}
 use Rattle.lsm_dispatch.proofs.KeptSteps.{kept_if_merged, passes_then}
 
@@ -46,10 +49,17 @@ module _ (old new : CoordValue) (crew crew_new : List WorkerState) (index : ℕ)
       subst (CrewHolds new.book) (sym now) (held_after_end old.book new.book crew index x held mine)
 
 -- why it ends in an error
-pub crew_refuses : (old new : CoordValue) (crew : List WorkerState) (index : ℕ) (claim : LiveJob) (made : JobResult) (e : CoordError) → busy_job (state_of crew index) ≡ Some claim → IsBusyWith (state_of crew index) made.job → ResultRefuses old claim made e new → CrewRefuses crew old index made e new
-crew_refuses old new crew index claim made e had has refuses =
+pub crew_refuses : (old new : CoordValue) (crew crew_new : List WorkerState) (index : ℕ) (claim : LiveJob) (made : JobResult) (e : CoordError) → busy_job (state_of crew index) ≡ Some claim → IsBusyWith (state_of crew index) made.job → ResultRefuses old claim made e new → crew_new ≡ with_state crew index Idle
+    → CrewRefuses crew old index made e crew_new new
+crew_refuses old new crew crew_new index claim made e had has refuses idle =
     let busy : state_of crew index ≡ Busy claim = busy_of (state_of crew index) claim had in
-    record { claim = claim; had = busy; of_job = subst (λ (s : WorkerState). IsBusyWith s made.job) busy has; refuses = refuses }
+    record { claim = claim; had = busy; of_job = subst (λ (s : WorkerState). IsBusyWith s made.job) busy has; refuses = refuses; idle = idle }
+
+-- a result that is taken, or that ends in an error, of the worker that has its job
+pub acts_on_result : (crew crew_new : List WorkerState) (old new : CoordValue) (index : ℕ) (made : JobResult) (r : Result (Unit {0}) CoordError) → (IsBusyWith (state_of crew index) made.job → OnOk r (CrewTakes crew old index made crew_new new))
+    → ((IsBusyWith (state_of crew index) made.job → ⊥) → (crew_new ≡ crew) × (new ≡ old)) → OnOk r (ActsOn crew old (node.Worker index) (body.Result made) crew_new new)
+acts_on_result crew crew_new old new index made (Ok x) taken late = (taken, late)
+acts_on_result crew crew_new old new index made (Err e) taken late = tt
 
 -- an idle worker is put into another state
 pub dismissed : (crew mid new : List WorkerState) (index : ℕ) (a b : WorkerState) → mid ≡ with_state crew index a → new ≡ with_state mid index b → new ≡ with_state crew index b

@@ -1,17 +1,16 @@
 -- A dispatch, turn by turn.
-use Rattle.std.proofs.Common.{◌≡◌, ℕ, ◌+◌, ◌<◌, ◌≤◌, arith, true, false, List, [], ◌∷◌, ◌++◌, Option, None, Some, Result, Ok, Err, IfErr, IfSome, refl, sym, ap, subst, ◌∙◌, append-nil, inl, inr}
+use Rattle.std.proofs.Common.{◌≡◌, ℕ, ◌+◌, ◌-◌, ◌<◌, ◌≤◌, arith, false, List, [], ◌∷◌, ◌++◌, Option, None, Some, Result, Ok, Err, IfErr, IfSome, ◌⊎◌, refl, sym, ap, subst, ◌∙◌, append-nil, inl, inr}
 use Rattle.std.specs.Prelude.{OnOk}
 use Rattle.std.specs.List.{flat_map}
 use Rattle.std.specs.Io.KnownBytes.{Appends, Consumes, IsAtEnd}
 use Rattle.std.proofs.KnownBytes.{Appends-nil, Appends-trans, Consumes-nil, Consumes-trans}
-use Rattle.std.proofs.lemmas.Bool.{cases_lt, true≢false}
+use Rattle.std.proofs.lemmas.Bool.{cases_lt}
 use Rattle.std.proofs.lemmas.Grind.{flat_map-append}
-use Rattle.lsm_key.specs.declared.limits.TheConstants.{MAX_NODES}
 use Rattle.lsm_msg.specs.declared.message.Message.{Message}
 use Rattle.lsm_msg.specs.Messages.{IsSpelled, sized}
 use Rattle.lsm_pipe.specs.declared.error.PipeError.{PipeError}
 use Rattle.lsm_pipe.specs.declared.error.PipeError.TheVariants as pipe
-use Rattle.lsm_pipe.specs.Frames.{FrameRefuses, framed}
+use Rattle.lsm_pipe.specs.Frames.{FrameRefuses, IsSinkError, SendRefuses, framed}
 use Rattle.lsm_pipe.proofs.WorkSteps.{framed_then}
 use Rattle.lsm_coord.specs.declared.error.CoordError.{CoordError}
 use Rattle.lsm_coord.specs.Contract.Value.{CoordValue}
@@ -19,14 +18,15 @@ use Rattle.lsm_store.specs.declared.due.Due.{Due}
 use Rattle.lsm_store.specs.Store.{IsNoneDue}
 use Rattle.lsm_store.specs.declared.due.Due.TheVariants as due
 use Rattle.lsm_dispatch.specs.declared.crew.WorkerState.{WorkerState}
-use Rattle.lsm_dispatch.specs.declared.crew.WorkerState.TheVariants.{Idle}
+use Rattle.lsm_dispatch.specs.declared.crew.WorkerState.TheVariants.{Idle, Busy}
 use Rattle.lsm_dispatch.specs.declared.error.DispatchError.{DispatchError}
 use Rattle.lsm_dispatch.specs.declared.error.DispatchError.TheVariants as error
 use Rattle.lsm_dispatch.specs.declared.letter.Letter.{Letter}
-use Rattle.lsm_dispatch.specs.Crews.{after_all_leave, has_busy, state_of}
+use Rattle.lsm_dispatch.specs.Crews.{after_all_leave, has_busy, state_of, with_state}
 use Rattle.lsm_dispatch.specs.Dispatching.{ActRefuses, HandsOut, IsDue, JobRefuses}
 use Rattle.lsm_dispatch.specs.Letters.{IsLetter, NoLetter}
-use Rattle.lsm_dispatch.specs.Turns.{AsksWorker, AsksBefore, ComesNext, DispatchRefuses, Hands, IsNextSent, IsNoLetter, IsTurn, NoneWaits, OneRefuses, ReadStops, RunEnds, RunStops, RunsOver, Takes, TakesLetter, Turn, TurnStops, TurnsThrough, bytes_read, one_or_none, sent_in}
+use Rattle.lsm_dispatch.specs.Turns.{AsksWorker, AwaitsLetter, ComesNext, DispatchRefuses, Hands, IsNextSent, IsNoLetter, IsTurn, NoneWaits, NoneWaitsBefore, OneRefuses, ReadStops, RunEnds, RunStops, RunsOver, Takes, TakesLetter, Turn, TurnStops, TurnsThrough, bytes_read, one_or_none, sent_in}
+use Rattle.lsm_dispatch.proofs.HandedJobs.{picked_due, set_busy, state_apart}
 use Rattle.lsm_dispatch.proofs.KeptSteps.{none_leaves}
 
 -- ---- one after another
@@ -76,13 +76,17 @@ comes_next None left bytes p = tt
 comes_next (Some xs) None bytes p = absurd p
 comes_next (Some xs) (Some ys) bytes p = (ys, p)
 
+-- a message that is refused before the sink is asked
+pub one_refuses : {A : Type 0} (contents : A → Option (List ℕ)) (old new : A) (sent : Option Message) (m : Message) (why : PipeError) → sent ≡ Some m → SendRefuses m why → IsSinkError why ⊎ (new ≡ old) → OneRefuses sent (contents old) (contents new) (error.Pipe why)
+one_refuses contents old new sent m why is refuses unsent = (m, is, why, refuses, elim unsent [ inl sink ↦ inl sink | inr same ↦ inr (ap contents same) ], refl)
+
 -- the message of a turn is not sent
 pub sent_stops : (crew crew_new : List WorkerState) (old new : CoordValue) (was left held last : Option (List ℕ)) (t : Turn) (e : DispatchError) (sent : Option Message) → IsTurn crew old t crew_new new → Consumes was left (bytes_read t) → sent_in t ≡ one_or_none sent
-    → OneRefuses sent e → RunStops crew old was held last e
+    → OneRefuses sent held last e → RunStops crew old was held last e
 sent_stops crew crew_new old new was left held last t e sent is read same h =
     let next : IsNextSent crew old was h.0 = record { turn = t; crew_new = crew_new; new = new; is = is; comes = comes_next was left (bytes_read t) read; sends = same ∙ ap one_or_none h.1 } in
-    let stops : TurnStops crew old was held last (error.Pipe h.2) = inl (h.0, next, h.3) in
-    stops_now crew old was held last e (subst (TurnStops crew old was held last) (sym h.4) stops)
+    let stops : TurnStops crew old was held last (error.Pipe h.2) = inl ((h.0, next, h.3), h.4) in
+    stops_now crew old was held last e (subst (TurnStops crew old was held last) (sym h.5) stops)
 
 -- ---- numbers
 
@@ -92,9 +96,6 @@ none_between n one below = omega (arith, one, below)
 between : (n index : ℕ) → n ≤ index → index < n + 1 → n ≡ index
 between n index at below = omega (arith, at, below)
 
-below_next : (n m : ℕ) → n ≤ m → n < m + 1
-below_next n m most = omega (arith, most)
-
 -- ---- a job that is handed out
 
 module _ (crew crew_new : List WorkerState) (old new : CoordValue) (index : ℕ) (sent : Option Message) (held holds : Option (List ℕ)) (hands : HandsOut crew old index crew_new new sent) where
@@ -102,87 +103,84 @@ module _ (crew crew_new : List WorkerState) (old new : CoordValue) (index : ℕ)
   hand_ends (Ok x) written = λ input. runs_one crew crew_new old new input input held holds (Hands index sent) hands (Consumes-nil input) written
   hand_ends (Err e) written = tt
 
-  pub hand_fails : (r : Result (Unit {0}) DispatchError) → IfErr r (OneRefuses sent) → IfErr r (λ e. (input : Option (List ℕ)) → RunStops crew old input held holds e)
+  pub hand_fails : (r : Result (Unit {0}) DispatchError) → IfErr r (OneRefuses sent held holds) → IfErr r (λ e. (input : Option (List ℕ)) → RunStops crew old input held holds e)
   hand_fails (Ok x) h = tt
   hand_fails (Err e) h = λ input. sent_stops crew crew_new old new input input held holds (Hands index sent) e sent hands (Consumes-nil input) refl h
 
 pub pick_fails : (crew : List WorkerState) (c : CoordValue) (index : ℕ) (held : Option (List ℕ)) (e : CoordError) → state_of crew index ≡ Idle → JobRefuses c e → (input : Option (List ℕ)) → RunStops crew c input held held (error.Coord e)
 pick_fails crew c index held e idle h input = stops_now crew c input held held (error.Coord e) (inl (index, idle, h), refl)
 
-pub hand_asks : (crew crew_new : List WorkerState) (old new : CoordValue) (index number : ℕ) (sent : Option Message) → index ≡ number → HandsOut crew old index crew_new new sent → IfSome sent (λ m. has_busy crew_new ≡ true) → AsksWorker number crew old crew_new new
-hand_asks crew crew_new old new index number None same hands busy =
-    inr (hands.0, hands.1, λ idle. elim hands.2 [ inl other ↦ absurd (other (ap (state_of crew) same ∙ idle)) | inr none ↦ none ])
-hand_asks crew crew_new old new index number (Some m) same hands busy = inl busy
-
-pub hand_asked : (crew crew_new : List WorkerState) (old new : CoordValue) (index number : ℕ) (sent : Option Message) (r : Result (Unit {0}) DispatchError) → index ≡ number → HandsOut crew old index crew_new new sent → IfSome sent (λ m. has_busy crew_new ≡ true) → OnOk r (AsksWorker number crew old crew_new new)
-hand_asked crew crew_new old new index number sent (Ok x) same hands busy = hand_asks crew crew_new old new index number sent same hands busy
-hand_asked crew crew_new old new index number sent (Err e) same hands busy = tt
+pub hand_asked : (crew crew_new : List WorkerState) (old new : CoordValue) (index number : ℕ) (sent : Option Message) (r : Result (Unit {0}) DispatchError) → index ≡ number → HandsOut crew old index crew_new new sent → OnOk r (AsksWorker number crew old crew_new new)
+hand_asked crew crew_new old new index number sent (Ok x) same hands = (sent, subst (λ (n : ℕ). HandsOut crew old n crew_new new sent) same hands)
+hand_asked crew crew_new old new index number sent (Err e) same hands = tt
 
 -- ---- a round
 
-pub asks_none : (crew : List WorkerState) (c : CoordValue) → AsksBefore 1 crew c crew c
-asks_none crew c = inr (refl, refl, λ index one below idle. absurd (none_between index one below))
+pub waits_none : (crew : List WorkerState) (c : CoordValue) → NoneWaitsBefore 1 crew c
+waits_none crew c index one below idle = absurd (none_between index one below)
 
-pub asks_more : (n : ℕ) (a b d : List WorkerState) (x y z : CoordValue) → AsksBefore n a x b y → AsksWorker n b y d z → AsksBefore (n + 1) a x d z
-asks_more n a b d x y z (inl busy) (inl more) = inl more
-asks_more n a b d x y z (inl busy) (inr q) = inl (ap has_busy q.0 ∙ busy)
-asks_more n a b d x y z (inr p) (inl more) = inl more
-asks_more n a b d x y z (inr p) (inr q) = inr (
-  q.0 ∙ p.0,
-  q.1 ∙ p.1,
-  λ index one below idle. elim (cases_lt index n) [
-    | inl before ↦ p.2 index one before idle
-    | inr at ↦ subst IsNoneDue p.1 (q.2 (ap (λ (crew : List WorkerState). state_of crew n) p.0 ∙ ap (state_of a) (between n index at below) ∙ idle))
-  ],
-)
+-- a worker that was passed over stays idle only if no compaction is due, and then none is picked for a later one
+waits_for : (n : ℕ) (crew crew_new : List WorkerState) (old new : CoordValue) (sent : Option Message) → NoneWaitsBefore n crew old → HandsOut crew old n crew_new new sent → NoneWaitsBefore (n + 1) crew_new new
+waits_for n crew crew_new old new None before hands index one below idle =
+    let was : state_of crew index ≡ Idle = ap (λ (w : List WorkerState). state_of w index) (sym hands.0) ∙ idle in
+    subst IsNoneDue (sym hands.1) (elim (cases_lt index n) [
+      | inl less ↦ before index one less was
+      | inr at ↦ elim hands.2 [ inl other ↦ absurd (other (ap (state_of crew) (between n index at below) ∙ was)) | inr none ↦ none ]
+    ])
+waits_for n crew crew_new old new (Some m) before hands index one below idle =
+    let now : state_of (with_state crew n (Busy hands.1)) index ≡ Idle = ap (λ (w : List WorkerState). state_of w index) (sym hands.4) ∙ idle in
+    absurd (elim (cases_lt index n) [
+      | inl less ↦ picked_due old new hands.1 hands.2 hands.3 (before index one less (sym (state_apart crew n index (Busy hands.1) one less) ∙ now))
+      | inr at ↦ set_busy crew (n - 1) hands.1 (ap (state_of (with_state crew n (Busy hands.1))) (between n index at below) ∙ now)
+    ])
 
-pub none_waits : (crew crew_new : List WorkerState) (old new : CoordValue) → has_busy crew_new ≡ false → AsksBefore (MAX_NODES + 1) crew old crew_new new → NoneWaits crew_new new
-none_waits crew crew_new old new none (inl busy) = absurd (true≢false (sym busy ∙ none))
-none_waits crew crew_new old new none (inr p) = λ index one most idle. subst IsNoneDue (sym p.1) (p.2 index one (below_next index MAX_NODES most) (ap (λ (crew : List WorkerState). state_of crew index) (sym p.0) ∙ idle))
+pub waits_more : (n : ℕ) (crew crew_new : List WorkerState) (old new : CoordValue) → NoneWaitsBefore n crew old → AsksWorker n crew old crew_new new → NoneWaitsBefore (n + 1) crew_new new
+waits_more n crew crew_new old new before asks = waits_for n crew crew_new old new asks.0 before asks.1
 
 -- ---- a letter that is taken
 
-module _ (crew crew_new : List WorkerState) (old new : CoordValue) (payload : List ℕ) (l : Letter) (sent : Option Message) (was left held holds : Option (List ℕ)) (read : Consumes was left (sized payload)) (is : IsLetter payload l) (takes : TakesLetter crew old l sent crew_new new) where
+module _ (crew crew_new : List WorkerState) (old new : CoordValue) (payload : List ℕ) (l : Letter) (sent : Option Message) (was left held holds : Option (List ℕ)) (waits : AwaitsLetter crew old) (read : Consumes was left (sized payload)) (is : IsLetter payload l) (takes : TakesLetter crew old l sent crew_new new) where
   pub take_ends : (r : Result (Unit {0}) DispatchError) → OnOk r (Appends held holds (framed (one_or_none sent))) → OnOk r (RunsOver crew old was left held holds crew_new new)
-  take_ends (Ok x) written = runs_one crew crew_new old new was left held holds (Takes payload sent) (l, is, takes) read written
+  take_ends (Ok x) written = runs_one crew crew_new old new was left held holds (Takes payload sent) (waits, l, is, takes) read written
   take_ends (Err e) written = tt
 
-  pub take_fails : (r : Result (Unit {0}) DispatchError) → IfErr r (OneRefuses sent) → IfErr r (RunStops crew old was held holds)
+  pub take_fails : (r : Result (Unit {0}) DispatchError) → IfErr r (OneRefuses sent held holds) → IfErr r (RunStops crew old was held holds)
   take_fails (Ok x) h = tt
-  take_fails (Err e) h = sent_stops crew crew_new old new was left held holds (Takes payload sent) e sent (l, is, takes) read refl h
+  take_fails (Err e) h = sent_stops crew crew_new old new was left held holds (Takes payload sent) e sent (waits, l, is, takes) read refl h
 
 -- ---- a letter that is not taken
 
-read_refused : (crew : List WorkerState) (known : Option (List ℕ)) (e : PipeError) → has_busy crew ≡ true → FrameRefuses known e → ReadStops crew known e
-read_refused crew known pipe.NoEnd busy h = tt
-read_refused crew known pipe.ReadFault busy h = (busy, h)
-read_refused crew known pipe.EndsInside busy h = (busy, h)
-read_refused crew known pipe.TooLong busy h = (busy, h)
-read_refused crew known pipe.OutOfMemory busy h = (busy, h)
-read_refused crew known e busy h = absurd h
+read_refused : (crew : List WorkerState) (c : CoordValue) (known : Option (List ℕ)) (e : PipeError) → AwaitsLetter crew c → FrameRefuses known e → ReadStops crew c known e
+read_refused crew c known pipe.NoEnd waits h = tt
+read_refused crew c known pipe.ReadFault waits h = (waits, h)
+read_refused crew c known pipe.EndsInside waits h = (waits, h)
+read_refused crew c known pipe.TooLong waits h = (waits, h)
+read_refused crew c known pipe.OutOfMemory waits h = (waits, h)
+read_refused crew c known e waits h = absurd h
 
 no_letter : (was left : Option (List ℕ)) (payload : List ℕ) → Consumes was left (sized payload) → NoLetter payload pipe.NotMessage → IfSome was IsNoLetter
 no_letter None left payload p h = tt
 no_letter (Some xs) None payload p h = absurd p
 no_letter (Some xs) (Some ys) payload p h = (payload, ys, p, h)
 
-letter_refused : (crew : List WorkerState) (was left : Option (List ℕ)) (payload : List ℕ) (e : PipeError) → has_busy crew ≡ true → Consumes was left (sized payload) → NoLetter payload e → ReadStops crew was e
-letter_refused crew was left payload pipe.NotMessage busy p h = (busy, no_letter was left payload p h)
-letter_refused crew was left payload pipe.OutOfMemory busy p h = (busy, tt)
-letter_refused crew was left payload e busy p h = absurd h
+letter_refused : (crew : List WorkerState) (c : CoordValue) (was left : Option (List ℕ)) (payload : List ℕ) (e : PipeError) → AwaitsLetter crew c → Consumes was left (sized payload) → NoLetter payload e → ReadStops crew c was e
+letter_refused crew c was left payload pipe.NotMessage waits p h = (waits, no_letter was left payload p h)
+letter_refused crew c was left payload pipe.OutOfMemory waits p h = (waits, tt)
+letter_refused crew c was left payload e waits p h = absurd h
 
-pub frame_fails : (crew : List WorkerState) (c : CoordValue) (was held : Option (List ℕ)) (e : PipeError) → has_busy crew ≡ true → FrameRefuses was e → RunStops crew c was held held (error.Pipe e)
-frame_fails crew c was held e busy h = stops_now crew c was held held (error.Pipe e) (inr (read_refused crew was e busy h, refl))
+pub frame_fails : (crew : List WorkerState) (c : CoordValue) (was held : Option (List ℕ)) (e : PipeError) → AwaitsLetter crew c → FrameRefuses was e → RunStops crew c was held held (error.Pipe e)
+frame_fails crew c was held e waits h = stops_now crew c was held held (error.Pipe e) (inr (read_refused crew c was e waits h, refl))
 
-pub letter_fails : (crew : List WorkerState) (c : CoordValue) (was left held : Option (List ℕ)) (payload : List ℕ) (e : PipeError) → has_busy crew ≡ true → Consumes was left (sized payload) → NoLetter payload e → RunStops crew c was held held (error.Pipe e)
-letter_fails crew c was left held payload e busy p h = stops_now crew c was held held (error.Pipe e) (inr (letter_refused crew was left payload e busy p h, refl))
+pub letter_fails : (crew : List WorkerState) (c : CoordValue) (was left held : Option (List ℕ)) (payload : List ℕ) (e : PipeError) → AwaitsLetter crew c → Consumes was left (sized payload) → NoLetter payload e → RunStops crew c was held held (error.Pipe e)
+letter_fails crew c was left held payload e waits p h = stops_now crew c was held held (error.Pipe e) (inr (letter_refused crew c was left payload e waits p h, refl))
 
-pub act_fails : (crew : List WorkerState) (c new : CoordValue) (was left held : Option (List ℕ)) (payload : List ℕ) (m : Message) (e : CoordError) → Consumes was left (sized payload) → IsSpelled payload m → ActRefuses crew c m.src m.body e new → RunStops crew c was held held (error.Coord e)
-act_fails crew c new was left held payload m e p spelled h =
-    stops_now crew c was held held (error.Coord e) (inr (record { payload = payload; next = m; new = new; comes = comes_next was left (sized payload) p; spelled = spelled; refuses = h }), refl)
+pub act_fails : (crew crew_new : List WorkerState) (c new : CoordValue) (was left held : Option (List ℕ)) (payload : List ℕ) (m : Message) (e : CoordError) → AwaitsLetter crew c → Consumes was left (sized payload) → IsSpelled payload m → ActRefuses crew c m.src m.body e crew_new new
+    → RunStops crew c was held held (error.Coord e)
+act_fails crew crew_new c new was left held payload m e waits p spelled h =
+    stops_now crew c was held held (error.Coord e) (inr (record { payload = payload; next = m; crew_new = crew_new; new = new; waits = waits; comes = comes_next was left (sized payload) p; spelled = spelled; refuses = h }), refl)
 
-pub ends_early : (crew : List WorkerState) (c : CoordValue) (was held : Option (List ℕ)) → IsAtEnd was → has_busy crew ≡ true → RunStops crew c was held held error.EndsEarly
-ends_early crew c was held end busy = stops_now crew c was held held error.EndsEarly (end, busy, refl)
+pub ends_early : (crew : List WorkerState) (c : CoordValue) (was held : Option (List ℕ)) → IsAtEnd was → AwaitsLetter crew c → RunStops crew c was held held error.EndsEarly
+ends_early crew c was held end waits = stops_now crew c was held held error.EndsEarly (end, waits, refl)
 
 pub reads_no_more : (crew : List WorkerState) (c : CoordValue) (was held : Option (List ℕ)) → RunStops crew c was held held (error.Pipe pipe.NoEnd)
 reads_no_more crew c was held = stops_now crew c was held held (error.Pipe pipe.NoEnd) (inr (tt, refl))

@@ -44,10 +44,9 @@ InstallsTaken t new = (number : ℕ) × (files : List ℕ) × Became t.at t.clai
 abbrev pub IsMergeOfJob : Taken → Type 0
 IsMergeOfJob t = HoldsSoundMerge t.at t.claim.id t.made
 
--- what a trim to the version of this number leaves: the floor is raised, and the tables of files that no version from it on lists are
--- gone, unless memory ran out or the device failed
+-- what a trim to the version of this number leaves: the floor is raised, and the tables of files that no version from it on lists are gone
 abbrev pub TrimsTo : CoordValue → ℕ → CoordValue → Type 0
-TrimsTo old number new = (new ≡ record (with_live_tables old number) { failures = new.failures }) ⊎ ((e : CoordError) × TrimRefuses old number e new)
+TrimsTo old number new = new ≡ record (with_live_tables old number) { failures = new.failures }
 
 -- What becomes of a claim with its result: it is installed; or its job is not live; or it is refused, and the claim is given back.
 abbrev pub Settles : CoordValue → LiveJob → JobResult → Result (Option ℕ) InstallError → CoordValue → Type 0
@@ -90,7 +89,7 @@ stays_after (Err WrongJob) = false
 stays_after (Err BadResult) = false
 stays_after (Err why) = true
 
--- the tables that the result replaced are let go, unless memory runs out or the device fails
+-- the tables that the result replaced are let go
 abbrev pub TrimsAfter : Result (Option ℕ) InstallError → CoordValue → CoordValue → Type 0
 TrimsAfter (Ok (Some number)) mid new = TrimsTo mid number new
 TrimsAfter (Ok None) mid new = new ≡ mid
@@ -125,16 +124,18 @@ ResultRefuses old claim made e new =
     ((why : InstallError) × Settles old claim made (Err why) new × (stays_after (Err why) ≡ true) × (e ≡ error_of why))
     ⊎ ((number : ℕ) × (mid : CoordValue) × Settles old claim made (Ok (Some number)) mid × TrimRefuses mid number e new)
 
--- why the result of the worker that has its job ends in an error
-pub record CrewRefuses (crew : List WorkerState) (old : CoordValue) (index : ℕ) (made : JobResult) (e : CoordError) (new : CoordValue) : Type 0 where
+-- why the result of the worker that has its job ends in an error: the worker is idle then
+pub record CrewRefuses (crew : List WorkerState) (old : CoordValue) (index : ℕ) (made : JobResult) (e : CoordError) (crew_new : List WorkerState) (new : CoordValue) : Type 0 where
   pub claim : LiveJob
   pub had : state_of crew index ≡ Busy claim
   pub of_job : claim.id ≡ made.job
   pub refuses : ResultRefuses old claim made e new
+  pub idle : crew_new ≡ with_state crew index Idle
 
--- why a message ends in an error: a question only if there is no memory for its answer
-abbrev pub ActRefuses : List WorkerState → CoordValue → Node → Body → CoordError → CoordValue → Type 0
-ActRefuses crew old src said e new = MatchOption (result_in src said) ((e ≡ refusal.OutOfMemory) × TakesMemory old said) (λ r. CrewRefuses crew old r.0 r.1 e new)
+-- why a message ends in an error: a question only if there is no memory for its answer, which changes nothing
+abbrev pub ActRefuses : List WorkerState → CoordValue → Node → Body → CoordError → List WorkerState → CoordValue → Type 0
+ActRefuses crew old src said e crew_new new =
+    MatchOption (result_in src said) ((e ≡ refusal.OutOfMemory) × TakesMemory old said × (crew_new ≡ crew) × (new ≡ old)) (λ r. CrewRefuses crew old r.0 r.1 e crew_new new)
 
 -- ---- jobs that are handed out
 

@@ -1,5 +1,5 @@
 -- A dispatch in turns: it hands out jobs and takes letters, one after another, until nothing is left to do or it stops for a reason (RocksDB wiki, Remote Compaction: the host decides where a job runs and how its bytes travel).
-use Rattle.std.specs.Prelude.{◌≡◌, ◌⊎◌, ℕ, ◌<◌, ◌≤◌, true, false, List, [], ◌∷◌, ◌++◌, Option, None, Some, IfSome}
+use Rattle.std.specs.Prelude.{◌≡◌, ◌⊎◌, ℕ, ◌+◌, ◌<◌, ◌≤◌, true, false, List, [], ◌∷◌, ◌++◌, Option, None, Some, IfSome}
 use Rattle.std.specs.List.{flat_map}
 use Rattle.std.specs.Io.KnownBytes.{Appends, Consumes, IsAtEnd}
 use Rattle.lsm_key.specs.declared.limits.TheConstants.{MAX_NODES}
@@ -7,7 +7,7 @@ use Rattle.lsm_msg.specs.declared.message.Message.{Message}
 use Rattle.lsm_msg.specs.Messages.{IsSpelled, sized}
 use Rattle.lsm_pipe.specs.declared.error.PipeError.{PipeError}
 use Rattle.lsm_pipe.specs.declared.error.PipeError.TheVariants as pipe
-use Rattle.lsm_pipe.specs.Frames.{FrameRefuses, SendRefuses, framed}
+use Rattle.lsm_pipe.specs.Frames.{FrameRefuses, IsSinkError, SendRefuses, framed}
 use Rattle.lsm_coord.specs.declared.error.CoordError.{CoordError}
 use Rattle.lsm_coord.specs.Contract.Serving.{answer_message}
 use Rattle.lsm_coord.specs.Contract.Value.{CoordValue}
@@ -22,6 +22,24 @@ use Rattle.lsm_dispatch.specs.declared.letter.Letter.TheVariants as letter
 use Rattle.lsm_dispatch.specs.Crews.{after_leaving, has_busy, state_of, with_state}
 use Rattle.lsm_dispatch.specs.Dispatching.{ActRefuses, ActsOn, HandsOut, IsDue, JobRefuses}
 use Rattle.lsm_dispatch.specs.Letters.{IsLetter, NoLetter}
+
+-- ---- who waits
+
+-- each worker before this number that is idle was asked, and no compaction is due that it may have
+abbrev pub NoneWaitsBefore : ℕ → List WorkerState → CoordValue → Type 0
+NoneWaitsBefore number crew c = (index : ℕ) → 1 ≤ index → index < number → state_of crew index ≡ Idle → IsNoneDue c
+
+-- each of all workers
+abbrev pub NoneWaits : List WorkerState → CoordValue → Type 0
+NoneWaits crew c = NoneWaitsBefore (MAX_NODES + 1) crew c
+
+-- a letter is waited for only while a worker has a job, and no idle one may have one
+abbrev pub AwaitsLetter : List WorkerState → CoordValue → Type 0
+AwaitsLetter crew c = (has_busy crew ≡ true) × NoneWaits crew c
+
+-- the worker of this number is asked: it gets a job, if it is idle and one is due
+abbrev pub AsksWorker : ℕ → List WorkerState → CoordValue → List WorkerState → CoordValue → Type 0
+AsksWorker number crew old crew_new new = (sent : Option Message) × HandsOut crew old number crew_new new sent
 
 -- ---- turns
 
@@ -39,7 +57,7 @@ TakesLetter crew old (letter.There index) sent crew_new new = (crew_new ≡ with
 
 abbrev pub IsTurn : List WorkerState → CoordValue → Turn → List WorkerState → CoordValue → Type 0
 IsTurn crew old (Hands index sent) crew_new new = HandsOut crew old index crew_new new sent
-IsTurn crew old (Takes payload sent) crew_new new = (l : Letter) × IsLetter payload l × TakesLetter crew old l sent crew_new new
+IsTurn crew old (Takes payload sent) crew_new new = AwaitsLetter crew old × (l : Letter) × IsLetter payload l × TakesLetter crew old l sent crew_new new
 
 -- one after another
 abbrev pub TurnsThrough : List WorkerState → CoordValue → List Turn → List WorkerState → CoordValue → Type 0
@@ -67,19 +85,6 @@ pub record RunsOver (crew : List WorkerState) (old : CoordValue) (was left held 
   pub through : TurnsThrough crew old turns crew_new new
   pub read : Consumes was left (flat_map bytes_read turns)
   pub written : Appends held holds (framed (flat_map sent_in turns))
-
--- each worker that is idle was asked, and no compaction is due that it may have
-abbrev pub NoneWaits : List WorkerState → CoordValue → Type 0
-NoneWaits crew c = (index : ℕ) → 1 ≤ index → index ≤ MAX_NODES → state_of crew index ≡ Idle → IsNoneDue c
-
--- a worker has a job; or nothing has changed, and the worker of this number was not idle, or no compaction is due
-abbrev pub AsksWorker : ℕ → List WorkerState → CoordValue → List WorkerState → CoordValue → Type 0
-AsksWorker number crew old crew_new new = (has_busy crew_new ≡ true) ⊎ ((crew_new ≡ crew) × (new ≡ old) × (state_of crew number ≡ Idle → IsNoneDue old))
-
--- the same of all workers before this number
-abbrev pub AsksBefore : ℕ → List WorkerState → CoordValue → List WorkerState → CoordValue → Type 0
-AsksBefore number crew old crew_new new =
-    (has_busy crew_new ≡ true) ⊎ ((crew_new ≡ crew) × (new ≡ old) × ((index : ℕ) → 1 ≤ index → index < number → state_of crew index ≡ Idle → IsNoneDue old))
 
 -- it went on until no worker had a job, and none was due for an idle one
 pub record RunEnds (crew : List WorkerState) (old : CoordValue) (was left held holds : Option (List ℕ)) (new : CoordValue) : Type 0 where
@@ -112,10 +117,14 @@ abbrev pub LetterRefuses : Option (List ℕ) → PipeError → Type 0
 LetterRefuses known pipe.NotMessage = IfSome known IsNoLetter
 LetterRefuses known e = FrameRefuses known e
 
--- a letter is waited for only while a worker has a job; that there is no end may be reported at any time
-abbrev pub ReadStops : List WorkerState → Option (List ℕ) → PipeError → Type 0
-ReadStops crew known pipe.NoEnd = Unit {0}
-ReadStops crew known e = (has_busy crew ≡ true) × LetterRefuses known e
+-- why no letter comes; that there is no end may be reported at any time
+abbrev pub ReadStops : List WorkerState → CoordValue → Option (List ℕ) → PipeError → Type 0
+ReadStops crew c known pipe.NoEnd = Unit {0}
+ReadStops crew c known e = AwaitsLetter crew c × LetterRefuses known e
+
+-- a message that is not sent is not written, not even in part, unless the sink failed
+abbrev pub IsUnwritten : Option (List ℕ) → Option (List ℕ) → PipeError → Type 0
+IsUnwritten held holds e = IsSinkError e ⊎ (holds ≡ held)
 
 -- no message is sent unless a turn sends it
 abbrev pub WriteStops : List WorkerState → CoordValue → Option (List ℕ) → PipeError → Type 0
@@ -129,16 +138,18 @@ PickStops crew c e = (index : ℕ) × (state_of crew index ≡ Idle) × JobRefus
 pub record ActStops (crew : List WorkerState) (c : CoordValue) (known : Option (List ℕ)) (e : CoordError) : Type 0 where
   pub payload : List ℕ
   pub next : Message
+  pub crew_new : List WorkerState
   pub new : CoordValue
+  pub waits : AwaitsLetter crew c
   pub comes : ComesNext known (sized payload)
   pub spelled : IsSpelled payload next
-  pub refuses : ActRefuses crew c next.src next.body e new
+  pub refuses : ActRefuses crew c next.src next.body e crew_new new
 
--- Why a dispatch stops at this point, by what is left of its input then. If it was not a send that failed, nothing more was written.
+-- Why a dispatch stops at this point, by what is left of its input then. If it was not the sink that failed, nothing more was written.
 abbrev pub TurnStops : List WorkerState → CoordValue → Option (List ℕ) → Option (List ℕ) → Option (List ℕ) → DispatchError → Type 0
-TurnStops crew c known holds last (error.Pipe e) = WriteStops crew c known e ⊎ (ReadStops crew known e × (last ≡ holds))
+TurnStops crew c known holds last (error.Pipe e) = (WriteStops crew c known e × IsUnwritten holds last e) ⊎ (ReadStops crew c known e × (last ≡ holds))
 TurnStops crew c known holds last (error.Coord e) = (PickStops crew c e ⊎ ActStops crew c known e) × (last ≡ holds)
-TurnStops crew c known holds last error.EndsEarly = IsAtEnd known × (has_busy crew ≡ true) × (last ≡ holds)
+TurnStops crew c known holds last error.EndsEarly = IsAtEnd known × AwaitsLetter crew c × (last ≡ holds)
 TurnStops crew c known holds last error.NoWorker = ⊥
 
 -- it stops for this reason after some turns
@@ -151,8 +162,8 @@ pub record RunStops (crew : List WorkerState) (old : CoordValue) (was held last 
   pub stops : TurnStops crew_new new left holds last e
 
 -- why a message is not sent, if there is one
-abbrev pub OneRefuses : Option Message → DispatchError → Type 0
-OneRefuses sent e = (m : Message) × (sent ≡ Some m) × (why : PipeError) × SendRefuses m why × (e ≡ error.Pipe why)
+abbrev pub OneRefuses : Option Message → Option (List ℕ) → Option (List ℕ) → DispatchError → Type 0
+OneRefuses sent held holds e = (m : Message) × (sent ≡ Some m) × (why : PipeError) × SendRefuses m why × IsUnwritten held holds why × (e ≡ error.Pipe why)
 
 -- Why a dispatch ends early: it stopped; or all its turns were done, and a compaction was due then for which there was no worker, or what is
 -- due could not be found out.

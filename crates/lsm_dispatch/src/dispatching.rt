@@ -1,6 +1,6 @@
 //! A dispatch: a coordinator that has its compactions made over a pipe.
 
-ghost use Rattle.std.specs.Prelude.{◌≡◌, ℕ, ◌+◌, ◌<◌, ◌≤◌, List, [], Option, true, false, IfErr, IfOk, IfSome, OnOk};
+ghost use Rattle.std.specs.Prelude.{◌≡◌, ℕ, ◌+◌, ◌<◌, ◌≤◌, List, [], Option, false, IfErr, IfOk, IfSome, OnOk};
 ghost use Rattle.std.specs.Io.KnownBytes.{Appends};
 ghost use Rattle.lsm_key.specs.declared.limits.TheConstants.{MAX_NODES};
 ghost use Rattle.lsm_msg.specs.Messages.{IsMessage};
@@ -9,7 +9,7 @@ ghost use Rattle.lsm_io.specs.Reports.{ReportsAfter, ReportsAfterBoth, ReportsFa
 ghost use Rattle.lsm_dispatch.specs.Counting.{MayStopAfter, read_faults_in, write_faults_in};
 ghost use Rattle.lsm_dispatch.specs.Crews.{has_busy, new_crew};
 ghost use Rattle.lsm_dispatch.specs.Dispatching.{IsLeftDue, KeepsIfMerged, RunKeeps};
-ghost use Rattle.lsm_dispatch.specs.Turns.{AsksWorker, AsksBefore, DispatchRefuses, NoneWaits, OneRefuses, RunEnds, RunStops, RunsOver, one_or_none};
+ghost use Rattle.lsm_dispatch.specs.Turns.{AsksWorker, AwaitsLetter, DispatchRefuses, NoneWaits, OneRefuses, RunEnds, RunStops, RunsOver, one_or_none};
 
 use crate::crew::Crew;
 use crate::error::DispatchError;
@@ -96,7 +96,7 @@ fn hand_out_all<V: Vault, W: Sink>(
 ) -> Result<(), DispatchError>
     ensures ok { OnOk result ((input : Option (List ℕ)) → RunsOver crew.old coord.old input input (W.contents writer.old) (W.contents writer.new) crew.new coord.new) }
     ensures refused { IfErr result (λ e. (input : Option (List ℕ)) → RunStops crew.old coord.old input (W.contents writer.old) (W.contents writer.new) e) }
-    ensures asks { OnOk result (AsksBefore (MAX_NODES + 1) crew.old coord.old crew.new coord.new) }
+    ensures asks { OnOk result (NoneWaits crew.new coord.new) }
     ensures keeps { RunKeeps crew.old coord.old crew.new coord.new }
     ensures counted { ReportsAfter MayStopAfter result (W.writes writer.old) (W.writes writer.new) }
     ensures faults { ReportsFaults write_faults_in result (W.faults writer.old) (W.faults writer.new) }
@@ -140,7 +140,7 @@ fn take_letter<V: Vault, R: Source, W: Sink>(
     reader: &mut R,
     writer: &mut W,
 ) -> Result<(), DispatchError>
-    requires { has_busy crew.old ≡ true }
+    requires { AwaitsLetter crew.old coord.old }
     ensures ok { OnOk result (RunsOver crew.old coord.old (R.remaining reader.old) (R.remaining reader.new) (W.contents writer.old) (W.contents writer.new) crew.new coord.new) }
     ensures refused { IfErr result (RunStops crew.old coord.old (R.remaining reader.old) (W.contents writer.old) (W.contents writer.new)) }
     ensures keeps { RunKeeps crew.old coord.old crew.new coord.new }
@@ -177,7 +177,7 @@ fn send_some<W: Sink>(
 ) -> Result<(), DispatchError>
     requires { IfSome message IsMessage }
     ensures ok { OnOk result (Appends (W.contents writer.old) (W.contents writer.new) (framed (one_or_none message))) }
-    ensures refused { IfErr result (OneRefuses message) }
+    ensures refused { IfErr result (OneRefuses message (W.contents writer.old) (W.contents writer.new)) }
     ensures counted { ReportsAfter MayStopAfter result (W.writes writer.old) (W.writes writer.new) }
     ensures faults { ReportsFaults write_faults_in result (W.faults writer.old) (W.faults writer.new) }
     ensures unread { IfErr result (λ e. read_faults_in e ≡ 0) }

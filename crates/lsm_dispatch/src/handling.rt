@@ -1,6 +1,6 @@
 //! What the workers of a coordinator are given, and what is done with what comes from them.
 
-ghost use Rattle.std.specs.Prelude.{◌≡◌, ℕ, List, [], true, IfErr, IfOk, IfSome, OnErr};
+ghost use Rattle.std.specs.Prelude.{◌≡◌, ℕ, List, [], true, IfErr, IfOk, IfSome, OnErr, OnOk};
 ghost use Rattle.lsm_msg.specs.declared.message.Body.TheVariants as body;
 ghost use Rattle.lsm_msg.specs.Messages.{IsMessage};
 ghost use Rattle.lsm_coord.specs.Contract.Serving.{answer_message};
@@ -53,9 +53,9 @@ impl Crew {
         coord: &mut Coord<V>,
         message: &Message,
     ) -> Result<Option<Message>, CoordError>
-        ensures acts { ActsOn self.old coord.old message.now.src message.now.body self.new coord.new }
+        ensures acts { OnOk result (ActsOn self.old coord.old message.now.src message.now.body self.new coord.new) }
         ensures answered { IfOk result (λ answer. answer ≡ answer_message coord.old message.now message.now.body) }
-        ensures refused { IfErr result (λ e. ActRefuses self.old coord.old message.now.src message.now.body e coord.new) }
+        ensures refused { IfErr result (λ e. ActRefuses self.old coord.old message.now.src message.now.body e self.new coord.new) }
         ensures sound { IsMessage message.now → IfOk result (λ answer. IfSome answer IsMessage) }
         ensures held { CrewHolds coord.old.book self.old → CrewHolds coord.new.book self.new }
         ensures passes { (results : List Taken) × Passes coord.old results coord.new }
@@ -76,8 +76,8 @@ impl Crew {
         src: Node,
         made: &JobResult,
     ) -> Result<(), CoordError>
-        ensures acts { ActsOn self.old coord.old src (body.Result made.now) self.new coord.new }
-        ensures refused { IfErr result (λ e. ActRefuses self.old coord.old src (body.Result made.now) e coord.new) }
+        ensures acts { OnOk result (ActsOn self.old coord.old src (body.Result made.now) self.new coord.new) }
+        ensures refused { IfErr result (λ e. ActRefuses self.old coord.old src (body.Result made.now) e self.new coord.new) }
         ensures held { CrewHolds coord.old.book self.old → CrewHolds coord.new.book self.new }
         ensures passes { (results : List Taken) × Passes coord.old results coord.new }
     {
@@ -93,9 +93,9 @@ impl Crew {
         index: NodeIndex,
         made: &JobResult,
     ) -> Result<(), CoordError>
-        ensures taken { IsBusyWith (state_of self.old index) made.now.job → CrewTakes self.old coord.old index made.now self.new coord.new }
+        ensures taken { IsBusyWith (state_of self.old index) made.now.job → OnOk result (CrewTakes self.old coord.old index made.now self.new coord.new) }
         ensures late { (IsBusyWith (state_of self.old index) made.now.job → ⊥) → (self.new ≡ self.old) × (coord.new ≡ coord.old) }
-        ensures refused { IfErr result (λ e. CrewRefuses self.old coord.old index made.now e coord.new) }
+        ensures refused { IfErr result (λ e. CrewRefuses self.old coord.old index made.now e self.new coord.new) }
         ensures held { CrewHolds coord.old.book self.old → CrewHolds coord.new.book self.new }
         ensures passes { (results : List Taken) × Passes coord.old results coord.new }
     {

@@ -23,7 +23,6 @@ pub(crate) fn take_result<V: Vault>(
     made: &JobResult,
 ) -> Result<bool, CoordError>
     ensures ok { IfOk result (λ stays. TakesClaim coord.old claim made.now stays coord.new) }
-    ensures err { OnErr result (TakesClaim coord.old claim made.now true coord.new) }
     ensures refused { IfErr result (λ e. ResultRefuses coord.old claim made.now e coord.new) }
     ensures ended { Ends coord.old.book (claim.id ∷ []) coord.new.book }
     ensures passes { (results : List Taken) × Passes coord.old results coord.new }
@@ -78,7 +77,7 @@ fn install<V: Vault>(
 fn trim<V: Vault>(coord: &mut Coord<V>, number: VersionNumber) -> Result<(), CoordError>
     ensures book { coord.new.book ≡ coord.old.book }
     ensures keeps { Keeps coord.old coord.new }
-    ensures trims { TrimsTo coord.old number coord.new }
+    ensures trims { OnOk result (TrimsTo coord.old number coord.new) }
     ensures refused { IfErr result (λ e. TrimRefuses coord.old number e coord.new) }
 {
     coord.trim(number)?;

@@ -1,7 +1,9 @@
 -- A worker over two streams, message by message.
-use Rattle.std.proofs.Common.{◌≡◌, ℕ, Bool, true, false, List, [], ◌∷◌, ◌++◌, Option, Some, None, Result, Ok, Err, IfSome, IfErr, refl, sym, ap, subst, ◌∙◌, append_assoc, append-nil, inl, inr}
+use Rattle.std.proofs.Common.{◌≡◌, ℕ, ◌<◌, Bool, true, false, List, [], ◌∷◌, ◌++◌, length, get_or, Option, Some, None, Result, Ok, Err, IfSome, IfErr, ◌⊎◌, refl, sym, ap, subst, ◌∙◌, append_assoc, append-nil, inl, inr}
 use Rattle.std.specs.Io.KnownBytes.{Appends, Consumes}
 use Rattle.std.proofs.KnownBytes.{Appends-nil, Appends-trans, Consumes-nil, Consumes-trans, Consumes-whole}
+use Rattle.lsm_key.specs.Sets.{IsIn}
+use Rattle.lsm_key.proofs.Membership.{IsIn-at}
 use Rattle.lsm_msg.specs.declared.message.Message.{Message}
 use Rattle.lsm_msg.specs.declared.node.Node.TheVariants.{Worker}
 use Rattle.lsm_msg.specs.Messages.{IsMessage, message, sized}
@@ -11,17 +13,23 @@ use Rattle.lsm_work.specs.Workers.{WorkOutcome, WorkerValue, Works, ignores}
 use Rattle.lsm_pipe.specs.declared.error.PipeError.{PipeError}
 use Rattle.lsm_pipe.specs.declared.error.PipeError.TheVariants as error
 use Rattle.lsm_pipe.specs.Counting.{read_faults_of}
-use Rattle.lsm_pipe.specs.Frames.{SendRefuses, SendStops, framed}
-use Rattle.lsm_pipe.specs.Working.{StopsAfter, TakeStops, TakesNext, TakesOver, WorkStops, WorksAll, WorksOnce, WorksOver, WorksThrough}
+use Rattle.lsm_pipe.specs.Frames.{IsSinkError, SendRefuses, SendStops, framed}
+use Rattle.lsm_pipe.specs.Working.{StopsAfter, TakeStops, TakesNext, TakesOver, WorkStops, WorksAll, WorksOnMessage, WorksOnce, WorksOver, WorksThrough}
 
 -- ---- one message
 
-pub send_stops : (m : Message) (e : PipeError) → SendRefuses m e → SendStops e
-send_stops m error.TooLarge h = tt
-send_stops m error.NoEnd h = tt
-send_stops m error.WriteFault h = tt
-send_stops m error.OutOfMemory h = tt
-send_stops m e h = absurd h
+-- one of the messages is not sent
+pub send_stops : (ms : List Message) (k : ℕ) (m : Message) (e : PipeError) → m ≡ get_or ms k m → k < length ms → SendRefuses m e → SendStops ms e
+send_stops ms k m error.TooLarge at less h = (m, subst (λ (x : Message). IsIn x ms) (sym at) (IsIn-at ms k m less), h)
+send_stops ms k m error.NoEnd at less h = tt
+send_stops ms k m error.WriteFault at less h = tt
+send_stops ms k m error.OutOfMemory at less h = tt
+send_stops ms k m e at less h = absurd h
+
+-- a message that is refused before the sink is asked, or by the sink
+pub unsent : {A : Type 0} (old new : A) (r : Result (Unit {0}) PipeError) → IfErr r (λ e. (e ≡ error.WriteFault) ⊎ (e ≡ error.NoEnd)) → IfErr r (λ e. IsSinkError e ⊎ (new ≡ old))
+unsent old new (Ok x) h = tt
+unsent old new (Err e) h = elim h [ inl fault ↦ inl (subst IsSinkError (sym fault) tt) | inr none ↦ inl (subst IsSinkError (sym none) tt) ]
 
 pub taken_ignored : (index : ℕ) (w : WorkerValue) (m : Message) (held : Option (List ℕ)) → IsMessage m → (m.dst ≡ Worker index → ⊥) → TakesOver index w m held held w
 taken_ignored index w m held sound other = record {
@@ -43,16 +51,17 @@ taken_worked index w new m change sent held holds sound own works stays written 
 pub gave_up : (index : ℕ) (w new : WorkerValue) (m : Message) (change : WorkChange) (sent : List Message) → m.dst ≡ Worker index → Works w m.body (record { change = change; sent = sent; worker = new }) → change ≡ Dropped → TakeStops index w m error.GaveUp
 gave_up index w new m change sent own works dropped = (record { change = change; sent = sent; worker = new }, inl (own, works), dropped)
 
-sent_stops : (index : ℕ) (w : WorkerValue) (m : Message) (e : PipeError) → SendStops e → TakeStops index w m e
-sent_stops index w m error.TooLarge h = tt
-sent_stops index w m error.NoEnd h = tt
-sent_stops index w m error.WriteFault h = tt
-sent_stops index w m error.OutOfMemory h = tt
-sent_stops index w m e h = absurd h
+sent_stops : (index : ℕ) (w : WorkerValue) (m : Message) (o : WorkOutcome) (e : PipeError) → WorksOnMessage index w m o → SendStops o.sent e → TakeStops index w m e
+sent_stops index w m o error.TooLarge works h = (o, works, h)
+sent_stops index w m o error.NoEnd works h = tt
+sent_stops index w m o error.WriteFault works h = tt
+sent_stops index w m o error.OutOfMemory works h = tt
+sent_stops index w m o e works h = absurd h
 
-pub sends_or_stops : (index : ℕ) (w : WorkerValue) (m : Message) (r : Result (Unit {0}) PipeError) → IfErr r SendStops → IfErr r (TakeStops index w m)
-sends_or_stops index w m (Ok x) h = tt
-sends_or_stops index w m (Err e) h = sent_stops index w m e h
+pub sends_or_stops : (index : ℕ) (w new : WorkerValue) (m : Message) (change : WorkChange) (sent : List Message) (r : Result (Unit {0}) PipeError) → m.dst ≡ Worker index → Works w m.body (record { change = change; sent = sent; worker = new })
+    → IfErr r (SendStops sent) → IfErr r (TakeStops index w m)
+sends_or_stops index w new m change sent (Ok x) own works h = tt
+sends_or_stops index w new m change sent (Err e) own works h = sent_stops index w m (record { change = change; sent = sent; worker = new }) e (inl (own, works)) h
 
 begins : (was left : Option (List ℕ)) (bytes : List ℕ) → Consumes was left bytes → IfSome was (λ all. (rest : List ℕ) × (all ≡ bytes ++ rest))
 begins None left bytes p = tt
@@ -61,8 +70,8 @@ begins (Some xs) (Some ys) bytes p = (ys, p)
 
 -- a message that was read and not taken
 pub stops_at : (index : ℕ) (w : WorkerValue) (m : Message) (was left : Option (List ℕ)) (e : PipeError) → Consumes was left (sized (message m)) → TakeStops index w m e → WorkStops index w was e
-stops_at index w m was left error.GaveUp read h = record { next = m; outcome = h.0; comes = begins was left (sized (message m)) read; taken = h.1; dropped = h.2 }
-stops_at index w m was left error.TooLarge read h = tt
+stops_at index w m was left error.GaveUp read h = record { next = m; outcome = h.0; comes = begins was left (sized (message m)) read; taken = h.1; ends = h.2 }
+stops_at index w m was left error.TooLarge read h = record { next = m; outcome = h.0; comes = begins was left (sized (message m)) read; taken = h.1; ends = h.2 }
 stops_at index w m was left error.NoEnd read h = tt
 stops_at index w m was left error.WriteFault read h = tt
 stops_at index w m was left error.OutOfMemory read h = tt

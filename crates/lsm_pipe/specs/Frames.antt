@@ -5,6 +5,7 @@ use Rattle.std.specs.List.{flat_map}
 use Rattle.std.specs.Io.KnownBytes.{Consumes, IsAtEnd}
 use Rattle.lsm_pipe.specs.declared.error.PipeError.{PipeError}
 use Rattle.lsm_pipe.specs.declared.error.PipeError.TheVariants.{EndsInside, TooLong, NotMessage, TooLarge, NoEnd, ReadFault, WriteFault, OutOfMemory}
+use Rattle.lsm_key.specs.Sets.{IsIn}
 use Rattle.lsm_io.specs.declared.sink.SinkError.{SinkError}
 use Rattle.lsm_io.specs.declared.sink.SinkError.TheVariants as sink
 use Rattle.lsm_io.specs.declared.source.SourceError.{SourceError}
@@ -100,18 +101,32 @@ abbrev pub MessageRefuses : Option (List ℕ) → PipeError → Type 0
 MessageRefuses known NotMessage = IfSome known IsNoMessage
 MessageRefuses known e = FrameRefuses known e
 
+-- the message has too many bytes for a frame
+abbrev pub ExceedsFrame : Message → Type 0
+ExceedsFrame m = MAX_MESSAGE_BYTES < length (message m)
+
 -- why a message is not sent
 abbrev pub SendRefuses : Message → PipeError → Type 0
-SendRefuses m TooLarge = MAX_MESSAGE_BYTES < length (message m)
+SendRefuses m TooLarge = ExceedsFrame m
 SendRefuses m NoEnd = Unit {0}
 SendRefuses m WriteFault = Unit {0}
 SendRefuses m OutOfMemory = Unit {0}
 SendRefuses m e = ⊥
 
--- why some message is not sent
-abbrev pub SendStops : PipeError → Type 0
-SendStops TooLarge = Unit {0}
-SendStops NoEnd = Unit {0}
-SendStops WriteFault = Unit {0}
-SendStops OutOfMemory = Unit {0}
-SendStops e = ⊥
+-- the sink takes no more bytes
+abbrev pub IsSinkError : PipeError → Type 0
+IsSinkError NoEnd = Unit {0}
+IsSinkError WriteFault = Unit {0}
+IsSinkError e = ⊥
+
+-- one of the messages has too many bytes
+abbrev pub HasTooLarge : List Message → Type 0
+HasTooLarge messages = (m : Message) × IsIn m messages × ExceedsFrame m
+
+-- why not all of these messages are sent
+abbrev pub SendStops : List Message → PipeError → Type 0
+SendStops messages TooLarge = HasTooLarge messages
+SendStops messages NoEnd = Unit {0}
+SendStops messages WriteFault = Unit {0}
+SendStops messages OutOfMemory = Unit {0}
+SendStops messages e = ⊥

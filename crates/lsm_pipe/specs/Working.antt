@@ -7,8 +7,8 @@ use Rattle.lsm_msg.specs.Messages.{IsMessage, message, sized}
 use Rattle.lsm_work.specs.declared.change.WorkChange.TheVariants.{Dropped}
 use Rattle.lsm_work.specs.Workers.{WorkOutcome, WorkerValue, Works, ignores}
 use Rattle.lsm_pipe.specs.declared.error.PipeError.{PipeError}
-use Rattle.lsm_pipe.specs.declared.error.PipeError.TheVariants.{GaveUp, NoEnd, TooLarge, WriteFault}
-use Rattle.lsm_pipe.specs.Frames.{MessageRefuses, SendStops, framed}
+use Rattle.lsm_pipe.specs.declared.error.PipeError.TheVariants.{GaveUp, NoEnd, OutOfMemory, TooLarge, WriteFault}
+use Rattle.lsm_pipe.specs.Frames.{HasTooLarge, MessageRefuses, framed}
 
 -- what comes of a message at the worker of this index: one that is for another node is ignored
 abbrev pub WorksOnMessage : ℕ → WorkerValue → Message → WorkOutcome → Type 0
@@ -55,24 +55,36 @@ abbrev pub WorksOnce : ℕ → WorkerValue → Option (List ℕ) → Option (Lis
 WorksOnce index old was left held holds new true = (m : Message) × TakesOver index old m held holds new × Consumes was left (sized (message m))
 WorksOnce index old was left held holds new false = IsAtEnd was × Consumes was left [] × (new ≡ old) × Appends held holds []
 
+-- the worker gives its job up
+abbrev pub GivesItsJobUp : WorkOutcome → Type 0
+GivesItsJobUp o = o.change ≡ Dropped
+
+-- a message that it sends has too many bytes
+abbrev pub SendsTooLarge : WorkOutcome → Type 0
+SendsTooLarge o = HasTooLarge o.sent
+
 -- why a message that came is not taken, or what comes of it not sent
 abbrev pub TakeStops : ℕ → WorkerValue → Message → PipeError → Type 0
-TakeStops index w m GaveUp = (o : WorkOutcome) × WorksOnMessage index w m o × (o.change ≡ Dropped)
-TakeStops index w m e = SendStops e
+TakeStops index w m GaveUp = (o : WorkOutcome) × WorksOnMessage index w m o × GivesItsJobUp o
+TakeStops index w m TooLarge = (o : WorkOutcome) × WorksOnMessage index w m o × SendsTooLarge o
+TakeStops index w m NoEnd = Unit {0}
+TakeStops index w m WriteFault = Unit {0}
+TakeStops index w m OutOfMemory = Unit {0}
+TakeStops index w m e = ⊥
 
--- the next message makes the worker give its job up
-pub record EndsWork (index : ℕ) (w : WorkerValue) (known : Option (List ℕ)) : Type 0 where
+-- what comes of the next message ends the work
+pub record EndsWork (Ends : WorkOutcome → Type 0) (index : ℕ) (w : WorkerValue) (known : Option (List ℕ)) : Type 0 where
   pub next : Message
   pub outcome : WorkOutcome
   pub comes : IfSome known (λ bytes. (rest : List ℕ) × (bytes ≡ sized (message next) ++ rest))
   pub taken : WorksOnMessage index w next outcome
-  pub dropped : outcome.change ≡ Dropped
+  pub ends : Ends outcome
 
 -- why a worker ends before the input does, by what is left of the input then
 abbrev pub WorkStops : ℕ → WorkerValue → Option (List ℕ) → PipeError → Type 0
-WorkStops index w known GaveUp = EndsWork index w known
+WorkStops index w known GaveUp = EndsWork GivesItsJobUp index w known
+WorkStops index w known TooLarge = EndsWork SendsTooLarge index w known
 WorkStops index w known NoEnd = Unit {0}
-WorkStops index w known TooLarge = Unit {0}
 WorkStops index w known WriteFault = Unit {0}
 WorkStops index w known e = MessageRefuses known e
 

@@ -1,11 +1,11 @@
 //! Messages in frames.
 
-ghost use Rattle.std.specs.Prelude.{◌≡◌, ◌<◌, All, IfErr, IfOk, IfSome, OnOk, true};
+ghost use Rattle.std.specs.Prelude.{◌≡◌, ◌<◌, ◌⊎◌, All, IfErr, IfOk, IfSome, OnOk, true};
 ghost use Rattle.std.specs.Io.KnownBytes.{Appends};
 ghost use Rattle.lsm_msg.specs.Messages.{IsMessage, IsSpelled, message, sized};
 ghost use Rattle.lsm_io.specs.Reports.{ReportsAfter, ReportsFaults};
 ghost use Rattle.lsm_pipe.specs.Counting.{MayFollow, read_faults_of, write_faults_of};
-ghost use Rattle.lsm_pipe.specs.Frames.{MessageRefuses, NoMessage, SendRefuses, SendStops, TakesMessage, framed};
+ghost use Rattle.lsm_pipe.specs.Frames.{IsSinkError, MessageRefuses, NoMessage, SendRefuses, SendStops, TakesMessage, framed};
 
 use crate::error::PipeError;
 use crate::frame::{read_frame, write_frame};
@@ -41,12 +41,14 @@ pub fn message_in(alloc: Global, payload: Bytes) -> Result<Message, PipeError>
     }
 }
 
-/// Writes the frame of a message, and flushes. A message of too many bytes is refused before anything is written.
+/// Writes the frame of a message, and flushes. If the message has too many bytes, or memory runs out, nothing is written.
+#[tactic(auto, using(crate::proofs::WorkSteps::unsent))]
 pub fn send<W: Sink>(alloc: Global, writer: &mut W, m: &Message) -> Result<(), PipeError>
     requires { IsMessage m.now }
     ensures ok { OnOk result (Appends (W.contents writer.old) (W.contents writer.new) (sized (message m.now))) }
     ensures flushed { OnOk result (W.is_flushed writer.new ≡ true) }
     ensures refused { IfErr result (SendRefuses m.now) }
+    ensures unsent { IfErr result (λ e. IsSinkError e ⊎ (writer.new ≡ writer.old)) }
     ensures counted { ReportsAfter MayFollow result (W.writes writer.old) (W.writes writer.new) }
     ensures faults { ReportsFaults write_faults_of result (W.faults writer.old) (W.faults writer.new) }
 {
@@ -58,7 +60,6 @@ pub fn send<W: Sink>(alloc: Global, writer: &mut W, m: &Message) -> Result<(), P
 }
 
 /// Sends messages in turn.
-#[tactic(auto, using(crate::proofs::WorkSteps::send_stops))]
 pub(crate) fn send_all<W: Sink>(
     alloc: Global,
     writer: &mut W,
@@ -66,7 +67,7 @@ pub(crate) fn send_all<W: Sink>(
 ) -> Result<(), PipeError>
     requires { All IsMessage messages.now }
     ensures ok { OnOk result (Appends (W.contents writer.old) (W.contents writer.new) (framed messages.now)) }
-    ensures refused { IfErr result SendStops }
+    ensures refused { IfErr result (SendStops messages.now) }
     ensures counted { ReportsAfter MayFollow result (W.writes writer.old) (W.writes writer.new) }
     ensures faults { ReportsFaults write_faults_of result (W.faults writer.old) (W.faults writer.new) }
 {

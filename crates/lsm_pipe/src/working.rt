@@ -41,6 +41,7 @@ pub fn work<R: Source, W: Sink>(
 }
 
 // Hands the worker the next message, and sends what it answers. Returns whether there was one.
+#[tactic(auto, using(crate::proofs::WorkSteps::stops_at))]
 fn turn<R: Source, W: Sink>(
     alloc: Global,
     index: NodeIndex,
@@ -65,6 +66,7 @@ fn turn<R: Source, W: Sink>(
 }
 
 // Hands the worker a message, unless it is for another node, and sends what it answers.
+#[tactic(auto, using(crate::proofs::WorkSteps::sends_or_stops))]
 fn take<W: Sink>(
     alloc: Global,
     index: NodeIndex,

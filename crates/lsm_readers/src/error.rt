@@ -14,8 +14,16 @@ pub enum ReadError {
 /// Why a version is not shown to readers, which go on reading the one before.
 #[derive(Clone, Copy, Debug, PartialEq, Eq, Error)]
 pub enum PublishError {
+    /// There is no memory for a copy of the version.
     #[error("the version was not taken: out of memory")]
-    NotTaken,
+    OutOfMemory,
+    /// As many versions were published as a log has room for.
+    #[error("the version was not taken: the log is full")]
+    LogFull,
+    /// Another writer published to the log.
+    #[error("the version was not taken: another writer published to the log")]
+    Overtaken,
+    /// The version was taken, and is shown with the next one.
     #[error("the version waits for the next publication: out of memory")]
     Pending,
 }

@@ -1,11 +1,11 @@
 //! What publishes.
 
-ghost use Rattle.std.specs.Prelude.{◌≡◌, ◌≤◌, ◌⊎◌, ◌++◌, ◌∷◌, [], MatchBool, OnOk, IfErr, length};
+ghost use Rattle.std.specs.Prelude.{◌≡◌, ◌≢◌, ◌≤◌, ◌⊎◌, ◌++◌, ◌∷◌, [], OnOk, IfErr, length};
 ghost use Rattle.std.specs.Option.{option_map};
 ghost use Rattle.left_right.specs.Handles.{published, pending};
-ghost use Rattle.lsm_readers.specs.Publications.{IsLater, IsLonger, last_published};
+ghost use Rattle.lsm_readers.specs.Publications.{IsLater, last_published};
 ghost use Rattle.lsm_readers.specs.declared.writer.TheConstants.{MAX_PUBLICATIONS};
-ghost use Rattle.lsm_readers.specs.declared.error.PublishError.TheVariants.{NotTaken, Pending};
+ghost use Rattle.lsm_readers.specs.declared.error.PublishError.TheVariants.{LogFull, Pending};
 
 use crate::{LogName, Publication, PublicationLog, PublishError, Told, View};
 use left_right::{Absorb, WriteHandle};
@@ -87,22 +87,26 @@ impl<J: LogName, R: Wait + Drop> FollowerWriter<Publication<J>, View<J>, Publica
 
     /// Shows a copy of the version to readers, with all that waits. Waits for those that still read the version before the
     /// last one; no reader waits for it.
-    /// Refuses: `NotTaken` if there is no memory for a copy, or somebody else published to the log; `Pending` if there is no
-    /// memory to show it, and the next publication that succeeds shows it too.
+    /// Refuses: `LogFull` if the log has no room, `OutOfMemory` if there is no memory for a copy, `Overtaken` if another writer published
+    /// to the log; `Pending` if there is no memory to show it, and the next publication that succeeds shows it too.
     #[tactic(auto, using(crate::proofs::Adding::last_push))]
     pub fn publish(&mut self, served: &Served) -> Result<(), PublishError>
         requires { IsLater self.old.taken served.now }
         ensures taken { (self.new.taken ≡ self.old.taken) ⊎ (self.new.taken ≡ self.old.taken ++ served.now ∷ []) }
         ensures ok { OnOk result ((self.new.taken ≡ self.old.taken ++ served.now ∷ []) × (self.new.published ≡ self.new.taken)) }
-        ensures not_taken { IfErr result (λ e. e ≡ NotTaken → self.new ≡ self.old) }
+        ensures not_taken { IfErr result (λ e. e ≢ Pending → self.new ≡ self.old) }
+        ensures full { IfErr result (λ e. e ≡ LogFull → MAX_PUBLICATIONS ≤ length self.old.taken) }
         ensures pending { IfErr result (λ e. e ≡ Pending → (self.new.taken ≡ self.old.taken ++ served.now ∷ []) × (self.new.published ≡ self.old.published)) }
     {
+        if self.taken.len() >= MAX_PUBLICATIONS {
+            return Err(PublishError::LogFull);
+        }
         let Ok(copy) = served.copy(self.alloc) else {
-            return Err(PublishError::NotTaken);
+            return Err(PublishError::OutOfMemory);
         };
         let mut view = self.taken.copy();
-        if !is_added(&mut view, &self.log, served) {
-            return Err(PublishError::NotTaken);
+        if !view.add(&self.log, served) {
+            return Err(PublishError::Overtaken);
         }
         self.taken = view.copy();
         self.number = served.version().number();
@@ -111,13 +115,14 @@ impl<J: LogName, R: Wait + Drop> FollowerWriter<Publication<J>, View<J>, Publica
     }
 
     /// Shows the version to readers, with all that waits, unless they are shown it: it is the last one that was taken, or a later one.
-    /// Refuses as `publish` does, `NotTaken` only if the version is later.
+    /// Refuses as `publish` does, with another refusal than `Pending` only if the version is later.
     #[tactic(auto, using(crate::proofs::Adding::last_push))]
     pub fn catch_up(&mut self, served: &Served) -> Result<(), PublishError>
         requires { (last_published self.old.taken ≡ served.now) ⊎ IsLater self.old.taken served.now }
         ensures taken { (self.new.taken ≡ self.old.taken) ⊎ (IsLater self.old.taken served.now × (self.new.taken ≡ self.old.taken ++ served.now ∷ [])) }
         ensures ok { OnOk result ((last_published self.new.taken ≡ served.now) × (self.new.published ≡ self.new.taken)) }
-        ensures not_taken { IfErr result (λ e. e ≡ NotTaken → IsLater self.old.taken served.now × (self.new ≡ self.old)) }
+        ensures not_taken { IfErr result (λ e. e ≢ Pending → IsLater self.old.taken served.now × (self.new ≡ self.old)) }
+        ensures full { IfErr result (λ e. e ≡ LogFull → MAX_PUBLICATIONS ≤ length self.old.taken) }
         ensures pending { IfErr result (λ e. e ≡ Pending → (last_published self.new.taken ≡ served.now) × (self.new.published ≡ self.old.published)) }
     {
         if served.version().number() > self.number {
@@ -150,13 +155,4 @@ impl<J: LogName, R: Wait + Drop> FollowerWriter<Publication<J>, View<J>, Publica
     {
         Told::of(self.handle.published().view().copy())
     }
-}
-
-// Adds a version to the log after all that was taken, and says whether it did. It did not if the log is full, or longer than what was
-// taken.
-fn is_added<J: LogName>(view: &mut View<J>, log: &PublicationLog<J>, served: &Served) -> bool
-    requires { IsLater view.old served.now }
-    ensures { MatchBool result (view.new ≡ view.old ++ served.now ∷ []) ((MAX_PUBLICATIONS ≤ length view.old) ⊎ IsLonger view.old view.new) }
-{
-    view.len() < MAX_PUBLICATIONS && view.add(log, served)
 }

@@ -61,7 +61,7 @@ fn flushed(alloc: Global) -> Result<Served, Fail> {
 fn open_again(alloc: Global, served: &mut Served) -> Result<(), Fail>
     ensures { OnOk result (served.old.version.number < served.new.version.number) }
 {
-    if served.version().number() >= 100 || served.version().epoch() >= 100 {
+    if served.version().number() >= 2000 || served.version().epoch() >= 2000 {
         return Err("many versions")?;
     }
     let opening = Edit::epoch(alloc, served.version());
@@ -71,23 +71,24 @@ fn open_again(alloc: Global, served: &mut Served) -> Result<(), Fail>
     Ok(())
 }
 
-// Publishes the versions after this one, up to 7.
+// Publishes the versions after this one, up to the last.
 #[tactic(auto, using(lsm_readers::proofs::Adding::last_push))]
-fn publish_to_seven<J: LogName, R: Wait + Drop>(
+fn publish_to<J: LogName, R: Wait + Drop>(
     alloc: Global,
     writer: &mut Publisher<J, R>,
     mut served: Served,
+    last: u64,
 ) -> Result<(), Fail>
     requires { (last_published writer.old.taken).version.number ≤ served.version.number }
 {
-    for _ in 0..100 {
-        if served.version().number() >= 7 {
+    for _ in 0..2000 {
+        if served.version().number() >= last {
             return Ok(());
         }
         open_again(alloc, &mut served)?;
         writer.publish(&served)?;
     }
-    Err("not at 7")?
+    Err("not at the last version")?
 }
 
 fn word_of(found: Option<&[u8]>) -> &'static str {
@@ -98,14 +99,15 @@ fn word_of(found: Option<&[u8]>) -> &'static str {
     }
 }
 
-// Publishes version 2 and those after it, up to 7.
+// Publishes the versions after version 2, up to the last.
 fn publish_flushed<J: LogName, R: Wait + Drop>(
     alloc: Global,
     writer: &mut Publisher<J, R>,
+    last: u64,
 ) -> Result<(), Fail>
     requires { writer.old.taken ≡ [] }
 {
-    publish_to_seven(alloc, writer, flushed(alloc)?)
+    publish_to(alloc, writer, flushed(alloc)?, last)
 }
 
 // At which version a reader answers, and what it answers of a key.
@@ -136,7 +138,7 @@ fn tell_one<J: LogName, R: Wait + Drop>(
         return Err("no reader")?;
     };
     let before = seen(first, b"a")?;
-    publish_flushed(alloc, writer)?;
+    publish_flushed(alloc, writer, 7)?;
     second.learn(writer.tell());
     let now = seen(second, b"a")?;
     let absent = seen(first, b"b")?;
@@ -187,7 +189,7 @@ fn publish_beside<'a, J: LogName + Send + Sync, R: Threads + Wait + Sync>(
 {
     let (written, read) = join(
         rt,
-        || publish_flushed(alloc, writer),
+        || publish_flushed(alloc, writer, 7),
         || reads_to_seven(reader),
     );
     written?;
@@ -238,6 +240,37 @@ fn catch_up_to<J: LogName, R: Wait + Drop>(
     }
     writer.catch_up(served)?;
     Ok(())
+}
+
+// A log has room for far more versions than these, and no key is refused, be it empty.
+fn many_published<J: LogName, R: Wait + Drop>(alloc: Global, rt: R, log: NewLog) -> Result<(), Fail>
+    requires { log ≡ J.log }
+{
+    let (mut writer, mut all) = readers::<J, R>(alloc, rt, log, 1)?;
+    publish_many(alloc, &mut writer, &mut all)
+}
+
+fn publish_many<J: LogName, R: Wait + Drop>(
+    alloc: Global,
+    writer: &mut Publisher<J, R>,
+    all: &mut [FollowerReader<J>],
+) -> Result<(), Fail>
+    requires { writer.old.taken ≡ [] }
+{
+    let [reader] = all else {
+        return Err("no reader")?;
+    };
+    publish_flushed(alloc, writer, 1100)?;
+    if seen(reader, b"")? != (1100, "none") {
+        return Err("another version or another value")?;
+    }
+    Ok(())
+}
+
+#[test]
+fn the_empty_key_is_read_after_a_thousand_publications(rt: HostRuntime) -> Result<(), Fail> {
+    let log = NewLog::new();
+    many_published::<Brand, _>(rt.alloc(), &rt, log)
 }
 
 #[test]

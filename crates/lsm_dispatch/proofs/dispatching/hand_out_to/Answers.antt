@@ -17,4 +17,4 @@ returns-clause-refused g c =
     hand_fails c.args.crew.now c.hand_out.new.self c.args.coord.now c.hand_out.new.coord c.in-Some.index c.in_ok-job.job (g.W.Sink.contents c.args.writer.now) (g.W.Sink.contents c.send_some.new.writer) c.in_ok-job.ensures.ok c.send_some.result c.send_some.ensures.refused
 
 pub returns-clause-asks : goal.returns-clause-asks
-returns-clause-asks g c = hand_asked c.args.crew.now c.hand_out.new.self c.args.coord.now c.hand_out.new.coord c.in-Some.index c.args.number c.in_ok-job.job c.send_some.result c.in-Some.ensures.kept c.in_ok-job.ensures.ok c.in_ok-job.ensures.busy
+returns-clause-asks g c = hand_asked c.args.crew.now c.hand_out.new.self c.args.coord.now c.hand_out.new.coord c.in-Some.index c.args.number c.in_ok-job.job c.send_some.result c.in-Some.ensures.kept c.in_ok-job.ensures.ok

@@ -2,7 +2,7 @@ use Rattle.std.proofs.Common.{◌≡◌, false, refl, ◌∙◌, arith, inr, rul
 use Rattle.std.proofs.lemmas.Result.{err_from_is_err_and}
 use Rattle.lsm_dispatch.specs.Crews.{has_busy}
 use Rattle.lsm_dispatch.proofs.KeptSteps.{run_keeps_none, run_keeps_then}
-use Rattle.lsm_dispatch.proofs.TurnSteps.{none_waits, reads_no_more, runs_none, runs_then, stops_later}
+use Rattle.lsm_dispatch.proofs.TurnSteps.{reads_no_more, runs_none, runs_then, stops_later}
 use Rattle.lsm_dispatch.proofs.dispatching.run.Goals as goal
 
 pub loop-turn-init : goal.loop-turn-init
@@ -94,7 +94,7 @@ returns-then-not-is_busy-clause-ok g c =
 pub returns-then-not-is_busy-clause-idle : goal.returns-then-not-is_busy-clause-idle
 returns-then-not-is_busy-clause-idle g c =
     let none : has_busy c.hand_out_all.new.crew ≡ false = search rules in
-    (none, none_waits c.loop-turn.crew c.hand_out_all.new.crew c.loop-turn.coord c.hand_out_all.new.coord none c.in_ok-hand_out_all.ensures.asks)
+    (none, c.in_ok-hand_out_all.ensures.asks)
 
 pub returns-then-not-is_busy-clause-keeps : goal.returns-then-not-is_busy-clause-keeps
 returns-then-not-is_busy-clause-keeps g c = run_keeps_then c.args.crew.now c.loop-turn.crew c.hand_out_all.new.crew c.args.coord.now c.loop-turn.coord c.hand_out_all.new.coord c.loop-turn.invariant.keeps c.in_ok-hand_out_all.ensures.keeps

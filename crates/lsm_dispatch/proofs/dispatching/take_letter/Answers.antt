@@ -68,21 +68,21 @@ returns-in_err-answer-in-Message-clause-refused g c =
     let p = err_from_is_err_and c.from_residual-in_err-answer-in-Message.result c.from_residual-in_err-answer-in-Message.ensures.1 in
     let read = (subst (ReadsFrame (g.R.Source.remaining c.args.reader.now) (g.R.Source.remaining c.read_frame.new.reader)) c.in-Some.is c.in_ok-payload.ensures.ok).0 in
     let is : IsLetter c.in-Some.payload (letter.Message c.in-Message.message) = subst (IsLetter c.in-Some.payload) c.in-Message.is c.in_ok-message.ensures.ok in
-    rw (p.1, p.2) (act_fails c.args.crew.now c.args.coord.now c.on_message.new.coord (g.R.Source.remaining c.args.reader.now) (g.R.Source.remaining c.read_frame.new.reader) (g.W.Sink.contents c.args.writer.now) c.in-Some.payload c.in-Message.message c.in_err-answer-in-Message.field-0.0 read is c.in_err-answer-in-Message.ensures.refused)
+    rw (p.1, p.2) (act_fails c.args.crew.now c.on_message.new.self c.args.coord.now c.on_message.new.coord (g.R.Source.remaining c.args.reader.now) (g.R.Source.remaining c.read_frame.new.reader) (g.W.Sink.contents c.args.writer.now) c.in-Some.payload c.in-Message.message c.in_err-answer-in-Message.field-0.0 c.requires read is c.in_err-answer-in-Message.ensures.refused)
 
 pub returns-in_ok-answer-in-Message-clause-ok : goal.returns-in_ok-answer-in-Message-clause-ok
 returns-in_ok-answer-in-Message-clause-ok g c =
     let read = (subst (ReadsFrame (g.R.Source.remaining c.args.reader.now) (g.R.Source.remaining c.read_frame.new.reader)) c.in-Some.is c.in_ok-payload.ensures.ok).0 in
     let is : IsLetter c.in-Some.payload (letter.Message c.in-Message.message) = subst (IsLetter c.in-Some.payload) c.in-Message.is c.in_ok-message.ensures.ok in
     let said = c.in_ok-answer-in-Message.ensures in
-    take_ends c.args.crew.now c.on_message.new.self c.args.coord.now c.on_message.new.coord c.in-Some.payload (letter.Message c.in-Message.message) c.in_ok-answer-in-Message.answer (g.R.Source.remaining c.args.reader.now) (g.R.Source.remaining c.read_frame.new.reader) (g.W.Sink.contents c.args.writer.now) (g.W.Sink.contents c.send_some.new.writer) read is (said.acts, said.answered) c.send_some.result c.send_some.ensures.ok
+    take_ends c.args.crew.now c.on_message.new.self c.args.coord.now c.on_message.new.coord c.in-Some.payload (letter.Message c.in-Message.message) c.in_ok-answer-in-Message.answer (g.R.Source.remaining c.args.reader.now) (g.R.Source.remaining c.read_frame.new.reader) (g.W.Sink.contents c.args.writer.now) (g.W.Sink.contents c.send_some.new.writer) c.requires read is (said.acts, said.answered) c.send_some.result c.send_some.ensures.ok
 
 pub returns-in_ok-answer-in-Message-clause-refused : goal.returns-in_ok-answer-in-Message-clause-refused
 returns-in_ok-answer-in-Message-clause-refused g c =
     let read = (subst (ReadsFrame (g.R.Source.remaining c.args.reader.now) (g.R.Source.remaining c.read_frame.new.reader)) c.in-Some.is c.in_ok-payload.ensures.ok).0 in
     let is : IsLetter c.in-Some.payload (letter.Message c.in-Message.message) = subst (IsLetter c.in-Some.payload) c.in-Message.is c.in_ok-message.ensures.ok in
     let said = c.in_ok-answer-in-Message.ensures in
-    take_fails c.args.crew.now c.on_message.new.self c.args.coord.now c.on_message.new.coord c.in-Some.payload (letter.Message c.in-Message.message) c.in_ok-answer-in-Message.answer (g.R.Source.remaining c.args.reader.now) (g.R.Source.remaining c.read_frame.new.reader) (g.W.Sink.contents c.args.writer.now) (g.W.Sink.contents c.send_some.new.writer) read is (said.acts, said.answered) c.send_some.result c.send_some.ensures.refused
+    take_fails c.args.crew.now c.on_message.new.self c.args.coord.now c.on_message.new.coord c.in-Some.payload (letter.Message c.in-Message.message) c.in_ok-answer-in-Message.answer (g.R.Source.remaining c.args.reader.now) (g.R.Source.remaining c.read_frame.new.reader) (g.W.Sink.contents c.args.writer.now) (g.W.Sink.contents c.send_some.new.writer) c.requires read is (said.acts, said.answered) c.send_some.result c.send_some.ensures.refused
 
 pub returns-in_ok-answer-in-Message-clause-turns : goal.returns-in_ok-answer-in-Message-clause-turns
 returns-in_ok-answer-in-Message-clause-turns g c = turns_counted c.send_some.result (g.R.Source.reads c.args.reader.now) (g.R.Source.reads c.read_frame.new.reader) c.in_ok-payload.ensures.turns
@@ -98,10 +98,10 @@ pub returns-in-Gone-clause-ok : goal.returns-in-Gone-clause-ok
 returns-in-Gone-clause-ok g c =
     let read = (subst (ReadsFrame (g.R.Source.remaining c.args.reader.now) (g.R.Source.remaining c.read_frame.new.reader)) c.in-Some.is c.in_ok-payload.ensures.ok).0 in
     let is : IsLetter c.in-Some.payload (letter.Gone c.in-Gone.index) = subst (IsLetter c.in-Some.payload) c.in-Gone.is c.in_ok-message.ensures.ok in
-    runs_one c.args.crew.now c.leave.new.self c.args.coord.now c.leave.new.coord (g.R.Source.remaining c.args.reader.now) (g.R.Source.remaining c.read_frame.new.reader) (g.W.Sink.contents c.args.writer.now) (g.W.Sink.contents c.args.writer.now) (Takes c.in-Some.payload None) (letter.Gone c.in-Gone.index, is, (c.leave.ensures.gone, c.leave.ensures.returned, refl)) read (Appends-nil (g.W.Sink.contents c.args.writer.now))
+    runs_one c.args.crew.now c.leave.new.self c.args.coord.now c.leave.new.coord (g.R.Source.remaining c.args.reader.now) (g.R.Source.remaining c.read_frame.new.reader) (g.W.Sink.contents c.args.writer.now) (g.W.Sink.contents c.args.writer.now) (Takes c.in-Some.payload None) (c.requires, letter.Gone c.in-Gone.index, is, (c.leave.ensures.gone, c.leave.ensures.returned, refl)) read (Appends-nil (g.W.Sink.contents c.args.writer.now))
 
 pub returns-in-There-clause-ok : goal.returns-in-There-clause-ok
 returns-in-There-clause-ok g c =
     let read = (subst (ReadsFrame (g.R.Source.remaining c.args.reader.now) (g.R.Source.remaining c.read_frame.new.reader)) c.in-Some.is c.in_ok-payload.ensures.ok).0 in
     let is : IsLetter c.in-Some.payload (letter.There c.in-There.index) = subst (IsLetter c.in-Some.payload) c.in-There.is c.in_ok-message.ensures.ok in
-    runs_one c.args.crew.now c.come.new.self c.args.coord.now c.come.new.coord (g.R.Source.remaining c.args.reader.now) (g.R.Source.remaining c.read_frame.new.reader) (g.W.Sink.contents c.args.writer.now) (g.W.Sink.contents c.args.writer.now) (Takes c.in-Some.payload None) (letter.There c.in-There.index, is, (c.come.ensures.there, c.come.ensures.returned, refl)) read (Appends-nil (g.W.Sink.contents c.args.writer.now))
+    runs_one c.args.crew.now c.come.new.self c.args.coord.now c.come.new.coord (g.R.Source.remaining c.args.reader.now) (g.R.Source.remaining c.read_frame.new.reader) (g.W.Sink.contents c.args.writer.now) (g.W.Sink.contents c.args.writer.now) (Takes c.in-Some.payload None) (c.requires, letter.There c.in-There.index, is, (c.come.ensures.there, c.come.ensures.returned, refl)) read (Appends-nil (g.W.Sink.contents c.args.writer.now))

@@ -1,17 +1,8 @@
 use Rattle.std.proofs.Common.{ℕ, true, [], ◌∷◌, Option, Some, None, Ok, refl, subst}
 use Rattle.std.proofs.lemmas.Result.{err_from_is_err_and}
-use Rattle.lsm_dispatch.specs.Dispatching.{Settles, TakesClaim}
-use Rattle.lsm_dispatch.proofs.SettledResults.{ended_same_book, err_holds, installed_passes, refused_err, refused_ok, took, trim_refuses}
+use Rattle.lsm_dispatch.specs.Dispatching.{Settles}
+use Rattle.lsm_dispatch.proofs.SettledResults.{ended_same_book, installed_passes, refused_ok, took, trim_refuses}
 use Rattle.lsm_dispatch.proofs.install.take_result.Goals as goal
-
-pub returns-in_err-trim-in-Ok-Some-clause-err : goal.returns-in_err-trim-in-Ok-Some-clause-err
-returns-in_err-trim-in-Ok-Some-clause-err g c =
-    let old = c.args.coord.now in
-    let mid = c.install.new.coord in
-    let number = c.in-Ok-Some.number in
-    let settles : Settles old c.args.claim c.args.made.now (Ok (Some number)) mid = subst (λ (o : Option ℕ). Settles old c.args.claim c.args.made.now (Ok o) mid) c.in-Ok-Some.field-0-is c.in-Ok-Some.ensures.settles in
-    err_holds c.from_residual.result (TakesClaim old c.args.claim c.args.made.now true c.trim.new.coord)
-    (took old mid c.trim.new.coord c.args.claim c.args.made.now (Ok (Some number)) true settles c.trim.ensures.trims refl)
 
 pub returns-in_err-trim-in-Ok-Some-clause-refused : goal.returns-in_err-trim-in-Ok-Some-clause-refused
 returns-in_err-trim-in-Ok-Some-clause-refused g c =
@@ -39,7 +30,7 @@ returns-in_ok-trim-in-Ok-Some-clause-ok g c =
     let mid = c.install.new.coord in
     let number = c.in-Ok-Some.number in
     let settles : Settles old c.args.claim c.args.made.now (Ok (Some number)) mid = subst (λ (o : Option ℕ). Settles old c.args.claim c.args.made.now (Ok o) mid) c.in-Ok-Some.field-0-is c.in-Ok-Some.ensures.settles in
-    took old mid c.trim.new.coord c.args.claim c.args.made.now (Ok (Some number)) true settles c.trim.ensures.trims refl
+    took old mid c.trim.new.coord c.args.claim c.args.made.now (Ok (Some number)) true settles c.in_ok-trim-in-Ok-Some.ensures.trims refl
 
 pub returns-in_ok-trim-in-Ok-Some-clause-ended : goal.returns-in_ok-trim-in-Ok-Some-clause-ended
 returns-in_ok-trim-in-Ok-Some-clause-ended g c = ended_same_book c.args.coord.now.book c.install.new.coord.book c.trim.new.coord.book (c.args.claim.id ∷ []) c.in-Ok-Some.ensures.ended c.trim.ensures.book
@@ -61,6 +52,3 @@ returns-in-Ok-None-clause-ok g c =
 
 pub returns-in-Err-clause-ok : goal.returns-in-Err-clause-ok
 returns-in-Err-clause-ok g c = refused_ok c.args.coord.now c.install.new.coord c.args.claim c.args.made.now c.in-Err.why c.stays_after.result c.in-Err.ensures.settles c.stays_after.ensures.ok
-
-pub returns-in-Err-clause-err : goal.returns-in-Err-clause-err
-returns-in-Err-clause-err g c = refused_err c.args.coord.now c.install.new.coord c.args.claim c.args.made.now c.in-Err.why c.stays_after.result c.in-Err.ensures.settles c.stays_after.ensures.err

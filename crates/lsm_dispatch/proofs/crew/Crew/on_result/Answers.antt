@@ -6,11 +6,6 @@ use Rattle.lsm_dispatch.specs.Dispatching.{TakesClaim}
 use Rattle.lsm_dispatch.proofs.TakenResults.{crew_refuses, dismissed, idle_left, taken_by, taken_held}
 use Rattle.lsm_dispatch.proofs.crew.Crew.on_result.Goals as goal
 
-pub returns-in_err-take_result-clause-taken : goal.returns-in_err-take_result-clause-taken
-returns-in_err-take_result-clause-taken g c = λ has.
-    let had : busy_job (state_of c.args.self.now c.args.index) ≡ Some c.in-Some.claim = ap busy_job (sym c.replace.ensures.before) ∙ sym c.into_claim.ensures ∙ c.in-Some.is in
-    taken_by c.args.coord.now c.take_result.new.coord c.args.self.now c.replace.new.self c.args.index c.in-Some.claim c.args.made.now had true c.in_err-take_result.ensures.err c.replace.ensures.after
-
 pub returns-in_err-take_result-clause-held : goal.returns-in_err-take_result-clause-held
 returns-in_err-take_result-clause-held g c =
     let had : busy_job (state_of c.args.self.now c.args.index) ≡ Some c.in-Some.claim = ap busy_job (sym c.replace.ensures.before) ∙ sym c.into_claim.ensures ∙ c.in-Some.is in
@@ -21,7 +16,7 @@ returns-in_err-take_result-clause-refused g c =
     let had : busy_job (state_of c.args.self.now c.args.index) ≡ Some c.in-Some.claim = ap busy_job (sym c.replace.ensures.before) ∙ sym c.into_claim.ensures ∙ c.in-Some.is in
     let has : IsBusyWith (state_of c.args.self.now c.args.index) c.args.made.now.job = search rules in
     let p = err_from_is_err_and c.from_residual.result c.from_residual.ensures.1 in
-    rw (p.1, p.2) (crew_refuses c.args.coord.now c.take_result.new.coord c.args.self.now c.args.index c.in-Some.claim c.args.made.now c.in_err-take_result.field-0.0 had has c.in_err-take_result.ensures.refused)
+    rw (p.1, p.2) (crew_refuses c.args.coord.now c.take_result.new.coord c.args.self.now c.replace.new.self c.args.index c.in-Some.claim c.args.made.now c.in_err-take_result.field-0.0 had has c.in_err-take_result.ensures.refused c.replace.ensures.after)
 
 -- the worker does not stay
 pub returns-then-not-branch-clause-taken : goal.returns-then-not-branch-clause-taken
