@@ -4,3 +4,4 @@ pub mod Passing
 pub mod WorkSteps
 pub mod ServeSteps
 pub mod LinkSteps
+mod RoundSteps

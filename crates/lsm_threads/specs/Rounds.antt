@@ -1,6 +1,14 @@
 -- What the dispatchers of one store did (the store's own).
-use Rattle.std.specs.Prelude.{◌≡◌, ℕ}
+use Rattle.std.specs.Prelude.{◌≡◌, ℕ, ◌+◌, ◌≤◌}
 use Rattle.lsm_nodes.specs.Tallies.{TallyValue}
+
+-- each claim that was settled since was installed
+abbrev pub InstallsEach : TallyValue → TallyValue → Type 0
+InstallsEach t u = u.picked + t.installed ≤ t.picked + u.installed
+
+-- each but one at most
+abbrev pub LeavesOneAtMost : TallyValue → TallyValue → Type 0
+LeavesOneAtMost t u = u.picked + t.installed ≤ t.picked + u.installed + 1
 
 -- a tally of one part, with one claim, which was installed
 abbrev pub IsOneInstall : TallyValue → Type 0

@@ -9,6 +9,8 @@ use Rattle.lsm_msg.specs.declared.node.Node.TheVariants as node
 use Rattle.lsm_coord.specs.Contract.Memory.{IsFit}
 use Rattle.lsm_coord.specs.Contract.Serving.{answer_message}
 use Rattle.lsm_coord.specs.Contract.Value.{CoordValue}
+use Rattle.lsm_threads.specs.declared.ending.Ending.{Ending}
+use Rattle.lsm_threads.specs.Endings.{IsOfMail}
 use Rattle.lsm_threads.specs.Ports.{Traffic}
 
 -- an answer, or none
@@ -71,6 +73,12 @@ pub record LinkValue : Type 0 where
   pub worker : ℕ  -- the index of the worker that it leads to
   pub got : Option (List Message)  -- the messages that came, if they are known
   pub sent : Option (List Message)  -- the messages that were sent, if they are known
+  pub lost : Option Ending  -- why the last job came back without a result, if it did
+
+-- what a link knows of the last job: nothing if its result came back, else what came, or was to be sent, or want of memory
+abbrev pub IsLost : Option JobResult → Option Ending → Type 0
+IsLost (Some made) lost = lost ≡ None
+IsLost None lost = (ending : Ending) × (lost ≡ Some ending) × IsOfMail ending
 
 -- the message that takes a job to a worker
 abbrev pub sent_job : ℕ → JobParts → Message

@@ -1,8 +1,9 @@
 //! A dispatcher and its worker, in two threads.
 
-ghost use Rattle.std.specs.Prelude.{◌≡◌, ◌+◌, ◌<◌, ◌^◌, IfErr, IfOk};
+ghost use Rattle.std.specs.Prelude.{◌≡◌, ◌≢◌, ◌↔◌, ◌+◌, ◌<◌, ◌^◌, IfErr, IfOk, IsTrue, false};
 ghost use Rattle.lsm_nodes.specs.Tallies.{IsDispatched};
 ghost use Rattle.lsm_threads.specs.Endings.{IsOfWorker};
+ghost use Rattle.lsm_threads.specs.Rounds.{LeavesOneAtMost};
 
 use crate::ending::Ending;
 use crate::link::WorkerLink;
@@ -21,8 +22,8 @@ use std::thread;
 use std::thread::Threads;
 
 /// At most so many rounds of a dispatcher, beside a new worker in a thread of its own. A round is the last one if the flag is set, or if it
-/// installs nothing: nothing is due, memory ran out, or the worker has ended. Each job that it was given is settled. Says too, if the last job
-/// came back without a result, why: how the link ended, or the worker if it closed its channels.
+/// installs nothing: nothing is due, memory ran out, or the worker has ended. Each job that it was given is settled: all but the last one are
+/// installed. Says too, if the last job came back without a result, why: how the link ended, or the worker if it closed its channels.
 /// Refuses if there is no memory for channels, or no thread can be made, and hands the tally back.
 pub fn dispatch_with_worker<
     V: Vault + Send,
@@ -41,6 +42,7 @@ pub fn dispatch_with_worker<
     requires part { 0 < tally.parts }
     requires fits { tally.picked + rounds < 2 ^ 64 }
     ensures dispatched { IfOk result (λ r. IsDispatched tally rounds r.0) }
+    ensures left { IfOk result (λ r. LeavesOneAtMost tally r.0) }
     ensures refused { IfErr result (λ t. t ≡ tally) }
 {
     let Ok((to_worker, inbox)) = unbounded(alloc) else {
@@ -54,7 +56,7 @@ pub fn dispatch_with_worker<
         rt,
         move |scope| -> Result<(Tally<J>, Option<Ending>), Tally<J>>
             requires { (0 < tally.parts) × (tally.picked + rounds < 2 ^ 64) }
-            ensures ok { IfOk result (λ r. IsDispatched tally rounds r.0) }
+            ensures ok { IfOk result (λ r. IsDispatched tally rounds r.0 × LeavesOneAtMost tally r.0) }
             ensures err { IfErr result (λ t. t ≡ tally) }
         {
             let Ok(working) = scope.spawn(move || work(rt, alloc, index, inbox, outbox)) else {
@@ -87,7 +89,7 @@ fn work<R: Wait>(
 }
 
 // Rounds up to one that installs nothing or sees the flag, at most so many.
-#[tactic(auto, using(lsm_nodes::proofs::SettledRounds::dispatched_then, lsm_nodes::proofs::SettledRounds::dispatched_within, lsm_nodes::proofs::SettledRounds::dispatched_none))]
+#[tactic(auto, using(lsm_nodes::proofs::SettledRounds::dispatched_then, lsm_nodes::proofs::SettledRounds::dispatched_within, lsm_nodes::proofs::SettledRounds::dispatched_none, crate::proofs::RoundSteps::installs_stay))]
 fn rounds_by<V: Vault, J: Start, N: Witness + Drop, L: Link, R: Wait>(
     rt: &R,
     hub: &Hub<V, J, N>,
@@ -98,15 +100,24 @@ fn rounds_by<V: Vault, J: Start, N: Witness + Drop, L: Link, R: Wait>(
 ) -> Tally<J>
     requires part { 0 < tally.parts }
     requires fits { tally.picked + rounds < 2 ^ 64 }
-    ensures { IsDispatched tally rounds result }
+    ensures dispatched { IsDispatched tally rounds result }
+    ensures left { LeavesOneAtMost tally result }
 {
     let mut tally = tally;
     for _round in 0..rounds {
-        let installed = tally.installed();
+        let before = tally.installed();
         tally = dispatch(rt, hub, link, 1, tally);
-        if tally.installed() == installed || is_over.load(Ordering::SeqCst) {
-            break;
+        let after = tally.installed();
+        if !goes_on(before, after, is_over.load(Ordering::SeqCst)) {
+            return tally;
         }
     }
     tally
+}
+
+// Whether a round follows one that raised the count of installs from `before` to `after`: it installed its claim, and the rounds are not over.
+fn goes_on(before: u64, after: u64, is_over: bool) -> bool
+    ensures { IsTrue result ↔ (before ≢ after) × (is_over ≡ false) }
+{
+    before != after && !is_over
 }

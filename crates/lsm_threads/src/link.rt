@@ -1,9 +1,10 @@
 //! The link to a worker that runs in a thread of its own.
 
-ghost use Rattle.std.specs.Prelude.{◌≡◌, ◌∷◌, [], IfErr, IfOk, IfSome, OnOk};
+ghost use Rattle.std.specs.Prelude.{◌≡◌, ◌∷◌, [], IfErr, IfOk, IfSome, None, OnOk};
 ghost use Rattle.lsm_msg.specs.declared.message.Body.TheVariants as body;
+ghost use Rattle.lsm_threads.specs.Endings.{IsOfMail};
 ghost use Rattle.lsm_threads.specs.Ports.{Traffic};
-ghost use Rattle.lsm_threads.specs.Serving.{BringsBack, FindsNext, sent_job};
+ghost use Rattle.lsm_threads.specs.Serving.{BringsBack, FindsNext, IsLost, sent_job};
 
 use crate::ending::Ending;
 use crate::port::Port;
@@ -17,7 +18,7 @@ use std::sync::Wait;
 
 /// Carries jobs to a worker over a port, answers what it asks, and takes the result that names the job. It carries nothing back if a
 /// channel is closed, what came is no message, a message is too large, or memory runs out, and remembers which. Contracts see what came
-/// and was sent, if the port knows it.
+/// and was sent, if the port knows it, and what it remembers.
 #[derive(Drop)]
 pub struct WorkerLink<'a, V: Vault, J: Start, N: Witness + Drop, P: Port + Drop, R: Wait> {
     rt: &'a R,
@@ -33,7 +34,7 @@ impl<'a, V: Vault, J: Start, N: Witness + Drop, P: Port + Drop, R: Wait> Model
 
     ghost Value = { LinkValue };
 
-    ghost view = { λ l. record { worker = l.worker; got = P.got l.port; sent = P.sent l.port } };
+    ghost view = { λ l. record { worker = l.worker; got = P.got l.port; sent = P.sent l.port; lost = l.lost } };
 }
 
 impl<'a, V: Vault, J: Start, N: Witness + Drop, P: Port + Drop, R: Wait> WorkerLink<
@@ -51,7 +52,7 @@ impl<'a, V: Vault, J: Start, N: Witness + Drop, P: Port + Drop, R: Wait> WorkerL
         worker: NodeIndex,
         port: P,
     ) -> WorkerLink<'a, V, J, N, P, R>
-        ensures { result ≡ record { worker = worker; got = P.got port; sent = P.sent port } }
+        ensures { result ≡ record { worker = worker; got = P.got port; sent = P.sent port; lost = None } }
     {
         WorkerLink {
             rt,
@@ -63,7 +64,9 @@ impl<'a, V: Vault, J: Start, N: Witness + Drop, P: Port + Drop, R: Wait> WorkerL
     }
 
     /// Why the last job came back without a result, if it did.
-    pub fn lost(&self) -> Option<Ending> {
+    pub fn lost(&self) -> Option<Ending>
+        ensures { result ≡ self.now.lost }
+    {
         self.lost
     }
 }
@@ -73,6 +76,7 @@ impl<V: Vault, J: Start, N: Witness + Drop, P: Port + Drop, R: Wait> Link
     fn carry(&mut self, job: Job) -> Option<JobResult>
         ensures named { IfSome result (λ made. made.job ≡ job.id) }
         ensures brought { IfSome result (BringsBack self.old.worker job self.old.got self.new.got self.old.sent self.new.sent) }
+        ensures lost { IsLost result self.new.lost }
     {
         match result_for(self.rt, self.hub, &mut self.port, self.worker, job) {
             Ok(made) => {
@@ -98,6 +102,7 @@ fn result_for<V: Vault, J: Start, N: Witness + Drop, P: Port, R: Wait>(
 ) -> Result<JobResult, Ending>
     ensures named { IfOk result (λ made. made.job ≡ job.id) }
     ensures brought { IfOk result (BringsBack worker job (P.got port.old) (P.got port.new) (P.sent port.old) (P.sent port.new)) }
+    ensures mail { IfErr result IsOfMail }
 {
     let id = job.id();
     hand_out(port, worker, job)?;
@@ -111,7 +116,8 @@ fn result_for<V: Vault, J: Start, N: Witness + Drop, P: Port, R: Wait>(
 
 // Sends the worker a job.
 fn hand_out<P: Port>(port: &mut P, worker: NodeIndex, job: Job) -> Result<(), Ending>
-    ensures { OnOk result (Traffic (P.got port.old) (P.got port.new) (P.sent port.old) (P.sent port.new) [] (sent_job worker job ∷ [])) }
+    ensures sent { OnOk result (Traffic (P.got port.old) (P.got port.new) (P.sent port.old) (P.sent port.new) [] (sent_job worker job ∷ [])) }
+    ensures mail { IfErr result IsOfMail }
 {
     let message = Message::to_worker(worker, job);
     port.send(&message)?;
@@ -126,7 +132,8 @@ fn next_result<V: Vault, J: Start, N: Witness + Drop, P: Port, R: Wait>(
     port: &mut P,
     id: JobId,
 ) -> Result<Option<JobResult>, Ending>
-    ensures { IfOk result (FindsNext id (P.got port.old) (P.got port.new) (P.sent port.old) (P.sent port.new)) }
+    ensures found { IfOk result (FindsNext id (P.got port.old) (P.got port.new) (P.sent port.old) (P.sent port.new)) }
+    ensures mail { IfErr result IsOfMail }
 {
     let message = port.receive()?;
     match result_of(message, id) {

@@ -1,6 +1,6 @@
 //! A store that threads share, from its writes to the reads of a follower.
 
-ghost use Rattle.std.specs.Prelude.{◌≡◌, ◌≢◌, ◌≤◌, All, IfOk, []};
+ghost use Rattle.std.specs.Prelude.{◌≡◌, ◌≤◌, All, IfOk, []};
 ghost use Rattle.lsm_threads.specs.Rounds.{AreSettled};
 
 mod fill;
@@ -64,13 +64,13 @@ pub fn run_threads<R: Threads + Wait + Sync>(
 /// The flushes of a script, two dispatchers of one round with a worker each, and a follower with a reader, all in threads of their own
 /// over one new store in memory, whose level 0 is due at two files. Each dispatcher installs a compaction, and the follower's reads are at
 /// the coordinator's version or a later one.
-/// Refuses: `OutOfMemory` if a loop or a call found no memory, or no thread could be made; `ReadFault` if what came is not what was sent.
+/// Refuses: `OutOfMemory` if a loop or a call found no memory, no thread could be made, or the script's keys are one, so that a dispatcher
+/// has nothing to compact; `ReadFault` if what came is not what was sent.
 pub fn run_threads_of<R: Threads + Wait + Sync>(
     rt: &R,
     alloc: Global,
     script: &ThreadsScript,
 ) -> Result<ThreadsReport, ThreadsError>
-    requires { script.now.first.key ≢ script.now.second.key }
     ensures settled { IfOk result (λ r. AreSettled r.picked r.installed r.returned r.stale) }
     ensures fresh { IfOk result (λ r. All (λ read. r.shown.number ≤ read.at) r.reads.items) }
 {

@@ -115,7 +115,7 @@ fn one_round<
         return Ok(tally);
     }
     match lost {
-        // There is one that is due for each, so a pick or an install found no memory.
+        // Of keys that differ there is one that is due for each, so a pick or an install found no memory.
         None => Err(ThreadsError::OutOfMemory),
         Some(ending) => Err(reason_of_ending(ending)),
     }

@@ -7,7 +7,7 @@ pub struct KeyPuts {
     pub values: [&'static [u8]; 2],
 }
 
-/// What threads write and read. The keys differ, so that there are two compactions, which meet nowhere.
+/// What threads write and read. Keys that differ lead to two compactions, which meet nowhere.
 #[derive(Clone, Copy, Debug)]
 pub struct ThreadsScript {
     pub first: KeyPuts,
