@@ -29,6 +29,7 @@ entry_within limit bytes = do
 abbrev pub entry_at : List ℕ → Result (Entry × List ℕ) BlockFault
 entry_at bytes = entry_within MAX_KEY_BYTES bytes
 
+-- the last entry, if there is one
 abbrev pub last_of : List Entry → Option Entry
 last_of es = slice_get es (length es - 1)
 

@@ -17,6 +17,7 @@ pub record IsBase (v : VersionValue) : Type 0 where
   pub epoch : 1 ≤ v.epoch
   pub version : IsVersion v
 
+-- the bytes of a base: its numbers, and its files behind their count
 abbrev pub base : VersionValue → List ℕ
 base v = to_be_bytes w64 v.number ++ to_be_bytes w64 v.flushed ++ to_be_bytes w64 v.epoch ++ to_be_bytes w64 v.next_file ++ added_bytes v.files
 

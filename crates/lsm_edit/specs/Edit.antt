@@ -14,6 +14,7 @@ use Rattle.lsm_edit.specs.declared.format.FormatFault.{FormatFault}
 use Rattle.lsm_edit.specs.declared.format.FormatFault.TheVariants.{Truncated, BadField, TrailingBytes}
 use Rattle.lsm_edit.specs.File.{IsFile, file, file_at}
 
+-- the code of a kind in an edit
 abbrev pub edit_kind_code : EditKind → ℕ
 edit_kind_code Flush = 1
 edit_kind_code Install = 2
@@ -38,6 +39,7 @@ AreAdded kind files =
     × All IsFile files × All (λ f. ((shape kind).lowest ≤ f.level) × (f.level ≤ (shape kind).deepest)) files
     × AllPairs (λ f g. f.number < g.number) files × AllPairs (λ f g. f.level ≡ g.level) files
 
+-- an edit that may be written: its numbers are in range, and its files are as its kind has them
 pub record IsEdit (e : Edit) : Type 0 where
   pub first : 1 ≤ e.number
   pub last : e.number ≤ MAX_NUMBER
@@ -61,6 +63,7 @@ added_bytes files = to_be_bytes w32 (length files) ++ flat_map file files
 abbrev pub head : Edit → List ℕ
 head e = to_be_bytes w64 e.number ++ to_be_bytes w8 (edit_kind_code e.kind) ++ to_be_bytes w64 e.flushed ++ to_be_bytes w64 e.epoch ++ to_be_bytes w64 e.next_file ++ removed_bytes e.removed
 
+-- the bytes of an edit
 abbrev pub edit : Edit → List ℕ
 edit e = head e ++ added_bytes e.added
 
@@ -69,9 +72,11 @@ pub record IsSpelledEdit (bytes : List ℕ) (e : Edit) : Type 0 where
   pub sound : IsEdit e
   pub spelled : bytes ≡ edit e
 
+-- the kind of a code, or the fault if it is no kind's
 abbrev pub edit_kind_from : {F : Type 0} → F → ℕ → Result EditKind F
 edit_kind_from bad n = if n == 1 then Ok Flush else if n == 2 then Ok Install else if n == 3 then Ok Epoch else Err bad
 
+-- a kind from the front, by its code
 abbrev pub edit_kind_at : {F : Type 0} → F → F → List ℕ → Result (EditKind × List ℕ) F
 edit_kind_at short bad bytes = do
   code ← number_at short w8 bytes
@@ -102,11 +107,13 @@ after_file within f = record { least = f.number + 1; most = within.most; lowest 
 abbrev pub files_at : {F : Type 0} → ℕ → F → F → ℕ → FileBounds → List ℕ → Result (List FileMeta × List ℕ) F
 files_at limit short bad count within bytes = items_at (λ within. file_at limit short bad within []) after_file count within bytes
 
+-- a count that the kind allows, and that many numbers of removed files
 unfoldable pub removed_at : {F : Type 0} → F → F → EditKind → List ℕ → Result (List ℕ × List ℕ) F
 removed_at short bad kind bytes = do
   count ← ranged_number_at short bad w32 (shape kind).least_removed (shape kind).most_removed bytes
   numbers_at short bad MAX_NUMBER count.0 1 count.1
 
+-- a count that the kind allows, and that many added files, with keys of at most limit bytes
 unfoldable pub added_at : {F : Type 0} → ℕ → F → F → EditKind → List ℕ → Result (List FileMeta × List ℕ) F
 added_at limit short bad kind bytes = do
   count ← ranged_number_at short bad w32 (shape kind).least_added (shape kind).most_added bytes

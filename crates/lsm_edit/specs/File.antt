@@ -17,6 +17,7 @@ pub record AreKeys (lo hi : List ℕ) : Type 0 where
   pub last : IsKey MAX_KEY_BYTES hi
   pub ordered : key_le lo hi ≡ true
 
+-- a file record within its limits: of a table with an entry or more, whose range is not empty
 pub record IsFile (f : FileMeta) : Type 0 where
   pub first : 1 ≤ f.number
   pub last : f.number ≤ MAX_NUMBER
@@ -33,6 +34,7 @@ pub record IsFile (f : FileMeta) : Type 0 where
 abbrev pub same_file : FileMeta → FileMeta → Bool
 same_file f g = nat_eq f.number g.number && (nat_eq f.level g.level && (bytes_eq f.smallest g.smallest && (bytes_eq f.largest g.largest && (nat_eq f.bytes g.bytes && nat_eq f.entries g.entries))))
 
+-- the bytes of a file record
 abbrev pub file : FileMeta → List ℕ
 file f = to_be_bytes w64 f.number ++ to_be_bytes w8 f.level ++ key f.smallest ++ key f.largest ++ to_be_bytes w32 f.bytes ++ to_be_bytes w32 f.entries
 

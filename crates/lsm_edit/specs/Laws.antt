@@ -42,14 +42,17 @@ second_merge = record { number = 4; kind = Install; flushed = 1; epoch = 1; next
 abbrev second_flush : Edit
 second_flush = record { number = 4; kind = Flush; flushed = 2; epoch = 1; next_file = 3; removed = []; added = file_of 1 0 ∷ [] }
 
+-- an opening, a flush and a merge of the flushed file apply in turn
 abbrev pub AMergeApplies : Type 0
 AMergeApplies = Apply first_version (opening ∷ flush ∷ merge ∷ [])
 
 abbrev merged : VersionValue
 merged = after_edits first_version (opening ∷ flush ∷ merge ∷ [])
 
+-- after them an edit that removes the merged file again is refused: there is no such file
 abbrev pub ASecondRemovalDoesNot : Type 0
 ASecondRemovalDoesNot = apply_fault merged second_merge ≡ Some NoSuchFile
 
+-- and so is one that adds a file under its number again: the number was given
 abbrev pub AGivenNumberDoesNot : Type 0
 AGivenNumberDoesNot = apply_fault merged second_flush ≡ Some FileExists

@@ -45,6 +45,7 @@ log_ops flushed records = flat_map (ops_above flushed) records
 abbrev pub log_freezes : ℕ → List LogRecord → List ℕ
 log_freezes flushed records = flat_map (freeze_above flushed) records
 
+-- the first sequence of some freezes, if there is one
 abbrev pub first_freeze : List ℕ → Option ℕ
 first_freeze [] = None
 first_freeze (n ∷ ns) = Some n

@@ -19,6 +19,7 @@ pub record RecordsHold (flushed : ℕ) (records : List LogRecord) (ops : List Op
   pub ops_are : ops ≡ log_ops flushed records
   pub frozen_is : frozen ≡ log_frozen flushed records
 
+-- each may be written as a record of a log
 abbrev pub AreRecords : List LogRecord → Type 0
 AreRecords records = (r : LogRecord) → IsIn r records → IsRecord r
 

@@ -27,6 +27,7 @@ abbrev pub IsRecord : LogRecord → Type 0
 IsRecord (Write first ops) = (1 ≤ first) × (1 ≤ length ops) × (first + length ops ≤ seq.MAX + 1) × (batch_fault ops ≡ None)
 IsRecord (Freeze at) = (1 ≤ at) × (at ≤ seq.MAX)
 
+-- the bytes of an operation: the code of its kind, its key and, of a put, its value
 abbrev pub op_bytes : Op → List ℕ
 op_bytes (Put k value) = to_be_bytes w8 1 ++ (key k ++ (to_be_bytes w32 (length value) ++ value))
 op_bytes (Delete k) = to_be_bytes w8 0 ++ key k
@@ -36,6 +37,7 @@ abbrev pub op_value : Op → List ℕ
 op_value (Put k value) = value
 op_value (Delete k) = []
 
+-- the bytes of a record
 abbrev pub record_bytes : LogRecord → List ℕ
 record_bytes (Write first ops) = to_be_bytes w8 1 ++ (to_be_bytes w64 first ++ (to_be_bytes w32 (length ops) ++ flat_map op_bytes ops))
 record_bytes (Freeze at) = to_be_bytes w8 2 ++ to_be_bytes w64 at

@@ -28,6 +28,7 @@ pub record IsReadyFor (s : ServedValue) (p : PreparedValue) : Type 0 where
 abbrev pub prepared_by : ServedValue → Edit → List Opened → ℕ → PreparedValue
 prepared_by s e tables room = record { version = after_apply s.version e; removed = e.removed; files = e.added; tables = tables; room = room }
 
+-- it is what the edit makes of the version with these tables, and it may be taken up
 pub record IsPreparedBy (s : ServedValue) (e : Edit) (tables : List Opened) (p : PreparedValue) : Type 0 where
   pub ready : IsReadyFor s p
   pub made : p ≡ prepared_by s e tables p.room

@@ -26,6 +26,7 @@ AreAsRecorded (f ∷ fs) (t ∷ ts) = IsAsRecorded f t × AreAsRecorded fs ts
 AreAsRecorded [] (t ∷ ts) = ⊥
 AreAsRecorded (f ∷ fs) [] = ⊥
 
+-- the value of a version with its tables
 pub record ServedValue : Type 0 where
   pub version : VersionValue
   pub places : List Placed  -- the files with their tables, in the order of a search
@@ -40,6 +41,7 @@ is_before f g =
     nat_lt f.level g.level
     || (nat_eq f.level g.level && (if nat_eq f.level 0 then nat_lt g.number f.number else not (key_le g.smallest f.largest)))
 
+-- each file is searched before those behind it
 abbrev pub AreInSearchOrder : List Placed → Type 0
 AreInSearchOrder [] = Unit {0}
 AreInSearchOrder (p ∷ ps) = ((q : Placed) → IsIn q ps → is_before p.meta q.meta ≡ true) × AreInSearchOrder ps
@@ -60,9 +62,11 @@ abbrev pub put_all : List Placed → List Placed → List Placed
 put_all [] qs = qs
 put_all (p ∷ ps) qs = put_in_order p (put_all ps qs)
 
+-- files in search order
 abbrev pub in_order : List Placed → List Placed
 in_order ps = put_all ps []
 
+-- the files but those of these numbers
 abbrev pub places_without : List ℕ → List Placed → List Placed
 places_without numbers ps = filter (λ p. not (list_any (λ n. has_number n p.meta) numbers)) ps
 
@@ -70,6 +74,7 @@ places_without numbers ps = filter (λ p. not (list_any (λ n. has_number n p.me
 abbrev pub after_advance : ServedValue → Edit → List Opened → ServedValue
 after_advance s edit tables = record { version = after_apply s.version edit; places = put_all (placed_of edit.added tables) (places_without edit.removed s.places) }
 
+-- each table is as its file's record says
 abbrev pub AllRecorded : List Placed → Type 0
 AllRecorded ps = (p : Placed) → IsIn p ps → IsAsRecorded p.meta p.table
 

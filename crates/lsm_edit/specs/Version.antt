@@ -12,6 +12,7 @@ use Rattle.lsm_edit.specs.declared.version.ApplyError.{ApplyError}
 use Rattle.lsm_edit.specs.declared.version.ApplyError.TheVariants.{WrongNumber, NoSuchFile, FileExists, Overlap, FlushedBack, BadCounter}
 use Rattle.lsm_edit.specs.File.{IsFile, same_file}
 
+-- the value of a version: its numbers, and the files that it lists
 pub record VersionValue : Type 0 where
   pub number : ℕ
   pub flushed : ℕ  -- every write up to it is in the files
@@ -23,6 +24,7 @@ pub record VersionValue : Type 0 where
 abbrev pub first_version : VersionValue
 first_version = record { number = 0; flushed = 0; epoch = 0; next_file = 1; files = [] }
 
+-- the file has this number
 abbrev pub has_number : ℕ → FileMeta → Bool
 has_number n f = nat_eq f.number n
 
@@ -50,6 +52,7 @@ files_meet f g = ranges_meet f.smallest f.largest g.smallest g.largest
 abbrev pub clashes : FileMeta → FileMeta → Bool
 clashes f g = nat_eq f.level g.level && (nat_lt 0 f.level && files_meet f g)
 
+-- two files of a level from 1 up overlap
 abbrev pub has_overlap : List FileMeta → Bool
 has_overlap [] = false
 has_overlap (f ∷ fs) = list_any (clashes f) fs || has_overlap fs
@@ -81,6 +84,7 @@ apply_fault v edit =
     else if is_low v edit || miscounts edit.kind v.epoch edit.epoch then Some BadCounter
     else None
 
+-- the version that an edit makes of one to which it applies
 abbrev pub after_apply : VersionValue → Edit → VersionValue
 after_apply v edit = record { number = edit.number; flushed = edit.flushed; epoch = edit.epoch; next_file = edit.next_file; files = files_after v.files edit }
 

@@ -11,9 +11,11 @@ use Rattle.lsm_edit.specs.Log.{BadRecords, LogHolds, log_ops, log_frozen}
 abbrev pub put_a : Op
 put_a = Put (97 ∷ []) (49 ∷ [])
 
+-- put b 2
 abbrev pub put_b : Op
 put_b = Put (98 ∷ []) (50 ∷ [])
 
+-- the record of put a 1, the first write of all
 abbrev pub one_write : LogRecord
 one_write = Write 1 (put_a ∷ [])
 
@@ -21,6 +23,7 @@ one_write = Write 1 (put_a ∷ [])
 abbrev pub one_write_bytes : List ℕ
 one_write_bytes = 1 ∷ 0 ∷ 0 ∷ 0 ∷ 0 ∷ 0 ∷ 0 ∷ 0 ∷ 1 ∷ 0 ∷ 0 ∷ 0 ∷ 1 ∷ 1 ∷ 0 ∷ 1 ∷ 97 ∷ 0 ∷ 0 ∷ 0 ∷ 1 ∷ 49 ∷ []
 
+-- the record is written as these bytes, and read from them
 abbrev pub WriteHasTheseBytes : Type 0
 WriteHasTheseBytes = (record_bytes one_write ≡ one_write_bytes) × (read_record one_write_bytes ≡ Ok one_write)
 
@@ -28,6 +31,7 @@ WriteHasTheseBytes = (record_bytes one_write ≡ one_write_bytes) × (read_recor
 abbrev pub two_memtables : List LogRecord
 two_memtables = Write 1 (put_a ∷ []) ∷ Freeze 1 ∷ Write 2 (put_b ∷ []) ∷ []
 
+-- over 0, 1 and 2 that log holds these operations and these frozen ends
 abbrev pub HoldsTheWritesAbove : Type 0
 HoldsTheWritesAbove =
     (log_ops 0 two_memtables ≡ put_a ∷ put_b ∷ []) × (log_frozen 0 two_memtables ≡ Some 1)

@@ -18,6 +18,7 @@ IsDamagedAt file offset = ((edits : List (List ℕ)) × Begins file edits offset
 abbrev pub Fits : List ℕ → Type 0
 Fits bytes = (length bytes < 2 ^ 32) × (checksum bytes < 2 ^ 64)
 
+-- each of them fits into a frame
 abbrev pub AllFit : List (List ℕ) → Type 0
 AllFit [] = Unit {0}
 AllFit (bytes ∷ more) = Fits bytes × AllFit more

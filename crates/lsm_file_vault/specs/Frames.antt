@@ -19,6 +19,7 @@ turned n = 2 ^ 32 - 1 - n
 abbrev pub header_of : List ℕ → List ℕ
 header_of bytes = to_be_bytes w32 (length bytes) ++ to_be_bytes w32 (turned (length bytes)) ++ to_be_bytes w64 (checksum bytes)
 
+-- the frame of these bytes: the header, and the bytes
 abbrev pub frame : List ℕ → List ℕ
 frame bytes = header_of bytes ++ bytes
 

@@ -21,6 +21,7 @@ abbrev pub CountsWrites : {T : Type 0} → Result T SinkError → ℕ → ℕ �
 CountsWrites (Err sink.NoEnd) before after = (before ≤ after) × (2 ^ 64 ≤ after + 1)
 CountsWrites answer before after = before ≤ after
 
+-- of an answer, with the write faults counted before and after it: one more exactly if it is one
 abbrev pub CountsWriteFaults : {T : Type 0} → Result T SinkError → ℕ → ℕ → Type 0
 CountsWriteFaults (Err sink.WriteFault) before after = after ≡ before + 1
 CountsWriteFaults answer before after = after ≡ before

@@ -56,6 +56,7 @@ key_at limit short bad bytes = do
   n ← number_at short w16 bytes
   if n.0 == 0 || nat_lt limit n.0 then Err bad else piece_at short n.0 n.1
 
+-- the kind of a code in a trailer, or the fault if it is no kind's
 abbrev pub kind_at : {F : Type 0} → F → ℕ → Result Kind F
 kind_at bad zero = Ok Delete
 kind_at bad (suc zero) = Ok Put

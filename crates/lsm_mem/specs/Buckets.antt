@@ -51,5 +51,6 @@ pub record IsPlaced (front : List ℕ) (pair : ℕ × Bucket) : Type 0 where
   pub some : 0 < length (chains_in pair.1)
   pub own : (c : Chain) → IsIn c (chains_in pair.1) → HasPrefix front pair.0 c.key
 
+-- each bucket has its prefix's keys alone, and one or more of them
 abbrev pub ArePlaced : List ℕ → List (ℕ × Bucket) → Type 0
 ArePlaced front pairs = (p : ℕ × Bucket) → IsIn p pairs → IsPlaced front p

@@ -17,9 +17,11 @@ pub record Chain : Type 0 where
   pub key : List ℕ
   pub versions : List Entry
 
+-- the chain of a key and its versions
 abbrev pub chain_of : {Y Z : Type 0} → Vec ℕ Y × Vec Entry Z → Chain
 chain_of p = record { key = p.0.items; versions = p.1.items }
 
+-- the chains of keys with their versions, in their order
 abbrev pub chains_of : {Y Z : Type 0} → List (Vec ℕ Y × Vec Entry Z) → List Chain
 chains_of pairs = map chain_of pairs
 
