@@ -1,4 +1,4 @@
-//! Why no more is read or written.
+//! Why no more is read or written: one error for both, since programs do both and end on either.
 
 use std::alloc::{AllocError, AllocFailed};
 use thiserror::Error;

@@ -1,4 +1,4 @@
-//! What a reader gives.
+//! Reading: what a reader gives, chunk by chunk or up to its end, with interrupted calls made again.
 
 ghost use Rattle.std.specs.Prelude.{◌≡◌, ◌⊎◌, ◌<◌, IfErr, IfOk, IfSome, OnErr, length};
 ghost use Rattle.lsm_io.specs.Streams.{Gains};
@@ -7,7 +7,7 @@ use crate::error::StreamError;
 use std::alloc::{AllocError, Global};
 use std::io::{ErrorKind, Read};
 
-/// How much is read at once. In bytes.
+/// How much is read at once: enough that a call costs little for each byte, and little beside the memory of a process. In bytes.
 const READ_BYTES: usize = 65_536;
 
 /// A buffer of `len` bytes.

@@ -11,7 +11,7 @@ use std::alloc::{AllocError, Global};
 use std::io::{ErrorKind, Read};
 use thiserror::Error;
 
-/// How much is read at once. In bytes.
+/// How much is read at once: enough that a call costs little for each byte, and little beside the memory of a process. In bytes.
 const READ_BYTES: usize = 65_536;
 
 /// Why no more is read.

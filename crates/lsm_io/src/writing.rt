@@ -1,4 +1,4 @@
-//! What a writer takes.
+//! Writing: what a writer takes, all of it or up to a fault, with interrupted calls made again.
 
 ghost use Rattle.std.specs.Prelude.{◌≡◌, [], IfErr, OnErr, OnOk};
 ghost use Rattle.std.specs.Io.KnownBytes.{Appends};

@@ -1,4 +1,4 @@
-//! Numbers of files and of versions.
+//! Numbers of files and of versions: types of their own, so that neither is taken for the other.
 
 use std::marker::Model;
 

@@ -3,7 +3,7 @@
 ghost use Rattle.std.specs.Prelude.{◌≡◌, ℕ, ◌<◌, slice_index};
 ghost use Rattle.lsm_key.specs.Prefix.{byte_at, leading, prefix_of};
 
-// How many bytes of a key its prefix has.
+// How many bytes of a key its prefix has: as many as a `u64` has, so that two prefixes are compared at once.
 const PREFIX_BYTES: usize = 8;
 
 /// The first 8 bytes of a key after the front as a big-endian number, with zeros in place of those that it does not have. A key

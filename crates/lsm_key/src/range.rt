@@ -1,4 +1,4 @@
-//! Closed ranges of keys.
+//! Closed ranges of keys: what a range holds, and whether two of them meet, said once for files and jobs.
 
 ghost use Rattle.std.specs.Prelude.{◌≡◌, if◌then◌else◌};
 ghost use Rattle.lsm_key.specs.Order.{key_le};

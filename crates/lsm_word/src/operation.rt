@@ -1,4 +1,4 @@
-//! Operations as words.
+//! Operations as words: puts and deletions as scripts and dumps have them, over the words of their keys and values.
 
 use crate::word::Word;
 use lsm_key::Op;

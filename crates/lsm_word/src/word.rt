@@ -1,4 +1,4 @@
-//! Keys and values as words.
+//! Keys and values as words: any bytes as text without a space, for whatever prints them.
 
 use std::fmt;
 
