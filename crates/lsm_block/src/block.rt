@@ -26,6 +26,9 @@ use std::marker::Model;
 use std::sync::Arc;
 
 /// A block: its bytes, and fences for look-ups. Its entries are read where they lie. Its copies share all.
+///
+/// Invariant: the bytes are one block, and the index is that of its entries: each fence is at one of them, and their count and
+/// where the last one begins are noted.
 #[derive(Debug, Drop)]
 pub struct Block {
     bytes: Bytes,

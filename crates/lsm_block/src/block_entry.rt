@@ -1,4 +1,4 @@
-//! Entries where they lie.
+//! Entries where they lie: what a cursor gives, decoded only when it is asked for, and compared by prefixes first.
 
 ghost use Rattle.std.specs.Prelude.{◌≡◌, IfOk};
 ghost use Rattle.std.specs.List.{slice_range};
@@ -17,6 +17,8 @@ use std::marker::Model;
 
 /// An entry where it lies in a block: its place in the block's bytes, and the prefix of its key, by which most comparisons are
 /// decided.
+///
+/// Invariant: the bytes from `place` to `end` are those of one whole entry, and the prefix is that of its key.
 #[derive(Debug, Drop)]
 pub struct BlockEntry<'a> {
     block: &'a Bytes,

@@ -12,6 +12,8 @@ use std::alloc::AllocError;
 use std::marker::Model;
 
 /// A place among the entries of a block: those from there on are left. None of them is decoded.
+///
+/// Invariant: the bytes from the place on are whole entries in order, so an entry begins at the place, or it is the end.
 #[derive(Debug, Drop)]
 pub struct Cursor<'a> {
     bytes: &'a Bytes,

@@ -18,6 +18,9 @@ use std::marker::Model;
 
 /// A reader of blocks that follow one another: it has read some of them from the front, and all their entries are in order. No key that it
 /// reads has more bytes than its limit.
+///
+/// Invariant: the first `read` bytes are whole entries in order, maybe none, and the index is that of these entries. `max_key` is at
+/// most `MAX_KEY_BYTES`.
 #[derive(Debug, Drop)]
 pub struct BlocksReader {
     bytes: Bytes,

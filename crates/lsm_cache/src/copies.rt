@@ -1,4 +1,4 @@
-//! Copies of what a look-up lends.
+//! Copies of what a look-up lends, for callers that keep it longer than the block.
 
 ghost use Rattle.std.specs.Prelude.{◌≡◌, IfOk, IfErr, IsSome};
 ghost use Rattle.lsm_key.specs.Visible.{entry_value, lent_entry};

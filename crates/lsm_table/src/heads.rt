@@ -14,6 +14,8 @@ use std::alloc::{AllocError, Global};
 use std::marker::Model;
 
 /// Several sources, each read up to its next entry. They stand from the last in order to the first.
+///
+/// Invariant: no head's entry comes before that of a head behind it, so the next entry of all is the last head's.
 #[derive(Drop)]
 pub struct Heads<H: Head> {
     heads: Vec<H>,

@@ -1,4 +1,4 @@
-//! Writing what stands before the blocks of a table.
+//! Writing what stands before the blocks of a table: the header and the index, whose fields `building.rt` lists.
 
 ghost use Rattle.std.specs.Prelude.{◌≡◌, ◌<◌, ◌≤◌, ◌++◌, length, OnErr, OnOk, Some};
 ghost use Rattle.std.specs.Int.{w32, to_be_bytes};

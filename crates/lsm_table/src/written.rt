@@ -25,6 +25,9 @@ use std::marker::Model;
 const END_OVERHEAD: usize = 10;
 
 /// The entries of a table being built, as its blocks, and the index of those that are closed.
+///
+/// Invariant: the blocks are the bytes of entries that are sound and in order, whose table has at most `MAX_TABLE_BYTES`. The count, the
+/// index, where the last one begins and the measure are those of these entries.
 #[derive(Drop)]
 pub(crate) struct Written {
     target: u32,
