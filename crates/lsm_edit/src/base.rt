@@ -1,7 +1,13 @@
 //! Bases: whole versions as bytes.
 //!
-//! A base is encoded as: u64 number, u64 flushed, u64 epoch, u64 next_file, u32 count of files and a file record each, by
-//! number; all numbers are big-endian.
+//! A base, its numbers big-endian:
+//!
+//!     8 bytes   number of the version
+//!     8 bytes   flushed sequence
+//!     8 bytes   epoch
+//!     8 bytes   next file number
+//!     4 bytes   count of files
+//!                 file record of each, by number
 
 ghost use Rattle.std.specs.Prelude.{◌≡◌, ◌<◌, ◌≤◌, ◌^◌, ◌++◌, ◌-◌, [], All, length, IfOk, OnOk, Ok};
 ghost use Rattle.lsm_key.specs.Reading.{Gives};

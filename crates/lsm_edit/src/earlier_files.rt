@@ -17,6 +17,9 @@ use std::marker::Model;
 type Ends = BTreeMap<(u8, Bytes), Bytes>;
 
 /// Files of which no two of a level overlap, unless it is level 0.
+///
+/// Invariant: `ends` has the range of each file from level 1 up, by its level and smallest key, and no other range. No file ends before
+/// it begins, and two files of one such level whose ranges meet begin with the same key.
 #[derive(Drop)]
 pub(crate) struct EarlierFiles {
     files: Vec<FileMeta>,

@@ -1,7 +1,16 @@
 //! Edits: what one version adds to the one before it.
 //!
-//! An edit is encoded as: u64 number, u8 kind (1 flush, 2 install, 3 epoch), u64 flushed, u64 epoch, u64 next_file, u32
-//! count of removed files and u64 each, u32 count of added files and a file record each; all numbers are big-endian.
+//! An edit, its numbers big-endian:
+//!
+//!     8 bytes   number of the version that it makes
+//!     1 byte    kind, 1 for a flush, 2 for an install, 3 for an epoch
+//!     8 bytes   flushed sequence
+//!     8 bytes   epoch
+//!     8 bytes   next file number
+//!     4 bytes   count of removed files
+//!     8 bytes     number of each, ascending
+//!     4 bytes   count of added files
+//!                 file record of each, by number
 
 ghost use Rattle.std.specs.Prelude.{◌≡◌, ◌≤◌, ◌<◌, ◌^◌, ◌++◌, ◌↔◌, ◌-◌, length, All, IfOk, IsTrue, OnOk, Ok};
 ghost use Rattle.lsm_edit.specs.File.{IsFile, size};

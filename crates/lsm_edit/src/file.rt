@@ -1,7 +1,15 @@
-//! File records.
+//! File records: what an edit and a base say of a table. Both spell it in the same way, so it has a file of its own.
 //!
-//! A record is encoded as: u64 number, u8 level, smallest key, largest key, u32 bytes, u32 entries; a key is u16 length
-//! and its bytes, and all numbers are big-endian.
+//! A record, its numbers big-endian:
+//!
+//!     8 bytes   number of the file
+//!     1 byte    level, 0 to 6
+//!     2 bytes   length of the smallest key, 1 to 4,096
+//!               that key
+//!     2 bytes   length of the largest key, 1 to 4,096
+//!               that key
+//!     4 bytes   bytes of the table, 1 to 16,777,216
+//!     4 bytes   count of its entries, at least 1
 
 ghost use Rattle.std.specs.Prelude.{◌≡◌, ◌++◌, ◌↔◌, [], IsTrue, OnOk, length, All};
 ghost use Rattle.std.specs.List.{flat_map};

@@ -1,8 +1,21 @@
 //! Records of a log: a batch that was accepted, or a freeze.
 //!
-//! A write is encoded as: u8 1, u64 first sequence, u32 count of operations, and each operation: u8 kind (0 deletion, 1 put),
-//! key, and for a put u32 length of the value and the value. A freeze is encoded as: u8 2, u64 sequence. All numbers are
-//! big-endian.
+//! A write, its numbers big-endian:
+//!
+//!     1 byte    code, 1
+//!     8 bytes   sequence of the first operation
+//!     4 bytes   count of operations, 1 to 1,000
+//!               each operation:
+//!     1 byte      kind, 0 for a deletion and 1 for a put
+//!     2 bytes     length of the key, 1 to 4,096
+//!                 the key
+//!     4 bytes     of a put, length of the value, 0 to 65,536
+//!                 of a put, the value
+//!
+//! A freeze:
+//!
+//!     1 byte    code, 2
+//!     8 bytes   sequence of the last write before it
 
 ghost use Rattle.std.specs.Prelude.{◌≡◌, ◌≤◌, ◌++◌, ◌+◌, length, All, IfOk, OnOk, Ok};
 ghost use Rattle.std.specs.List.{flat_map};

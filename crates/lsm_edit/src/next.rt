@@ -1,4 +1,4 @@
-//! The edits that follow a version.
+//! The edits that follow a version: of a flush, of an opening and of an install, each made so that it applies.
 
 ghost use Rattle.std.specs.Prelude.{◌≡◌, ℕ, ◌+◌, ◌<◌, ◌≤◌, ◌++◌, true, false, IfOk, None};
 ghost use Rattle.std.specs.List.{list_any};

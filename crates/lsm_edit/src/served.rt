@@ -45,8 +45,10 @@ pub struct Listing<'a> {
     pub files: &'a [FileMeta],
 }
 
-/// A version with its open tables, each as its file record says, in search order: level 0 from the newest file to the
-/// oldest, then each deeper level by key.
+/// A version with its open tables, in search order: level 0 from the newest file to the oldest, then each deeper level by key.
+///
+/// Invariant: each file of the version is placed once and no other file is, each table is as its file's record says, and the places
+/// are in search order.
 #[derive(Debug, Drop)]
 pub struct Served {
     current: Version,

@@ -55,8 +55,10 @@ impl<T: Drop> From<AllocFailed<T>> for ApplyError {
     }
 }
 
-/// The files of a store at one point of its history: the result of applying its edits up to a number. File numbers are
-/// distinct and below `next_file`; within a level from 1 up the files' key ranges are disjoint.
+/// The files of a store at one point of its history: the result of applying its edits up to a number.
+///
+/// Invariant: each file's record is sound, file numbers rise and are below `next_file`, no two files of one level from 1 up overlap, and
+/// no number is above `MAX_NUMBER`.
 #[derive(Debug, Drop)]
 pub struct Version {
     alloc: Global,

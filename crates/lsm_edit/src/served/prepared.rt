@@ -15,6 +15,8 @@ use std::alloc::AllocError;
 use std::marker::Model;
 
 /// The next version and the tables that it brings, with room for its places, so that taking it up takes no memory.
+///
+/// Invariant: `places` is empty, since it is room alone, and the numbers in `removed` ascend.
 #[derive(Debug, Drop)]
 pub struct Prepared {
     version: Version,

@@ -9,6 +9,8 @@ use std::alloc::AllocError;
 use std::marker::Model;
 
 /// Room for the places of another version, so that the move to it takes no memory.
+///
+/// Invariant: `places` is empty: its capacity is the room.
 #[derive(Debug, Drop)]
 pub struct Room {
     places: Vec<Placed>,
