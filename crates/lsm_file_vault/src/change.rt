@@ -1,4 +1,4 @@
-//! Changes of a folder.
+//! Changes of a folder: what a call leaves, as a value that clauses read, since no clause tells of a file.
 
 use bytes::Bytes;
 use lsm_key::FileNumber;

@@ -1,4 +1,4 @@
-//! Why a folder is not opened.
+//! Why a folder is not opened: each error names the file or the folder, so that its line says what to look at.
 
 use lsm_key::FileNumber;
 use std::alloc::{AllocError, AllocFailed, Global};

@@ -1,4 +1,4 @@
-//! The vault over a folder.
+//! The vault over a folder: it keeps the contract of `Vault`, and leaves each call on files to the folder.
 
 ghost use Rattle.std.specs.Prelude.{◌≡◌, ◌++◌, ◌∷◌, [], drop, IsErr, OnErr, OnOk};
 ghost use Rattle.lsm_vault.specs.Failures.{CountsFailures};
@@ -12,6 +12,8 @@ use std::io;
 
 /// A vault whose tables, edits and log are in a folder and also in memory, from which they are read: the bytes of a table are shared
 /// with who reads it. So a read never fails for the folder, and a change that the folder refused is not seen.
+///
+/// Invariant: the tables, the edits and the log in memory are those that the calls on the folder left which returned `Ok`.
 #[derive(Drop)]
 pub struct FileVault<F: Folder> {
     alloc: Global,

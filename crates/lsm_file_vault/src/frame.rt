@@ -1,4 +1,13 @@
-//! Frames: how an edit stands in its file, and a table in its own.
+//! Frames: how an edit or a log record stands in its file, and a table in its own.
+//!
+//! A frame, its numbers big-endian:
+//!
+//!     4 bytes   length of the bytes that it holds
+//!     4 bytes   the complement of the length, 2^32 - 1 - length
+//!     8 bytes   checksum of those bytes, SipHash-1-3 under keys of zero
+//!               the bytes
+//!
+//! The complement tells a length that was damaged from one whose bytes were cut off.
 
 ghost use Rattle.std.specs.List.{list_all};
 ghost use Rattle.std.specs.Prelude.{◌≡◌, ◌==◌, ◌<◌, ◌≤◌, ◌^◌, ◌++◌, length, drop, IfOk, IsErr, OnOk};

@@ -1,4 +1,4 @@
-//! A folder of the operating system.
+//! A folder of the operating system: the calls on files behind a vault. No clause tells of a file, so they stand apart, to be read.
 
 ghost use Rattle.std.specs.Prelude.{◌≡◌, ◌++◌, ◌∷◌, [], IfOk, OnOk, is_ok, if◌then◌else◌};
 ghost use Rattle.lsm_file_vault.specs.LogFiles.{AreSynced};

@@ -16,7 +16,8 @@ use std::fs::{self, OpenFile};
 use std::io;
 use std::rt::Files;
 
-// How many bytes of frames are gathered before they are written.
+// How many bytes of frames are gathered before they are written: enough that a call costs little for each record, and few enough to
+// lose with a process that is killed.
 const MOST_GATHERED: usize = 64 * 1024;
 
 // Room for more than this is let go once it is empty: one large record has made it.

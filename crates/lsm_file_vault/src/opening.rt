@@ -1,4 +1,4 @@
-//! Opening the vault in a folder.
+//! Opening the vault in a folder: what is locked, read and tested before there is a vault over it.
 
 ghost use Rattle.std.specs.Prelude.{◌≡◌, IfOk};
 

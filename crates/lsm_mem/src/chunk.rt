@@ -9,7 +9,7 @@ use lsm_edit::{WRITE_HEAD_BYTES, append_write};
 use lsm_key::{Batch, Seq};
 use std::alloc::{AllocError, Global};
 
-// The size of a chunk, in bytes.
+// The size of a chunk, in bytes: hundreds of small records share one, and it is small beside a memtable.
 const CHUNK_BYTES: usize = 64 * 1024;
 
 // A record of more bytes gets memory of its own, so that at most a quarter of a chunk stays unused.

@@ -1,6 +1,6 @@
-//! What most keys begin with.
+//! What most keys begin with: it is left out of prefixes, so that keys of one beginning differ in theirs.
 
-/// The most bytes of a front.
+/// The most bytes of a front. It is held in place, so it stays short.
 const MAX_FRONT: usize = 32;
 
 /// How many bytes that keys share a front leaves out: keys that count up soon differ in the last ones.

@@ -1,4 +1,4 @@
-//! The memtable.
+//! The memtable: its entries in buckets, and beside them what is noted of them, so that neither weight nor count is a walk.
 
 use crate::buckets::Buckets;
 use crate::front::Front;

@@ -1,4 +1,4 @@
-//! What a memtable notes of its entries.
+//! What a memtable notes of its entries, counted anew after some of them are taken out.
 
 ghost use Rattle.std.specs.Prelude.{◌≡◌, ◌≤◌, length, sum_by};
 ghost use Rattle.lsm_key.specs.declared.limits.TheConstants.{MAX_MEMTABLE_WEIGHT};

@@ -1,4 +1,4 @@
-//! Why a vault refuses a call.
+//! Why a vault refuses a call: the two reasons that a store tells apart.
 
 use std::alloc::{AllocError, AllocFailed};
 use thiserror::Error;

@@ -1,4 +1,4 @@
-//! A vault in memory.
+//! A vault in memory: for tests, for simulated nodes, and for stores that need not outlive their process.
 
 ghost use Rattle.std.specs.Prelude.{◌≡◌, drop};
 ghost use Rattle.lsm_vault.specs.Stored.{empty_vault};

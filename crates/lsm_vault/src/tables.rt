@@ -1,4 +1,4 @@
-//! Tables by number, in memory.
+//! Tables by number, in memory, apart from the vaults since those in memory and in a folder both hold them.
 
 ghost use Rattle.std.specs.Prelude.{◌≡◌, None, IfOk, IsSome, OnOk, OnErr};
 ghost use Rattle.std.specs.Ordering.{nat_cmp};

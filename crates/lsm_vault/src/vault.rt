@@ -1,4 +1,4 @@
-//! What every vault promises.
+//! What every vault promises: the contract that a store stands on, whatever keeps the bytes.
 
 ghost use Rattle.std.specs.Prelude.{◌≡◌, ◌++◌, ◌∷◌, [], ◌^◌, ◌-◌, ℕ, IfOk, OnOk, OnErr, drop, min};
 ghost use Rattle.std.specs.FinMap as map;

@@ -15,7 +15,7 @@ use lsm_key::Seq;
 use std::alloc::{AllocError, Global};
 use std::num::NonZeroUsize;
 
-/// How many blocks a cache holds at most.
+/// How many blocks a cache holds at most. They share the bytes of their tables, so that a cache takes memory for their indexes alone.
 const MAX_CACHED_BLOCKS: usize = 1024;
 
 /// A cache without a block.

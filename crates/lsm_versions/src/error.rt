@@ -1,4 +1,4 @@
-//! Why a vault is not opened.
+//! Why a vault is not opened: each reason says which part of it is bad, or what failed or ran out.
 
 use lsm_vault::VaultError;
 use std::alloc::{AllocError, AllocFailed};
