@@ -19,7 +19,7 @@ use Rattle.lsm_key.proofs.FieldLaws.{IsBytes, wide32, number_again, key_again, t
 use Rattle.lsm_block.specs.declared.fault.BlockFault.{BlockFault}
 use Rattle.lsm_block.specs.declared.fault.BlockFault.TheVariants.{Truncated, BadKind, BadLength}
 use Rattle.lsm_block.specs.Blocks.{value, entry, entries, HasSequence, HasShortKey, AreEntries, IsBlock}
-use Rattle.lsm_block.specs.BlockReading.{value_at, entry_within, next_at, entries_at, read_block}
+use Rattle.lsm_block.specs.BlockReading.{value_field_at, entry_within, next_at, entries_at, read_block}
 use Rattle.lsm_block.proofs.BlockFields.{longest_fits, after_key, after_tag}
 use Rattle.lsm_block.proofs.BlockRuns.{block_again, block_takes, entry_some, next_read_again}
 use Rattle.lsm_block.proofs.BlocksInTurn.{each_front, sound_front}
@@ -36,8 +36,8 @@ shorter_block limit bytes front back is some =
 
 -- ---- inside an entry
 
-value_cut : (kind : Kind) (v : List ℕ) → length v ≤ longest kind → (n : ℕ) → n < length (value v) → value_at kind (take n (value v)) ≡ Err Truncated
-unfolding value_at
+value_cut : (kind : Kind) (v : List ℕ) → length v ≤ longest kind → (n : ℕ) → n < length (value v) → value_field_at kind (take n (value v)) ≡ Err Truncated
+unfolding value_field_at
 value_cut kind v fits n lt =
     cut_then Truncated (number_at Truncated w32) (λ x. cond (ltb (longest kind) x.0) (Err BadLength) (piece_at Truncated x.0 x.1)) (to_be_bytes w32 (length v)) v (λ rest. (length v, rest))
     (number_cut Truncated w32 (2 ^ 32) wide32 (length v)) (λ rest. number_again Truncated w32 (2 ^ 32) wide32 (length v) rest (longest_fits kind (length v) fits))

@@ -13,14 +13,14 @@ use Rattle.lsm_block.specs.declared.fault.BlockFault.{BlockFault}
 use Rattle.lsm_block.specs.declared.fault.BlockFault.TheVariants.{Truncated, BadKind, BadLength}
 use Rattle.lsm_key.specs.Entries.{longest, IsEntry}
 use Rattle.lsm_block.specs.Blocks.{value, entry, HasSequence, HasShortKey}
-use Rattle.lsm_block.specs.BlockReading.{value_at, entry_at, entry_within}
+use Rattle.lsm_block.specs.BlockReading.{value_field_at, entry_at, entry_within}
 
 pub longest_fits : (kind : Kind) (n : ℕ) → n ≤ longest kind → n < 2 ^ 32
 longest_fits Delete n le = omega (arith, le)
 longest_fits Put n le = omega (arith, le)
 
-pub value_takes : (kind : Kind) (bytes v rest : List ℕ) → IsBytes bytes → value_at kind bytes ≡ Ok (v, rest) → Takes bytes (value v) rest × (length v ≤ longest kind)
-unfolding value_at
+pub value_takes : (kind : Kind) (bytes v rest : List ℕ) → IsBytes bytes → value_field_at kind bytes ≡ Ok (v, rest) → Takes bytes (value v) rest × (length v ≤ longest kind)
+unfolding value_field_at
 value_takes kind bytes v rest fits e =
     let a = bind_ok (number_at Truncated w32 bytes) (λ n. cond (ltb (longest kind) n.0) (Err BadLength) (piece_at Truncated n.0 n.1)) (v, rest) e in
     let n = a.0 in
@@ -31,16 +31,16 @@ value_takes kind bytes v rest fits e =
     let most : n.0 ≤ longest kind = ltb-false (longest kind) n.0 g.0 in
     (subst (λ (m : ℕ). Takes bytes (to_be_bytes w32 m ++ v) rest) (sym p.1) both, omega (arith, p.1, most))
 
-pub value_again : (kind : Kind) (v rest : List ℕ) → (length v ≤ longest kind) → value_at kind (value v ++ rest) ≡ Ok (v, rest)
-unfolding value_at
+pub value_again : (kind : Kind) (v rest : List ℕ) → (length v ≤ longest kind) → value_field_at kind (value v ++ rest) ≡ Ok (v, rest)
+unfolding value_field_at
 value_again kind v rest fits =
     let regrouped : value v ++ rest ≡ to_be_bytes w32 (length v) ++ (v ++ rest) = append_assoc (to_be_bytes w32 (length v)) v rest in
     let lt = longest_fits kind (length v) fits in
-    ap (value_at kind) regrouped ∙ rw (number_again Truncated w32 (2 ^ 32) wide32 (length v) (v ++ rest) lt, le-ltb (longest kind) (length v) fits, piece_again Truncated (length v) v rest refl) refl
+    ap (value_field_at kind) regrouped ∙ rw (number_again Truncated w32 (2 ^ 32) wide32 (length v) (v ++ rest) lt, le-ltb (longest kind) (length v) fits, piece_again Truncated (length v) v rest refl) refl
 
 -- what follows a key, and what follows its trailer
 abbrev pub after_tag : List ℕ → (ℕ × Kind) × List ℕ → Result (Entry × List ℕ) BlockFault
-after_tag key tag = value_at tag.0.1 tag.1 >>= λ value. Ok (record { ikey = record { key = key; seq = tag.0.0; kind = tag.0.1 }; value = value.0 }, value.1)
+after_tag key tag = value_field_at tag.0.1 tag.1 >>= λ value. Ok (record { ikey = record { key = key; seq = tag.0.0; kind = tag.0.1 }; value = value.0 }, value.1)
 
 abbrev pub after_key : List ℕ × List ℕ → Result (Entry × List ℕ) BlockFault
 after_key key = trailer_at Truncated BadKind key.1 >>= after_tag key.0
@@ -50,7 +50,7 @@ unfolding entry_within
 entry_takes limit le bytes x fits e =
     let a = bind_ok (key_at limit Truncated BadLength bytes) after_key x e in
     let b = bind_ok (trailer_at Truncated BadKind a.0.1) (after_tag a.0.0) x a.2 in
-    let c = bind_ok (value_at b.0.0.1 b.0.1) (λ value. Ok (record { ikey = record { key = a.0.0; seq = b.0.0.0; kind = b.0.0.1 }; value = value.0 }, value.1)) x b.2 in
+    let c = bind_ok (value_field_at b.0.0.1 b.0.1) (λ value. Ok (record { ikey = record { key = a.0.0; seq = b.0.0.0; kind = b.0.0.1 }; value = value.0 }, value.1)) x b.2 in
     let t0 = key_takes Truncated BadLength limit bytes a.0.0 a.0.1 fits a.1 in
     let t1 = trailer_takes Truncated BadKind a.0.1 b.0 t0.0.rest_fits b.1 in
     let t2 = value_takes b.0.0.1 b.0.1 c.0.0 c.0.1 t1.0.rest_fits c.1 in

@@ -10,7 +10,7 @@ use Rattle.lsm_key.proofs.FieldLaws.{bind_ok, guard_ok, guard_held, ok_is}
 use Rattle.lsm_block.specs.declared.fault.BlockFault.{BlockFault}
 use Rattle.lsm_block.specs.declared.fault.BlockFault.TheVariants.{Truncated, BadKind, BadLength, OutOfOrder}
 use Rattle.lsm_block.specs.Blocks.{HasShortKey}
-use Rattle.lsm_block.specs.BlockReading.{value_at, entry_within, may_follow, last_of, next_at, entries_at}
+use Rattle.lsm_block.specs.BlockReading.{value_field_at, entry_within, may_follow, last_of, next_at, entries_at}
 use Rattle.lsm_block.proofs.EntriesGrow.{each_push}
 
 module _ (limit : ℕ) where
@@ -28,9 +28,9 @@ module _ (limit : ℕ) where
   entry_short : (bytes : List ℕ) (x : Entry × List ℕ) → entry_within limit bytes ≡ Ok x → HasShortKey limit x.0
   unfolding entry_within
   entry_short bytes x e =
-      let k = bind_ok (key_at limit Truncated BadLength bytes) (λ key. trailer_at Truncated BadKind key.1 >>= λ tag. value_at tag.0.1 tag.1 >>= λ value. Ok (record { ikey = record { key = key.0; seq = tag.0.0; kind = tag.0.1 }; value = value.0 }, value.1)) x e in
-      let t = bind_ok (trailer_at Truncated BadKind k.0.1) (λ tag. value_at tag.0.1 tag.1 >>= λ value. Ok (record { ikey = record { key = k.0.0; seq = tag.0.0; kind = tag.0.1 }; value = value.0 }, value.1)) x k.2 in
-      let v = bind_ok (value_at t.0.0.1 t.0.1) (λ value. Ok (record { ikey = record { key = k.0.0; seq = t.0.0.0; kind = t.0.0.1 }; value = value.0 }, value.1)) x t.2 in
+      let k = bind_ok (key_at limit Truncated BadLength bytes) (λ key. trailer_at Truncated BadKind key.1 >>= λ tag. value_field_at tag.0.1 tag.1 >>= λ value. Ok (record { ikey = record { key = key.0; seq = tag.0.0; kind = tag.0.1 }; value = value.0 }, value.1)) x e in
+      let t = bind_ok (trailer_at Truncated BadKind k.0.1) (λ tag. value_field_at tag.0.1 tag.1 >>= λ value. Ok (record { ikey = record { key = k.0.0; seq = tag.0.0; kind = tag.0.1 }; value = value.0 }, value.1)) x k.2 in
+      let v = bind_ok (value_field_at t.0.0.1 t.0.1) (λ value. Ok (record { ikey = record { key = k.0.0; seq = t.0.0.0; kind = t.0.0.1 }; value = value.0 }, value.1)) x t.2 in
       let made : Entry × List ℕ = (record { ikey = record { key = k.0.0; seq = t.0.0.0; kind = t.0.0.1 }; value = v.0.0 }, v.0.1) in
       subst (λ (y : Entry × List ℕ). HasShortKey limit y.0) (ok_is {F = BlockFault} made x v.2) (key_short bytes k.0 k.1)
 

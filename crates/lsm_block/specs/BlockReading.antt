@@ -12,8 +12,8 @@ use Rattle.lsm_block.specs.declared.fault.BlockFault.TheVariants.{Truncated, Bad
 use Rattle.lsm_key.specs.Entries.{longest}
 
 -- the value of an entry of this kind
-unfoldable pub value_at : Kind → List ℕ → Result (List ℕ × List ℕ) BlockFault
-value_at kind bytes = do
+unfoldable pub value_field_at : Kind → List ℕ → Result (List ℕ × List ℕ) BlockFault
+value_field_at kind bytes = do
   n ← number_at Truncated w32 bytes
   if nat_lt (longest kind) n.0 then Err BadLength else piece_at Truncated n.0 n.1
 
@@ -22,7 +22,7 @@ unfoldable pub entry_within : ℕ → List ℕ → Result (Entry × List ℕ) Bl
 entry_within limit bytes = do
   key ← key_at limit Truncated BadLength bytes
   tag ← trailer_at Truncated BadKind key.1
-  value ← value_at tag.0.1 tag.1
+  value ← value_field_at tag.0.1 tag.1
   Ok (record { ikey = record { key = key.0; seq = tag.0.0; kind = tag.0.1 }; value = value.0 }, value.1)
 
 -- an entry of any key

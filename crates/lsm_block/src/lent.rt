@@ -2,7 +2,7 @@
 
 ghost use Rattle.lsm_key.specs.Visible.{lent_entry};
 ghost use Rattle.lsm_key.specs.Reading.{Reads};
-ghost use Rattle.lsm_block.specs.BlockReading.{value_at, entry_at, entry_within};
+ghost use Rattle.lsm_block.specs.BlockReading.{value_field_at, entry_at, entry_within};
 
 use crate::fault::BlockFault;
 use lsm_key::{
@@ -10,9 +10,9 @@ use lsm_key::{
 };
 
 // The value of an entry of this kind.
-#[tactic(auto, unfolding(crate::specs::BlockReading::value_at))]
+#[tactic(auto, unfolding(crate::specs::BlockReading::value_field_at))]
 fn value_in(kind: Kind, bytes: &[u8]) -> Result<(&[u8], &[u8]), BlockFault>
-    ensures { Reads (λ x. (x.0.now, x.1.now)) result (value_at kind bytes.now) }
+    ensures { Reads (λ x. (x.0.now, x.1.now)) result (value_field_at kind bytes.now) }
 {
     let (len, rest) = u32_in(bytes, BlockFault::Truncated)?;
     let len = len as usize;

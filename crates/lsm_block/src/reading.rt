@@ -2,7 +2,7 @@
 
 ghost use Rattle.lsm_key.specs.Reading.{Gives};
 ghost use Rattle.lsm_key.specs.Entries.{longest};
-ghost use Rattle.lsm_block.specs.BlockReading.{value_at, entry_at};
+ghost use Rattle.lsm_block.specs.BlockReading.{value_field_at, entry_at};
 
 use crate::fault::{BlockError, BlockFault};
 use bytes::Bytes;
@@ -12,9 +12,9 @@ use lsm_key::{
 };
 
 // The value of an entry of this kind.
-#[tactic(auto, unfolding(crate::specs::BlockReading::value_at))]
+#[tactic(auto, unfolding(crate::specs::BlockReading::value_field_at))]
 fn read_value(kind: Kind, rest: &mut Bytes) -> Result<Bytes, BlockError>
-    ensures { Gives (λ b. (b, rest.new)) result (value_at kind rest.old) }
+    ensures { Gives (λ b. (b, rest.new)) result (value_field_at kind rest.old) }
 {
     let len = read_u32(rest, BlockFault::Truncated)? as usize;
     let longest = match kind {
