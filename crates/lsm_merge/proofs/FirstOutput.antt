@@ -8,7 +8,7 @@ use Rattle.lsm_key.specs.Order.{Precedes}
 use Rattle.lsm_key.specs.Sets.{IsIn}
 use Rattle.lsm_key.proofs.AscendingEntries.{Falls}
 use Rattle.lsm_key.proofs.Membership.{IsIn-append_left, IsIn-append_right, IsIn-append_cases, IsIn-one}
-use Rattle.lsm_merge.specs.Outputs.{weight_of, HasLowerKeys}
+use Rattle.lsm_merge.specs.Outputs.{weight_of_entries, HasLowerKeys}
 use Rattle.lsm_merge.proofs.KeptInOnePass.{KeyLess, less-trans, by_key}
 
 -- ---- parts of entries in order
@@ -52,10 +52,10 @@ lower_keys init last first tail falls other e f m n =
       ]
     ]
 
-pub filter_weight : (p : Entry → Bool) (es : List Entry) → weight_of (filter p es) ≤ weight_of es
+pub filter_weight : (p : Entry → Bool) (es : List Entry) → weight_of_entries (filter p es) ≤ weight_of_entries es
 filter_weight p [] = omega arith
 filter_weight p (e ∷ es) = by (p e) (filter_weight p es)
   where
-    by : (b : Bool) → weight_of (filter p es) ≤ weight_of es → weight_of (cond b (e ∷ filter p es) (filter p es)) ≤ weight_of (e ∷ es)
+    by : (b : Bool) → weight_of_entries (filter p es) ≤ weight_of_entries es → weight_of_entries (cond b (e ∷ filter p es) (filter p es)) ≤ weight_of_entries (e ∷ es)
     by true h = omega (arith, h, sum_by-cons entry_weight e (filter p es), sum_by-cons entry_weight e es)
     by false h = omega (arith, h, sum_by-cons entry_weight e es)

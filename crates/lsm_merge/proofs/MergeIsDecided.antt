@@ -22,7 +22,7 @@ use Rattle.lsm_table.proofs.TableLaws.{some_blocks}
 use Rattle.lsm_table.proofs.TableSizes.{one_encoding}
 use Rattle.lsm_block.proofs.EntriesGrow.{last_at}
 use Rattle.lsm_merge.specs.declared.outputs.TheConstants.{OUTPUT_TARGET}
-use Rattle.lsm_merge.specs.Outputs.{weight_of, before_last_key, AreCut, EncodeEntries}
+use Rattle.lsm_merge.specs.Outputs.{weight_of_entries, before_last_key, AreCut, EncodeEntries}
 use Rattle.lsm_merge.specs.Cutting.{IsFirstOutput}
 use Rattle.lsm_merge.specs.Laws.{AMergeHasOneOutcome}
 use Rattle.lsm_merge.proofs.KeptInOnePass.{less-irrefl, precedes-trans}
@@ -103,7 +103,7 @@ last_part (x ∷ es) e mid =
     (get_or (e ∷ mid) n e, IsIn-at (e ∷ mid) n e (omega arith), sym (ap key_of_entry last ∙ ap (λ (f : Entry). f.ikey.key) at))
 
 -- an output that could have been closed earlier is none
-never_longer : (one other one_rest other_rest : List Entry) (e : Entry) (mid : List Entry) → IsFirstOutput one one_rest → weight_of (before_last_key other) < OUTPUT_TARGET → other ≡ one ++ e ∷ mid → one_rest ≡ (e ∷ mid) ++ other_rest → ⊥
+never_longer : (one other one_rest other_rest : List Entry) (e : Entry) (mid : List Entry) → IsFirstOutput one one_rest → weight_of_entries (before_last_key other) < OUTPUT_TARGET → other ≡ one ++ e ∷ mid → one_rest ≡ (e ∷ mid) ++ other_rest → ⊥
 never_longer one other one_rest other_rest e mid first late other_is rest_is =
     let k : List ℕ = largest_key (one ++ e ∷ mid) in
     let p : Entry → Bool = λ g. not (has_key k g) in
@@ -112,8 +112,8 @@ never_longer one other one_rest other_rest e mid first late other_is rest_is =
     let behind : IsIn f one_rest = subst (IsIn f) (sym rest_is) (IsIn-append_left f (e ∷ mid) other_rest last.1) in
     let all : filter p one ≡ one = keeps_all k one (λ g m same. less-irrefl g.ikey.key f.ikey.key (same ∙ sym last.2) (first.apart g f m behind)) in
     let parts : before_last_key (one ++ e ∷ mid) ≡ one ++ filter p (e ∷ mid) = filter-append p one (e ∷ mid) ∙ ap (λ (zs : List Entry). zs ++ filter p (e ∷ mid)) all in
-    let weights : weight_of (before_last_key (one ++ e ∷ mid)) ≡ weight_of one + weight_of (filter p (e ∷ mid)) = ap weight_of parts ∙ sum_by-append entry_weight one (filter p (e ∷ mid)) in
-    let same : weight_of (before_last_key other) ≡ weight_of (before_last_key (one ++ e ∷ mid)) = ap (λ (zs : List Entry). weight_of (before_last_key zs)) other_is in
+    let weights : weight_of_entries (before_last_key (one ++ e ∷ mid)) ≡ weight_of_entries one + weight_of_entries (filter p (e ∷ mid)) = ap weight_of_entries parts ∙ sum_by-append entry_weight one (filter p (e ∷ mid)) in
+    let same : weight_of_entries (before_last_key other) ≡ weight_of_entries (before_last_key (one ++ e ∷ mid)) = ap (λ (zs : List Entry). weight_of_entries (before_last_key zs)) other_is in
     let some : 0 < length one_rest = (let l = ap length rest_is in omega (arith, l)) in
     let heavy = first.full some in
     omega (arith, heavy, late, weights, same)

@@ -10,7 +10,7 @@ use Rattle.lsm_key.proofs.Membership.{IsIn-append_left, IsIn-append_right}
 use Rattle.lsm_table.specs.Tables.{IsTable, target_of}
 use Rattle.lsm_edit.proofs.AllEntries.{all_entries-push}
 use Rattle.lsm_merge.specs.declared.outputs.TheConstants.{OUTPUT_TARGET}
-use Rattle.lsm_merge.specs.Outputs.{weight_of, before_last_key, HasLowerKeys, AreCut, EncodeEntries}
+use Rattle.lsm_merge.specs.Outputs.{weight_of_entries, before_last_key, HasLowerKeys, AreCut, EncodeEntries}
 use Rattle.lsm_merge.specs.Cutting.{AreFirstOutputs, IsFirstOutput}
 
 pub cut_push : (lists : List (List Entry)) (es rest : List Entry) → AreFirstOutputs lists (es ++ rest) → IsFirstOutput es rest → AreFirstOutputs (lists ++ es ∷ []) rest
@@ -42,7 +42,7 @@ all_cut (es ∷ lists) h =
     let rest = all_cut lists h.1 in
     record {
       some = All-cons (λ xs. 0 < length xs) es lists h.0.some rest.some;
-      late = All-cons (λ xs. weight_of (before_last_key xs) < OUTPUT_TARGET) es lists h.0.late rest.late;
-      full = AllPairs-cons (λ xs later. OUTPUT_TARGET ≤ weight_of xs) es lists (λ k d lt. h.0.full (some_first lists h.1 k lt)) rest.full;
+      late = All-cons (λ xs. weight_of_entries (before_last_key xs) < OUTPUT_TARGET) es lists h.0.late rest.late;
+      full = AllPairs-cons (λ xs later. OUTPUT_TARGET ≤ weight_of_entries xs) es lists (λ k d lt. h.0.full (some_first lists h.1 k lt)) rest.full;
       apart = AllPairs-cons HasLowerKeys es lists (λ k d lt e f m n. h.0.apart e f m (IsIn-append_left f (all_entries lists) [] (in_all lists k d f lt n))) rest.apart;
     }

@@ -18,7 +18,7 @@ use Rattle.lsm_table.specs.Tables.{table_of, largest_key}
 use Rattle.lsm_block.proofs.EntriesGrow.{each_in}
 use Rattle.lsm_table.proofs.TableWeights.{table_weighs}
 use Rattle.lsm_merge.specs.declared.outputs.TheConstants.{OUTPUT_TARGET}
-use Rattle.lsm_merge.specs.Outputs.{weight_of, before_last_key}
+use Rattle.lsm_merge.specs.Outputs.{weight_of_entries, before_last_key}
 use Rattle.lsm_merge.specs.Cutting.{AreFew}
 use Rattle.lsm_merge.proofs.FewVersions.{of_key-filter, of_key-append}
 use Rattle.lsm_merge.proofs.FirstOutput.{falls_left, falls_right}
@@ -57,12 +57,12 @@ module _ (front part rest : List Entry) where
       omega (arith, whole, a, b, c, own)
 
 -- entries that may be an output: their table is within its limit
-pub output_fits : (target : ℕ) (es : List Entry) → 0 < length es → AreEntries es → AreFew es → weight_of (before_last_key es) < OUTPUT_TARGET → length (table_of target es) ≤ MAX_TABLE_BYTES
+pub output_fits : (target : ℕ) (es : List Entry) → 0 < length es → AreEntries es → AreFew es → weight_of_entries (before_last_key es) < OUTPUT_TARGET → length (table_of target es) ≤ MAX_TABLE_BYTES
 output_fits target es some sound few late =
     let k : List ℕ = largest_key es in
-    let both : weight_of (filter (has_key k) es) + weight_of (before_last_key es) ≡ weight_of es = sum_by-filter_both (has_key k) (λ e. not (has_key k e)) (λ e. refl) entry_weight es in
+    let both : weight_of_entries (filter (has_key k) es) + weight_of_entries (before_last_key es) ≡ weight_of_entries es = sum_by-filter_both (has_key k) (λ e. not (has_key k e)) (λ e. refl) entry_weight es in
     let light : All (λ e. entry_weight e ≤ 69646) (filter (has_key k) es) = λ i d lt. entry_most (get_or (filter (has_key k) es) i d) (each_in IsEntry es (get_or (filter (has_key k) es) i d) sound.each (IsIn-filter (has_key k) (get_or (filter (has_key k) es) i d) es (IsIn-at (filter (has_key k) es) i d lt)).0) in
-    let own : weight_of (filter (has_key k) es) ≤ length (filter (has_key k) es) * 69646 = sum_by-le entry_weight 69646 (filter (has_key k) es) light in
+    let own : weight_of_entries (filter (has_key k) es) ≤ length (filter (has_key k) es) * 69646 = sum_by-le entry_weight 69646 (filter (has_key k) es) light in
     let most = few k in
     let size = table_weighs target es some in
     omega (arith, both, own, most, late, size)

@@ -23,7 +23,7 @@ use Rattle.lsm_table.proofs.BuilderDrafts.{fault_none}
 use Rattle.lsm_edit.proofs.AllEntries.{all_entries-push}
 use Rattle.lsm_merge.specs.declared.outputs.TheConstants.{OUTPUT_TARGET}
 use Rattle.lsm_merge.specs.Cutting.{AreFew, AreFirstOutputs, IsFirstOutput, IsSplitInto, IsSplitSoFar, MayCome, closes_before, draft_with}
-use Rattle.lsm_merge.specs.Outputs.{weight_of, before_last_key}
+use Rattle.lsm_merge.specs.Outputs.{weight_of_entries, before_last_key}
 use Rattle.lsm_merge.proofs.FirstOutput.{falls_across, filter_weight, lower_keys}
 use Rattle.lsm_merge.proofs.KeptInOnePass.{KeyLess, by_key, less-trans}
 use Rattle.lsm_merge.proofs.OutputCuts.{all_cut, cut_push, tables_push}
@@ -46,17 +46,17 @@ before_more es e =
     has_key_own : (x : Entry) → has_key x.ikey.key x ≡ true
     has_key_own x = has_key-at x.ikey.key x refl
 
-late_light : (es : List Entry) (e : Entry) → weight_of es < OUTPUT_TARGET → weight_of (before_last_key (es ++ e ∷ [])) < OUTPUT_TARGET
-late_light es e light = omega (arith, light, filter_weight (λ x. not (has_key e.ikey.key x)) es, ap weight_of (before_more es e))
+late_light : (es : List Entry) (e : Entry) → weight_of_entries es < OUTPUT_TARGET → weight_of_entries (before_last_key (es ++ e ∷ [])) < OUTPUT_TARGET
+late_light es e light = omega (arith, light, filter_weight (λ x. not (has_key e.ikey.key x)) es, ap weight_of_entries (before_more es e))
 
-late_same : (es : List Entry) (e : Entry) → has_key (largest_key es) e ≡ true → weight_of (before_last_key es) < OUTPUT_TARGET → weight_of (before_last_key (es ++ e ∷ [])) < OUTPUT_TARGET
+late_same : (es : List Entry) (e : Entry) → has_key (largest_key es) e ≡ true → weight_of_entries (before_last_key es) < OUTPUT_TARGET → weight_of_entries (before_last_key (es ++ e ∷ [])) < OUTPUT_TARGET
 late_same es e same late =
     let k = ap (λ (key : List ℕ). filter (λ x. not (has_key key x)) es) (has_key-is (largest_key es) e same) in
-    omega (arith, late, ap weight_of (before_more es e ∙ k))
+    omega (arith, late, ap weight_of_entries (before_more es e ∙ k))
 
-late_by : (es : List Entry) (e : Entry) (b : Bool) → has_key (largest_key es) e ≡ b → (OUTPUT_TARGET ≤ weight_of es → not b ≡ false) → weight_of (before_last_key es) < OUTPUT_TARGET → weight_of (before_last_key (es ++ e ∷ [])) < OUTPUT_TARGET
+late_by : (es : List Entry) (e : Entry) (b : Bool) → has_key (largest_key es) e ≡ b → (OUTPUT_TARGET ≤ weight_of_entries es → not b ≡ false) → weight_of_entries (before_last_key es) < OUTPUT_TARGET → weight_of_entries (before_last_key (es ++ e ∷ [])) < OUTPUT_TARGET
 late_by es e true is h late = late_same es e is late
-late_by es e false is h late = elim (cases_lt (weight_of es) OUTPUT_TARGET) [
+late_by es e false is h late = elim (cases_lt (weight_of_entries es) OUTPUT_TARGET) [
   | inl light ↦ late_light es e light
   | inr heavy ↦ absurd (true≢false (h heavy))
 ]
@@ -104,18 +104,18 @@ ends [] some = absurd (omega (arith, some))
 ends (x ∷ []) some = record { init = []; last = x; parts = refl }
 ends (x ∷ y ∷ es) some = let more = ends (y ∷ es) (omega arith) in record { init = x ∷ more.init; last = more.last; parts = ap (λ (zs : List Entry). x ∷ zs) more.parts }
 
-weighs_some : (es : List Entry) → OUTPUT_TARGET ≤ weight_of es → 0 < length es
+weighs_some : (es : List Entry) → OUTPUT_TARGET ≤ weight_of_entries es → 0 < length es
 weighs_some [] heavy = absurd (omega (arith, heavy))
 weighs_some (x ∷ es) heavy = omega arith
 
-pub ends_none : (es : List Entry) → OUTPUT_TARGET ≤ weight_of es → last_of es ≡ None → ⊥
+pub ends_none : (es : List Entry) → OUTPUT_TARGET ≤ weight_of_entries es → last_of es ≡ None → ⊥
 ends_none es heavy none =
     let at = ends es (weighs_some es heavy) in
     let bad : ◌≡◌ {A = Option Entry} None (Some at.last) = sym none ∙ ap last_of at.parts ∙ last_added at.init at.last in
     absurd cc
 
 -- an output that weighs enough, before an entry of another key
-closed_first : (es : List Entry) (e : Entry) → OUTPUT_TARGET ≤ weight_of es → has_key (largest_key es) e ≡ false → Falls (es ++ e ∷ []) → weight_of (before_last_key es) < OUTPUT_TARGET → IsFirstOutput es (e ∷ [])
+closed_first : (es : List Entry) (e : Entry) → OUTPUT_TARGET ≤ weight_of_entries es → has_key (largest_key es) e ≡ false → Falls (es ++ e ∷ []) → weight_of_entries (before_last_key es) < OUTPUT_TARGET → IsFirstOutput es (e ∷ [])
 closed_first es e heavy other falls late =
     let at = ends es (weighs_some es heavy) in
     let k : largest_key es ≡ at.last.ikey.key = ap largest_key at.parts ∙ last_key_more at.init at.last in
@@ -129,8 +129,8 @@ closed_first es e heavy other falls late =
 
 -- ---- one more entry
 
-closes_is : (es : List Entry) (e : Entry) (a b : Bool) → nat_le OUTPUT_TARGET (weight_of es) ≡ a → has_key (largest_key es) e ≡ b → (a && not b) ≡ true → (OUTPUT_TARGET ≤ weight_of es) × (has_key (largest_key es) e ≡ false)
-closes_is es e true false heavy other h = (leb-true OUTPUT_TARGET (weight_of es) heavy, other)
+closes_is : (es : List Entry) (e : Entry) (a b : Bool) → nat_le OUTPUT_TARGET (weight_of_entries es) ≡ a → has_key (largest_key es) e ≡ b → (a && not b) ≡ true → (OUTPUT_TARGET ≤ weight_of_entries es) × (has_key (largest_key es) e ≡ false)
+closes_is es e true false heavy other h = (leb-true OUTPUT_TARGET (weight_of_entries es) heavy, other)
 closes_is es e true true heavy other h = absurd (true≢false (sym h))
 closes_is es e false b heavy other h = absurd (true≢false (sym h))
 
@@ -155,8 +155,8 @@ module _ (target : ℕ) (entries : List Entry) (closed : List (List ℕ)) (takin
 
   -- the output takes it
   module _ (stays : closes_before taking.entries e ≡ false) where
-    late_more : weight_of (before_last_key (taking.entries ++ e ∷ [])) < OUTPUT_TARGET
-    late_more = late_by taking.entries e (has_key (largest_key taking.entries) e) refl (λ heavy. sym (ap (λ (b : Bool). b && not (has_key (largest_key taking.entries) e)) (le-leb OUTPUT_TARGET (weight_of taking.entries) heavy)) ∙ stays) split.late
+    late_more : weight_of_entries (before_last_key (taking.entries ++ e ∷ [])) < OUTPUT_TARGET
+    late_more = late_by taking.entries e (has_key (largest_key taking.entries) e) refl (λ heavy. sym (ap (λ (b : Bool). b && not (has_key (largest_key taking.entries) e)) (le-leb OUTPUT_TARGET (weight_of_entries taking.entries) heavy)) ∙ stays) split.late
 
     pub stays_fault : add_fault taking e ≡ None
     stays_fault = fault_none taking.target taking.entries e (follows taking.entries e [] own_sound.ascending) (output_fits taking.target (taking.entries ++ e ∷ []) some_more own_sound own_few late_more)
@@ -174,8 +174,8 @@ module _ (target : ℕ) (entries : List Entry) (closed : List (List ℕ)) (takin
 
   -- the output is closed before it
   module _ (closes : closes_before taking.entries e ≡ true) (bytes : List ℕ) (is : IsTable bytes taking.entries) (of : target_of bytes ≡ taking.target) where
-    heavy_other : (OUTPUT_TARGET ≤ weight_of taking.entries) × (has_key (largest_key taking.entries) e ≡ false)
-    heavy_other = closes_is taking.entries e (nat_le OUTPUT_TARGET (weight_of taking.entries)) (has_key (largest_key taking.entries) e) refl refl closes
+    heavy_other : (OUTPUT_TARGET ≤ weight_of_entries taking.entries) × (has_key (largest_key taking.entries) e ≡ false)
+    heavy_other = closes_is taking.entries e (nat_le OUTPUT_TARGET (weight_of_entries taking.entries)) (has_key (largest_key taking.entries) e) refl refl closes
 
     one_sound : AreEntries (e ∷ [])
     one_sound = part_sound entries (e ∷ []) [] may.sound
@@ -183,7 +183,7 @@ module _ (target : ℕ) (entries : List Entry) (closed : List (List ℕ)) (takin
     one_few : AreFew (e ∷ [])
     one_few = part_few entries (e ∷ []) [] may.few
 
-    one_late : weight_of (before_last_key (e ∷ [])) < OUTPUT_TARGET
+    one_late : weight_of_entries (before_last_key (e ∷ [])) < OUTPUT_TARGET
     one_late = late_light [] e (omega arith)
 
     pub closes_fault : add_fault (record { target = taking.target; entries = [] }) e ≡ None

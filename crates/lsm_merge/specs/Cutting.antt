@@ -8,7 +8,7 @@ use Rattle.lsm_block.specs.Blocks.{AreEntries}
 use Rattle.lsm_table.specs.Building.{Draft}
 use Rattle.lsm_table.specs.Tables.{largest_key}
 use Rattle.lsm_merge.specs.declared.outputs.TheConstants.{OUTPUT_TARGET}
-use Rattle.lsm_merge.specs.Outputs.{weight_of, before_last_key, HasLowerKeys, AreCut, EncodeEntries}
+use Rattle.lsm_merge.specs.Outputs.{weight_of_entries, before_last_key, HasLowerKeys, AreCut, EncodeEntries}
 
 -- of each key at most one entry for each point, and the newest
 abbrev pub AreFew : List Entry → Type 0
@@ -17,8 +17,8 @@ AreFew entries = (key : List ℕ) → length (filter (has_key key) entries) ≤ 
 -- the first output of entries, with those behind it
 pub record IsFirstOutput (output later : List Entry) : Type 0 where
   pub some : 0 < length output
-  pub late : weight_of (before_last_key output) < OUTPUT_TARGET
-  pub full : 0 < length later → OUTPUT_TARGET ≤ weight_of output
+  pub late : weight_of_entries (before_last_key output) < OUTPUT_TARGET
+  pub full : 0 < length later → OUTPUT_TARGET ≤ weight_of_entries output
   pub apart : HasLowerKeys output later
 
 -- each output is the first of those behind it and of the entries that are left
@@ -28,7 +28,7 @@ AreFirstOutputs (output ∷ later) rest = IsFirstOutput output (all_entries late
 
 -- an output is closed before an entry: it weighs enough, and the entry has another key than its last one
 abbrev pub closes_before : List Entry → Entry → Bool
-closes_before output e = nat_le OUTPUT_TARGET (weight_of output) && not (has_key (largest_key output) e)
+closes_before output e = nat_le OUTPUT_TARGET (weight_of_entries output) && not (has_key (largest_key output) e)
 
 -- one more entry
 abbrev pub draft_with : Draft → Entry → Draft
@@ -46,7 +46,7 @@ pub record IsSplitSoFar (target : ℕ) (entries : List Entry) (closed : List (Li
   pub aims : taking.target ≡ target
   pub all : all_entries lists ++ taking.entries ≡ entries
   pub cut : AreFirstOutputs lists taking.entries
-  pub late : weight_of (before_last_key taking.entries) < OUTPUT_TARGET
+  pub late : weight_of_entries (before_last_key taking.entries) < OUTPUT_TARGET
   pub some : 0 < length lists → 0 < length taking.entries
 
 -- the outputs are tables of this block target that have these entries between them, cut as a merge does

@@ -12,8 +12,8 @@ use Rattle.lsm_msg.specs.Merge.{HoldsKept}
 use Rattle.lsm_merge.specs.declared.outputs.TheConstants.{OUTPUT_TARGET}
 use Rattle.lsm_merge.specs.Inputs.{lists_of}
 
-abbrev pub weight_of : List Entry → ℕ
-weight_of entries = sum_by entry_weight entries
+abbrev pub weight_of_entries : List Entry → ℕ
+weight_of_entries entries = sum_by entry_weight entries
 
 -- the entries but those of the last key
 abbrev pub before_last_key : List Entry → List Entry
@@ -26,8 +26,8 @@ HasLowerKeys entries later = (e f : Entry) → IsIn e entries → IsIn f later �
 -- outputs are closed as soon as they weigh enough, but not between entries of one key
 pub record AreCut (outputs : List (List Entry)) : Type 0 where
   pub some : All (λ entries. 0 < length entries) outputs  -- none is empty
-  pub late : All (λ entries. weight_of (before_last_key entries) < OUTPUT_TARGET) outputs  -- none could be closed before its last key
-  pub full : AllPairs (λ entries later. OUTPUT_TARGET ≤ weight_of entries) outputs  -- each but the last weighs enough
+  pub late : All (λ entries. weight_of_entries (before_last_key entries) < OUTPUT_TARGET) outputs  -- none could be closed before its last key
+  pub full : AllPairs (λ entries later. OUTPUT_TARGET ≤ weight_of_entries entries) outputs  -- each but the last weighs enough
   pub apart : AllPairs HasLowerKeys outputs  -- no key is in two
 
 -- the outputs are the tables of these entries, one by one, with their blocks cut at the target
