@@ -14,6 +14,7 @@ use Rattle.lsm_claim.specs.declared.job.LiveJob.{LiveJob}
 use Rattle.lsm_claim.specs.declared.job.Want.{Want}
 use Rattle.lsm_claim.specs.Jobs.{JobNumbersRise, AreApart, IsLeastConflict, first_conflict, same_job_id, without_job}
 
+-- what contracts see of a book of claims
 pub record BookValue : Type 0 where
   pub epoch : ℕ
   pub made : ℕ  -- how many claims were issued
@@ -78,6 +79,7 @@ after_claim b want = record b { made = b.made + 1; live = b.live ++ next_job b w
 abbrev pub holds : BookValue → JobId → Bool
 holds b id = list_any (λ j. same_job_id j.id id) b.live
 
+-- the answer to a claim that is settled: whether its job was still live
 abbrev pub settle_answer : BookValue → JobId → Settled
 settle_answer b id = if holds b id then Live else Stale
 

@@ -35,6 +35,7 @@ pub record IsLeastConflict (jobs : List LiveJob) (want : Want) (id : JobId) : Ty
   pub conflicting : conflicts job.want want ≡ true
   pub least : (k : LiveJob) → IsIn k jobs → conflicts k.want want ≡ true → id.number ≤ k.id.number
 
+-- the two names are one: the same epoch, and the same number
 abbrev pub same_job_id : JobId → JobId → Bool
 same_job_id a b = nat_eq a.epoch b.epoch && nat_eq a.number b.number
 

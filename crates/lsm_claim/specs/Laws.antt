@@ -13,5 +13,6 @@ HullsMeetWhereTheyShareAKey = (h g : Hull) → (hulls_meet h g ≡ true) ↔ ((k
 abbrev pub JobsShareTheLevelsThatBothUse : Type 0
 JobsShareTheLevelsThatBothUse = (a b : ℕ) → (shares_level a b ≡ true) ↔ ((level : ℕ) × (uses_level a level ≡ true) × (uses_level b level ≡ true))
 
+-- a job conflicts with another exactly if that one conflicts with it
 abbrev pub ConflictsGoBothWays : Type 0
 ConflictsGoBothWays = (w v : Want) → conflicts w v ≡ conflicts v w

@@ -22,6 +22,7 @@ pub record PendingValue : Type 0 where
   pub missing : List FileMeta  -- the files whose tables have not come, by number
   pub received : List Placed  -- those that have come, with their tables, in the order in which they came
 
+-- what contracts see of a follower
 pub record FollowerValue : Type 0 where
   pub index : ℕ
   pub served : ServedValue
@@ -39,6 +40,7 @@ new_follower index = record { index = index; served = first_served; pending = No
 
 -- ---- the version to move to
 
+-- the records of the files
 abbrev pub files_in : List Placed → List FileMeta
 files_in places = map (λ p. p.meta) places
 
@@ -66,6 +68,7 @@ with_table p was = record was { missing = filter (λ f. not (same_file f p.meta)
 
 -- ---- what comes of a message
 
+-- nothing changes, and nothing is sent
 abbrev pub ignores_message : FollowerValue → FollowOutcome
 ignores_message f = record { change = Ignored; sent = []; follower = f }
 
@@ -82,6 +85,7 @@ abbrev pub begins : FollowerValue → PendingValue → List FileMeta → FollowO
 begins f to [] = moves f to
 begins f to (g ∷ gs) = waits f to (fetches (Follower f.index) (g ∷ gs))
 
+-- it is to move to this version, in place of any other: at once if no table is missing, else it asks for each
 abbrev pub turns_to : FollowerValue → VersionValue → FollowOutcome
 turns_to f target = begins f (pending_for f target) (pending_for f target).missing
 

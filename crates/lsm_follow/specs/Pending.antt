@@ -21,6 +21,7 @@ pub record IsPending (served : VersionValue) (to : PendingValue) : Type 0 where
   pub has : HasReceived served to
   pub some : to.missing ≡ [] → ⊥
 
+-- what every follower keeps of the version that it is to move to, if there is one
 abbrev pub IsFollower : FollowerValue → Type 0
 IsFollower f = IfSome f.pending (IsPending f.served.version)
 

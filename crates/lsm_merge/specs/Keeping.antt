@@ -17,9 +17,11 @@ is_needed points (Some before) e =
     if has_key before.ikey.key e then is_seen_alone points before.ikey.seq e.ikey.seq
     else true
 
+-- a merge keeps the entry, given the one before it in order
 abbrev pub stays : List ℕ → List KeyRange → Option Entry → Entry → Bool
 stays points deeper before e = is_needed points before e && not (may_go points deeper e)
 
+-- what a merge keeps of entries in order, given the one before them
 abbrev pub kept_list : List ℕ → List KeyRange → Option Entry → List Entry → List Entry
 kept_list points deeper before [] = []
 kept_list points deeper before (e ∷ es) =

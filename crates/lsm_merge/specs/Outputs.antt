@@ -12,6 +12,7 @@ use Rattle.lsm_msg.specs.Merge.{HoldsKept}
 use Rattle.lsm_merge.specs.declared.outputs.TheConstants.{OUTPUT_TARGET}
 use Rattle.lsm_merge.specs.Inputs.{lists_of}
 
+-- the weight of entries: how many bytes they take in blocks
 abbrev pub weight_of_entries : List Entry → ℕ
 weight_of_entries entries = sum_by entry_weight entries
 

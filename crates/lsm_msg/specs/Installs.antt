@@ -28,6 +28,7 @@ IsInputOf places want e = (p : Placed) × IsIn p places × IsIn p.meta.number wa
 abbrev pub AreInputsOf : List Placed → Want → List Entry → Type 0
 AreInputsOf places want entries = (e : Entry) → IsIn e entries ↔ IsInputOf places want e
 
+-- the entries of all of the tables
 abbrev pub entries_of : List Opened → List Entry
 entries_of tables = all_entries (map (λ t. t.entries) tables)
 

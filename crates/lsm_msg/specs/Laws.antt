@@ -37,6 +37,7 @@ ReadsStay =
 abbrev pub key_a : List ℕ
 key_a = 97 ∷ []
 
+-- the range that has the key a and no other
 abbrev pub over_a : KeyRange
 over_a = record { lo = key_a; hi = key_a }
 
@@ -44,6 +45,7 @@ over_a = record { lo = key_a; hi = key_a }
 abbrev pub put_of_a : Entry
 put_of_a = record { ikey = record { key = key_a; seq = 1; kind = Put }; value = 49 ∷ [] }
 
+-- the deletion of the key a, at sequence 2
 abbrev pub deletion : Entry
 deletion = record { ikey = record { key = key_a; seq = 2; kind = Delete }; value = [] }
 

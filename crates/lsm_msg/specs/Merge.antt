@@ -13,6 +13,7 @@ use Rattle.lsm_key.specs.declared.range.KeyRange.{KeyRange}
 abbrev pub IsNeeded : List Entry → List ℕ → Entry → Type 0
 IsNeeded inputs points e = (newest inputs e.ikey.key ≡ Some e) ⊎ ((p : ℕ) × IsIn p points × (visible inputs e.ikey.key p ≡ Some e))
 
+-- the kind is that of a deletion
 abbrev pub is_deletion : Kind → Bool
 is_deletion Delete = true
 is_deletion Put = false
@@ -21,6 +22,7 @@ is_deletion Put = false
 abbrev pub is_at_most_all : List ℕ → ℕ → Bool
 is_at_most_all points seq = list_all (λ p. nat_le seq p) points
 
+-- the key is in one of the ranges, both ends of which are included
 abbrev pub is_in_ranges : List KeyRange → List ℕ → Bool
 is_in_ranges ranges key = list_any (λ r. in_closed_range r.lo r.hi key) ranges
 
@@ -28,6 +30,7 @@ is_in_ranges ranges key = list_any (λ r. in_closed_range r.lo r.hi key) ranges
 abbrev pub may_go : List ℕ → List KeyRange → Entry → Bool
 may_go points deeper e = is_deletion e.ikey.kind && (is_at_most_all points e.ikey.seq && not (is_in_ranges deeper e.ikey.key))
 
+-- a merge keeps the entry: some read needs it, and it is no deletion that hides nothing any more
 pub record IsKept (inputs : List Entry) (points : List ℕ) (deeper : List KeyRange) (e : Entry) : Type 0 where
   pub needed : IsNeeded inputs points e
   pub stays : may_go points deeper e ≡ false

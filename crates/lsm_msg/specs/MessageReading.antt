@@ -29,6 +29,7 @@ use Rattle.lsm_msg.specs.Messages.{message_magic, own_keys}
 
 -- ---- kinds and nodes
 
+-- the kind of a code from 1 to 9; no other code has one
 abbrev pub message_kind_from : ℕ → Result MessageKind MsgFault
 message_kind_from n =
     if n == 1 then Ok kind.Job
@@ -42,6 +43,7 @@ message_kind_from n =
     else if n == 9 then Ok kind.Current
     else Err BadKind
 
+-- a kind from the front: its code, in one byte
 abbrev pub message_kind_at : List ℕ → Result (MessageKind × List ℕ) MsgFault
 message_kind_at bytes = do
   code ← number_at Truncated w8 bytes
@@ -55,6 +57,7 @@ node_from role index =
     else if index == 0 || nat_lt MAX_NODES index then Err BadField
     else if role == 1 then Ok (Worker index) else Ok (Follower index)
 
+-- a node from the front: its role and its number, in one byte each
 unfoldable pub node_at : List ℕ → Result (Node × List ℕ) MsgFault
 node_at bytes = do
   role ← ranged_number_at Truncated BadField w8 0 2 bytes
@@ -64,12 +67,14 @@ node_at bytes = do
 
 -- ---- jobs
 
+-- the name of a job from the front: its epoch and its number, each 1 to MAX_NUMBER, in eight bytes each
 unfoldable pub job_id_at : List ℕ → Result (JobId × List ℕ) MsgFault
 job_id_at bytes = do
   epoch ← ranged_number_at Truncated BadField w64 1 MAX_NUMBER bytes
   number ← ranged_number_at Truncated BadField w64 1 MAX_NUMBER epoch.1
   Ok (record { epoch = epoch.0; number = number.0 }, number.1)
 
+-- the points of a job from the front: how many, in one byte, and that many ascending sequences below 2^56
 unfoldable pub points_at : List ℕ → Result (List ℕ × List ℕ) MsgFault
 points_at bytes = do
   count ← ranged_number_at Truncated BadField w8 0 MAX_POINTS bytes
@@ -79,6 +84,7 @@ points_at bytes = do
 abbrev pub input_bounds : InputsLeft → FileBounds
 input_bounds s = record { least = s.least; most = MAX_NUMBER; lowest = s.level; deepest = if not s.own && s.left == 1 then s.level else s.level + 1 }
 
+-- what is left to read of a job's inputs after this one
 abbrev pub after_input : InputsLeft → FileMeta → InputsLeft
 after_input s f = record { least = f.number + 1; level = s.level; left = s.left - 1; own = s.own || nat_eq f.level s.level }
 
@@ -86,6 +92,7 @@ after_input s f = record { least = f.number + 1; level = s.level; left = s.left 
 abbrev pub each_input_at : ℕ → ℕ → InputsLeft → List ℕ → Result (List FileMeta × List ℕ) MsgFault
 each_input_at limit count s bytes = items_at (λ s. file_at limit Truncated BadField (input_bounds s) []) after_input count s bytes
 
+-- the inputs of a job from the front: how many, 1 to MAX_INPUTS, in two bytes, and the record of each
 unfoldable pub inputs_at : ℕ → ℕ → List ℕ → Result (List FileMeta × List ℕ) MsgFault
 inputs_at limit level bytes = do
   count ← ranged_number_at Truncated BadField w16 1 MAX_INPUTS bytes
@@ -102,6 +109,7 @@ range_at limit bytes = do
 abbrev pub each_at : {X : Type 0} → (List ℕ → Result (X × List ℕ) MsgFault) → ℕ → List ℕ → Result (List X × List ℕ) MsgFault
 each_at {X} read count bytes = items_at {S = Unit {0}} (λ s. read) (λ s x. s) count tt bytes
 
+-- the deeper ranges of a job from the front: how many, at most MAX_DEEPER, in four bytes, and the keys of each
 unfoldable pub ranges_at : ℕ → List ℕ → Result (List KeyRange × List ℕ) MsgFault
 ranges_at limit bytes = do
   count ← ranged_number_at Truncated BadField w32 0 MAX_DEEPER bytes
@@ -120,16 +128,19 @@ job_at limit bytes = do
 
 -- ---- tables and results
 
+-- the bytes of a table from the front, after their length, 1 to MAX_TABLE_BYTES, in four bytes
 unfoldable pub sized_at : List ℕ → Result (List ℕ × List ℕ) MsgFault
 sized_at bytes = do
   n ← ranged_number_at Truncated BadField w32 1 MAX_TABLE_BYTES bytes
   piece_at Truncated n.0 n.1
 
+-- the tables of a result from the front: how many, in four bytes, and the length and bytes of each
 unfoldable pub result_tables_at : List ℕ → Result (List (List ℕ) × List ℕ) MsgFault
 result_tables_at bytes = do
   count ← ranged_number_at Truncated BadField w32 0 4294967295 bytes
   each_at sized_at count.0 count.1
 
+-- the result of a job from the front: the job's name, and the tables
 unfoldable pub result_at : List ℕ → Result (JobResult × List ℕ) MsgFault
 result_at bytes = do
   id ← job_id_at bytes
@@ -138,9 +149,11 @@ result_at bytes = do
 
 -- ---- whole messages
 
+-- the number of a file from the front, 1 to MAX_NUMBER, in eight bytes
 abbrev pub file_number_at : List ℕ → Result (ℕ × List ℕ) MsgFault
 file_number_at bytes = ranged_number_at Truncated BadField w64 1 MAX_NUMBER bytes
 
+-- the number of a version from the front, at most MAX_NUMBER, in eight bytes
 abbrev pub version_number_at : List ℕ → Result (ℕ × List ℕ) MsgFault
 version_number_at bytes = ranged_number_at Truncated BadField w64 0 MAX_NUMBER bytes
 

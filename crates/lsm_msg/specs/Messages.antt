@@ -33,6 +33,7 @@ IsNode Coordinator = Unit {0}
 IsNode (Worker index) = (1 ≤ index) × (index ≤ MAX_NODES)
 IsNode (Follower index) = (1 ≤ index) × (index ≤ MAX_NODES)
 
+-- a number that a file may have
 abbrev pub IsFileNumber : ℕ → Type 0
 IsFileNumber number = (1 ≤ number) × (number ≤ MAX_NUMBER)
 
@@ -44,6 +45,7 @@ AreTableBytes bytes = (1 ≤ length bytes) × (length bytes ≤ MAX_TABLE_BYTES)
 abbrev pub AreSequences : List ℕ → Type 0
 AreSequences points = All (λ p. p < 2 ^ 56) points
 
+-- a body within the rules of its kind
 abbrev pub IsBody : Body → Type 0
 IsBody (body.Job j) = IsJob j × AreSequences j.points
 IsBody (body.Fetch n) = IsFileNumber n
@@ -55,6 +57,7 @@ IsBody (body.Edit e) = IsEdit e
 IsBody (body.Base v) = IsBase v
 IsBody (body.Current n) = n ≤ MAX_NUMBER
 
+-- a message whose sender, receiver and body are within their rules
 pub record IsMessage (m : Message) : Type 0 where
   pub src : IsNode m.src
   pub dst : IsNode m.dst
@@ -62,6 +65,7 @@ pub record IsMessage (m : Message) : Type 0 where
 
 -- ---- messages to the coordinator
 
+-- a message from the node to the coordinator, of this body
 abbrev pub to_coordinator : Node → Body → Message
 to_coordinator src said = record { src = src; dst = Coordinator; body = said }
 
@@ -81,18 +85,23 @@ node Coordinator = to_be_bytes w8 0 ++ to_be_bytes w8 0
 node (Worker index) = to_be_bytes w8 1 ++ to_be_bytes w8 index
 node (Follower index) = to_be_bytes w8 2 ++ to_be_bytes w8 index
 
+-- the name of a job: its epoch and its number, in eight bytes each
 abbrev pub job_id : JobId → List ℕ
 job_id id = to_be_bytes w64 id.epoch ++ to_be_bytes w64 id.number
 
+-- one byte for how many points there are, and eight bytes for each
 abbrev pub points : List ℕ → List ℕ
 points ps = to_be_bytes w8 (length ps) ++ flat_map (to_be_bytes w64) ps
 
+-- the least key of a range, and the greatest
 abbrev pub range : KeyRange → List ℕ
 range r = key r.lo ++ key r.hi
 
+-- four bytes for how many ranges there are, and the keys of each
 abbrev pub ranges : List KeyRange → List ℕ
 ranges rs = to_be_bytes w32 (length rs) ++ flat_map range rs
 
+-- the name of a job, its level, its block target, its points, its inputs and its deeper ranges
 abbrev pub job : JobParts → List ℕ
 job j =
     job_id j.id ++ to_be_bytes w8 j.level ++ to_be_bytes w32 j.block ++ points j.points
@@ -102,9 +111,11 @@ job j =
 abbrev pub sized : List ℕ → List ℕ
 sized bytes = to_be_bytes w32 (length bytes) ++ bytes
 
+-- four bytes for how many tables there are, and the length and bytes of each
 abbrev pub tables : List (List ℕ) → List ℕ
 tables ts = to_be_bytes w32 (length ts) ++ flat_map sized ts
 
+-- the kind of a message that has this body
 abbrev pub kind_of : Body → MessageKind
 kind_of (body.Job j) = kind.Job
 kind_of (body.Fetch n) = kind.Fetch
@@ -116,6 +127,7 @@ kind_of (body.Edit e) = kind.Edit
 kind_of (body.Base v) = kind.Base
 kind_of (body.Current n) = kind.Current
 
+-- the code of a kind
 abbrev pub message_kind_code : MessageKind → ℕ
 message_kind_code kind.Job = 1
 message_kind_code kind.Fetch = 2
@@ -127,6 +139,7 @@ message_kind_code kind.Edit = 7
 message_kind_code kind.Base = 8
 message_kind_code kind.Current = 9
 
+-- the bytes of a body
 abbrev pub body_text : Body → List ℕ
 body_text (body.Job j) = job j
 body_text (body.Fetch n) = to_be_bytes w64 n

@@ -43,18 +43,21 @@ IsRecorded old new t u exchange = Appends old exchange new × (u ≡ after_recor
 
 -- ---- writes, flushes and snapshots
 
+-- all that is promised of a write
 pub record Writes (old : CoordValue) (ops : List Op) (result : Result (ℕ × ℕ) CoordError) (new : CoordValue) : Type 0 where
   pub step : Follows old (say.Write ops) (write_reply result) new
   pub ok : OnOk result ((write_fault old ops ≡ None) × IsWritten old ops new)
   pub refused : IfErr result (λ e. AppendRefuses (write_fault old ops) old e new)
   pub sound : KeepsSound old new
 
+-- all that is promised of a freeze
 pub record Freezes (old : CoordValue) (result : Result ℕ CoordError) (new : CoordValue) : Type 0 where
   pub step : Follows old say.Freeze (freeze_reply result) new
   pub ok : OnOk result ((freeze_fault old ≡ None) × IsFrozen old new)
   pub refused : IfErr result (λ e. AppendRefuses (freeze_fault old) old e new)
   pub sound : KeepsSound old new
 
+-- all that is promised of a flush
 pub record Flushes (old : CoordValue) (result : Result Flushed CoordError) (new : CoordValue) : Type 0 where
   pub step : Follows old say.Flush (flush_reply result) new
   pub ok : OnOk result ((flush_fault old ≡ None) × Adds old new)
@@ -62,6 +65,7 @@ pub record Flushes (old : CoordValue) (result : Result Flushed CoordError) (new 
   pub failures : old.failures ≤ new.failures
   pub sound : KeepsSound old new
 
+-- all that is promised of a snapshot that is made
 pub record TakesSnapshot (old : CoordValue) (result : Result (SnapId × ℕ) CoordError) (new : CoordValue) : Type 0 where
   pub step : Follows old say.Snap (snapshot_reply result) new
   pub ok : OnOk result ((snapshot_fault old ≡ None) × (new ≡ after_snapshot old))
@@ -69,6 +73,7 @@ pub record TakesSnapshot (old : CoordValue) (result : Result (SnapId × ℕ) Coo
   pub refused : IfErr result (Refuses OutOfMemory (snapshot_fault old))
   pub sound : (s : State) → Shows old s → KeepsSound old new
 
+-- all that is promised of the release of a snapshot
 pub record ReleasesSnapshot (old : CoordValue) (id : SnapId) (result : Result (Unit {0}) CoordError) (new : CoordValue) : Type 0 where
   pub step : Follows old (say.Release id) (release_reply id result) new
   pub ok : OnOk result ((release_fault old id ≡ None) × (new ≡ after_release old id))
@@ -78,20 +83,24 @@ pub record ReleasesSnapshot (old : CoordValue) (id : SnapId) (result : Result (U
 
 -- ---- reads: memory may run out for a copy of the answer too
 
+-- all that is promised of a get
 pub record Gets (old : CoordValue) (key : List ℕ) (at : Option SnapId) (result : Result (Option (List ℕ)) CoordError) (new : CoordValue) : Type 0 where
   pub step : Follows old (say.Get key at) (get_reply result) new
   pub same : new ≡ old
   pub refused : IfErr result (λ e. (e ≡ OutOfMemory) ⊎ GetRefuses old key at e)
 
+-- all that is promised of a scan
 pub record ScansKeys {Z : Type 0} (old : CoordValue) (lo hi : List ℕ) (at : Option SnapId) (limit : ℕ) (result : Result (Vec (List ℕ × List ℕ) Z) CoordError) (new : CoordValue) : Type 0 where
   pub step : Follows old (say.Scan lo hi at limit) (scan_reply result) new
   pub same : new ≡ old
   pub refused : IfErr result (λ e. (e ≡ OutOfMemory) ⊎ ScanRefuses old at e)
 
+-- the result of a listing, as a reply of the model
 abbrev pub shown_reply : Result ShownVersion CoordError → Reply
 shown_reply (Ok v) = say.Shown v.number v.flushed (map place_of v.files)
 shown_reply (Err e) = say.Refused (refusal_of e)
 
+-- all that is promised of a listing
 pub record ShowsVersion (old : CoordValue) (result : Result ShownVersion CoordError) (new : CoordValue) : Type 0 where
   pub step : Follows old (say.Show say.Coordinator) (shown_reply result) new
   pub same : new ≡ old
@@ -114,6 +123,7 @@ pub record PicksJob (old : CoordValue) (result : Result (Option (LiveJob × JobP
   pub job : IfOk result (λ picked. IfSome picked (λ r. IsSound new r.1))
   pub sound : KeepsSound old new
 
+-- all that is promised of an install; one that is done is a step if its result holds the merge of a sound job
 pub record InstallsResult (old : CoordValue) (claim : LiveJob) (made : JobResult) (result : Install) (new : CoordValue) : Type 0 where
   pub became : Became old claim made result new
   pub failures : old.failures ≤ new.failures
@@ -122,6 +132,7 @@ pub record InstallsResult (old : CoordValue) (claim : LiveJob) (made : JobResult
 
 -- ---- trims: memory may run out for a copy of the answer too, and what was trimmed stays so
 
+-- all that is promised of a trim
 pub record Trims (old : CoordValue) (to : ℕ) (result : Result (ℕ × List ℕ) CoordError) (new : CoordValue) : Type 0 where
   pub step : Follows old (say.Trim to) (trim_reply result) new
   pub ok : OnOk result ((trim_fault old to ≡ None) × (new ≡ record (with_live_tables old to) { failures = new.failures }))

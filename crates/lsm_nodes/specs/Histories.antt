@@ -70,21 +70,23 @@ reply_of_answer asked (answer.Installed number files) = say.Installed number fil
 reply_of_answer asked (answer.Stale id epoch) = say.Refused say.OldEpoch
 reply_of_answer asked (answer.Trimmed floor files) = say.Trimmed floor
 
--- a recorded call with its answer, and those of a history
+-- a recorded call with its answer, as the model has them
 abbrev pub step_of : WitnessedValue → Event × Reply
 step_of w = (event_of_call w.exchange.call, reply_of_answer w.exchange.call w.exchange.answer)
 
+-- the recorded calls of a history with their answers, in their order, as the model has them
 abbrev pub steps_of : List WitnessedValue → List (Event × Reply)
 steps_of history = map step_of history
 
 -- ---- installs
 
--- the version and the files of each install
+-- an edit of this kind is that of an install
 abbrev pub is_install : EditKind → Bool
 is_install kind.Install = true
 is_install kind.Flush = false
 is_install kind.Epoch = false
 
+-- the version and the files of each install among edits
 abbrev pub installs_of : List Edit → List (ℕ × List ℕ)
 installs_of edits = map (λ e. (e.number, map (λ f. f.number) e.added)) (filter (λ e. is_install e.kind) edits)
 
@@ -92,11 +94,12 @@ installs_of edits = map (λ e. (e.number, map (λ f. f.number) e.added)) (filter
 abbrev pub installs_in : List (List ℕ) → List (ℕ × List ℕ)
 installs_in texts = installs_of (read_edits texts)
 
--- those of a history
+-- those of an answer: that of an install which was done has one, any other none
 abbrev pub installed_by : Answer → List (ℕ × List ℕ)
 installed_by (answer.Installed number files) = (number, files) ∷ []
 installed_by answered = []
 
+-- those of a history
 abbrev pub installed_in : List WitnessedValue → List (ℕ × List ℕ)
 installed_in history = flat_map (λ w. installed_by w.exchange.answer) history
 
@@ -132,6 +135,7 @@ AreSoundJobs history c = (job : JobParts) → IsPickedIn history job → holds c
 abbrev pub no_coord : CoordValue
 no_coord = opened_coord (record { l0 = 1; base = 1; block = 1; l0_some = lit≤ tt; l0_most = lit≤ tt; base_some = lit≤ tt; base_most = lit≤ tt; block_some = lit≤ tt; block_most = lit≤ tt }) (record { served = first_served; stored = empty_vault; retired = []; floor = 0; failures = 0 })
 
+-- what contracts see of a coordinator under its lock
 pub record SharedValue : Type 0 where
   pub coord : CoordValue
   pub history : List WitnessedValue  -- the recorded calls, from the first on

@@ -10,6 +10,7 @@ use Rattle.lsm_coord.specs.declared.call.Call.TheVariants as call
 use Rattle.lsm_nodes.specs.declared.exchange.Exchange.{Exchange}
 use Rattle.lsm_nodes.specs.declared.shared.tally.Record.{Record}
 
+-- what contracts see of a tally
 pub record TallyValue : Type 0 where
   pub parts : ℕ  -- how many parts of its ledger it has
   pub picked : ℕ  -- how many claims were settled
@@ -25,9 +26,11 @@ new_tally parts = record { parts = parts; picked = 0; installed = 0; returned = 
 
 -- ---- records
 
+-- a call with its answer
 abbrev pub exchange_of : Call → Answer → Exchange
 exchange_of asked answered = record { call = asked; answer = answered }
 
+-- an exchange with its position in the history
 abbrev pub record_at : ℕ → Exchange → Record
 record_at position exchange = record { position = position; exchange = exchange }
 
@@ -44,6 +47,7 @@ abbrev pub is_installed : Answer → Bool
 is_installed (answer.Installed number files) = true
 is_installed answered = false
 
+-- the record is of an install that was done
 abbrev pub is_done : Record → Bool
 is_done r = is_installed r.exchange.answer
 
@@ -100,6 +104,7 @@ abbrev pub gives_job : Answer → Bool
 gives_job (answer.Picked job) = true
 gives_job answered = false
 
+-- the record is of a pick that gave a job
 abbrev pub is_pick : Record → Bool
 is_pick r = gives_job r.exchange.answer
 
@@ -108,6 +113,7 @@ abbrev pub finds_stale : Answer → Bool
 finds_stale (answer.Stale id epoch) = true
 finds_stale answered = false
 
+-- the record is of an install whose claim was stale
 abbrev pub is_stale : Record → Bool
 is_stale r = finds_stale r.exchange.answer
 

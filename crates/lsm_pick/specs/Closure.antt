@@ -24,6 +24,7 @@ HasNewer set g = (h : FileMeta) × IsIn h set × (h.level ≡ 0) × (g.number < 
 abbrev pub Joins : Candidate → List FileMeta → FileMeta → Type 0
 Joins t set g = MeetsHull set g × ((g.level ≡ t.first.level + 1) ⊎ ((t.first.level ≡ 0) × (g.level ≡ 0) × ((t.older_only ≡ false) ⊎ HasNewer set g)))
 
+-- each file that must be in the set is in it
 abbrev pub IsClosed : List FileMeta → Candidate → List FileMeta → Type 0
 IsClosed files t set = (g : FileMeta) → IsIn g files → Joins t set g → IsIn g set
 

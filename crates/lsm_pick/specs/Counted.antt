@@ -13,6 +13,7 @@ input_bytes files = if nat_le (length files) MAX_INPUTS then Some (sum_by (λ f.
 abbrev pub deeper_than : ℕ → List ℕ → List ℕ → List FileMeta → List FileMeta
 deeper_than level lo hi files = filter (λ f. nat_lt (level + 1) f.level && is_met lo hi f) files
 
+-- the closure that reaches from lo to hi is within the limits of a job: its files, their bytes, and deeper files
 abbrev pub fits_job : Candidate → List ℕ → List ℕ → List FileMeta → Bool
 fits_job t lo hi files =
     nat_le (length (filter (is_taken t lo hi) files)) MAX_INPUTS

@@ -19,6 +19,7 @@ most_level_bytes limits level = limits.base * 10 ^ (level - 1)
 abbrev pub is_heavy : List FileMeta → ℕ → ℕ → Bool
 is_heavy files level most = nat_lt most (sum_by (λ f. f.bytes) (of_level level files))
 
+-- the level needs compaction: level 0 by the number of its files, a deeper one by their bytes
 abbrev pub is_due : Limits → List FileMeta → ℕ → Bool
 is_due limits files level = if nat_eq level 0 then is_full limits files else is_heavy files level (most_level_bytes limits level)
 

@@ -8,6 +8,7 @@ use Rattle.lsm_pick.specs.declared.outcome.Outcome.TheVariants as outcome
 use Rattle.lsm_pick.specs.Closure.{Candidate}
 use Rattle.lsm_pick.specs.Rule.{IsFirst, AreTooLarge, AreBlocked}
 
+-- the candidates, in their order, have this outcome
 abbrev pub HasOutcome : List FileMeta → List LiveJob → List Candidate → Outcome → Type 0
 HasOutcome files live ts (outcome.Picked want) = IsFirst files live ts want
 HasOutcome files live ts outcome.TooLarge = AreTooLarge files live ts
@@ -25,6 +26,7 @@ or_later outcome.TooLarge outcome.TooLarge = outcome.TooLarge
 or_later outcome.TooLarge outcome.Blocked = outcome.TooLarge
 or_later outcome.Blocked later = later
 
+-- a candidate was eligible, and its compaction is picked
 abbrev pub is_some_picked : Outcome → Bool
 is_some_picked (outcome.Picked want) = true
 is_some_picked outcome.TooLarge = false

@@ -7,6 +7,7 @@ use Rattle.lsm_edit.specs.declared.file.FileMeta.{FileMeta}
 use Rattle.lsm_edit.specs.declared.served.Placed.{Placed}
 use Rattle.lsm_pick.specs.Closure.{Candidate, IsClosed}
 
+-- the candidate that begins with this file, without or with the newer ones of level 0
 abbrev pub candidate_of : FileMeta → Bool → Candidate
 candidate_of first older_only = record { first = first; older_only = older_only }
 

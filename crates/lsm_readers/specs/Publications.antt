@@ -3,6 +3,7 @@ use Rattle.std.specs.Prelude.{ℕ, ◌<◌, List, [], ◌∷◌, length}
 use mathlib.Core.List.{IsPrefix}
 use Rattle.lsm_edit.specs.Served.{ServedValue, first_served}
 
+-- the last version of a list that comes after this one, or this one if the list is empty
 abbrev pub last_after : ServedValue → List ServedValue → ServedValue
 last_after before [] = before
 last_after before (p ∷ ps) = last_after p ps
@@ -11,6 +12,7 @@ last_after before (p ∷ ps) = last_after p ps
 abbrev pub last_published : List ServedValue → ServedValue
 last_published ps = last_after first_served ps
 
+-- the version numbers rise, and the first is above n
 abbrev pub AreRisingFrom : ℕ → List ServedValue → Type 0
 AreRisingFrom n [] = Unit {0}
 AreRisingFrom n (p ∷ ps) = (n < p.version.number) × AreRisingFrom p.version.number ps

@@ -9,6 +9,7 @@ pub record IsLog (cells : List Cell) (log : List ServedValue) : Type 0 where
   pub words : cells ≡ (length log, true) ∷ (0, true) ∷ []
   pub rising : AreRising log
 
+-- the first word of a book, which counts its publications
 abbrev pub word_of : Book → Named
 word_of b = record { tracked = true; key = 0; book = b }
 

@@ -2,6 +2,7 @@
 use Rattle.std.specs.Prelude.{◌≡◌, List, [], ◌∷◌, Option, None, Some}
 use Rattle.lsm_edit.specs.Served.{ServedValue}
 
+-- what contracts see of a writer
 pub record WriterValue : Type 0 where
   pub published : List ServedValue  -- what readers are shown
   pub taken : List ServedValue  -- with what waits for memory
@@ -11,6 +12,7 @@ abbrev pub last_list : List ServedValue → List (List ServedValue) → List Ser
 last_list xs [] = xs
 last_list xs (ys ∷ yss) = last_list ys yss
 
+-- the second list if there is one, else the first
 abbrev pub last_list_with : List ServedValue → Option (List ServedValue) → List ServedValue
 last_list_with xs None = xs
 last_list_with xs (Some ys) = ys

@@ -43,6 +43,7 @@ pub record FindsNoMemory (w : WorkerValue) (sent : List Message) (new : WorkerVa
   pub same : new ≡ w
   pub ends : e ≡ OutOfMemory
 
+-- a message ends the loop: the job is given up, not all is sent that comes of it, or memory runs out
 abbrev pub EndsBy : WorkerValue → Message → List Message → WorkerValue → Ending → Type 0
 EndsBy w m sent new e = GivesJobUp w m sent new e ⊎ (IsCutOff w m sent new e ⊎ FindsNoMemory w sent new e)
 

@@ -16,6 +16,7 @@ use Rattle.lsm_work.specs.Workers.{TaskValue, missing, numbers_of}
 abbrev pub files_of : List ℕ → List FileMeta → List FileMeta
 files_of numbers files = filter (λ f. is_among numbers f.number) files
 
+-- the task of a job whose inputs of these numbers have come, with their tables
 abbrev pub task_of : JobParts → List ℕ → List Opened → TaskValue
 task_of job numbers tables = record { job = job; received = placed_of (files_of numbers job.inputs) tables }
 
@@ -25,6 +26,7 @@ pub record AreHeld (of : JobParts) (which : List ℕ) (tables : List Opened) : T
   pub numbers : map (λ f. f.number) (files_of which of.inputs) ≡ which
   pub recorded : AreAsRecorded (files_of which of.inputs) tables
 
+-- after this change the worker has no task any more: its job was merged or dropped
 abbrev pub ends_task : WorkChange → Bool
 ends_task (Collecting count) = false
 ends_task Merged = true

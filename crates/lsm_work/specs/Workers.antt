@@ -18,10 +18,12 @@ use Rattle.lsm_merge.specs.Outputs.{IsMerge}
 use Rattle.lsm_work.specs.declared.change.WorkChange.{WorkChange}
 use Rattle.lsm_work.specs.declared.change.WorkChange.TheVariants.{Collecting, Merged, Dropped, Ignored}
 
+-- what contracts see of a task: a job, with what has come of its inputs
 pub record TaskValue : Type 0 where
   pub job : JobParts
   pub received : List Placed  -- the inputs that have come, with their tables, by number
 
+-- what contracts see of a worker
 pub record WorkerValue : Type 0 where
   pub index : ℕ
   pub task : Option TaskValue  -- none while it is idle
@@ -38,6 +40,7 @@ pub record WorkOutcome : Type 0 where
 abbrev pub new_task : JobParts → TaskValue
 new_task job = record { job = job; received = [] }
 
+-- the numbers of the files
 abbrev pub numbers_of : List Placed → List ℕ
 numbers_of places = map (λ p. p.meta.number) places
 
@@ -49,6 +52,7 @@ missing t = filter (λ f. not (is_among (numbers_of t.received) f.number)) t.job
 abbrev pub IsComplete : TaskValue → Type 0
 IsComplete t = map (λ p. p.meta) t.received ≡ t.job.inputs
 
+-- the tables of the inputs that have come
 abbrev pub received_tables : TaskValue → List Opened
 received_tables t = map (λ p. p.table) t.received
 
@@ -62,6 +66,7 @@ is_later a b = nat_lt b.epoch a.epoch || (nat_eq a.epoch b.epoch && nat_lt b.num
 
 -- ---- what comes of a message
 
+-- nothing changes, and nothing is sent
 abbrev pub ignores : WorkerValue → WorkOutcome
 ignores w = record { change = Ignored; sent = []; worker = w }
 
@@ -73,9 +78,11 @@ collects w t sent = record { change = Collecting (length (missing t)); sent = se
 abbrev pub fetching : WorkerValue → TaskValue → WorkOutcome
 fetching w t = collects w t (fetches (Worker w.index) (missing t))
 
+-- it drops its task, and is idle
 abbrev pub drops : WorkerValue → WorkOutcome
 drops w = record { change = Dropped; sent = []; worker = record w { task = None } }
 
+-- it sends these outputs to the coordinator as the result of the job, and is idle
 abbrev pub sends_result : WorkerValue → JobId → List (List ℕ) → WorkOutcome
 sends_result w id outputs =
     record { change = Merged; sent = to_coordinator (Worker w.index) (body.Result (record { job = id; tables = outputs })) ∷ []; worker = record w { task = None } }

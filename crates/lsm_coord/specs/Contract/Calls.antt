@@ -105,6 +105,7 @@ abbrev pub flush_source_of : List Entry → ℕ → Option Frozen → Frozen
 flush_source_of active last None = record { memtable = active; end = last }
 flush_source_of active last (Some f) = f
 
+-- what a flush of this store takes: the frozen memtable with its end, or the active one with the last sequence
 abbrev pub flush_source : CoordValue → Frozen
 flush_source c = flush_source_of c.active c.last c.frozen
 
@@ -158,6 +159,7 @@ snapshot_fault c =
     else if nat_le MAX_NUMBER c.made then Some NumbersExhausted
     else None
 
+-- the name of the next snapshot
 abbrev pub next_id : CoordValue → SnapId
 next_id c = record { epoch = c.served.version.epoch; number = c.made + 1 }
 

@@ -84,6 +84,7 @@ records level number (t ∷ ts) = record_of level number t ∷ records level (nu
 abbrev pub install_edit_of : VersionValue → Want → List Opened → Edit
 install_edit_of v want ts = install_edit v want.files (records (want.level + 1) v.next_file ts)
 
+-- the file numbers of the outputs: as many as there are, from the next file number on
 abbrev pub output_numbers : VersionValue → Want → List Opened → List ℕ
 output_numbers v want ts = map (λ f. f.number) (records (want.level + 1) v.next_file ts)
 

@@ -34,9 +34,11 @@ pub record IsJobWant (want : Want) : Type 0 where
   pub level : want.level ≤ MAX_JOB_LEVEL
   pub files : AreRemoved Install want.files
 
+-- each job has inputs that a job may have
 abbrev pub AreJobWants : List LiveJob → Type 0
 AreJobWants jobs = (j : LiveJob) → IsIn j jobs → IsJobWant j.want
 
+-- what every store keeps of its memtables, its claims and its snapshots
 pub record IsCoord (active : List Entry) (frozen : Option Frozen) (last : ℕ) (served : ServedValue) (book : BookValue) (snapshots : List Snapshot) : Type 0 where
   pub recent : AreBetween active (start_of frozen served.version.flushed) last
   pub begun : start_of frozen served.version.flushed ≤ last

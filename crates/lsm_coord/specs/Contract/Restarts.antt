@@ -40,6 +40,7 @@ abbrev pub core_reply : Option CoordValue → Reply
 core_reply None = say.Other
 core_reply (Some c) = restarted_reply c
 
+-- the result of a restart, as a reply of the model
 abbrev pub restart_reply : Result (Unit {0}) OpenError → SeatValue → Reply
 restart_reply (Ok r) new = core_reply new.core
 restart_reply (Err why) new = say.Refused (open_refusal why)
@@ -55,6 +56,7 @@ abbrev pub returned_to : Option CoordValue → SeatValue → JobId → SeatValue
 returned_to None old id = record old { core = None; book = after_settling old.book id Returned }
 returned_to (Some c) old id = up_seat (after_give_back c id)
 
+-- the seat after this claim is given back
 abbrev pub after_return : SeatValue → JobId → SeatValue
 after_return old id = returned_to old.core old id
 

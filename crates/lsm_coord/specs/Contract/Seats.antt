@@ -94,5 +94,6 @@ abbrev pub CoreShows : Option CoordValue → VaultValue → State → Type 0
 CoreShows (Some c) vault s = Shows c s
 CoreShows None vault s = ShowsDown vault s
 
+-- a seat shows this state of the model
 abbrev pub ShowsSeat : SeatValue → State → Type 0
 ShowsSeat seat s = CoreShows seat.core seat.stored s

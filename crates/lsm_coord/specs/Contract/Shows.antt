@@ -23,6 +23,7 @@ use Rattle.lsm_coord.specs.Contract.Value.{CoordValue, frozen_entries, stored_en
 abbrev pub place_of : FileMeta → Place
 place_of f = record { level = f.level; file = f.number }
 
+-- a version as the model lists it: its flushed sequence, and its files with their levels
 abbrev pub listing_of : VersionValue → Version
 listing_of v = record { flushed = v.flushed; files = map place_of v.files }
 

@@ -11,6 +11,7 @@ use Rattle.lsm_versions.specs.Manifest.{VersionSetValue}
 use Rattle.lsm_coord.specs.declared.frozen.Frozen.{Frozen}
 use Rattle.lsm_coord.specs.declared.snapshot.Snapshot.{Snapshot}
 
+-- what contracts see of a coordinator: its memtables, its version, its vault, its snapshots and its claims
 pub record CoordValue : Type 0 where
   pub limits : Limits  -- when its levels are due, and its block target
   pub active : List Entry  -- the entries of the active memtable
@@ -29,6 +30,7 @@ pub record CoordValue : Type 0 where
 abbrev pub version_set : CoordValue → VersionSetValue
 version_set c = record { served = c.served; stored = c.stored; retired = c.retired; floor = c.floor; failures = c.failures }
 
+-- the entries of the frozen memtable, none if no memtable is frozen
 abbrev pub frozen_entries : Option Frozen → List Entry
 frozen_entries None = []
 frozen_entries (Some frozen) = frozen.memtable

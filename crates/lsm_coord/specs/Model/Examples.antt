@@ -9,18 +9,23 @@ use Rattle.lsm_coord.specs.Model.Run.{RunOfNew}
 abbrev pub none : List ℕ
 none = []
 
+-- the text a
 abbrev pub a : List ℕ
 a = 97 ∷ []
 
+-- the text b
 abbrev pub b : List ℕ
 b = 98 ∷ []
 
+-- the text z
 abbrev pub z : List ℕ
 z = 122 ∷ []
 
+-- the text 1
 abbrev pub one : List ℕ
 one = 49 ∷ []
 
+-- the text 2
 abbrev pub two : List ℕ
 two = 50 ∷ []
 
