@@ -1,4 +1,5 @@
-//! Jobs and their results.
+//! Jobs and their results, as values. Their bytes stand apart, in `writing` and `reading`, so that a job can be made
+//! and kept without them.
 
 use crate::lists::{same_points, same_ranges, same_tables};
 use crate::rules::{are_deeper, are_inputs, are_points, is_job_id};
@@ -73,6 +74,9 @@ impl JobParts {
 }
 
 /// A merge for a worker to do. Its type keeps the rules, so a receiver need not check them.
+///
+/// Invariant: its parts are within the limits that `JobParts` says, and so are the records of its inputs and the keys
+/// of its deeper ranges.
 #[derive(Debug, Drop)]
 pub struct Job {
     parts: JobParts,

@@ -1,4 +1,4 @@
-//! The kinds of messages.
+//! The kinds of messages with their codes: what is written of them and what is read stand side by side.
 
 ghost use Rattle.std.specs.Prelude.{◌≡◌};
 ghost use Rattle.lsm_key.specs.Reading.{Gives};

@@ -1,4 +1,4 @@
-//! Whether two lists are the same.
+//! Whether two lists are the same: comparisons with a contract, for the comparison of whole jobs and results.
 
 ghost use Rattle.std.specs.Prelude.{◌≡◌, ◌↔◌, IsTrue};
 

@@ -3,7 +3,9 @@
 use lsm_key::MAX_NODES;
 use std::marker::Model;
 
-/// Which worker or follower it is, from 1 to `MAX_NODES`.
+/// Which worker or follower it is.
+///
+/// Invariant: its number is 1 to `MAX_NODES`.
 #[derive(Clone, Copy, Debug, PartialEq, Eq)]
 pub struct NodeIndex {
     number: u8,

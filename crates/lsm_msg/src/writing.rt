@@ -1,4 +1,29 @@
-//! Writing a message's bytes.
+//! Writing a message as bytes.
+//!
+//! A message, its numbers big-endian:
+//!
+//!     4 bytes   the letters LSMM
+//!     1 byte    version: 2 if a key in its own fields has more than 1,024 bytes, else 1
+//!     1 byte    kind, 1 to 9, as below
+//!     2 bytes   sender: role, 0 for the coordinator, 1 for a worker, 2 for a follower; then its number, from 1, or 0
+//!     2 bytes   receiver, as the sender
+//!               the body, which depends on the kind
+//!
+//! The bodies:
+//!
+//!     1 job     job name, u8 level, u32 block target; u8 count of points, u64 each; u16 count of inputs, a file record
+//!               each; u32 count of deeper ranges, two keys each
+//!     2 fetch   u64 file number
+//!     3 table   u64 file number, and the table
+//!     4 gone    u64 file number
+//!     5 result  job name; u32 count of tables, and each of them
+//!     6 ask     u64 version number
+//!     7 edit    the edit, as in a manifest
+//!     8 base    the whole version
+//!     9 current u64 version number
+//!
+//! A job name is u64 epoch and u64 number. A table is u32 length and its bytes. A key is u16 length and its bytes. File
+//! records, edits and versions are as `lsm_edit` writes them. docs/FORMATS.md has each field's range, and examples.
 
 mod job;
 mod result;

@@ -1,4 +1,4 @@
-//! Results and tables from the front.
+//! Reading results, and the names and tables that other bodies have too, from the front.
 
 ghost use Rattle.std.specs.Prelude.{◌≡◌};
 ghost use Rattle.lsm_key.specs.Reading.{Gives};

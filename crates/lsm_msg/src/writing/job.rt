@@ -1,4 +1,4 @@
-//! Jobs as bytes.
+//! Writing a job, and how many bytes it has, which is known before memory is taken for them.
 
 ghost use Rattle.std.specs.Prelude.{◌≡◌, ◌++◌, ◌≤◌, All, OnOk, length};
 ghost use Rattle.std.specs.List.{flat_map};

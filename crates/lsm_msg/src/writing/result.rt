@@ -1,4 +1,4 @@
-//! Results and tables as bytes.
+//! Writing results, and the names and tables that other bodies have too, and how many bytes these have.
 
 ghost use Rattle.std.specs.Prelude.{◌≡◌, ◌++◌, ◌≤◌, ◌<◌, ◌^◌, All, OnOk, length};
 ghost use Rattle.std.specs.List.{flat_map};
