@@ -1,4 +1,4 @@
-//! Dispatchers, which hold the claims.
+//! Dispatchers, each of which holds the claim of the job that it handed out until that is settled.
 
 ghost use Rattle.std.specs.Prelude.{◌≡◌};
 ghost use Rattle.std.specs.Option.{option_map};

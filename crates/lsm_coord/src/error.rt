@@ -1,4 +1,5 @@
-//! Why the coordinator refuses a call.
+//! Why the coordinator refuses a call: each reason with its cause and with what the caller can do. An opening and an
+//! install have errors of their own, whose reasons are all among these.
 
 use crate::InstallError;
 use lsm_vault::VaultError;
@@ -7,27 +8,60 @@ use std::fmt;
 use thiserror::Error;
 
 /// Why the coordinator refuses a call, the first reason that holds; a device failure comes last. The numbers stay as they are.
-/// `BadManifest`, `MissingTable` and `BadLog` are reasons of an opening, which reports them as an `OpenError`.
+/// `BadManifest`, `MissingTable` and `BadLog` are reasons of an opening, which reports them as an `OpenError`. What a
+/// refusal leaves is said at each call.
 #[derive(Clone, Copy, Debug, PartialEq, Eq, Error)]
 pub enum CoordError {
+    /// Memory ran out. The call may be made again once there is more.
     OutOfMemory = 0,
+    /// An edit of the manifest is damaged, or does not apply to the version before it. No call mends the vault: go back
+    /// to a copy of it.
     BadManifest = 1,
+    /// The vault lacks the table of a file, or has another one than the file's record says. Go back to a copy of the
+    /// vault.
     MissingTable = 2,
+    /// The vault's device failed. The call may be made again; if it goes on failing, close the store and open its vault
+    /// again.
     Device = 3,
+    /// The batch has more operations than there are sequences left, of 2^56 - 1. A store that has none left can be
+    /// read, and what it has can be written to a new one.
     SequenceExhausted = 4,
+    /// A memtable is frozen and not flushed yet. Flush it, and freeze again.
     FrozenWaiting = 5,
+    /// The active memtable is empty. A freeze is of use after the next write.
     NothingToFreeze = 6,
+    /// No memtable is frozen, and the active one is empty: every write is in a table. A flush is of use after the next
+    /// write.
     NothingToFlush = 7,
+    /// `MAX_SNAPSHOTS` snapshots are live. Release one of them first.
     TooManySnapshots = 8,
+    /// No snapshot of this name is live: it was released, or the store was opened again since. Make another one, or
+    /// read the latest.
     NoSnapshot = 9,
+    /// The result names another job than the claim does. Install the one of the claim's own job, or give the claim
+    /// back.
     WrongJob = 10,
+    /// A table of the result is damaged, has another block target than the store, or has a key that is outside of the
+    /// job's or not after those of the table before it. Have the job done again, or give the claim back.
     BadResult = 11,
+    /// The active memtable would weigh more than `MAX_MEMTABLE_WEIGHT` with the batch. Flush it, which takes a frozen one
+    /// first, or freeze it, and write the batch again.
     MemtableFull = 12,
+    /// The batch has no operation. There is nothing to write.
     EmptyBatch = 13,
+    /// `MAX_LIVE_CLAIMS` claims are live. Install the result of one of them, or give one back, and pick again.
     BookFull = 14,
+    /// A level needs compaction, but each one that no running job blocks exceeds `MAX_INPUTS`, `MAX_INPUT_BYTES` or
+    /// `MAX_DEEPER`. Pick again once a running job has ended: it may block one that does not.
     TooWide = 15,
+    /// The floor would be above the current version. Trim to that one, or to an earlier one.
     BadFloor = 16,
+    /// The next version, file, snapshot or job would have a number above `MAX_NUMBER`. Snapshots and jobs are numbered
+    /// anew once the store is opened again; versions and files never are, and what the store has can be written to a
+    /// new one.
     NumbersExhausted = 17,
+    /// A record of the log is damaged, does not follow on those before it, or makes a memtable too heavy. Go back to a
+    /// copy of the vault.
     BadLog = 18,
 }
 

@@ -1,4 +1,4 @@
-//! The frozen memtable.
+//! The frozen memtable: what a freeze leaves for the next flush.
 
 use lsm_key::Seq;
 use lsm_mem::Memtable;

@@ -1,4 +1,4 @@
-//! The parts of a picked job.
+//! The parts of a picked job, as the current version and the live snapshots make them.
 
 ghost use Rattle.std.specs.Prelude.{◌≡◌, ◌<◌, ◌≤◌, ◌↔◌, ◌++◌, IfOk, IsTrue, OnOk, filter, length, map, slice_index};
 ghost use Rattle.lsm_edit.specs.declared.file.FileMeta.{FileMeta};

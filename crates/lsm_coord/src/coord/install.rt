@@ -29,17 +29,23 @@ use lsm_versions::VersionSet;
 use std::alloc::{AllocError, AllocFailed, Global};
 use thiserror::Error;
 
-/// Why a result is not installed: the first reason that holds.
+/// Why a result is not installed: the first reason that holds. The claim is handed back, and can be used again.
 #[derive(Clone, Copy, Debug, PartialEq, Eq, Error)]
 pub enum InstallError {
+    /// It names another job than the claim does. Install the one of the claim's own job, or give the claim back.
     #[error("the result is of another job")]
     WrongJob,
+    /// A table is damaged, of another block target than the store's, or has keys out of place. Have the job done again,
+    /// or give the claim back.
     #[error("the tables are no outputs of the job")]
     BadResult,
+    /// The next version or a new file would have a number above `MAX_NUMBER`. Give the claim back: nothing can be
+    /// installed any more.
     #[error("the version or file numbers are exhausted")]
     NumbersExhausted,
     #[error("out of memory")]
     OutOfMemory,
+    /// The vault's device failed. The install may be tried again.
     #[error("the vault failed")]
     Device,
 }

@@ -1,4 +1,5 @@
-//! Reads of the store.
+//! Reads of one key, latest or at a snapshot, and of the current version: a key is looked up in the memtables first,
+//! and then through the cache of the tables' blocks.
 
 ghost use Rattle.std.specs.Prelude.{◌≡◌, None, Some, IfOk, IfErr};
 ghost use Rattle.std.specs.Option.{option_map};

@@ -1,4 +1,5 @@
-//! Scans of the store.
+//! Scans of the store: a merge of the memtables, the tables of level 0 and the deeper levels, which ends at its limit.
+//! A read of one key merges nothing, and stands apart.
 
 ghost use Rattle.std.specs.Prelude.{◌≡◌, [], ◌∷◌, ◌++◌, IfOk, IfErr, OnOk, filter};
 ghost use Rattle.std.specs.Option.{option_map};

@@ -1,4 +1,5 @@
-//! Answers to messages.
+//! Answers to messages: the tables that others fetch, and the edits and versions that followers ask for. They change
+//! nothing.
 
 ghost use Rattle.std.specs.Prelude.{◌≡◌, ℕ, ◌<◌, Some, IfOk, IfErr, IfSome, IsSome};
 ghost use Rattle.lsm_msg.specs.declared.node.Node.TheVariants.{Coordinator};

@@ -1,4 +1,4 @@
-//! Snapshots of the store.
+//! Snapshots of the store: how they are made and released. They are in memory alone, so no vault is asked.
 
 ghost use Rattle.std.specs.Prelude.{◌≡◌, None, IfErr, OnOk, OnErr, Some};
 ghost use Rattle.lsm_key.specs.Faults.{Refuses};
