@@ -59,7 +59,8 @@ impl Claim {
 
 /// The claims of one epoch: which jobs are live, and how the others ended.
 ///
-/// Invariant: each claim that it issued is live or has ended; the live ones are at most `MAX_LIVE_CLAIMS`, by number, and no two of them conflict.
+/// Invariant: each claim that it issued is live or has ended; the live ones are at most `MAX_LIVE_CLAIMS`, by number,
+/// and no two of them conflict.
 #[derive(Debug, Drop)]
 pub struct ClaimBook {
     alloc: Global,

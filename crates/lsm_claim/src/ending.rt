@@ -1,4 +1,5 @@
-//! How claims end.
+//! How claims end: what the caller says became of the job, and what the book answers. They stand apart from the book,
+//! whose module has nothing beside it and claims.
 
 /// What became of a job whose claim is settled.
 #[derive(Clone, Copy, Debug, PartialEq, Eq)]

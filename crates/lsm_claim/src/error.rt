@@ -1,4 +1,4 @@
-//! Why a claim is refused.
+//! Why a claim is refused: the error of `ClaimBook::claim`, which names the job in the way.
 
 use crate::JobId;
 use std::alloc::{AllocError, AllocFailed};

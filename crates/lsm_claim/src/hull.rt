@@ -9,6 +9,8 @@ use std::alloc::AllocError;
 
 /// The keys of a job, from the least to the greatest, both included. Its type keeps the two in order, so that no hull
 /// is empty: an empty one could still meet others by its ends, and would block them needlessly.
+///
+/// Invariant: `lo` is not after `hi`.
 #[derive(Debug, Drop)]
 pub struct Hull {
     /// Its least key.

@@ -14,6 +14,8 @@ use std::marker::Model;
 
 /// Union of key ranges, sorted by start, each end raised to the running maximum, so that membership is one binary
 /// search: O(log n) comparisons, not one a range.
+///
+/// Invariant: the least keys of the ranges ascend, and so do the greatest ones.
 #[derive(Drop)]
 pub(crate) struct DeeperKeys {
     ranges: Vec<KeyRange>,

@@ -1,4 +1,4 @@
-//! Why tables are not merged.
+//! Why tables are not merged: the error of `merge` and of a walk.
 
 use std::alloc::{AllocError, AllocFailed};
 use thiserror::Error;

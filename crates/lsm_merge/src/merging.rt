@@ -1,4 +1,4 @@
-//! The merge of a job.
+//! The merge of a job: it tests the tables, and fills the outputs from a walk over their entries.
 
 ghost use Rattle.std.specs.Prelude.{◌≡◌, ℕ, ◌≤◌, List, [], None, IfOk, IfErr, OnOk, length};
 ghost use Rattle.lsm_key.specs.declared.limits.TheConstants.{MAX_POINTS};

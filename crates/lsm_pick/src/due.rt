@@ -1,4 +1,4 @@
-//! Levels that need compaction (are due).
+//! Which levels need compaction (are due): the one test of it, for the picker and for whoever asks a store.
 
 ghost use Rattle.std.specs.Prelude.{◌≡◌, ◌≤◌, ◌*◌, ◌^◌, ◌-◌, ◌+◌, count_by, sum_by, length, nat_eq, nat_le, nat_lt};
 ghost use Rattle.lsm_key.specs.declared.limits.TheConstants.{MAX_JOB_LEVEL};

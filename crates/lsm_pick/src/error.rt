@@ -1,4 +1,4 @@
-//! Why nothing can be picked.
+//! Why nothing can be picked though a level is due: the error of `pick`.
 
 use std::alloc::{AllocError, AllocFailed};
 use thiserror::Error;

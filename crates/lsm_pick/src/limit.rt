@@ -1,4 +1,5 @@
-//! The limits of a job.
+//! The limits of a job, tested over a closure before a compaction is made of it, so that one that is too large takes no
+//! memory.
 
 ghost use Rattle.std.specs.Prelude.{◌≡◌, ◌≤◌, filter, length};
 ghost use Rattle.lsm_key.specs.declared.limits.TheConstants.{MAX_JOB_LEVEL};

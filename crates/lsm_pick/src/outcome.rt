@@ -1,4 +1,5 @@
-//! Outcomes of candidates.
+//! Outcomes of candidates: what was found of those that were tried, and how it joins with what is found of the next
+//! ones.
 
 ghost use Rattle.std.specs.Prelude.{◌≡◌};
 ghost use Rattle.lsm_pick.specs.Outcome.{is_some_picked, or_later};

@@ -1,4 +1,4 @@
-//! The compaction of a closure.
+//! The compaction of a closure, made once it is known that nothing stands against it: only here a pick takes memory.
 
 ghost use Rattle.std.specs.Prelude.{◌≡◌, ◌≤◌, IfOk, filter, map, true};
 ghost use Rattle.lsm_key.specs.declared.limits.TheConstants.{MAX_JOB_LEVEL};

@@ -1,4 +1,4 @@
-//! Workers.
+//! Workers: which message does what to one, and what it sends. The inputs that it has collected stand in `task`.
 
 ghost use Rattle.std.specs.Prelude.{◌≡◌};
 ghost use Rattle.lsm_work.specs.Workers.{is_later};
