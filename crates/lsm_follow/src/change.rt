@@ -1,4 +1,4 @@
-//! What a message changes.
+//! What a message changes at a follower: what a caller gets beside the messages to send.
 
 /// What a message changed at a follower.
 #[derive(Clone, Copy, Debug, PartialEq, Eq)]

@@ -1,4 +1,4 @@
-//! Followers.
+//! Followers: which version one serves, and how it is read. What messages do to one stands in `messages`.
 
 ghost use Rattle.std.specs.Prelude.{◌≡◌};
 
@@ -13,7 +13,8 @@ use std::marker::Model;
 
 /// A follower: it serves a version, and may be about to move to another one.
 ///
-/// Invariant: a version that it is to move to is later than the one that it serves, and lacks a table; what has come for it is as its files' records say.
+/// Invariant: a version that it is to move to is later than the one that it serves, and lacks a table; what has come
+/// for it is as its files' records say.
 #[derive(Debug, Drop)]
 pub struct Follower {
     alloc: Global,

@@ -1,4 +1,4 @@
-//! The lock.
+//! The lock around a shared coordinator: how a hub is made and closed. Its calls stand in `calls`.
 
 ghost use Rattle.std.specs.Prelude.{◌≡◌, ◌≢◌, ◌+◌, ◌∷◌, [], IfErr, IfOk, IsErrAnd, length};
 

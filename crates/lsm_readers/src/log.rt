@@ -65,6 +65,8 @@ impl NewLog {
 }
 
 /// What all holders of views share: the length of the list of publications.
+///
+/// Invariant: its head is the first word of the log that `J` names.
 #[derive(Drop)]
 pub struct PublicationLog<J: LogName> {
     pub(crate) head: Word<Served, u64, Rising>,

@@ -1,4 +1,4 @@
-//! A published version.
+//! A published version: what a writer hands to its readers, with the list of all publications up to it.
 
 ghost use Rattle.std.specs.Prelude.{◌≡◌, IfOk};
 ghost use Rattle.std.specs.Option.{option_map};

@@ -1,4 +1,4 @@
-//! Readers.
+//! Readers: each reads what is published from a thread of its own, and never anything older than it has seen.
 
 ghost use Rattle.std.specs.Prelude.{◌≡◌, ◌<◌, ◌⊎◌, IfOk, IfErr, length};
 ghost use Rattle.std.specs.Option.{option_map};

@@ -1,4 +1,4 @@
-//! What a writer tells.
+//! What a writer tells: how far it has published, as a value that goes to another thread.
 
 ghost use Rattle.std.specs.Prelude.{◌≡◌};
 

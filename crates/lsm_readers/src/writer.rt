@@ -1,4 +1,4 @@
-//! What publishes.
+//! The writer, which publishes versions to readers, and keeps those for which there is no memory yet.
 
 ghost use Rattle.std.specs.Prelude.{◌≡◌, ◌≢◌, ◌≤◌, ◌⊎◌, ◌++◌, ◌∷◌, [], OnOk, IfErr, length};
 ghost use Rattle.std.specs.Option.{option_map};

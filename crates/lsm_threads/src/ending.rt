@@ -1,4 +1,4 @@
-//! How loops end.
+//! How loops end: one list of reasons for all of them, so that the ending of one can be the cause of another's.
 
 ghost use Rattle.std.specs.Prelude.{◌≡◌};
 ghost use Rattle.lsm_threads.specs.Endings.{IsOfMail, cause_of};

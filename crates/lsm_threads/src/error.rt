@@ -1,4 +1,4 @@
-//! Why the threads found nothing.
+//! Why a run of threads found nothing: the error of `run_threads`.
 
 use thiserror::Error;
 

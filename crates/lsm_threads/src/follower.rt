@@ -1,4 +1,4 @@
-//! The loop of a follower.
+//! The loop of a follower, which publishes its versions to readers.
 
 ghost use Rattle.std.specs.Prelude.{◌≡◌, ◌≢◌, ◌<◌, ◌≤◌, All, IfErr, IfOk, OnOk};
 ghost use Rattle.lsm_msg.specs.Messages.{IsMessage};

@@ -4,8 +4,9 @@
 //! version when it ends, unless memory ran out; and that a worker's loop, one that answers and the link to a worker send exactly what
 //! comes of the messages that their port brings, if the port knows these. Of a channel nothing is known: nothing is claimed of what
 //! arrives, nor that anything does. A channel that is closed, bytes that are no message, and memory that runs out end a loop, which
-//! says so (`Ending`). It stands on `lsm_work` and `lsm_follow` for what nodes do with messages, on `lsm_readers` for a follower's
-//! readers, on `lsm_msg` for messages, and on `crossbeam_channel`.
+//! says so (`Ending`). It stands on `lsm_nodes` for the coordinator that threads share, on `lsm_work` and `lsm_follow`
+//! for what nodes do with messages, on `lsm_readers` for a follower's readers, on `lsm_msg` for messages, and on
+//! `crossbeam_channel`.
 #![tactic(auto)]
 
 mod coming;

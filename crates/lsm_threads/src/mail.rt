@@ -1,4 +1,4 @@
-//! Messages as bytes, over channels.
+//! Messages as bytes, over channels: the port of loops that run in threads of one process.
 
 use crate::ending::Ending;
 use crate::port::Port;

@@ -1,4 +1,4 @@
-//! The loop that answers questions.
+//! The loop that answers questions, and the answer to one message, which the link to a worker gives too.
 
 ghost use Rattle.std.specs.Prelude.{IfErr, OnErr, OnOk, []};
 ghost use Rattle.lsm_msg.specs.Messages.{IsMessage};

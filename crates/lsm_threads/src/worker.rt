@@ -1,4 +1,4 @@
-//! The loop of a worker.
+//! The loop of a worker, which also ends once the worker gives its job up.
 
 ghost use Rattle.std.specs.Prelude.{IfErr, OnOk};
 ghost use Rattle.lsm_threads.specs.Endings.{IsOfWorker};

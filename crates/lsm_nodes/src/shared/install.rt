@@ -1,4 +1,4 @@
-//! Installs under the lock.
+//! Installs under the lock. They stand apart from the other recorded calls, since a refusal has to hand the claim back.
 
 ghost use Rattle.std.specs.Prelude.{◌≡◌, ◌+◌, ◌<◌, ◌≤◌, ◌^◌, ◌⊎◌};
 ghost use Rattle.lsm_coord.specs.declared.call.Call.TheVariants as call;

@@ -1,4 +1,4 @@
-//! The writes.
+//! The writes of a run, each of which is flushed, so that there is something to merge.
 
 ghost use Rattle.std.specs.Prelude.{◌≡◌, ◌<◌};
 

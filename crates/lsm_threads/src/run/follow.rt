@@ -1,4 +1,4 @@
-//! A follower with a reader.
+//! A follower of a run with a reader, which reads the keys of the script once the follower has come to the version.
 
 ghost use Rattle.std.specs.Prelude.{◌≡◌, ◌≤◌, [], All, IfOk};
 

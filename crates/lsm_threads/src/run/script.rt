@@ -1,4 +1,4 @@
-//! What threads write and read.
+//! What the threads of a run write and read, as a value, so that a test can run one of its own.
 
 /// The puts of a key, each of which is flushed to a file of its own.
 #[derive(Clone, Copy, Debug)]
