@@ -7,10 +7,13 @@ use thiserror::Error;
 /// Why a claim is refused: the first reason that holds.
 #[derive(Clone, Copy, Debug, PartialEq, Eq, Error)]
 pub enum ClaimError {
+    /// This live job shares a level and a key with the one that is asked for. Claim that one once this one has ended.
     #[error("the live job {}.{} shares a level, and has a key in common", .0.epoch, .0.number)]
     Overlaps(JobId),
+    /// `MAX_LIVE_CLAIMS` claims are live. Settle one of them first.
     #[error("four claims are live")]
     BookFull,
+    /// The epoch has issued `MAX_NUMBER` claims. The next epoch numbers its jobs from 1.
     #[error("the job numbers are exhausted")]
     NumbersExhausted,
     #[error("out of memory")]

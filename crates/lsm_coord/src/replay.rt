@@ -59,7 +59,7 @@ impl Replayed {
         }
     }
 
-    /// How many of the records up to the end of the frozen memtable are left where so many of all are, if that is known.
+    /// How many of the records up to the end of the frozen memtable are left where this many of all are, if that is known.
     pub(crate) fn frozen_left(&self, left: Option<usize>) -> Option<usize>
         ensures { result ≡ option_map (λ n. self.now.frozen_upto - (self.now.read - n)) left }
     {

@@ -76,7 +76,7 @@ ignores_message f = record { change = Ignored; sent = []; follower = f }
 abbrev pub moves : FollowerValue → PendingValue → FollowOutcome
 moves f to = record { change = Version to.target.number; sent = []; follower = record f { served = after_rebase f.served to.target to.received; pending = None } }
 
--- it waits for tables, as many as a count of four bytes tells, and sends messages
+-- it waits for tables, of which it counts at most 2^32 - 1, and sends messages
 abbrev pub waits : FollowerValue → PendingValue → List Message → FollowOutcome
 waits f to sent = record { change = Waiting (min (length to.missing) 4294967295); sent = sent; follower = record f { pending = Some to } }
 

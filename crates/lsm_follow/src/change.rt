@@ -3,7 +3,7 @@
 /// What a message changed at a follower.
 #[derive(Clone, Copy, Debug, PartialEq, Eq)]
 pub enum FollowChange {
-    /// It is to move to another version, and lacks so many tables.
+    /// It is to move to another version, and lacks this many tables.
     Waiting(u32),
     /// It serves this version now.
     Version(u64),

@@ -20,7 +20,7 @@ abbrev pub with_raised_ends : List ℕ → List KeyRange → List KeyRange
 with_raised_ends reach [] = []
 with_raised_ends reach (r ∷ rs) = record { lo = r.lo; hi = greater reach r.hi } ∷ with_raised_ends (greater reach r.hi) rs
 
--- ranges in which a binary search tells whether a key is in one
+-- ranges in which a binary search finds whether a key is in one
 pub record AreReaching (ranges : List KeyRange) : Type 0 where
   pub least : IsByLeast ranges
   pub greatest : IsByGreatest ranges

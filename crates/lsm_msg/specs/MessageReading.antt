@@ -88,7 +88,7 @@ input_bounds s = record { least = s.least; most = MAX_NUMBER; lowest = s.level; 
 abbrev pub after_input : InputsLeft → FileMeta → InputsLeft
 after_input s f = record { least = f.number + 1; level = s.level; left = s.left - 1; own = s.own || nat_eq f.level s.level }
 
--- so many inputs, with keys of at most limit bytes
+-- count inputs, with keys of at most limit bytes
 abbrev pub each_input_at : ℕ → ℕ → InputsLeft → List ℕ → Result (List FileMeta × List ℕ) MsgFault
 each_input_at limit count s bytes = items_at (λ s. file_at limit Truncated BadField (input_bounds s) []) after_input count s bytes
 
@@ -105,7 +105,7 @@ range_at limit bytes = do
   hi ← key_at limit Truncated BadField lo.1
   if not (key_le lo.0 hi.0) then Err BadField else Ok (record { lo = lo.0; hi = hi.0 }, hi.1)
 
--- so many items of one kind
+-- count items, all of them read in the same way
 abbrev pub each_at : {X : Type 0} → (List ℕ → Result (X × List ℕ) MsgFault) → ℕ → List ℕ → Result (List X × List ℕ) MsgFault
 each_at {X} read count bytes = items_at {S = Unit {0}} (λ s. read) (λ s x. s) count tt bytes
 

@@ -70,11 +70,11 @@ install_answer (became.Kept claim why) = answer.Refused (error_of why)
 
 -- ---- room for the numbers of an install
 
--- an empty vector that has room for so many
+-- an empty vector that has room for this many
 abbrev pub IsRoom : {Z : Type 0} → ℕ → Vec ℕ Z → Type 0
 IsRoom count v = (v.items ≡ []) × (count ≤ vec_capacity v)
 
--- at most so many files
+-- at most this many files
 abbrev pub HasFewFiles : ℕ → Install → Type 0
 HasFewFiles count (became.Done number files) = length files ≤ count
 HasFewFiles count (became.Stale id epoch) = Unit {0}

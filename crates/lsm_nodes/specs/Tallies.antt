@@ -133,7 +133,7 @@ pub record SettlesPicks (t u : TallyValue) : Type 0 where
   pub returned : t.returned ≤ u.returned
   pub stale : t.stale + count_by is_stale more ≤ u.stale
 
--- so many rounds of a dispatcher at most: the parts stay, each round settles one claim at most, and each job that it was given is settled
+-- at most this many rounds of a dispatcher: the parts stay, each round settles one claim at most, and each job that it was given is settled
 pub record IsDispatched (t : TallyValue) (rounds : ℕ) (u : TallyValue) : Type 0 where
   pub parts : u.parts ≡ t.parts
   pub picked : u.picked ≤ t.picked + rounds

@@ -19,8 +19,10 @@ pub const PARTS: u64 = 4;
 /// Why a hub is not closed.
 #[derive(Clone, Copy, Debug, PartialEq, Eq, Error)]
 pub enum CloseError {
+    /// The tally has not all parts of the hub's ledger. Merge the others into it, and close again.
     #[error("a tally is missing")]
     MissingTally,
+    /// Its records, with those that were merged into it, are not those of the history, each once and in its order.
     #[error("the tallies do not have exactly the calls of the history")]
     WrongRecord,
 }

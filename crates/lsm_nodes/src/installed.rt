@@ -30,7 +30,7 @@ pub(crate) fn install_calls(
     Ok((calls, (one, other)))
 }
 
-// Room for so many numbers.
+// Room for this many numbers.
 fn room_for(alloc: Global, count: usize) -> Result<Vec<FileNumber>, AllocError>
     ensures { IfOk result (IsRoom count) }
 {

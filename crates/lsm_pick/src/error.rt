@@ -6,6 +6,7 @@ use thiserror::Error;
 /// Why nothing can be picked though a level needs compaction.
 #[derive(Clone, Copy, Debug, PartialEq, Eq, Error)]
 pub enum PickError {
+    /// A running job may block one that does not exceed it: pick again once one has ended.
     #[error("every compaction that no running job blocks exceeds a job size limit")]
     TooWide,
     #[error("out of memory")]

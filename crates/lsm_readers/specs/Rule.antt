@@ -1,4 +1,4 @@
--- The rule of a log of publications, and what its step tells.
+-- The rule of a log of publications, and what its step shows.
 use Rattle.std.specs.Prelude.{ℕ, ◌≡◌, ◌==◌, true, List, [], ◌∷◌, ◌++◌, length, MatchBool}
 use Rattle.logbook.specs.Pages.{Book, Cell, Named, Step, View}
 use Rattle.lsm_edit.specs.Served.{ServedValue}

@@ -5,6 +5,8 @@ use thiserror::Error;
 /// Why a reader does not answer.
 #[derive(Clone, Copy, Debug, PartialEq, Eq, Error)]
 pub enum ReadError {
+    /// The writer is gone, or what was reached is older than what the reader has seen or was told. While the writer is
+    /// there, a later read may reach what is published.
     #[error("the published version was not reached")]
     NotEntered,
     #[error("out of memory")]

@@ -13,7 +13,7 @@ use std::sync::Wait;
 /// How many readers a writer has at most.
 pub const MAX_READERS: usize = 4;
 
-/// A writer and so many readers, which have seen version 0 alone. The writer keeps `rt`, by which it waits for readers.
+/// A writer and this many readers, which have seen version 0 alone. The writer keeps `rt`, by which it waits for readers.
 /// Refuses: `NoReader` if a reader could not be made, `OutOfMemory`.
 pub fn readers<J: LogName, R: Wait + Drop>(
     alloc: Global,

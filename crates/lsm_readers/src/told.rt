@@ -1,4 +1,4 @@
-//! What a writer tells: how far it has published, as a value that goes to another thread.
+//! How far a writer has published, as a value that goes to the thread of a reader, which learns it there.
 
 ghost use Rattle.std.specs.Prelude.{◌≡◌};
 

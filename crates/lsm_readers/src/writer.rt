@@ -17,7 +17,7 @@ use std::sync::Wait;
 /// How many versions can be published to one log.
 const MAX_PUBLICATIONS: u64 = 1 << 62;
 
-/// A value that stands for a list of publications.
+/// A value that contracts see as a list of publications.
 pub trait Lists {
     ghost use Rattle.std.specs.Prelude.{List};
     ghost use Rattle.lsm_edit.specs.Served.{ServedValue};

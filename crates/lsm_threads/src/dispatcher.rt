@@ -21,7 +21,7 @@ use std::sync::atomic::{AtomicBool, Ordering};
 use std::thread;
 use std::thread::Threads;
 
-/// At most so many rounds of a dispatcher, beside a new worker in a thread of its own. A round is the last one if the flag is set, or if it
+/// At most this many rounds of a dispatcher, beside a new worker in a thread of its own. A round is the last one if the flag is set, or if it
 /// installs nothing: nothing is due, memory ran out, or the worker has ended. Each job that it was given is settled: all but the last one are
 /// installed. Says too, if the last job came back without a result, why: how the link ended, or the worker if it closed its channels.
 /// Refuses if there is no memory for channels, or no thread can be made, and hands the tally back.
@@ -88,7 +88,7 @@ fn work<R: Wait>(
     ending
 }
 
-// Rounds up to one that installs nothing or sees the flag, at most so many.
+// Rounds up to one that installs nothing or sees the flag, at most this many.
 #[tactic(auto, using(lsm_nodes::proofs::SettledRounds::dispatched_then, lsm_nodes::proofs::SettledRounds::dispatched_within, lsm_nodes::proofs::SettledRounds::dispatched_none, crate::proofs::RoundSteps::installs_stay))]
 fn rounds_by<V: Vault, J: Start, N: Witness + Drop, L: Link, R: Wait>(
     rt: &R,

@@ -15,7 +15,6 @@ use std::sync::Wait;
 
 /// Answers what nodes ask a shared coordinator, by `Hub::serve`, each before it takes the next. Ends if a channel is closed, what came is
 /// no message, an answer is too large, or memory runs out: then the last message may be without an answer.
-
 pub fn serve_loop<V: Vault, J: Start, N: Witness + Drop, P: Port, R: Wait>(
     rt: &R,
     hub: &Hub<V, J, N>,

@@ -12,7 +12,6 @@ use std::sync::Wait;
 
 /// Hands a worker each message that comes, and sends what comes of it. Ends, with the worker, if a channel is closed, what came is no
 /// message, a message is too large, memory runs out, or the worker gives its job up.
-
 pub fn worker_loop<P: Port, R: Wait>(rt: &R, mut worker: Worker, port: &mut P) -> (Worker, Ending)
     ensures ends { IsOfWorker result.1 }
     ensures works { WorksUntil worker result.0 (P.got port.old) (P.got port.new) (P.sent port.old) (P.sent port.new) result.1 }

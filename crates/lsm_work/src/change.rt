@@ -3,7 +3,7 @@
 /// What a message changed at a worker.
 #[derive(Clone, Copy, Debug, PartialEq, Eq)]
 pub enum WorkChange {
-    /// It collects the inputs of a job, and lacks so many.
+    /// It collects the inputs of a job, and lacks this many.
     Collecting(u32),
     /// It had all inputs, sent the result of their merge, and is idle.
     Merged,

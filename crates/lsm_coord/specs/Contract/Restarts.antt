@@ -35,7 +35,7 @@ Restarts old (Err why) new =
     OpenRefuses old.stored why × MayHaveDropped why old.stored new.stored × CountsRefusal why old.failures new.failures
     × (new ≡ record old { core = None; stored = new.stored; failures = new.failures; book = new_book old.book.epoch })
 
--- what a coordinator that is up tells of its restart
+-- what a coordinator that is up replies to its restart
 abbrev pub core_reply : Option CoordValue → Reply
 core_reply None = say.Other
 core_reply (Some c) = restarted_reply c

@@ -10,7 +10,7 @@ pub record Place : Type 0 where
   pub level : ℕ
   pub file : ℕ
 
--- what a version number stands for: the sequence up to which writes are in its files, and these files, by number
+-- what a version is: the sequence up to which writes are in its files, and these files, by number
 pub record Version : Type 0 where
   pub flushed : ℕ
   pub files : List Place
@@ -55,7 +55,7 @@ last_seq s = length s.writes
 abbrev pub current : State → ℕ
 current s = length s.versions - 1
 
--- what the current number stands for
+-- the version of the current number
 abbrev pub current_version : State → Version
 current_version s = get_or s.versions (current s) empty_version
 

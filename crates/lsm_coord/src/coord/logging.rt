@@ -15,7 +15,7 @@ pub(super) fn one_more(count: Option<usize>) -> Option<usize>
     }
 }
 
-/// Cuts so many first records from the vault's log, and returns the count of those that are left. It cuts none if their number is
+/// Cuts this many first records from the vault's log, and returns the count of those that are left. It cuts none if their number is
 /// not known. A refusal of the vault is not reported: it only leaves the log longer.
 pub(super) fn cut_log<V: Vault>(
     versions: &mut VersionSet<V>,
