@@ -6,6 +6,7 @@ mod calls;
 mod claims;
 mod memory;
 mod returns;
+mod texts;
 
 use bytes::Bytes;
 use lsm_coord::Coord;
