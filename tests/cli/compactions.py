@@ -1,0 +1,82 @@
+"""What compactions make of small stores, file by file, and what a session finds that another one left: a dump and a check stand behind each.
+
+A table has 31 bytes beside its greatest key and its entries, an entry 14 beside its key and value: 48 bytes are a put of one letter to another.
+"""
+from folders import write_log
+from frames import freeze_of, record_of
+
+# Of each store what it is, its options, the lines of its session and what they are answered, its dump, and a check's report.
+STORES = (
+    (
+        "a deletion goes with what it hides",
+        "--l0 2",
+        "put a 1/flush/del a/flush/compact/get a",
+        "seq 1/flushed 1/seq 2/flushed 2/compacted/none",
+        "",
+        "version 4 flushed 2: 0 files, no damage",
+    ),
+    (
+        "a snapshot reads on after a compaction",
+        "--l0 2",
+        "put a 1/flush/snap/del a/flush/compact/get a @1.1/get a",
+        "seq 1/flushed 1/snapshot 1.1 at 1/seq 2/flushed 2/compacted/value 1/none",
+        "L1 file 3: a @2 del/L1 file 3: a @1 put 1",
+        "L1 1 files 63 bytes 2 entries/version 4 flushed 2: 1 files, no damage",
+    ),
+    (
+        # The put passes level 1, and the deletion, of a byte less, stays there.
+        "a deletion stays over a deeper file",
+        "--l0 1 --base 47",
+        "put a 1/flush/compact/del a/flush/compact/get a",
+        "seq 1/flushed 1/compacted/seq 2/flushed 2/compacted/none",
+        "L1 file 5: a @2 del/L2 file 3: a @1 put 1",
+        "L1 1 files 47 bytes 1 entries/L2 1 files 48 bytes 1 entries/version 6 flushed 2: 2 files, no damage",
+    ),
+    (
+        # Both go down to level 3, in three compactions each.
+        "a level after another is compacted, until a deletion meets its put",
+        "--l0 1 --base 1",
+        "put a 1/flush/compact/del a/flush/compact/get a",
+        "seq 1/flushed 1/compacted/seq 2/flushed 2/compacted/none",
+        "",
+        "version 9 flushed 2: 0 files, no damage",
+    ),
+    ("a new store has nothing to compact", "--l0 1 --base 1", "compact", "compacted", "", "version 1 flushed 0: 0 files, no damage"),
+)
+
+
+def lines_of(text):
+    return "".join(f"{it}\n" for it in text.split("/") if it).encode()
+
+
+def try_stores(cli, room):
+    for at, (what, options, lines, answers, entries, report) in enumerate(STORES):
+        folder = ["--dir", f"store-{at}"]
+        cli.says(what, ["store", *folder, *options.split()], given=lines_of(lines), out=lines_of(answers), room=room)
+        cli.says(f"the files, if {what}", ["dump", *folder], out=lines_of(entries), room=room)
+        cli.says(f"a check, if {what}", ["check", *folder], out=lines_of(report), room=room)
+
+
+def try_sessions(cli, room):
+    """What was not flushed is there in the next session."""
+    at = ["store", "--dir", "session"]
+    cli.says("a session of two puts", at, given=b"put a 1\nflush\nput b 2\n", out=b"seq 1\nflushed 1\nseq 2\n", room=room)
+    stats = b"stats last 2 flushed 1 L0 1 files 48 bytes 1 entries flushes 48 bytes compactions 0 bytes amplification 1.00\n"
+    cli.says("what is in no table is there again", at, given=b"get a\nget b\nstats\n", out=b"value 1\nvalue 2\n" + stats, room=room)
+
+
+def try_frozen(cli, room):
+    """A log that says what was frozen, as a coordinator leaves it that froze and wrote on."""
+    at = ["--dir", "frozen"]
+    cli.says("a new store", ["store", *at], room=room)
+    write_log(room / "frozen", [record_of(1, (b"a", b"1")), freeze_of(1), record_of(2, (b"b", b"2"))])
+    answers = b"value 1\nvalue 2\nflushed 2\nvalue 1\nvalue 2\n"
+    cli.says("a flush of what was frozen and of what came after it", ["store", *at], given=b"get a\nget b\nflush\nget a\nget b\n", out=answers, room=room)
+    cli.says("has a table of each", ["dump", *at], out=b"L0 file 1: a @1 put 1\nL0 file 2: b @2 put 2\n", room=room)
+    cli.says("and leaves no record", ["dump", "--log", *at], room=room)
+    cli.says("as a check says", ["check", *at], out=b"L0 2 files 96 bytes 2 entries\nversion 4 flushed 2: 2 files, no damage\n", room=room)
+
+
+def tried(cli, room):
+    for part in (try_stores, try_sessions, try_frozen):
+        part(cli, room)
