@@ -10,10 +10,12 @@ use Rattle.lsm_store.specs.declared.error.StoreError.TheVariants as store
 use Rattle.lsm_commands.specs.declared.session.answer.Answer.{Answer}
 use Rattle.lsm_commands.specs.declared.session.answer.Answer.TheVariants.{Wrote, Stored, Snapped, Released, Got, Scanned, Shown, Refused}
 
+-- the line of a refused call, without its end
 abbrev pub refusal_text : StoreError → List ℕ
 refusal_text (store.Key why) = codes "refused " ++ name_of (key_refusal why)
 refusal_text (store.Coord why) = codes "refused " ++ name_of (refusal_of why)
 
+-- the line of an answer, without its end
 abbrev pub answer_text : Answer → List ℕ
 answer_text (Wrote first last) = wrote_text first last
 answer_text (Stored last) = codes "flushed " ++ decimal last

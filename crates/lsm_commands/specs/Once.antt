@@ -53,7 +53,7 @@ pub record IsOfAll (range : PairRange) : Type 0 where
   pub limit : range.limit ≡ 2 ^ 64 - 1
   pub head : range.head.now ≡ codes "put "
 
--- What a command does, once its words are read: each word stands for the bytes that it spells.
+-- What a command does, once its words are read: each word is the bytes that it spells.
 abbrev pub IsWorkOf : Once → Work → Type 0
 IsWorkOf (once.Get key form) (work.Get bytes as_form) = (key_or_value key.now ≡ Ok bytes) × (as_form ≡ form)
 IsWorkOf (once.Put key value) (work.Write (op.Put bytes held)) = (key_or_value key.now ≡ Ok bytes) × (key_or_value value.now ≡ Ok held)

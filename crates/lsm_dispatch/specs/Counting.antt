@@ -4,11 +4,12 @@ use Rattle.lsm_pipe.specs.Counting.{MayFollow, read_faults_of, write_faults_of}
 use Rattle.lsm_dispatch.specs.declared.error.DispatchError.{DispatchError}
 use Rattle.lsm_dispatch.specs.declared.error.DispatchError.TheVariants as error
 
--- how many faults of the source, and of the sink, an error is
+-- how many faults of the source an error is
 abbrev pub read_faults_in : DispatchError → ℕ
 read_faults_in (error.Pipe why) = read_faults_of why
 read_faults_in e = 0
 
+-- how many faults of the sink an error is
 abbrev pub write_faults_in : DispatchError → ℕ
 write_faults_in (error.Pipe why) = write_faults_of why
 write_faults_in e = 0

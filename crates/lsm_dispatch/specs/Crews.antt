@@ -24,6 +24,7 @@ busy_claim Gone = []
 busy_claim Idle = []
 busy_claim (Busy job) = job.id ∷ []
 
+-- whether the worker has a job
 abbrev pub is_busy : WorkerState → Bool
 is_busy Gone = false
 is_busy Idle = false
@@ -41,6 +42,7 @@ IsBusyWith (Busy job) id = job.id ≡ id
 abbrev pub start_state : ℕ → ℕ → WorkerState
 start_state count number = if nat_le number count then Idle else Gone
 
+-- a crew at first: of the four workers the first ones, up to the count, are idle, and the others are gone
 abbrev pub new_crew : ℕ → List WorkerState
 new_crew count = start_state count 1 ∷ start_state count 2 ∷ start_state count 3 ∷ start_state count 4 ∷ []
 
@@ -56,6 +58,7 @@ with_state crew index state = slice_set crew (index - 1) state
 abbrev pub busy_claims : List WorkerState → List JobId
 busy_claims crew = flat_map busy_claim crew
 
+-- whether any worker has a job
 abbrev pub has_busy : List WorkerState → Bool
 has_busy crew = list_any is_busy crew
 

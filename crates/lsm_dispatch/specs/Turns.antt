@@ -55,6 +55,7 @@ TakesLetter crew old (letter.Message m) sent crew_new new = ActsOn crew old m.sr
 TakesLetter crew old (letter.Gone index) sent crew_new new = (crew_new ≡ with_state crew index Gone) × (new ≡ after_leaving old (state_of crew index)) × (sent ≡ None)
 TakesLetter crew old (letter.There index) sent crew_new new = (crew_new ≡ with_state crew index Idle) × (new ≡ after_leaving old (state_of crew index)) × (sent ≡ None)
 
+-- what a turn does: a worker is asked whether it takes a job, or a letter is taken that was waited for
 abbrev pub IsTurn : List WorkerState → CoordValue → Turn → List WorkerState → CoordValue → Type 0
 IsTurn crew old (Hands index sent) crew_new new = HandsOut crew old index crew_new new sent
 IsTurn crew old (Takes payload sent) crew_new new = AwaitsLetter crew old × (l : Letter) × IsLetter payload l × TakesLetter crew old l sent crew_new new
@@ -69,6 +70,7 @@ abbrev pub bytes_read : Turn → List ℕ
 bytes_read (Hands index sent) = []
 bytes_read (Takes payload sent) = sized payload
 
+-- the message, if there is one
 abbrev pub one_or_none : Option Message → List Message
 one_or_none None = []
 one_or_none (Some m) = m ∷ []

@@ -1,4 +1,4 @@
--- where things stand, in pixels
+-- Where things are drawn, in pixels.
 use Rattle.std.specs.Prelude.{ℕ, ◌+◌, ◌*◌, ◌/◌}
 use Rattle.lsm_draw.specs.declared.place.TheConstants.{BAND, COORDINATOR, LANE, ROW, TOP}
 
@@ -6,7 +6,7 @@ use Rattle.lsm_draw.specs.declared.place.TheConstants.{BAND, COORDINATOR, LANE, 
 abbrev pub line_x : ℕ → ℕ
 line_x column = COORDINATOR + LANE * column
 
--- the middle of a row: every so many rows, one is left out for the names
+-- the middle of a row: before every `BAND` rows one is left out for the names
 abbrev pub row_y : ℕ → ℕ
 row_y row = TOP + ROW * (row + row / BAND + 1)
 

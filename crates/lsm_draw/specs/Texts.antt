@@ -2,6 +2,7 @@
 use Rattle.std.specs.Prelude.{ℕ, ◌==◌, ◌&&◌, ◌||◌, not, Bool, List, [], ◌∷◌, nat_le, codes, if◌then◌else◌}
 use Rattle.std.specs.List.{flat_map}
 
+-- a printable byte of ASCII, or a space
 abbrev pub is_printable : ℕ → Bool
 is_printable byte = nat_le 32 byte && nat_le byte 126
 
@@ -16,6 +17,7 @@ markup_of byte =
     else if is_printable byte then byte ∷ []
     else codes "?"
 
+-- a text as it is written between tags
 abbrev pub escaped : List ℕ → List ℕ
 escaped text = flat_map markup_of text
 

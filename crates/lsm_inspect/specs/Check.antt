@@ -53,7 +53,7 @@ IsDamage kept damaged f (WrongLength recorded found) = HasMismatch kept f (Wrong
 IsDamage kept damaged f (WrongCount recorded found) = HasMismatch kept f (WrongCount recorded found)
 IsDamage kept damaged f WrongKeys = HasMismatch kept f WrongKeys
 
--- a refusal for what is wrong with the file's table, or for want of memory
+-- a refusal for what is wrong with the file's table, or since memory ran out
 abbrev pub RefusesTable : TableMap → List ℕ → FileMeta → Refused Damage → Type 0
 RefusesTable kept damaged f refused.OutOfMemory = Unit {0}
 RefusesTable kept damaged f (refused.Fault d) = IsDamage kept damaged f d

@@ -35,7 +35,7 @@ IsRecordsDamage flushed records damage.IsHeavy = IsHeavy flushed records
 abbrev pub IsLogDamage : ℕ → List (List ℕ) → LogDamage → Type 0
 IsLogDamage flushed texts d = ((text : List ℕ) × IsIn text texts × IsTextDamage text d) ⊎ IsRecordsDamage flushed (read_records texts) d
 
--- a log that is not bad, and has so many operations above the flushed sequence
+-- a log that is not bad, and has this many operations above the flushed sequence
 pub record HoldsSoMany (flushed : ℕ) (texts : List (List ℕ)) (above : ℕ) : Type 0 where
   pub good : BadLog flushed texts → ⊥
   pub count : above ≡ length (log_ops flushed (read_records texts))

@@ -6,6 +6,6 @@ use Rattle.std.specs.Fmt.{decimal}
 abbrev pub torn_log_end : Bool → List ℕ
 torn_log_end refused = if refused then codes "is refused" ++ 10 ∷ [] else codes "sets them aside" ++ 10 ∷ []
 
--- the line for so many bytes behind the last log record, or none
+-- the line for this many bytes behind the last log record, or none
 abbrev pub torn_log_text : ℕ → Bool → List ℕ
 torn_log_text bytes refused = if bytes == 0 then [] else codes "the last log record is torn or damaged: " ++ decimal bytes ++ codes " bytes; an opening " ++ torn_log_end refused

@@ -34,6 +34,7 @@ words_left line = words line.rest.now
 abbrev pub key_or_value : List ℕ → Result (List ℕ) Reason
 key_or_value word = elim (token word) [ None ↦ Err BadToken | Some bytes ↦ Ok bytes ]
 
+-- a full stop
 abbrev pub is_point : ℕ → Bool
 is_point byte = byte == 46
 
@@ -61,6 +62,7 @@ abbrev pub name_or_fault : Option SnapId → Result SnapId Reason
 name_or_fault None = Err BadName
 name_or_fault (Some id) = Ok id
 
+-- a put of one key
 abbrev pub put : List (List ℕ) → Result say.Event Reason
 put (key ∷ value ∷ []) = do
   k ← key_or_value key
@@ -68,6 +70,7 @@ put (key ∷ value ∷ []) = do
   Ok (say.Write (op.Put k v ∷ []))
 put args = Err WrongWordCount
 
+-- a deletion of one key
 abbrev pub delete : List (List ℕ) → Result say.Event Reason
 delete (key ∷ []) = do
   k ← key_or_value key
@@ -112,19 +115,23 @@ abbrev pub GivesFirst : Result Op (Refused Reason) → Result (List Op) Reason �
 GivesFirst (Ok first) all left = all ≡ with_first first (operations left)
 GivesFirst (Err e) all left = Fails e all
 
+-- operations that are written together
 abbrev pub batch : List (List ℕ) → Result say.Event Reason
 batch args = do
   ops ← operations args
   Ok (say.Write ops)
 
+-- a flush, without arguments
 abbrev pub flush : List (List ℕ) → Result say.Event Reason
 flush [] = Ok say.Flush
 flush args = Err WrongWordCount
 
+-- a snapshot, without arguments
 abbrev pub snap : List (List ℕ) → Result say.Event Reason
 snap [] = Ok say.Snap
 snap args = Err WrongWordCount
 
+-- a release of the snapshot of this name
 abbrev pub release : List (List ℕ) → Result say.Event Reason
 release (name ∷ []) = do
   id ← name_or_fault (read_snapshot name)
@@ -156,9 +163,11 @@ scan_at lo hi limit at = do
   id ← at
   Ok (say.Scan l h id n)
 
+-- the name of a snapshot to read at, or its fault
 abbrev pub some_name : Result SnapId Reason → Result (Option SnapId) Reason
 some_name name = name >>= λ id. Ok (Some id)
 
+-- a scan names the snapshot that it reads at, or reads the latest
 abbrev pub scan : List (List ℕ) → Result say.Event Reason
 scan (lo ∷ hi ∷ limit ∷ []) = scan_at lo hi limit (Ok None)
 scan (lo ∷ hi ∷ limit ∷ name ∷ []) = scan_at lo hi limit (some_name (name_or_fault (reading_at name)))

@@ -15,6 +15,7 @@ hex_digit n = if nat_lt n 10 then 48 + n else 87 + n
 abbrev pub prints_as_itself : ℕ → Bool
 prints_as_itself byte = byte_between 33 126 byte && not (byte == 37 || byte == 34 || byte == 61)
 
+-- a byte as a line has it: itself, or a percent sign and two hexadecimal digits
 abbrev pub byte_text : ℕ → List ℕ
 byte_text byte = if prints_as_itself byte then byte ∷ [] else 37 ∷ hex_digit (byte / 16) ∷ hex_digit (byte % 16) ∷ []
 
@@ -23,6 +24,7 @@ abbrev pub bytes_text : List ℕ → List ℕ
 bytes_text [] = 34 ∷ 34 ∷ []
 bytes_text (byte ∷ bytes) = flat_map byte_text (byte ∷ bytes)
 
+-- an accepted batch: the sequence of its first operation, and of its last one if that is another
 abbrev pub wrote_text : ℕ → ℕ → List ℕ
 wrote_text first last = codes "seq " ++ decimal first ++ (if first == last then [] else codes "-" ++ decimal last)
 
@@ -34,12 +36,15 @@ numbers_text numbers = join_with_byte 44 (map decimal numbers)
 abbrev pub name_text : ℕ → ℕ → List ℕ
 name_text epoch number = decimal epoch ++ codes "." ++ decimal number
 
+-- a new snapshot: its name, and the sequence that it reads at
 abbrev pub snapped_text : SnapId → ℕ → List ℕ
 snapped_text id seq = codes "snapshot " ++ name_text id.epoch id.number ++ codes " at " ++ decimal seq
 
+-- a released snapshot: its name
 abbrev pub released_text : SnapId → List ℕ
 released_text id = codes "released " ++ name_text id.epoch id.number
 
+-- the value of a key, or that it has none
 abbrev pub got_text : Option (List ℕ) → List ℕ
 got_text None = codes "none"
 got_text (Some value) = codes "value " ++ bytes_text value
@@ -65,10 +70,12 @@ level_text level (file ∷ files) = codes " L" ++ decimal level ++ codes " " ++ 
 abbrev pub levels_text : List Place → List ℕ → List ℕ
 levels_text places levels = flat_map (λ level. level_text level (level_files level places)) levels
 
+-- a listing: the number of the version, its flushed sequence, and the files of each level
 abbrev pub shown_text : ℕ → ℕ → List Place → List ℕ
 shown_text number seq places =
     codes "show " ++ decimal number ++ codes " flushed " ++ decimal seq ++ levels_text places (0 ∷ 1 ∷ 2 ∷ 3 ∷ 4 ∷ 5 ∷ 6 ∷ [])
 
+-- the name of a refusal
 abbrev pub name_of : say.Refusal → List ℕ
 name_of say.EmptyKey = codes "EmptyKey"
 name_of say.KeyTooLong = codes "KeyTooLong"
@@ -99,6 +106,7 @@ name_of say.OldEpoch = codes "OldEpoch"
 name_of say.NoMessage = codes "NoMessage"
 name_of say.OutOfMemory = codes "OutOfMemory"
 
+-- a refused event: the name of its refusal
 abbrev pub refused_text : say.Refusal → List ℕ
 refused_text why = codes "refused " ++ name_of why
 

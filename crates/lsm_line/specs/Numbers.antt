@@ -7,6 +7,7 @@ abbrev pub value_after : ℕ → List ℕ → ℕ
 value_after n [] = n
 value_after n (digit ∷ digits) = value_after (10 * n + (digit - 48)) digits
 
+-- the number that a word spells
 unfoldable pub number : List ℕ → Option ℕ
 number word =
     if nat_lt 0 (length word) && nat_le (length word) 20 && all_ascii_digits word && nat_lt (value_after 0 word) (2 ^ 64) then Some (value_after 0 word)

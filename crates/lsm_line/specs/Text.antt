@@ -11,6 +11,7 @@ is_separator byte = byte == 32 || byte == 9 || byte == 13
 abbrev pub is_line_feed : ℕ → Bool
 is_line_feed byte = byte == 10
 
+-- a piece that is not empty
 abbrev pub is_word : List ℕ → Bool
 is_word [] = false
 is_word (byte ∷ piece) = true

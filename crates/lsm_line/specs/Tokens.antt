@@ -3,6 +3,7 @@ use Rattle.std.specs.Prelude.{ℕ, ◌+◌, ◌-◌, ◌*◌, ◌==◌, ◌&&◌
 use Rattle.std.specs.Option.{option_and_then, option_map}
 use Rattle.std.specs.Str.{bytes_eq}
 
+-- the byte is from the low one to the high one, both included
 abbrev pub byte_between : ℕ → ℕ → ℕ → Bool
 byte_between low high byte = nat_le low byte && nat_le byte high
 
@@ -22,6 +23,7 @@ escape high low = option_and_then (λ h. option_map (λ l. 16 * h + l) (hex low)
 abbrev pub literal : ℕ → Option ℕ
 literal byte = if byte_between 33 126 byte && not (byte == 37) then Some byte else None
 
+-- a byte and the bytes after it, if both are read
 abbrev pub onto : Option ℕ → Option (List ℕ) → Option (List ℕ)
 onto byte rest = option_and_then (λ b. option_map (λ bs. b ∷ bs) rest) byte
 

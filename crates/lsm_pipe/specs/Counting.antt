@@ -3,11 +3,12 @@ use Rattle.std.specs.Prelude.{◌≡◌, ◌⊎◌, ℕ, ◌+◌, ◌≤◌, ◌
 use Rattle.lsm_pipe.specs.declared.error.PipeError.{PipeError}
 use Rattle.lsm_pipe.specs.declared.error.PipeError.TheVariants.{NoEnd, ReadFault, WriteFault}
 
--- how many faults of the source, and of the sink, an error is
+-- how many faults of the source an error is
 abbrev pub read_faults_of : PipeError → ℕ
 read_faults_of ReadFault = 1
 read_faults_of e = 0
 
+-- how many faults of the sink an error is
 abbrev pub write_faults_of : PipeError → ℕ
 write_faults_of WriteFault = 1
 write_faults_of e = 0

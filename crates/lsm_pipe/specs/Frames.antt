@@ -14,12 +14,13 @@ use Rattle.lsm_msg.specs.declared.message.Message.{Message}
 use Rattle.lsm_msg.specs.declared.message.TheConstants.{MAX_MESSAGE_BYTES}
 use Rattle.lsm_msg.specs.Messages.{IsMessage, IsSpelled, message, sized}
 
--- why a pipe ends, by why no more is read, and by why no more is written
+-- why a pipe ends, by why no more is read
 abbrev pub source_error_of : SourceError → PipeError
 source_error_of source.ReadFault = ReadFault
 source_error_of source.NoEnd = NoEnd
 source_error_of source.OutOfMemory = OutOfMemory
 
+-- why a pipe ends, by why no more is written
 abbrev pub sink_error_of : SinkError → PipeError
 sink_error_of sink.WriteFault = WriteFault
 sink_error_of sink.NoEnd = NoEnd

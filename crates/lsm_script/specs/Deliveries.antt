@@ -6,6 +6,7 @@ use Rattle.lsm_line.specs.declared.fault.Reason.TheVariants.{WrongWordCount, Bad
 use Rattle.lsm_script.specs.declared.deliver.TheConstants.{MAX_DELIVERIES}
 use Rattle.lsm_line.specs.Numbers.{number}
 
+-- a dash
 abbrev pub is_dash : ℕ → Bool
 is_dash byte = byte == 45
 
@@ -19,10 +20,11 @@ abbrev pub range_around : List ℕ → Option ℕ → Option (ℕ × ℕ)
 range_around word None = range_between (number word) (number word)
 range_around word (Some dash) = range_between (number (take dash word)) (number (drop (dash + 1) word))
 
+-- the range of numbers that a word spells: the first, and how many follow it
 abbrev pub read_range : List ℕ → Option (ℕ × ℕ)
 read_range word = range_around word (position is_dash word)
 
--- the deliveries of so many messages, from the first number on
+-- the deliveries of this many messages, from the first number on
 abbrev pub deliveries : ℕ → ℕ → List say.Event
 deliveries first zero = []
 deliveries first (suc count) = deliveries first count ++ say.Deliver (first + count) ∷ []

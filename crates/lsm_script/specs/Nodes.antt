@@ -15,9 +15,11 @@ abbrev pub node_index : ℕ → List ℕ → Option ℕ
 node_index letter [] = None
 node_index letter (byte ∷ digits) = if byte == letter then index_of (number digits) else None
 
+-- the index of a worker, whose name begins with w
 abbrev pub worker_index : List ℕ → Option ℕ
 worker_index word = node_index 119 word
 
+-- the index of a follower, whose name begins with f
 abbrev pub follower_index : List ℕ → Option ℕ
 follower_index word = node_index 102 word
 

@@ -39,6 +39,7 @@ text_of reply.Current = codes "current"
 text_of (reply.RestartedFollower follower) = restarted_follower_text follower
 text_of (reply.Refused why) = refused_text (why_of why)
 
+-- the line of a reply, with its end
 abbrev pub line : Reply → List ℕ
 line reply = as_line (text_of reply)
 

@@ -41,6 +41,7 @@ abbrev pub is_comment : List ℕ → Bool
 is_comment [] = false
 is_comment (byte ∷ word) = byte == 35
 
+-- a freeze, without arguments
 abbrev pub freeze : List (List ℕ) → Result say.Event Reason
 freeze [] = Ok say.Freeze
 freeze args = Err WrongWordCount
@@ -50,24 +51,28 @@ abbrev pub show_follower : Option ℕ → Result say.Event Reason
 show_follower None = Err BadName
 show_follower (Some index) = Ok (say.Show (say.Follower index))
 
+-- a listing of the coordinator or of a follower
 abbrev pub show : List (List ℕ) → Result say.Event Reason
 show (node ∷ []) =
     if bytes_eq node (codes "c") then Ok (say.Show say.Coordinator)
     else show_follower (follower_index node)
 show args = Err WrongWordCount
 
+-- a trim, which raises the floor to a version
 abbrev pub trim : List (List ℕ) → Result say.Event Reason
 trim (version ∷ []) = do
   n ← number_or_fault (number version)
   Ok (say.Trim n)
 trim args = Err WrongWordCount
 
+-- a pick of a dispatcher
 abbrev pub pick : List (List ℕ) → Result say.Event Reason
 pick (dispatcher ∷ []) = do
   index ← index_or_fault (index_of (number dispatcher))
   Ok (say.Pick index)
 pick args = Err WrongWordCount
 
+-- a dispatcher gives its claim back
 abbrev pub give_up : List (List ℕ) → Result say.Event Reason
 give_up (dispatcher ∷ []) = do
   index ← index_or_fault (index_of (number dispatcher))
@@ -80,18 +85,21 @@ restart_other (Some worker) follower = Ok (say.Restart (say.Worker worker))
 restart_other None (Some follower) = Ok (say.Restart (say.Follower follower))
 restart_other None None = Err BadName
 
+-- a restart of the coordinator, of a worker or of a follower
 abbrev pub restart : List (List ℕ) → Result say.Event Reason
 restart (node ∷ []) =
     if bytes_eq node (codes "c") then Ok (say.Restart say.Coordinator)
     else restart_other (worker_index node) (follower_index node)
 restart args = Err WrongWordCount
 
+-- a follower asks for a later version
 abbrev pub ask : List (List ℕ) → Result say.Event Reason
 ask (follower ∷ []) = do
   index ← index_or_fault (index_of (number follower))
   Ok (say.Ask index)
 ask args = Err WrongWordCount
 
+-- a read of a key at a follower
 abbrev pub read : List (List ℕ) → Result say.Event Reason
 read (follower ∷ key ∷ []) = do
   index ← index_or_fault (index_of (number follower))
@@ -99,9 +107,11 @@ read (follower ∷ key ∷ []) = do
   Ok (say.Read index k)
 read args = Err WrongWordCount
 
+-- one event as a list, or the fault
 abbrev pub one_event : Result say.Event Reason → Result (List say.Event) Reason
 one_event asks = asks >>= λ event. Ok (event ∷ [])
 
+-- the events of a command with these arguments
 abbrev pub events_of_command : Option Command → List (List ℕ) → Result (List say.Event) Reason
 events_of_command None args = Err UnknownCommand
 events_of_command (Some command.Put) args = one_event (put args)
@@ -127,6 +137,7 @@ unfoldable pub events_of_words : List (List ℕ) → Result (List say.Event) Rea
 events_of_words [] = Ok []
 events_of_words (word ∷ args) = if is_comment word then Ok [] else events_of_command (read_command word) args
 
+-- what was read of a line, or its fault under the number of the line
 abbrev pub at_line : {A : Type 0} → ℕ → Result A Reason → Result A Fault
 at_line n (Ok x) = Ok x
 at_line n (Err reason) = Err (record { line = n; reason = reason })
@@ -139,5 +150,6 @@ events_from n (line ∷ lines) = do
   events ← events_from (n + 1) lines
   Ok (asked ++ events)
 
+-- the events of a text, or its first fault
 abbrev pub script : List ℕ → Result (List say.Event) Fault
 script text = events_from 1 (lines text)

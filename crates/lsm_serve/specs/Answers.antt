@@ -24,14 +24,17 @@ use Rattle.lsm_serve.specs.Figures.{IsInfo}
 
 -- ---- commands that do not ask the store
 
+-- PING answers its message, or PONG without one
 abbrev pub IsPing : List (List ℕ) → Answer → Type 0
 IsPing [] answer = answer ≡ Reply (Simple (codes "PONG"))
 IsPing (message ∷ []) answer = answer ≡ Reply (Bulk (Some message))
 IsPing (message ∷ other ∷ args) answer = answer ≡ Refused (WrongCount command.Ping)
 
+-- ECHO answers its message
 abbrev pub IsEcho : List (List ℕ) → Answer → Type 0
 IsEcho args answer = WithOne (λ message. answer ≡ Reply (Bulk (Some message))) (answer ≡ Refused (WrongCount command.Echo)) args
 
+-- CONFIG with any argument answers an empty array: no parameter is known
 abbrev pub IsConfig : List (List ℕ) → Answer → Type 0
 IsConfig args answer = WithSome (answer ≡ Reply (Array [])) (answer ≡ Refused (WrongCount command.Config)) args
 
@@ -40,14 +43,17 @@ abbrev pub SelectsIndex : List ℕ → Answer → Type 0
 SelectsIndex index (Reply reply) = (reply ≡ Simple (codes "OK")) × (index ≡ codes "0")
 SelectsIndex index (Refused why) = (why ≡ NoDatabase) × (index ≡ codes "0" → ⊥)
 
+-- SELECT takes the index of one database
 abbrev pub IsSelect : List (List ℕ) → Answer → Type 0
 IsSelect args answer = WithOne (λ index. SelectsIndex index answer) (answer ≡ Refused (WrongCount command.Select)) args
 
+-- QUIT, which takes no argument, is answered OK
 abbrev pub IsQuit : List (List ℕ) → Answer → Type 0
 IsQuit args answer = WithSome (answer ≡ Refused (WrongCount command.Quit)) (answer ≡ Reply (Simple (codes "OK"))) args
 
 -- ---- reads
 
+-- the store refused a call since memory ran out
 abbrev pub IsShortOfMemory : StoreError → Type 0
 IsShortOfMemory why = why ≡ store.Coord coord.OutOfMemory
 
@@ -57,6 +63,7 @@ AnswersKey old key (Reply (Bulk value)) new = ReadsValue old key None value × (
 AnswersKey old key (Refused (Store why)) new = OfCoord (GetRefuses old key None) why × (new ≡ old)
 AnswersKey old key answer new = ⊥
 
+-- GET answers the value of one key, and changes nothing
 abbrev pub AnswersGet : CoordValue → List (List ℕ) → Answer → CoordValue → Type 0
 AnswersGet old args answer new = WithOne (λ key. AnswersKey old key answer new) ((answer ≡ Refused (WrongCount command.Get)) × (new ≡ old)) args
 
@@ -66,11 +73,13 @@ ReadsAll c [] [] = Unit {0}
 ReadsAll c (key ∷ keys) (value ∷ values) = ReadsValue c key None value × ReadsAll c keys values
 ReadsAll c keys values = ⊥
 
+-- the values of these keys are read, null for a key without one, unless memory runs out; nothing changes
 abbrev pub GetsAll : CoordValue → List (List ℕ) → Answer → CoordValue → Type 0
 GetsAll old keys (Reply (Array values)) new = ReadsAll old keys values × (new ≡ old)
 GetsAll old keys (Refused (Store why)) new = IsShortOfMemory why × (new ≡ old)
 GetsAll old keys answer new = ⊥
 
+-- MGET answers the value of each key, and changes nothing
 abbrev pub AnswersGetAll : CoordValue → List (List ℕ) → Answer → CoordValue → Type 0
 AnswersGetAll old args answer new = WithSome (GetsAll old args answer new) ((answer ≡ Refused (WrongCount command.MultiGet)) × (new ≡ old)) args
 
@@ -84,11 +93,13 @@ abbrev pub CountsKeys : CoordValue → List (List ℕ) → ℕ → Type 0
 CountsKeys c [] count = count ≡ 0
 CountsKeys c (key ∷ keys) count = (has : Bool) × (rest : ℕ) × KeyHasValue c key has × CountsKeys c keys rest × (count ≡ from_bool has + rest)
 
+-- the keys that have a value are counted, unless memory runs out; nothing changes
 abbrev pub CountsExisting : CoordValue → List (List ℕ) → Answer → CoordValue → Type 0
 CountsExisting old keys (Reply (Integer count)) new = CountsKeys old keys count × (new ≡ old)
 CountsExisting old keys (Refused (Store why)) new = IsShortOfMemory why × (new ≡ old)
 CountsExisting old keys answer new = ⊥
 
+-- EXISTS answers how many of its keys have a value, and changes nothing
 abbrev pub AnswersExists : CoordValue → List (List ℕ) → Answer → CoordValue → Type 0
 AnswersExists old args answer new = WithSome (CountsExisting old args answer new) ((answer ≡ Refused (WrongCount command.Exists)) × (new ≡ old)) args
 
@@ -97,6 +108,7 @@ abbrev pub in_turn : List (List ℕ × List ℕ) → List (Option (List ℕ))
 in_turn [] = []
 in_turn (pair ∷ pairs) = Some pair.0 ∷ Some pair.1 ∷ in_turn pairs
 
+-- the pairs of a range are read, up to a limit, or the scan is refused for a reason; nothing changes
 abbrev pub RangesWithin : CoordValue → List ℕ → List ℕ → ℕ → Answer → CoordValue → Type 0
 RangesWithin old lo hi limit (Reply (Array values)) new = ((pairs : List (List ℕ × List ℕ)) × (values ≡ in_turn pairs) × ReadsRange old lo hi None limit pairs) × (new ≡ old)
 RangesWithin old lo hi limit (Refused (Store why)) new = OfCoord (ScanRefuses old None) why × (new ≡ old)
@@ -107,16 +119,19 @@ abbrev pub ReadsLimit : List ℕ → Option ℕ → Type 0
 ReadsLimit word (Some limit) = (word ≡ decimal limit) × (limit ≤ MAX_RANGE_KEYS)
 ReadsLimit word None = (n : ℕ) → n ≤ MAX_RANGE_KEYS → word ≡ decimal n → ⊥
 
+-- a range is read up to the limit that the word spells; a word that spells none is refused
 abbrev pub Ranges : CoordValue → List ℕ → List ℕ → List ℕ → Answer → CoordValue → Type 0
 Ranges old lo hi word answer new =
     (ReadsLimit word None × (answer ≡ Refused NoNumber) × (new ≡ old))
     ⊎ ((limit : ℕ) × ReadsLimit word (Some limit) × RangesWithin old lo hi limit answer new)
 
+-- RANGE answers the pairs from one key up to another, at most as many as a limit says, and changes nothing
 abbrev pub AnswersRange : CoordValue → List (List ℕ) → Answer → CoordValue → Type 0
 AnswersRange old args answer new = WithThree (λ lo hi word. Ranges old lo hi word answer new) ((answer ≡ Refused (WrongCount command.Range)) × (new ≡ old)) args
 
 -- ---- writes
 
+-- the answer is OK
 abbrev pub RepliesOk : Answer → Type 0
 RepliesOk answer = answer ≡ Reply (Simple (codes "OK"))
 
@@ -130,6 +145,7 @@ Sets old key value answer new = ⊥
 abbrev pub refused_set : ℕ → Answer
 refused_set count = if nat_lt 2 count then Refused Syntax else Refused (WrongCount command.Set)
 
+-- SET puts one key; with any other count of arguments it is refused, and nothing changes
 abbrev pub AnswersSet : CoordValue → List (List ℕ) → Answer → CoordValue → Type 0
 AnswersSet old args answer new = WithTwo (λ key value. Sets old key value answer new) ((answer ≡ refused_set (length args)) × (new ≡ old)) args
 
@@ -138,6 +154,7 @@ abbrev pub puts : List (List ℕ) → List Op
 puts (key ∷ value ∷ pairs) = Put key value ∷ puts pairs
 puts pairs = []
 
+-- why a batch of puts is refused: an operation is outside its limits, memory runs out, or the write is refused
 abbrev pub PutsRefuse : CoordValue → List (List ℕ) → CoordValue → StoreError → Type 0
 PutsRefuse old pairs new (store.Key why) = batch_fault (puts pairs) ≡ Some why
 PutsRefuse old pairs new (store.Coord coord.OutOfMemory) = Unit {0}
@@ -149,6 +166,7 @@ SetsAll old pairs (Reply reply) new = (reply ≡ Simple (codes "OK")) × Accepts
 SetsAll old pairs (Refused (Store why)) new = PutsRefuse old pairs new why × Keeps old new
 SetsAll old pairs answer new = ⊥
 
+-- MSET puts all its pairs as one batch; arguments that are no pairs are refused, and nothing changes
 abbrev pub AnswersSetAll : CoordValue → List (List ℕ) → Answer → CoordValue → Type 0
 AnswersSetAll old args answer new =
     (ArePairs args × SetsAll old args answer new)
@@ -171,11 +189,13 @@ DeletesFirst old keys new why =
     (done : List (List ℕ)) × (key : List ℕ) × (left : List (List ℕ)) × (count : ℕ) × (mid : CoordValue)
     × (keys ≡ done ++ key ∷ left) × DeletesKeys old done count mid × OpRefuses mid (Delete key) new why × Keeps mid new
 
+-- the keys are deleted in turn, as far as no deletion is refused
 abbrev pub DeletesAll : CoordValue → List (List ℕ) → Answer → CoordValue → Type 0
 DeletesAll old keys (Reply (Integer count)) new = DeletesKeys old keys count new
 DeletesAll old keys (Refused (Store why)) new = DeletesFirst old keys new why
 DeletesAll old keys answer new = ⊥
 
+-- DEL deletes its keys in turn, up to one that is refused, and answers how many of them had a value
 abbrev pub AnswersDelete : CoordValue → List (List ℕ) → Answer → CoordValue → Type 0
 AnswersDelete old args answer new = WithSome (DeletesAll old args answer new) ((answer ≡ Refused (WrongCount command.Delete)) × (new ≡ old)) args
 
@@ -185,11 +205,13 @@ Saves old (Reply reply) new = (reply ≡ Simple (codes "OK")) × Stores old new
 Saves old (Refused (Store why)) new = OfCoord (StoreFlushRefuses old new) why × Keeps old new
 Saves old answer new = ⊥
 
+-- SAVE brings all that the store holds into tables, or is refused, by which nothing is lost
 abbrev pub AnswersSave : CoordValue → List (List ℕ) → Answer → CoordValue → Type 0
 AnswersSave old args answer new = WithSome ((answer ≡ Refused (WrongCount command.Save)) × (new ≡ old)) (Saves old answer new) args
 
 -- ---- any request, to a store that was last synced up to a sequence
 
+-- what a command answers to these arguments, and what the store holds then
 abbrev pub AnswersCommand : ℕ → CoordValue → Command → List (List ℕ) → Answer → CoordValue → Type 0
 AnswersCommand synced old command.Ping args answer new = IsPing args answer × (new ≡ old)
 AnswersCommand synced old command.Echo args answer new = IsEcho args answer × (new ≡ old)

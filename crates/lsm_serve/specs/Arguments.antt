@@ -1,12 +1,15 @@
 -- The arguments of a command, by how many they are.
 use Rattle.std.specs.Prelude.{◌≡◌, ℕ, ◌<◌, ◌%◌, List, [], ◌∷◌, length}
 
+-- there is not exactly one argument
 abbrev pub IsNotOne : List (List ℕ) → Type 0
 IsNotOne args = (x : List ℕ) → args ≡ x ∷ [] → ⊥
 
+-- there are not exactly two arguments
 abbrev pub IsNotTwo : List (List ℕ) → Type 0
 IsNotTwo args = (x y : List ℕ) → args ≡ x ∷ y ∷ [] → ⊥
 
+-- there are not exactly three arguments
 abbrev pub IsNotThree : List (List ℕ) → Type 0
 IsNotThree args = (x y z : List ℕ) → args ≡ x ∷ y ∷ z ∷ [] → ⊥
 
@@ -15,15 +18,17 @@ abbrev pub WithOne : (List ℕ → Type 0) → Type 0 → List (List ℕ) → Ty
 WithOne P Q (x ∷ []) = P x
 WithOne P Q args = Q
 
+-- what holds of the arguments if they are two, and what holds if they are not
 abbrev pub WithTwo : (List ℕ → List ℕ → Type 0) → Type 0 → List (List ℕ) → Type 0
 WithTwo P Q (x ∷ y ∷ []) = P x y
 WithTwo P Q args = Q
 
+-- what holds of the arguments if they are three, and what holds if they are not
 abbrev pub WithThree : (List ℕ → List ℕ → List ℕ → Type 0) → Type 0 → List (List ℕ) → Type 0
 WithThree P Q (x ∷ y ∷ z ∷ []) = P x y z
 WithThree P Q args = Q
 
--- the same of arguments of which there is one or more
+-- what holds if there is an argument, and what holds if there is none
 abbrev pub WithSome : Type 0 → Type 0 → List (List ℕ) → Type 0
 WithSome P Q [] = Q
 WithSome P Q (x ∷ xs) = P

@@ -4,6 +4,7 @@ use Rattle.std.specs.Char.{to_ascii_lowercase}
 use Rattle.lsm_serve.specs.declared.command.Command.{Command}
 use Rattle.lsm_serve.specs.declared.command.Command.TheVariants as command
 
+-- the name of a command, in lower case
 abbrev pub command_name : Command → List ℕ
 command_name command.Ping = codes "ping"
 command_name command.Echo = codes "echo"

@@ -11,13 +11,15 @@ use Rattle.lsm_resp.specs.declared.reply.RespReply.TheVariants.{Bulk}
 use Rattle.lsm_serve.specs.declared.answer.Answer.{Answer}
 use Rattle.lsm_serve.specs.declared.answer.Answer.TheVariants.{Reply}
 
+-- the end of a line: a carriage return and a line feed
 abbrev pub line_end : List ℕ
 line_end = 13 ∷ 10 ∷ []
 
+-- the line of a figure: its name, a colon, and its value in decimal digits
 abbrev pub figure_line : List ℕ → ℕ → List ℕ
 figure_line name figure = name ++ codes ":" ++ decimal figure ++ line_end
 
--- levelN_files and the like
+-- the line of a figure of a level, such as level0_files
 abbrev pub level_figure_line : ℕ → List ℕ → ℕ → List ℕ
 level_figure_line level name figure = codes "level" ++ decimal level ++ codes "_" ++ figure_line name figure
 
@@ -28,6 +30,7 @@ level_lines files level =
     ++ level_figure_line level (codes "bytes") (saturated_sum (λ f. f.bytes) (of_level level files))
     ++ level_figure_line level (codes "entries") (saturated_sum (λ f. f.entries) (of_level level files))
 
+-- the text of INFO: the last, the synced and the flushed sequence, and the figures of each level
 abbrev pub info_text : ℕ → ℕ → ℕ → List FileMeta → List ℕ
 info_text last synced flushed files =
     codes "# Keyspace" ++ line_end ++ figure_line (codes "last_sequence") last ++ figure_line (codes "synced_sequence") synced ++ figure_line (codes "flushed_sequence") flushed

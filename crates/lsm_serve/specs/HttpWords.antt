@@ -4,6 +4,7 @@ use Rattle.std.specs.Char.{to_ascii_lowercase}
 use Rattle.lsm_serve.specs.declared.http_word.HttpWord.{HttpWord}
 use Rattle.lsm_serve.specs.declared.http_word.HttpWord.TheVariants as http
 
+-- the word as HTTP writes it
 abbrev pub http_name : HttpWord → List ℕ
 http_name http.Post = codes "POST"
 http_name http.Host = codes "Host:"

@@ -20,10 +20,11 @@ use Rattle.lsm_serve.specs.HttpWords.{BeginsHttp, IsNoHttp}
 
 -- ---- one request
 
--- in a line a space stands for a line end
+-- a byte of a line: a line end is written as a space
 abbrev pub in_line : ℕ → ℕ
 in_line byte = if nat_eq byte 13 || nat_eq byte 10 then 32 else byte
 
+-- the text of an error line: ERR, and the reason without line ends
 abbrev pub error_text : List ℕ → List ℕ
 error_text text = codes "ERR " ++ map in_line text
 
@@ -59,7 +60,7 @@ RepliesInTurn old (request ∷ requests) bytes new =
 abbrev pub IsSentAs : List (List ℕ) → List ℕ → Type 0
 IsSentAs words bytes = (AreWords words × (bytes ≡ request_bytes words)) ⊎ ((line : List ℕ) × IsLine line × (words ≡ line_words line) × (bytes ≡ line ++ 10 ∷ []))
 
--- of requests, one after another
+-- the bytes of requests, one after another
 abbrev pub AreSentAs : List (List (List ℕ)) → List ℕ → Type 0
 AreSentAs [] bytes = bytes ≡ []
 AreSentAs (request ∷ requests) bytes = (first : List ℕ) × (rest : List ℕ) × IsSentAs request first × AreSentAs requests rest × (bytes ≡ first ++ rest)
@@ -103,6 +104,7 @@ IsNoFault NoEnd = Unit {0}
 IsNoFault (NotSynced why) = Unit {0}
 IsNoFault OutOfMemory = Unit {0}
 
+-- what is answered if serving ends for this reason
 abbrev pub ServesSome : CoordValue → List (List (List ℕ)) → Option (List ℕ) → Option (List ℕ) → ServeError → CoordValue → Type 0
 ServesSome old requests held holds (Http word) new = RepliesBefore word old requests held holds new
 ServesSome old requests held holds why new = RepliesToSome old requests held holds new × IsNoFault why

@@ -22,6 +22,7 @@ use Rattle.lsm_serve.specs.Serving.{AreSentAs, EndsStream, IsReplyTo, RepliesInT
 abbrev pub WritesReply : Answer → List ℕ → List ℕ → Type 0
 WritesReply answer old new = (bytes : List ℕ) × IsReplyTo answer bytes × (new ≡ old ++ bytes)
 
+-- whether the request ends the stream
 abbrev pub IsLast : Bool → List (List ℕ) → Type 0
 IsLast true request = EndsStream request
 IsLast false request = EndsStream request → ⊥
@@ -40,13 +41,13 @@ LeftUnsent held holds out WriteFault = AppendsPart held holds out
 LeftUnsent held holds out NoEnd = AppendsPart held holds out
 LeftUnsent held holds out e = ⊥
 
--- fewer bytes of them are kept back than so many, but for a QUIT, behind which none is answered
+-- fewer bytes of them are kept back than the most, but for a QUIT, behind which none is answered
 abbrev pub KeepsFew : ℕ → List ℕ → Reached → Type 0
 KeepsFew most out (Waits at) = length out < most
 KeepsFew most out (Http word) = length out < most
 KeepsFew most out Quit = Unit {0}
 
--- why replies are not written, and why no more is read
+-- why replies are not written
 abbrev pub IsWriteReason : ServeError → Type 0
 IsWriteReason (NotSynced why) = Unit {0}
 IsWriteReason WriteFault = Unit {0}
@@ -54,6 +55,7 @@ IsWriteReason NoEnd = Unit {0}
 IsWriteReason OutOfMemory = Unit {0}
 IsWriteReason why = ⊥
 
+-- why no more is read
 abbrev pub IsReadReason : ServeError → Type 0
 IsReadReason ReadFault = Unit {0}
 IsReadReason NoEnd = Unit {0}
@@ -127,6 +129,7 @@ ServedTo old requests held now input later out holds (Waits at) = ServedSoFar ol
 ServedTo old requests held now input later out holds Quit = ServedAll old requests held now out holds
 ServedTo old requests held now input later out holds (Http word) = ServedBefore word old requests held now out holds
 
+-- what comes of an input, or what is answered if serving ends for a reason
 abbrev pub ServesInput : CoordValue → List (List (List ℕ)) → Option (List ℕ) → CoordValue → List ℕ → List ℕ → List ℕ → Option (List ℕ) → Result Reached ServeError → Type 0
 ServesInput old requests held new input later out holds (Ok reached) = ServedTo old requests held new input later out holds reached
 ServesInput old requests held new input later out holds (Err why) = ServesSome old requests held holds why new

@@ -26,11 +26,13 @@ pub record IsLevelStats (files : List FileMeta) (level : ℕ) (stats : LevelStat
 abbrev pub files_by : (EditKind → Bool) → List Edit → List FileMeta
 files_by is_kind edits = flat_map (λ e. e.added) (filter (λ e. is_kind e.kind) edits)
 
+-- the edit is of a flush
 abbrev pub by_flush : EditKind → Bool
 by_flush Flush = true
 by_flush Install = false
 by_flush Epoch = false
 
+-- the edit is of an install
 abbrev pub by_install : EditKind → Bool
 by_install Flush = false
 by_install Install = true

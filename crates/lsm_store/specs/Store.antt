@@ -105,7 +105,7 @@ abbrev pub OfCoord : (CoordError → Type 0) → StoreError → Type 0
 OfCoord reason (Coord e) = reason e
 OfCoord reason (Key e) = ⊥
 
--- why the vault refuses to tell its edits, or to sync its log: memory runs out, or the device fails
+-- why the vault refuses to give its edits, or to sync its log: memory runs out, or the device fails
 abbrev pub VaultRefuses : CoordValue → CoordValue → CoordError → Type 0
 VaultRefuses old new coord.OutOfMemory = Unit {0}
 VaultRefuses old new coord.Device = old.failures < new.failures

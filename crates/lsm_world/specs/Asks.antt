@@ -141,6 +141,7 @@ GivesUp old d r new = ⊥
 abbrev pub HoldsJob : List Dispatcher → ℕ → JobId → Type 0
 HoldsJob desk d id = (claim : LiveJob) × (dispatcher_of desk d ≡ Busy claim) × (claim.id ≡ id)
 
+-- the reply to a result that reached its dispatcher, by what the install became
 abbrev pub dispatcher_reply : Install → Reply
 dispatcher_reply (became.Done number files) = reply.Installed number files
 dispatcher_reply (became.Stale job epoch) = reply.Refused why.OldEpoch
@@ -178,12 +179,14 @@ Receives old m src (body.Ask number) r new = ServesMessage old m r new
 Receives old m (Worker d) (body.Result made) r new = TakesResult old d made r new
 Receives old m src said r new = Ignores old r new
 
+-- the reply to a message that reached a worker, by what it changed there
 abbrev pub worker_reply : WorkChange → Sent → Reply
 worker_reply (change.Collecting missing) told = reply.Collecting missing told
 worker_reply change.Merged told = reply.Merged told
 worker_reply change.Dropped told = reply.Dropped
 worker_reply change.Ignored told = reply.Ignored
 
+-- the reply to a message that reached a follower, by what it changed there
 abbrev pub follower_reply : FollowChange → Sent → Reply
 follower_reply (follow.Waiting missing) told = reply.Waiting missing told
 follower_reply (follow.Version number) told = reply.Advanced number
@@ -292,7 +295,7 @@ Asks old e r new = LacksMemory old r new ⊎ AsksNode old e r new
 abbrev pub IsDown : StoreValue → Reply → StoreValue → Type 0
 IsDown old r new = (r ≡ reply.Refused why.Down) × (new ≡ old)
 
--- a batch's own fault is told first
+-- a batch's own fault is reported first
 abbrev pub down_write : Option KeyError → Refusal
 down_write None = why.Down
 down_write (Some e) = why.Key e
@@ -302,11 +305,13 @@ abbrev pub DeliversDown : StoreValue → Message → Node → Reply → StoreVal
 DeliversDown old m Coordinator r new = IsDown old r new
 DeliversDown old m dst r new = DeliversOn old.network m dst r new.network × (new ≡ record old { network = new.network })
 
+-- the message of a number is delivered to a node that is up, or no message has it
 abbrev pub DeliversAtDown : StoreValue → ℕ → Reply → StoreValue → Type 0
 DeliversAtDown old number (reply.Refused why.NoMessage) new = (stored_message old.network.messages number ≡ None) × (new ≡ old)
 DeliversAtDown old number r new =
     (text : List ℕ) × (stored_message old.network.messages number ≡ Some text) × (m : Message) × IsSpelled text m × DeliversDown old m m.dst r new
 
+-- an event asks a worker or a follower, and changes nothing but their network
 abbrev pub AsksOtherDown : StoreValue → Event → Reply → StoreValue → Type 0
 AsksOtherDown old e r new = AsksNetwork old.network e r new.network × (new ≡ record old { network = new.network })
 
@@ -323,12 +328,12 @@ AsksDown old e r new = IsDown old r new
 
 -- ---- each event
 
--- what a coordinator that is up again tells
+-- the reply of a coordinator that is up again
 abbrev pub restarted_as : Option CoordValue → Reply
 restarted_as (Some c) = reply.Restarted c.served.version.epoch c.served.version.number c.last
 restarted_as None = reply.Ignored
 
--- what is told of an opening
+-- the reply to an opening
 abbrev pub restart_answer : Result (Unit {0}) OpenError → Option CoordValue → Reply
 restart_answer (Ok done) core = restarted_as core
 restart_answer (Err refused) core = reply.Refused (why.Open refused)
@@ -338,6 +343,7 @@ abbrev pub RestartsCoordinator : StoreValue → Reply → StoreValue → Type 0
 RestartsCoordinator old r new =
     (opened : Result (Unit {0}) OpenError) × Restarts old.seat opened new.seat × (r ≡ restart_answer opened new.seat.core) × (new ≡ record old { seat = new.seat })
 
+-- an event asks its node; a coordinator that is down refuses, and a restart opens its vault in either case
 abbrev pub AsksBy : Option CoordValue → StoreValue → Event → Reply → StoreValue → Type 0
 AsksBy core old event.RestartCoordinator r new = RestartsCoordinator old r new
 AsksBy (Some c) old e r new = (n : NodesValue) × AsksNode (nodes_with c old) e r n × (new ≡ up_store n)

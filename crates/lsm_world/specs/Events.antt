@@ -3,6 +3,7 @@ use Rattle.lsm_coord.specs.Model.Event as say
 use Rattle.lsm_world.specs.declared.event.Event.{Event}
 use Rattle.lsm_world.specs.declared.event.Event.TheVariants as event
 
+-- an event, in the words of the model
 abbrev pub event_of : Event → say.Event
 event_of (event.Write ops) = say.Write ops
 event_of event.Freeze = say.Freeze

@@ -33,6 +33,7 @@ use Rattle.lsm_store.specs.Compacting.{tables_at}
 use Rattle.lsm_work.specs.Workers.{TaskValue, WorkerValue}
 use Rattle.lsm_world.specs.Nodes.{NetworkValue, NodesValue, StoreValue, nodes_with}
 
+-- what the nodes of a store have made so far
 pub record History : Type 0 where
   pub files : List Placed  -- files with their tables, among them each that a version ever listed
   pub jobs : List JobParts  -- each job that a pick answered, the last one first
@@ -223,6 +224,7 @@ pub record IsDownHistory (h : History) (vault : VaultValue) (desk : List Dispatc
 
 -- ---- either way
 
+-- the history of a store whose coordinator is up, or down
 abbrev pub IsHistoryBy : History → Option CoordValue → StoreValue → Type 0
 IsHistoryBy h (Some c) s = IsHistory h (nodes_with c s)
 IsHistoryBy h None s = IsDownHistory h s.seat.stored s.desk s.network

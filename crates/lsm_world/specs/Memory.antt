@@ -6,6 +6,7 @@ use Rattle.lsm_world.specs.declared.refusal.Refusal.TheVariants as why
 use Rattle.lsm_world.specs.declared.reply.Reply.{Reply}
 use Rattle.lsm_world.specs.declared.reply.Reply.TheVariants as reply
 
+-- the event takes no memory beside its place in the trace
 abbrev pub TakesNoMemory : Event → Type 0
 TakesNoMemory (event.Release id) = Unit {0}
 TakesNoMemory (event.GiveUp d) = Unit {0}

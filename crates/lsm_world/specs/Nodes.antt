@@ -39,6 +39,7 @@ with_index xs index x = slice_set xs (index - 1) x
 
 -- ---- parts
 
+-- the nodes of a coordinator that is up, with these dispatchers and this network
 abbrev pub nodes_of : CoordValue → List Dispatcher → NetworkValue → NodesValue
 nodes_of core desk network = record { core = core; desk = desk; network = network }
 
@@ -50,6 +51,7 @@ up_store n = record { seat = up_seat n.core; desk = n.desk; network = n.network 
 abbrev pub nodes_with : CoordValue → StoreValue → NodesValue
 nodes_with core s = nodes_of core s.desk s.network
 
+-- a store with this seat, these dispatchers and this network
 abbrev pub store_with : SeatValue → List Dispatcher → NetworkValue → StoreValue
 store_with seat desk network = record { seat = seat; desk = desk; network = network }
 

@@ -10,6 +10,7 @@ use Rattle.lsm_world.specs.declared.refusal.Refusal.TheVariants as why
 use Rattle.lsm_world.specs.declared.reply.Reply.{Reply}
 use Rattle.lsm_world.specs.declared.reply.Reply.TheVariants as reply
 
+-- a refusal, in the words of the model
 abbrev pub why_of : Refusal → say.Refusal
 why_of (why.Key error) = key_refusal error
 why_of (why.Coord error) = refusal_of error
@@ -22,7 +23,7 @@ why_of why.NoMessage = say.NoMessage
 why_of why.NotTaken = say.OutOfMemory
 why_of why.OutOfMemory = say.OutOfMemory
 
--- what a dispatcher, a worker or a message changes of no answer is told as nothing
+-- a reply, in the words of the model: one that changes no answer there is `Other`
 abbrev pub reply_of : Reply → say.Reply
 reply_of (reply.Wrote first last) = say.Wrote first last
 reply_of (reply.Froze seq) = say.Froze seq

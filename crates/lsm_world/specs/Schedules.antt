@@ -30,6 +30,7 @@ use Rattle.lsm_world.specs.Shown.{ShowsStore}
 use Rattle.lsm_world.specs.Nodes.{NodesValue, StoreValue, up_store}
 use Rattle.lsm_world.specs.Replies.{reply_of}
 
+-- what contracts see of a world
 pub record WorldValue : Type 0 where
   pub nodes : StoreValue
   pub trace : List Event  -- the events that were taken
@@ -57,17 +58,19 @@ pub record AreNew (due : Limits) (n : NodesValue) : Type 0 where
 abbrev pub IsNew : Limits → WorldValue → Type 0
 IsNew due w = (n : NodesValue) × AreNew due n × (w.nodes ≡ up_store n) × (w.trace ≡ []) × ShowsStore w.nodes first_state
 
--- the events alone, and the replies alone
+-- the events alone
 abbrev pub events_in : List (Event × Reply) → List Event
 events_in steps = map (λ step. step.0) steps
 
+-- the replies alone
 abbrev pub replies_in : List (Event × Reply) → List Reply
 replies_in steps = map (λ step. step.1) steps
 
--- a step in the words of the model, and those of a list
+-- a step, in the words of the model
 abbrev pub model_step : Event × Reply → say.Event × say.Reply
 model_step step = (event_of step.0, reply_of step.1)
 
+-- the steps of a list, in the words of the model
 abbrev pub model_steps : List (Event × Reply) → List (say.Event × say.Reply)
 model_steps steps = map model_step steps
 

@@ -9,6 +9,7 @@ use Rattle.lsm_world.specs.declared.reply.Reply.{Reply}
 use Rattle.lsm_world.specs.declared.reply.Reply.TheVariants as reply
 use Rattle.lsm_world.specs.declared.reply.Sent.TheVariants.{Lost}
 
+-- the refusal says that memory ran out, at whichever node or place
 abbrev pub IsOutOfMemory : Refusal → Type 0
 IsOutOfMemory w = (w ≡ why.NotTaken) ⊎ ((w ≡ why.OutOfMemory) ⊎ ((w ≡ why.Coord coord.OutOfMemory) ⊎ ((w ≡ why.Key key.OutOfMemory) ⊎ (w ≡ why.Open opening.OutOfMemory))))
 

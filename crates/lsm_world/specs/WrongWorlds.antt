@@ -88,7 +88,7 @@ DeadSnapshotIsNoRun = RunOfNew (
     ∷ (say.Get a (Some first_snapshot), say.Got None)
     ∷ []) → ⊥
 
--- A restart is refused for want of memory, so that the coordinator may be up with all that it had, or down; and then a get finds that the
+-- A restart is refused since memory ran out, so that the coordinator may be up with all that it had, or down; and then a get finds that the
 -- write is lost: its value is the newest write of no state in which the get is not refused.
 abbrev pub WriteLostAtRefusedRestartIsNotNewest : Type 0
 WriteLostAtRefusedRestartIsNotNewest = ReadsAreNewest (

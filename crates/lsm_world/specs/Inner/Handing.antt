@@ -83,7 +83,7 @@ IsStored messages m = (text : List ℕ) × IsIn text messages × IsSpelled text 
 abbrev pub TellsPicked : List (List ℕ) → ℕ → JobParts → Reply → List (List ℕ) → Type 0
 TellsPicked old d job r new = (told : PickedJob) × (sent : Sent) × (r ≡ reply.Picked told sent) × TellsJob told job × Sends old (job_message d job ∷ []) sent new
 
--- what is told of a claim that was given back
+-- the reply to a claim that was given back
 abbrev pub settled_reply : JobId → Settled → Reply
 settled_reply id Live = reply.Returned id
 settled_reply id Stale = reply.StaleClaim id

@@ -6,6 +6,7 @@ use Rattle.lsm_vault.specs.Stored.{VaultValue}
 use Rattle.lsm_coord.specs.declared.dispatcher.Dispatcher.{Dispatcher}
 use Rattle.lsm_world.specs.Nodes.{NetworkValue, StoreValue}
 
+-- what contracts see of nodes whose coordinator is down
 pub record StoppedValue : Type 0 where
   pub stored : VaultValue
   pub failures : ℕ

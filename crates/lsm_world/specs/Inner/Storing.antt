@@ -10,6 +10,7 @@ use Rattle.lsm_world.specs.declared.store.Store.TheVariants.{Up, Down}
 use Rattle.lsm_world.specs.Inner.Stopping.{down_store}
 use Rattle.lsm_world.specs.Nodes.{StoreValue, up_store}
 
+-- what contracts see of nodes whose coordinator is up, or down
 abbrev pub store_of : {V : Type 0} → Store V → StoreValue
 store_of (Up nodes) = up_store nodes
 store_of (Down stopped) = down_store stopped
@@ -18,6 +19,7 @@ store_of (Down stopped) = down_store stopped
 abbrev pub no_store : StoreValue
 no_store = down_store (record { stored = empty_vault; failures = 0; book = new_book 0; limits = record { l0 = 1; base = 1; block = 1; l0_some = lit≤ tt; l0_most = lit≤ tt; base_some = lit≤ tt; base_most = lit≤ tt; block_some = lit≤ tt; block_most = lit≤ tt }; desk = []; network = record { workers = []; followers = []; messages = [] } })
 
+-- what contracts see of the nodes that a world holds
 abbrev pub store_in : {V : Type 0} → Option (Store V) → StoreValue
 store_in None = no_store
 store_in (Some store) = store_of store
