@@ -1,4 +1,4 @@
-//! Why a store in a folder is not opened.
+//! Why a store in a folder is not opened: the folder is refused, or what its files hold.
 
 ghost use Rattle.lsm_vault.specs.Stored.{VaultValue};
 ghost use Rattle.lsm_versions.specs.Opening.{OpenRefuses};

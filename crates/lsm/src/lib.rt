@@ -1,9 +1,10 @@
 //! The front door of the library: a store in a folder by one call, and the names that its users need.
 //!
-//! It promises that a store is opened only of edits, tables and a log that make one, with the limits that are asked for, and that it holds
-//! the operations that they hold; that a refusal says whether the folder was refused or what its files hold; and that want of memory has
-//! one name. What the files hold is `lsm_file_vault`'s to read, and no clause speaks of a file. It stands on that crate for the folder, and
-//! on `lsm_store` for the store, whose calls are proved there.
+//! It promises that a store is opened only of edits, tables and a log that make one, with the limits that are asked
+//! for, and that it holds the operations that they hold; that a refusal says whether the folder was refused or what its
+//! files hold; and that running out of memory has one name. What the files hold is `lsm_file_vault`'s to read, and no
+//! clause speaks of a file. It stands on that crate for the folder, and on `lsm_store` for the store, whose calls are
+//! proved there.
 #![tactic(auto)]
 
 mod error;

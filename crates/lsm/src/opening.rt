@@ -1,4 +1,4 @@
-//! Opening a store in a folder.
+//! Opening a store in a folder: the vault of the folder, and then the store over it, with one error for both.
 
 ghost use Rattle.std.specs.Prelude.{IfErr, IfOk};
 ghost use Rattle.lsm.specs.Opening.{OpensSome, RefusesSome};

@@ -1,5 +1,5 @@
-//! The program `luddimpa`: a store in a folder. It answers sessions, clients and single calls, checks and dumps a folder, and hands
-//! compactions to workers. Only the arguments are read here; `lsm_commands` does what they ask.
+//! The program `luddimpa`: a store in a folder. It answers sessions, clients and single calls, checks and dumps a
+//! folder, and hands compactions to workers. Only the arguments are read here; `lsm_commands` does what they ask.
 #![tactic(auto)]
 
 mod calls;

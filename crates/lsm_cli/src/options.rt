@@ -1,4 +1,4 @@
-//! The command line.
+//! The command line of `luddimpa`: which command it asks for, and in which folder.
 
 use crate::calls::{once_of, with_calls};
 use clap::error::ErrorKind;

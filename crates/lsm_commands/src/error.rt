@@ -1,4 +1,5 @@
-//! Why a command fails.
+//! Why a command fails: its folder is not opened, what it holds is not read or not written out, or a standard stream
+//! fails.
 
 use lsm_inspect::InspectError;
 use std::alloc::AllocError;

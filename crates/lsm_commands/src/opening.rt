@@ -1,4 +1,4 @@
-//! Opens the folder of a store.
+//! Opens the folder of a store, for its store or for its coordinator, and reports why one is not opened.
 
 ghost use Rattle.std.specs.Prelude.{◌≡◌, [], IfOk};
 

@@ -1,4 +1,4 @@
-//! The standard streams.
+//! The standard streams: a test that they are open, which comes before any file is opened.
 
 use crate::CommandError;
 use std::io::{Read, Write};

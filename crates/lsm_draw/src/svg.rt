@@ -1,4 +1,4 @@
-//! Drawing a chart.
+//! Drawing a chart as an SVG document. Where things stand is said in `place`, and what is drawn in `chart`.
 
 use crate::arrows::{draw_arrival, draw_stub};
 use crate::chart::{Chart, Row};

@@ -1,4 +1,5 @@
-//! All schedules, by threads.
+//! Exploring: schedules by their beginnings, or by chance, are shared out to threads, whose tallies are joined into a
+//! report.
 
 use crate::alphabet::Alphabet;
 use crate::path::Path;

@@ -1,4 +1,4 @@
-//! A plain slow model of a store and its nodes: the list of writes, the versions by number, and what was told of claims and messages.
+//! A plain slow model of a store and its nodes: the list of writes, the versions by number, and what is known of claims and messages.
 
 ghost use Rattle.std.specs.Prelude.{◌<◌};
 
@@ -19,7 +19,7 @@ pub(crate) struct ModelFile {
     pub(crate) file: u64,
 }
 
-/// What a version number stands for.
+/// A version, as its number names it.
 #[derive(Drop)]
 pub(crate) struct ModelVersion {
     /// Every write up to it is in the files.

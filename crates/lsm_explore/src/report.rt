@@ -1,4 +1,4 @@
-//! What an exploration found.
+//! What an exploration found: the report for its caller, and the tallies of threads, which are joined into it.
 
 ghost use Rattle.std.specs.Prelude.{◌≡◌, ◌+◌, ◌-◌, ◌^◌, min};
 

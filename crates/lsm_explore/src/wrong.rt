@@ -1,4 +1,4 @@
-//! Wrong answers.
+//! Wrong answers: a schedule that has one is run again for its events, its reply and what the model allows.
 
 use crate::alphabet::Alphabet;
 use crate::play::{Halt, Play, Taken, close, new_world, trace};

@@ -1,4 +1,4 @@
-//! What a check found.
+//! The report of a check: what was found, whether an opening is refused for it, and the lines that it prints.
 
 ghost use Rattle.std.specs.Prelude.{◌==◌, ◌≡◌, ◌+◌, ◌-◌, ◌^◌, ◌&&◌, is_none, length, min, not};
 ghost use Rattle.std.specs.Fmt.{WritesOnOk};

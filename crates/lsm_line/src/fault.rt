@@ -1,4 +1,4 @@
-//! Why a line is refused.
+//! Why a line is refused: one list of reasons for the lines of sessions, of imports and of scripts.
 
 use thiserror::Error;
 

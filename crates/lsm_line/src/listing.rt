@@ -1,4 +1,4 @@
-//! The line of a listing.
+//! The line of a listing. It stands apart from the other lines, since it goes over the levels and their files.
 
 ghost use Rattle.std.specs.Prelude.{◌≡◌, ◌++◌, OnOk, IfOk, map};
 ghost use Rattle.lsm_coord.specs.Contract.Shows.{place_of};

@@ -1,4 +1,4 @@
-//! Numbers as scripts write them.
+//! Numbers as scripts write them: 1 to 20 decimal digits, of a value below 2^64.
 
 ghost use Rattle.std.specs.Prelude.{◌≡◌};
 ghost use Rattle.lsm_line.specs.Numbers.{number};

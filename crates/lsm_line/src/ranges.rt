@@ -1,4 +1,4 @@
-//! The command `scan`.
+//! The command `scan`: what its words ask for, now or at a snapshot.
 
 ghost use Rattle.std.specs.Prelude.{Ok, None};
 ghost use Rattle.lsm_key.specs.Reading.{Gives};

@@ -1,4 +1,4 @@
-//! The names of refusals.
+//! The names of refusals, as the lines of answers have them.
 
 ghost use Rattle.std.specs.Prelude.{◌≡◌};
 ghost use Rattle.lsm_coord.specs.Contract.Replies.{refusal_of};

@@ -1,4 +1,4 @@
-//! The names of snapshots.
+//! The names of snapshots as scripts write them: the epoch and the number, with a point between them.
 
 ghost use Rattle.std.specs.Prelude.{◌≡◌, position};
 ghost use Rattle.lsm_key.specs.Reading.{Gives};

@@ -1,8 +1,10 @@
-//! What the commands of a store are asked for, and the arguments that say it, which the programs `luddimpa` and `lsmsim` share.
+//! What the commands of a store are asked for, and the arguments that say it, which the programs `luddimpa` and
+//! `lsmsim` share.
 //!
-//! It has each command with its options, what they ask for, and how a program reads its words, reports what is wrong with them, and what
-//! its exit statuses are. It runs no command. It promises that the limits of a command are those of its options, or their defaults, if each is
-//! in its range. The texts and the exit statuses are tested. It stands on the vault of files for the ways of syncing a log, and on `clap`.
+//! It has each of these commands with its options, what they ask for, and how a program reads its words, reports what
+//! is wrong with them, and what its exit statuses are. It runs no command. It promises that the limits of a command are
+//! those of its options, or their defaults, if each is in its range. The texts and the exit statuses are tested. It
+//! stands on the vault of files for the ways of syncing a log, and on `clap`.
 #![tactic(auto)]
 
 mod asked;

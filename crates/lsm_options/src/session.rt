@@ -1,4 +1,4 @@
-//! What a session may be asked.
+//! What a session may be asked: the text of its command `help`, which the help of the program has too.
 
 /// The commands of a session, as `help` lists them.
 pub const STORE_COMMANDS: &str = "\

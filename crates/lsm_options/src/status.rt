@@ -1,4 +1,4 @@
-//! The exit statuses of a program.
+//! The exit statuses of a program, the same ones for `luddimpa` and for `lsmsim`.
 
 /// The exit status if the arguments, a script or a line are refused.
 pub const REFUSED: u8 = 2;

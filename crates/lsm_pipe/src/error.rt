@@ -1,4 +1,4 @@
-//! Why messages over a pipe end.
+//! Why messages over a pipe end: one error for frames, for messages and for the worker.
 
 ghost use Rattle.std.specs.Prelude.{◌≡◌};
 ghost use Rattle.lsm_pipe.specs.declared.error.PipeError.TheVariants.{OutOfMemory};

@@ -1,4 +1,4 @@
-//! Messages in frames.
+//! Messages in frames: how one is received and sent. It stands apart from frames, which carry any bytes.
 
 ghost use Rattle.std.specs.Prelude.{◌≡◌, ◌<◌, ◌⊎◌, All, IfErr, IfOk, IfSome, OnOk, true};
 ghost use Rattle.std.specs.Io.KnownBytes.{Appends};

@@ -1,4 +1,4 @@
-//! A worker over two streams.
+//! A worker over two streams: the loop that reads messages, and writes what the worker answers.
 
 ghost use Rattle.std.specs.Prelude.{◌≡◌, ◌<◌, IfErr, IfOk, None, OnOk};
 ghost use Rattle.lsm_msg.specs.Messages.{IsMessage};

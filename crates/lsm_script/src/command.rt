@@ -1,4 +1,4 @@
-//! The commands' names.
+//! The commands of a script. The words that name them stand in `names`.
 
 ghost use Rattle.std.specs.Prelude.{◌≡◌};
 ghost use Rattle.lsm_script.specs.Script.{read_command};

@@ -1,4 +1,4 @@
-//! Why a script is refused.
+//! Why a script is refused: its first faulty line, and what is wrong there.
 
 use lsm_line::Reason;
 

@@ -1,4 +1,4 @@
-//! The commands of followers.
+//! The commands of followers: `ask` and `read`.
 
 ghost use Rattle.lsm_key.specs.Reading.{Gives};
 ghost use Rattle.lsm_world.specs.Events.{event_of};

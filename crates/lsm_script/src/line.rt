@@ -1,4 +1,4 @@
-//! The line of an event.
+//! The line of an event: how a script asks for it.
 
 use lsm_coord::{ScanRange, SnapId};
 use lsm_key::Op;

@@ -1,4 +1,4 @@
-//! The lines that replies print.
+//! The lines that replies print, each by the writer of its kind.
 
 ghost use Rattle.std.specs.Prelude.{◌≡◌, ◌++◌, OnOk};
 ghost use Rattle.lsm_script.specs.Lines.{froze_text, flushed_text};

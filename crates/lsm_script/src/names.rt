@@ -1,4 +1,4 @@
-//! Which words name commands and nodes.
+//! Which words name commands and nodes, and which lines are comments.
 
 ghost use Rattle.std.specs.Prelude.{◌≡◌};
 ghost use Rattle.lsm_line.specs.Numbers.{number};

@@ -1,4 +1,4 @@
-//! The lines of refusals.
+//! The lines of refusals: `refused`, and the name of the reason.
 
 ghost use Rattle.std.specs.Prelude.{◌≡◌, ◌++◌, OnOk};
 ghost use Rattle.lsm_coord.specs.Contract.Seats.{open_refusal};

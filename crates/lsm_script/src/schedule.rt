@@ -1,4 +1,4 @@
-//! The commands of dispatchers and workers.
+//! The commands `pick` and `giveup` of dispatchers, and `restart`, which any node may get.
 
 ghost use Rattle.std.specs.Prelude.{◌≡◌};
 ghost use Rattle.lsm_key.specs.Reading.{Gives};

@@ -1,4 +1,4 @@
-//! What is answered to a request.
+//! What is answered to a request, by the command that its first word names. Each kind of command has a file of its own.
 
 ghost use Rattle.std.specs.Prelude.{◌≡◌, IfOk, OnErr};
 ghost use Rattle.lsm_resp.specs.Requests.{words_of};

@@ -1,4 +1,4 @@
-//! The commands, by their names.
+//! The commands, by their names, in which case does not count.
 
 ghost use Rattle.std.specs.Prelude.{◌≡◌, ◌↔◌, IfNone, IfSome, IsTrue};
 ghost use Rattle.lsm_serve.specs.Commands.{IsCalled, IsNoCommand, command_name};

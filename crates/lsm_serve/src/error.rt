@@ -1,4 +1,4 @@
-//! Why serving ends before the input does.
+//! Why serving ends before the input does: the error of `serve`. A request that is refused does not end it.
 
 use crate::HttpWord;
 use lsm_io::{SinkError, SourceError};

@@ -1,4 +1,4 @@
-//! Why a request is refused.
+//! Why a request is refused: what its error line says. The requests behind it are answered all the same.
 
 use crate::Command;
 use lsm_store::StoreError;

@@ -1,4 +1,4 @@
-//! Drawing a script.
+//! The command `draw`: runs a script, and draws its events and messages.
 
 use crate::error::RunError;
 use crate::run::new_world;

@@ -1,4 +1,4 @@
-//! Exploring schedules.
+//! The command `explore`: runs schedules beside a model, with a bar that shows how far it has come.
 
 use crate::error::RunError;
 use crate::options::Exploration;

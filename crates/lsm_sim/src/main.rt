@@ -1,5 +1,6 @@
-//! The program `lsmsim`: runs a script of events against a store and its nodes, and prints each reply or draws what happened;
-//! explores all short schedules; or runs a store that threads share. It has the commands of a store too, as the program `luddimpa`.
+//! The program `lsmsim`: runs a script of events against a store and its nodes, and prints each reply or draws what
+//! happened; explores all short schedules; or runs a store that threads share. It has the commands of a store too, as
+//! the program `luddimpa`.
 #![tactic(auto)]
 
 mod draw;

@@ -1,4 +1,4 @@
-//! The command line.
+//! The command line of `lsmsim`: which command it asks for, with which limits and settings.
 
 use clap::error::ErrorKind;
 use clap::{Arg, ArgMatches, Command, Error, value_parser};

@@ -1,4 +1,4 @@
-//! Running a script.
+//! The command `run`: runs a script, and writes a line for each reply.
 
 ghost use Rattle.std.specs.Prelude.{◌≡◌, ◌⊎◌, ◌++◌, ℕ, List, IfErr, IfOk, OnOk, OnErr, IfSome};
 ghost use Rattle.std.specs.Io.KnownBytes.{Appends};

@@ -1,4 +1,4 @@
-//! A store that threads share.
+//! The command `threads`: runs a store that threads share, and writes what they found.
 
 use crate::error::RunError;
 use lsm_io::write_out;

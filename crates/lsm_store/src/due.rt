@@ -1,4 +1,4 @@
-//! What is still due after compactions.
+//! What is still due after compactions: what `Store::compact` and a dispatch answer.
 
 /// What is still due after compactions.
 #[derive(Clone, Copy, Debug, PartialEq, Eq)]

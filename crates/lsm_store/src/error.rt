@@ -1,4 +1,4 @@
-//! Why a store refuses a call.
+//! Why a store refuses a call: the key or the value, or the reason of its coordinator.
 
 use lsm_coord::CoordError;
 use lsm_key::KeyError;

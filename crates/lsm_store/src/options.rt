@@ -1,4 +1,4 @@
-//! How a store is kept.
+//! How a store is kept: the options of an opening, with their defaults.
 
 use lsm_key::{DEFAULT_BASE, DEFAULT_BLOCK, DEFAULT_L0, Limits};
 

@@ -1,4 +1,4 @@
-//! The store: the front door of the library.
+//! The store over a vault: how it is opened and closed. Its calls stand in files of their own, by what they do.
 
 mod compact;
 mod range;

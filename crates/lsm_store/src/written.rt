@@ -1,4 +1,4 @@
-//! What was written to tables.
+//! What was written to tables: the bytes of flushes and of compactions, by all edits of a vault.
 
 ghost use Rattle.std.specs.Prelude.{◌≡◌, IfOk};
 ghost use Rattle.lsm_store.specs.Stats.{WroteBytes, added_to, by_flush, by_install, saturated_sum};

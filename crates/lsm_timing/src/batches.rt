@@ -1,4 +1,4 @@
-//! Batches of puts.
+//! Batches of puts, as fills write them.
 
 use crate::bench::Bench;
 use crate::error::TimingError;

@@ -1,4 +1,4 @@
-//! Overwrites and deletions.
+//! The figures of a churn: overwrites and deletions, and a scan of what they leave.
 
 use crate::batches::{BATCH, batch_count};
 use crate::bench::Bench;

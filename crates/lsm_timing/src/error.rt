@@ -1,4 +1,4 @@
-//! Why a figure is not taken.
+//! Why a figure is not taken: a line of words for whoever runs the program.
 
 use lsm_coord::CoordError;
 use lsm_key::KeyError;

@@ -1,4 +1,4 @@
-//! Figures: what took how long.
+//! Figures: how long something took, and a checksum of its results, by which two runs can be compared.
 
 use crate::bench::Bench;
 use std::io;

@@ -1,4 +1,4 @@
-//! The commands, each with its numbers.
+//! The commands, each with its numbers and what they may be.
 
 use std::fmt;
 

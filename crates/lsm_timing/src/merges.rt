@@ -1,4 +1,4 @@
-//! A merge of two levels.
+//! The figure `merge`: a merge of the tables of two levels.
 
 use crate::bench::Bench;
 use crate::error::{NO_JOB, NO_MERGE, TimingError};

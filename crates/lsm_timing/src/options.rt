@@ -1,4 +1,4 @@
-//! The command line.
+//! The command line of `lsm_timing`: which figure it asks for, with its numbers, its clock and its keys.
 
 use crate::clock::ClockKind;
 use crate::forms::{FORMS, Form, Number, Task};

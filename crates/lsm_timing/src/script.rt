@@ -1,4 +1,4 @@
-//! A script for `lsmsim run`.
+//! A script for `lsmsim run`, so that the time of a script can be taken too.
 
 use crate::error::TimingError;
 use crate::keys::mix;

@@ -1,4 +1,4 @@
-//! Tables: made by flushes, and opened.
+//! Tables, made by flushes, for the figures of merges and of memory; and the figures of a flush and of opening tables.
 
 ghost use Rattle.std.specs.Prelude.{◌≤◌};
 

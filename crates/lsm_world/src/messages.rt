@@ -1,4 +1,4 @@
-//! The messages that were sent.
+//! The messages that were sent, by number: they stay, so that a schedule may deliver each whenever it says.
 
 ghost use Rattle.std.specs.Prelude.{◌≡◌, IfOk, All};
 ghost use Rattle.std.specs.Option.{option_copied};

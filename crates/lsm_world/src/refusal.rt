@@ -1,4 +1,4 @@
-//! Why an event is refused.
+//! Why an event is refused: one list for all nodes, since a reply may be that of any of them.
 
 use lsm_coord::CoordError;
 use lsm_key::KeyError;

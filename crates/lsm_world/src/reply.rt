@@ -1,4 +1,4 @@
-//! What is answered to an event.
+//! What is answered to an event: the answer of the node that it asks.
 
 ghost use Rattle.std.specs.Prelude.{◌↔◌, IsTrue};
 ghost use Rattle.lsm_world.specs.Shortage.{SaysOutOfMemory};

@@ -32,7 +32,8 @@ use std::marker::Model;
 /// schedule says. It is a model of the network, not a node: it keeps the bytes of every message. It is not `Drop`: `close`
 /// ends it.
 ///
-/// Invariant: the events that were taken led from a new store, with some replies, to a state of the model that the store shows.
+/// Invariant: the store is there, and the events that were taken led from a new store, with some replies, to a state of
+/// the model that it shows.
 pub struct World<V: Vault> {
     alloc: Global,
     // It is `Some` between calls.

@@ -1,4 +1,4 @@
-//! The value of a key.
+//! The command `get`: the value of a key, as its bytes or as hexadecimal digits.
 
 ghost use Rattle.std.specs.Prelude.{◌≡◌, ◌++◌, ◌∷◌, [], ◌<◌, IfOk, OnOk, Some};
 ghost use Rattle.std.specs.List.{flat_map};

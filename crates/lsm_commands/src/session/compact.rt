@@ -1,4 +1,5 @@
-//! The command `compact`.
+//! The command `compact`, of a session and of the program: compactions one after another, with their count on the
+//! screen.
 
 use super::lines::write_refused;
 use crate::Screen;

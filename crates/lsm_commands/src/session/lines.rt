@@ -1,4 +1,4 @@
-//! The lines of answers.
+//! The lines of a session's answers, made of the same pieces as those of scripts.
 
 ghost use Rattle.std.specs.Prelude.{◌≡◌, ◌++◌, ◌∷◌, [], OnOk};
 ghost use Rattle.lsm_commands.specs.AnswerLines.{answer_text, refusal_text};

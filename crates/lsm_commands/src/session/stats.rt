@@ -1,4 +1,4 @@
-//! The command `stats`.
+//! The command `stats`: the line of the sequences, of what each level has, and of what was written to tables.
 
 use super::lines::write_refused;
 use lsm_key::ALL_LEVELS;

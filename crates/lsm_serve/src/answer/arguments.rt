@@ -1,4 +1,4 @@
-//! The arguments of a command.
+//! The arguments of a command, by how many they are: what a command tests before it asks the store.
 
 ghost use Rattle.std.specs.Prelude.{◌≡◌, ◌↔◌, ◌∷◌, [], IfNone, IfSome, IsTrue};
 ghost use Rattle.lsm_resp.specs.Requests.{words_of};

@@ -1,4 +1,4 @@
-//! Figures of the store.
+//! The command `INFO`: figures of the store, a line for each.
 
 ghost use Rattle.std.specs.Prelude.{◌≡◌, ◌++◌, IfOk, OnOk};
 ghost use Rattle.std.specs.List.{flat_map};

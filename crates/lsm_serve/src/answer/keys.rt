@@ -1,4 +1,4 @@
-//! Commands that count keys.
+//! Commands that count keys: `EXISTS`, and `DEL`, which counts the keys that it deletes.
 
 ghost use Rattle.std.specs.Prelude.{◌≡◌, IfErr, IfOk, OnErr};
 ghost use Rattle.lsm_resp.specs.Requests.{words_of};

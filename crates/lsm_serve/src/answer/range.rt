@@ -1,4 +1,4 @@
-//! Ranges of keys.
+//! The command `RANGE`, which is the store's own: the pairs of a range of keys.
 
 ghost use Rattle.std.specs.Prelude.{◌≡◌, ◌++◌, ◌∷◌, [], IfOk, OnOk, Some};
 ghost use Rattle.lsm_resp.specs.Requests.{words_of};

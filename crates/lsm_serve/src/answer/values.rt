@@ -1,4 +1,4 @@
-//! Reads of keys.
+//! Commands that read values: `GET`, and `MGET` for several keys.
 
 ghost use Rattle.std.specs.Prelude.{◌≡◌, ◌++◌, ◌∷◌, [], IfErr, IfOk, OnOk, Some};
 ghost use Rattle.lsm_resp.specs.Requests.{words_of};

@@ -1,4 +1,4 @@
-//! Writes.
+//! Commands that write: `SET`, `MSET`, and `SAVE`, which brings what was written into tables.
 
 ghost use Rattle.std.specs.Prelude.{◌≡◌, ◌++◌, ◌∷◌, [], IfErr, IfOk, OnErr, OnOk};
 ghost use Rattle.lsm_resp.specs.Requests.{words_of};

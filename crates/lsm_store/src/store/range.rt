@@ -18,7 +18,8 @@ const PART_PAIRS: u64 = 256;
 /// The pairs of a range of keys, ascending, each with its value: an iterator. It reads some hundred at once, and shares their bytes. If a
 /// read is refused, the range stays where it is.
 ///
-/// Invariant: the part that it holds is what the store reads from where the part begins, and no more pairs of it were given than it has.
+/// Invariant: the part that it holds is what the store reads from where the part begins, and no more pairs of it were
+/// given than it has.
 #[derive(Drop)]
 pub struct Range<'s, V: Vault> {
     store: &'s Store<V>,

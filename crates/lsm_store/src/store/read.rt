@@ -1,4 +1,4 @@
-//! Reads of the store.
+//! Reads of the store: of keys, of ranges, and of figures about it. None changes what it holds.
 
 ghost use Rattle.std.specs.Prelude.{◌≡◌, ◌&&◌, IfErr, IfOk, nat_le};
 ghost use Rattle.lsm_key.specs.declared.limits.TheConstants.{MAX_JOB_LEVEL};

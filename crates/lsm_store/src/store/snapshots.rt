@@ -1,4 +1,4 @@
-//! Snapshots of the store.
+//! Snapshots of the store: how one is made, and released.
 
 ghost use Rattle.std.specs.Prelude.{◌≡◌, None, IfErr, IfOk, OnErr, OnOk, Some};
 ghost use Rattle.lsm_key.specs.Faults.{Refuses};

@@ -1,4 +1,4 @@
-//! The follower, beside its readers.
+//! The thread of a follower, beside those of its readers.
 
 ghost use Rattle.std.specs.Prelude.{◌≡◌, []};
 

@@ -1,4 +1,4 @@
-//! What is told of a run.
+//! What is printed of a run of threads.
 
 use super::reads::Reads;
 use super::writer::Writing;

@@ -1,4 +1,4 @@
-//! The writers.
+//! The threads of the writers, which flush what is full, and end the run.
 
 use super::course::Course;
 use crate::batches::{BATCH, batch_number};

@@ -1,4 +1,4 @@
-//! Deliveries: a message reaches its receiver.
+//! Deliveries: a message reaches its receiver, the coordinator with its dispatchers, a worker or a follower.
 
 ghost use Rattle.std.specs.Prelude.{◌≡◌, ◌⊎◌, ◌∷◌, [], ℕ};
 ghost use Rattle.lsm_coord.specs.Model.Event as say;

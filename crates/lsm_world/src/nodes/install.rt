@@ -1,4 +1,4 @@
-//! Results that reach their dispatcher.
+//! Results that reach their dispatcher, and are installed under the claim that it holds.
 
 ghost use Rattle.std.specs.Prelude.{◌≡◌, ◌⊎◌, ℕ};
 ghost use Rattle.lsm_coord.specs.declared.dispatcher.Dispatcher.TheVariants.{Idle};
