@@ -143,7 +143,7 @@ impl Chart {
         Ok(())
     }
 
-    // Puts a message after the others, and so many more.
+    // Puts a message after the others, and `more` messages behind it.
     fn send_all(&mut self, from: Lane, to: Lane, more: u64) -> Result<(), AllocError> {
         self.lanes.take(to);
         let row = u32::try_from(self.rows.len()).unwrap_or(u32::MAX);

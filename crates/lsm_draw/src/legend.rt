@@ -1,4 +1,4 @@
-//! The legend, above the first row: what each mark and each arrow stands for.
+//! The legend, above the first row: what each mark and each arrow means.
 
 use crate::mark::Mark;
 use crate::place::MARGIN;

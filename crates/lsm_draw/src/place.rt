@@ -12,7 +12,7 @@ pub(crate) const MARGIN: u64 = 16;
 /// The height of a row.
 pub(crate) const ROW: u64 = 20;
 
-/// After so many rows the nodes' names stand once more.
+/// After this many rows the nodes' names stand once more.
 pub(crate) const BAND: u64 = 40;
 
 /// Where the first row of names stands, under the legend.
@@ -58,7 +58,7 @@ pub(crate) fn names_y(band: u32) -> u64
     TOP + ROW * ((BAND + 1) * u64::from(band))
 }
 
-/// How wide a picture of so many columns is.
+/// How wide a picture of this many columns is.
 pub(crate) fn width_of(columns: u8) -> u64
     ensures { result ≡ line_x columns + CELL * REPLY_CHARS + MARGIN }
 {

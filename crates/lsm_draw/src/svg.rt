@@ -63,7 +63,7 @@ fn draw_lines<W: Write>(out: &mut W, lanes: &Lanes, rows: u32) -> io::Result<()>
     Ok(())
 }
 
-// The names, above the first row and every so many rows.
+// The names, above the first row and after every `BAND` rows.
 fn draw_names<W: Write>(out: &mut W, lanes: &Lanes, rows: u32) -> io::Result<()> {
     let last = rows.saturating_sub(1) / BAND as u32;
     for band in 0..=last {

@@ -14,7 +14,7 @@ use std::sync::atomic::{AtomicU64, Ordering};
 use std::thread;
 use std::thread::Threads;
 
-/// The beginnings of schedules are shared out to the threads. So many choices each has.
+/// The beginnings of schedules are shared out to the threads. Each has this many choices.
 const SHARED: usize = 3;
 
 /// What to explore.
@@ -30,9 +30,9 @@ pub struct Settings {
     pub seed: u64,
 }
 
-/// Is told how far an exploration has come, by any of its threads.
+/// Learns how far an exploration has come, from any of its threads.
 pub trait Progress {
-    /// So many of all parts are done. They take different times.
+    /// `done` of all parts are done. They take different times.
     fn told(&self, done: u64, of: u64);
 }
 

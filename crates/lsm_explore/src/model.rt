@@ -65,7 +65,7 @@ pub(crate) enum NoteKind {
 #[derive(Drop)]
 pub(crate) struct Model {
     pub(crate) alloc: Global,
-    /// Level 0 is due from so many files on.
+    /// Level 0 is due from this many files on.
     pub(crate) l0: u64,
     /// The sequence of a write is its place, from 1.
     pub(crate) writes: Vec<Op>,
@@ -141,7 +141,7 @@ impl Model {
         self.next_version().saturating_sub(1)
     }
 
-    /// What a number stands for.
+    /// The version of a number.
     pub(crate) fn version(&self, number: u64) -> Option<&ModelVersion> {
         self.versions.get(number as usize)
     }

@@ -5,7 +5,7 @@ ghost use Rattle.lsm_explore.specs.Paths.{AreClosed, IsLastOpen, next_turn, turn
 
 use std::alloc::{AllocError, Global};
 
-/// Which of so many choices is taken.
+/// Which choice is taken, of how many.
 #[derive(Clone, Copy)]
 pub(crate) struct Turn {
     /// From 0.
@@ -48,7 +48,7 @@ impl Path {
         Ok(0)
     }
 
-    /// Keeps so many turns.
+    /// Keeps the first turns, this many of them.
     pub(crate) fn cut(&mut self, len: usize) {
         self.turns.truncate(len);
     }

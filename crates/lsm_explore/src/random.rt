@@ -7,13 +7,13 @@ use lsm_world::World;
 use rand_core::{Rng, SeedableRng};
 use rand_xoshiro::Xoshiro256PlusPlus;
 
-/// Up to so many events every schedule is run.
+/// Up to this many events every schedule is run.
 pub const MAX_EXHAUSTED: u32 = 9;
 
 /// How many schedules by chance are run of each alphabet.
 pub(crate) const RANDOM_SCHEDULES: u64 = 10_000;
 
-/// Three of four deliveries by chance are of one of so many messages, the last ones.
+/// Three of four deliveries by chance are of one of the last messages, of which this is the number.
 const RECENT: u64 = 6;
 
 /// The generator of a schedule.
@@ -39,7 +39,7 @@ impl Play {
         self.choice(others.saturating_add(deliveries.saturating_sub(back)))
     }
 
-    /// Runs a schedule of so many events by chance, and probes the nodes after each.
+    /// Runs a schedule of this many events by chance, and probes the nodes after each.
     pub(crate) fn wander(
         &mut self,
         world: &mut World<MemoryVault>,

@@ -30,7 +30,7 @@ fn read_escape(high: u8, low: u8) -> Option<u8>
     Some(read_hex(high)? * 16 + read_hex(low)?)
 }
 
-/// The byte that stands for itself.
+/// A byte that is written as itself.
 fn read_literal(byte: u8) -> Option<u8>
     ensures { result ≡ literal byte }
 {

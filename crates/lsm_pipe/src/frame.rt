@@ -61,7 +61,7 @@ fn length_in(head: &[u8]) -> Result<usize, PipeError>
     Ok(len as usize)
 }
 
-/// So many bytes, or as many as there are before the input ends.
+/// `count` bytes, or as many as there are before the input ends.
 fn read_up_to<R: Source>(alloc: Global, reader: &mut R, count: usize) -> Result<Vec<u8>, PipeError>
     ensures ok { IfOk result (λ bytes. TakesUpTo count (R.remaining reader.old) (R.remaining reader.new) bytes.items) }
     ensures refused { IfErr result IsReadError }

@@ -57,7 +57,7 @@ fn range_between(first: Option<u64>, last: Option<u64>) -> Option<(u64, u64)>
     Some((first, last - first))
 }
 
-/// The deliveries of so many messages, from the first number on.
+/// The deliveries of this many messages, from the first number on.
 fn deliveries(alloc: Global, first: u64, count: u64) -> Result<Vec<Event>, AllocError>
     requires { first + count ≤ u64.MAX + 1 }
     ensures { IfOk result (λ events. map event_of events.items ≡ deliveries first count) }

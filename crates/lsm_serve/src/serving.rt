@@ -160,8 +160,8 @@ fn send<V: Vault, W: Sink>(
     Ok(())
 }
 
-/// Answers the requests that have come whole, and writes the replies as often as many bytes of them are kept back. Tells up to where the
-/// store was synced.
+/// Answers the requests that have come whole, and writes the replies as often as many bytes of them are kept back.
+/// `synced` becomes the sequence up to which the store was synced last.
 fn answer_all<V: Vault, W: Sink>(
     alloc: Global,
     store: &mut Store<V>,

@@ -37,7 +37,7 @@ impl<R: Eprint + Clock> Bar<'_, R> {
         Some(elapsed.saturating_mul(left) / done.max(1))
     }
 
-    // Draws so many steps.
+    // Draws this many steps.
     fn draw(&self, step: u64, left: Option<u64>) {
         let (done, rest) = (step as usize, STEPS.saturating_sub(step) as usize);
         let _ = match left {

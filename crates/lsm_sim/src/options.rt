@@ -13,7 +13,7 @@ pub(crate) enum Subcommand<'a> {
     Run(Limits),
     /// Run a script, and draw its events and messages.
     Draw(Limits),
-    /// Run all schedules of so many events, and compare the replies with a model.
+    /// Run all schedules of this many events, and compare the replies with a model.
     Explore(Exploration),
     /// Run a store that threads share, and print what they found.
     Threads,

@@ -16,7 +16,7 @@ use std::marker::Model;
 
 /// A store over a vault: all its flushes and compactions run inside its calls. The vault has each operation before it is answered, in
 /// its log or in a table, so that no operation is lost when the store ends; its snapshots are. Which operations a power cut
-/// could take is told where the vault is made; after a `sync` that is `Ok` none of those before it.
+/// could take is said where the vault is made; after a `sync` that is `Ok` none of those before it.
 ///
 /// Invariant: between two calls no job runs.
 #[derive(Drop)]

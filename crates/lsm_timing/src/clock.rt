@@ -4,7 +4,7 @@ use std::io;
 use std::rt::{Clock, CpuClock};
 use std::time::Duration;
 
-/// Whose time a figure tells.
+/// Whose time a figure is.
 #[derive(Clone, Copy)]
 pub(crate) enum ClockKind {
     /// The time that passes, with what else the machine does in it.

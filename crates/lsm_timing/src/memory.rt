@@ -14,12 +14,12 @@ use std::fs;
 /// The system's account of the process's memory.
 const ACCOUNT: &str = "/proc/self/smaps_rollup";
 
-/// The line of it that tells the memory that stands for no file, in units of 1,024 bytes.
+/// The line of it that has the memory that holds no file, in units of 1,024 bytes.
 const LINE: &str = "Anonymous:";
 
 const UNIT: u64 = 1_024;
 
-/// Tells by how much the process grows as a store is filled.
+/// Prints by how much the process grows as a store is filled.
 pub(crate) fn tell_filled(bench: Bench, entries: u64) -> Result<(), TimingError> {
     let before = resident(bench)?;
     let mut coord = filled(bench, entries, BATCH)?;
@@ -39,7 +39,7 @@ fn tell_filled_since(
     Ok(())
 }
 
-/// Tells by how much the process grows as entries are written to a memtable, as many as it takes.
+/// Prints by how much the process grows as entries are written to a memtable, as many as it takes.
 pub(crate) fn tell_memtable(bench: Bench, entries: u64) -> Result<(), TimingError> {
     let entries = entries.min(memtable_entries(bench));
     let before = resident(bench)?;
@@ -60,7 +60,7 @@ fn tell_memtable_since(
     Ok(())
 }
 
-/// Tells by how much the process grows as tables are made. A first one is made before, so that what its making
+/// Prints by how much the process grows as tables are made. A first one is made before, so that what its making
 /// leaves to the allocator serves the others.
 pub(crate) fn tell_tables(bench: Bench, entries: u64) -> Result<(), TimingError> {
     let indices = sorted_indices(bench.alloc(), entries)?;
@@ -104,7 +104,7 @@ fn growth_since(bench: Bench, before: u64) -> Result<u128, TimingError> {
     Ok(resident(bench)?.saturating_sub(before) as u128)
 }
 
-// How many bytes of memory the process has that stand for no file.
+// How many bytes of memory the process has that hold no file.
 fn resident(bench: Bench) -> Result<u64, TimingError> {
     let account = fs::read_to_string(&bench.rt, ACCOUNT)?;
     match kilobytes_in(&account) {

@@ -53,7 +53,7 @@ const BYTES: Number = Number {
     default: Some(100),
 };
 
-// The part of the help that tells the options.
+// The part of the help that lists the options.
 const OPTIONS: &str = "Options, before or after a command:
   --clock wall|processor: Take the time that passes, or the processor's time of the process; both in steps of 1 ns
   --keys scattered|prefixed: Keys of 16 bytes, or the same after a prefix of 16 bytes

@@ -8,7 +8,7 @@ use crate::fill::{MemoryCoord, new_store, settle, shape_of, write};
 use lsm_key::Batch;
 use std::time::Duration;
 
-/// Tells how long the longest write of a fill takes, with the flush and the merges in it.
+/// Prints how long the longest write of a fill takes, with the flush and the merges in it.
 pub(crate) fn time_pauses(bench: Bench, entries: u64, batch: u64) -> Result<(), TimingError> {
     let mut coord = new_store(bench)?;
     time_in(bench, &mut coord, entries, batch)

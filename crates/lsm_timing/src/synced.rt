@@ -1,4 +1,4 @@
-//! Writes to a store in a folder, of which the log is synced after so many.
+//! Writes to a store in a folder, whose log is synced after every turn of them.
 
 use crate::batches::{batch_count, batch_of};
 use crate::bench::Bench;

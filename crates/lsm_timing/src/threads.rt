@@ -30,7 +30,7 @@ use std::thread::{Threads, join};
 use tell::{Claims, Ends, tell_ends};
 use writer::{Writing, write_until_due};
 
-/// Lets all threads run over one new store in memory for so many seconds, and tells what they did. All that they recorded has to be the
+/// Lets all threads run over one new store in memory for some seconds, and prints what they did. All that they recorded has to be the
 /// history of the store.
 pub(crate) fn time_threads<R: Threads + Wait + Sync>(
     rt: &R,

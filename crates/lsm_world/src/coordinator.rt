@@ -191,7 +191,7 @@ pub(crate) fn know_fit<V: Vault>(coord: &Coord<V>)
     let _listing = coord.show();
 }
 
-/// What a coordinator tells that was just opened.
+/// The reply of a coordinator that was just opened.
 pub(crate) fn restarted<V: Vault>(coord: &Coord<V>) -> Reply
     ensures { result ≡ restarted_as (Some coord.now) }
 {

@@ -178,7 +178,7 @@ fn tell(
     done
 }
 
-// What is told of a message to a worker.
+// The reply to a message that reached a worker.
 fn reply_of(change: WorkChange, sent: Sent) -> Reply
     ensures { result ≡ worker_reply change sent }
 {

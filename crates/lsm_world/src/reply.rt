@@ -63,7 +63,7 @@ pub enum Reply {
     Installed(VersionNumber, Items<FileNumber>),
     /// The message changed nothing.
     Ignored,
-    /// A worker lacks so many inputs.
+    /// A worker lacks this many inputs.
     Collecting(u32, Sent),
     /// A worker merged its inputs, and sends the result.
     Merged(Sent),
@@ -76,7 +76,7 @@ pub enum Reply {
     Asked(Sent),
     /// A follower's version, and the value that a key has there.
     ReadAt(VersionNumber, Option<Bytes>),
-    /// A follower lacks so many tables of the version that it is to move to.
+    /// A follower lacks this many tables of the version that it is to move to.
     Waiting(u32, Sent),
     /// A follower serves this version now.
     Advanced(VersionNumber),

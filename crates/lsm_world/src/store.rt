@@ -189,7 +189,7 @@ fn seated<V: Vault>(alloc: Global, seat: Seat<V>, desk: Desk, network: Network) 
     }
 }
 
-// What is told of an opening.
+// The reply to an opening.
 fn restarted<V: Vault>(seat: &Seat<V>, opened: Result<(), OpenError>) -> Reply
     ensures { result ≡ restart_answer opened (seat_of V.stored V.failures seat.now).core }
 {
@@ -199,7 +199,7 @@ fn restarted<V: Vault>(seat: &Seat<V>, opened: Result<(), OpenError>) -> Reply
     }
 }
 
-// What is told of an opening that succeeded.
+// The reply to an opening that succeeded.
 fn restarted_seat<V: Vault>(seat: &Seat<V>) -> Reply
     ensures { result ≡ restarted_as (seat_of V.stored V.failures seat.now).core }
 {

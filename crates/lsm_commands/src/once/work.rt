@@ -55,7 +55,7 @@ impl Work {
     }
 }
 
-// The bytes that a word of the arguments stands for. An argument without a byte is the empty text.
+// The bytes that a word of the arguments spells. An argument without a byte is the empty text.
 fn bytes_of(alloc: Global, word: &str) -> Result<Bytes, OnceError>
     ensures { IfOk result (λ bytes. key_or_value word.now ≡ Ok bytes) }
 {

@@ -17,7 +17,7 @@ pub(crate) fn stats<V: Vault>(store: &mut Store<V>, out: &mut Vec<u8>) -> Result
     }
 }
 
-/// The same, of a store that has written so much, without the end of a line.
+/// The same, of a store that has written this, without the end of a line.
 pub(crate) fn write_stats<V: Vault>(
     store: &Store<V>,
     out: &mut Vec<u8>,

@@ -14,7 +14,7 @@ fn is_earlier(job: JobId, other: JobId) -> bool {
 }
 
 impl Model {
-    /// Takes so many messages, which must have the next numbers.
+    /// Takes this many messages, which must have the next numbers.
     pub(super) fn sends(
         &mut self,
         sent: Sent,

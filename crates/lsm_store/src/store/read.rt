@@ -80,7 +80,7 @@ impl<V: Vault> Store<V> {
         self.coord.is_due(level)
     }
 
-    /// How much was written to tables since the store was new, by what the vault tells of all its edits: O(n) for n edits.
+    /// How much was written to tables since the store was new, by all edits of its vault: O(n) for n edits.
     pub fn written(&mut self) -> Result<Written, StoreError>
         ensures ok { IfOk result (WroteBytes self.old.stored.edits) }
         ensures keeps { Keeps self.old self.new }

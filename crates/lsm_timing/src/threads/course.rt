@@ -92,7 +92,7 @@ impl Course {
         self.missed.fetch_add(1, Ordering::SeqCst);
     }
 
-    /// Counts a call that was refused for want of memory, and says that it is not done. Any other refusal ends the run.
+    /// Counts a call that was refused since memory ran out, and says that it is not done. Any other refusal ends the run.
     pub(crate) fn outlive(&self, why: CoordError) -> Result<bool, TimingError> {
         if why != CoordError::OutOfMemory {
             return Err(TimingError::from(why));

@@ -9,7 +9,7 @@ use lsm_vault::Vault;
 use std::sync::Wait;
 use std::thread::{Threads, join};
 
-/// After so many rounds a worker is started anew.
+/// After this many rounds a worker is started anew.
 const ROUNDS: u64 = 1 << 32;
 
 /// How often the merge of two tallies is tried that finds no memory.

@@ -12,7 +12,7 @@ use std::sync::atomic::Ordering;
 use std::thread::{Threads, join};
 use std::time::Duration;
 
-/// How many writers there are. Each writes one batch in so many.
+/// How many writers there are. A batch is of the writer whose index is its number modulo this one.
 const WRITERS: u64 = 2;
 
 /// What was written.

@@ -135,7 +135,7 @@ fn tell(
     done
 }
 
-// What is told of a message to a follower.
+// The reply to a message that reached a follower.
 fn reply_of(change: FollowChange, sent: Sent) -> Reply
     ensures { result ≡ follower_reply change sent }
 {

@@ -55,7 +55,7 @@ impl<V: Vault> Nodes<V> {
         }
     }
 
-    /// Lets a dispatcher give its claim back. Allocates nothing, so it is never refused for want of memory.
+    /// Lets a dispatcher give its claim back. Allocates nothing, so it is never refused since memory ran out.
     pub(super) fn give_up(&mut self, dispatcher: NodeIndex) -> Reply
         ensures asks { AsksNode self.old (GiveUp dispatcher) result self.new }
         ensures follows { FollowsStore (up_store self.old) (event_of (GiveUp dispatcher)) (reply_of result) (up_store self.new) }
@@ -73,7 +73,7 @@ impl<V: Vault> Nodes<V> {
     }
 }
 
-// What is told of a claim that was given back.
+// The reply to a claim that was given back.
 fn returned(id: JobId, settled: Settled) -> Reply
     ensures { result ≡ settled_reply id settled }
 {

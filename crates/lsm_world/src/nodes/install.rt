@@ -41,7 +41,7 @@ impl<V: Vault> Nodes<V> {
     }
 }
 
-// What is told of an install. A claim that is handed back is held again.
+// The reply to an install. A claim that is handed back is held again.
 fn settle(desk: &mut Desk, dispatcher: NodeIndex, became: Install) -> Reply
     requires { dispatcher_of desk.old dispatcher ≡ Idle }
     ensures reply { result ≡ dispatcher_reply became }
