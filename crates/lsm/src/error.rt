@@ -11,13 +11,15 @@ use thiserror::Error;
 /// Why a store in a folder is not opened.
 #[derive(Debug, Drop, Error)]
 pub enum OpenError {
+    /// Memory ran out. No edit and no log record is gone: open the folder again once there is more.
     #[error("out of memory")]
     OutOfMemory,
-    /// The folder or one of its files is refused, which the reason names. Nothing was changed but that the folder was made and, if no file
-    /// is foreign, its lock.
+    /// The folder or one of its files is refused, which the reason names. Nothing was changed but that the folder was
+    /// made and, if no file is foreign, its lock. Mend what is named, or open another folder.
     #[error(transparent)]
     Folder(FolderError),
     /// What the files hold makes no store, or a device failed while it was opened. No edit and no log record is gone.
+    /// After a device failure the folder may be opened again; otherwise go back to a copy of it.
     #[error(transparent)]
     Contents(lsm_versions::OpenError),
 }

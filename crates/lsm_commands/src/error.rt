@@ -9,22 +9,25 @@ use thiserror::Error;
 /// Why a command fails.
 #[derive(Debug, Drop, Error)]
 pub(crate) enum CommandError {
-    /// The folder is not opened.
+    /// The folder is not opened, or memory ran out. The reason names the file or the folder: mend it, or take another.
     #[error("{0}")]
     Folder(lsm_file_vault::FolderError),
-    /// The folder is not there, or has no file, so that there is nothing to read.
+    /// The folder is not there, or has no file, so that there is nothing to read. A put, an import or a session makes a
+    /// store there.
     #[error("{0} has no store: 'put', 'import' or 'store' with '--dir {0}' makes one")]
     NoStore(String),
-    /// The folder has no valid store, or its device failed, with what the system says of it.
+    /// The folder has no valid store, or its device failed, with what the system says of it. After a device failure try
+    /// again; otherwise go back to a copy of the folder.
     #[error("the store is not opened: {0}")]
     Store(lsm_versions::OpenError, Option<io::Error>),
-    /// The folder has no valid edits, or memory ran out, or its entries could not be written.
+    /// The folder has no valid edits, or memory ran out, or its entries could not be written. What helps is said at the
+    /// reason.
     #[error("{0}")]
     Data(InspectError),
-    /// Standard input could not be read.
+    /// Standard input could not be read, or is not open. Run the command with another one.
     #[error("read fault")]
     ReadFault,
-    /// Standard output or standard error could not be written.
+    /// Standard output or standard error could not be written, or is not open. Run the command with another one.
     #[error("write fault")]
     WriteFault,
 }

@@ -10,16 +10,16 @@ use thiserror::Error;
 /// Why a dispatch ends before everything is compacted. No claim is left, and what was installed stays.
 #[derive(Clone, Copy, Debug, PartialEq, Eq, Error)]
 pub enum DispatchError {
-    /// The pipe failed, or what came over it is no message.
+    /// The pipe failed, or what came over it is no message. Dispatch again over a new pipe, with new workers.
     #[error("{0}")]
     Pipe(PipeError),
-    /// The coordinator refuses a call.
+    /// The coordinator refuses a pick, an install or a trim, or finds no memory. What helps is said at the reason.
     #[error("{0}")]
     Coord(CoordError),
-    /// A compaction is due, and no worker is there to make it.
+    /// A compaction is due, and no worker is there to make it. Dispatch again with a worker.
     #[error("no worker is left, and a compaction is due")]
     NoWorker,
-    /// The input ends while a worker has a job.
+    /// The input ends while a worker has a job, whose result can't come any more. Dispatch again over a new pipe.
     #[error("the input ends while a worker has a job")]
     EndsEarly,
 }

@@ -14,8 +14,9 @@ use std::alloc::{AllocError, AllocFailed, Global};
 /// Why a schedule ends before its last event.
 #[derive(Drop)]
 pub(crate) enum Halt {
+    /// Memory ran out, and nothing is known of the schedule. The exploration ends.
     OutOfMemory,
-    /// The model does not allow this reply to the last event.
+    /// The model does not allow this reply to the last event: the schedule is counted as wrong.
     Wrong(Reply),
 }
 

@@ -7,12 +7,14 @@ use thiserror::Error;
 /// Why the data of a store is not checked or dumped.
 #[derive(Debug, Drop, Error)]
 pub enum InspectError {
+    /// Memory ran out. A part of the dump may have been written. Read the folder again once there is more.
     #[error("out of memory")]
     OutOfMemory,
-    /// The bytes of an edit are no edit, or it does not apply to the version before it. So it is not known which files there are.
+    /// The bytes of an edit are no edit, or it does not apply to the version before it. So it is not known which files
+    /// there are: go back to a copy of the folder.
     #[error("an edit of the manifest is not valid")]
     BadManifest,
-    /// A part of the dump may have been written.
+    /// The output of a dump failed. A part of the dump may have been written: dump to another output.
     #[error("the dump could not be written: {0}")]
     Write(io::Error),
 }

@@ -8,34 +8,37 @@ use lsm_io::{SinkError, SourceError};
 use std::alloc::{AllocError, AllocFailed};
 use thiserror::Error;
 
-/// Why messages over a pipe end.
+/// Why messages over a pipe end. After a refused read it is not known where the next frame begins, so what helps is a
+/// new pipe.
 #[derive(Clone, Copy, Debug, PartialEq, Eq, Error)]
 pub enum PipeError {
-    /// The input ends inside a frame.
+    /// The input ends inside a frame: whoever wrote it has ended. Start it again, with a new pipe.
     #[error("the input ends inside a frame")]
     EndsInside,
-    /// A frame announces more bytes than a message may have.
+    /// A frame announces more bytes than a message may have, `MAX_MESSAGE_BYTES`: what comes is not made of frames.
+    /// Look at what writes to the pipe.
     #[error("a frame announces more bytes than a message may have")]
     TooLong,
-    /// The bytes of a frame are no message.
+    /// The bytes of a frame are no message, or are damaged. Look at what writes to the pipe.
     #[error("a frame has no message")]
     NotMessage,
-    /// A message has too many bytes to be sent.
+    /// A message has too many bytes to be sent, and nothing of it was written. It is refused whenever it is sent.
     #[error("a message has too many bytes")]
     TooLarge,
-    /// The worker gave its job up: one of its inputs is no longer served, or two inputs share an entry.
+    /// The worker gave its job up: one of its inputs is no longer served, or two inputs share an entry. Report it as
+    /// gone, so that its job is free again, and start another one.
     #[error("the worker gave its job up")]
     GaveUp,
-    /// A stream was read or written as often as is counted, 2^64 - 1 times.
+    /// A stream was read or written as often as is counted, 2^64 - 1 times. Start over with a new pipe.
     #[error("the input does not end")]
     NoEnd,
-    /// The input could not be read.
+    /// The input could not be read. Start over with a new pipe.
     #[error("read fault")]
     ReadFault,
-    /// The output could not be written.
+    /// The output could not be written, or only in part. Start over with a new pipe.
     #[error("write fault")]
     WriteFault,
-    /// Memory ran out.
+    /// Memory ran out. Start over with a new pipe once there is more.
     #[error("out of memory")]
     OutOfMemory,
 }

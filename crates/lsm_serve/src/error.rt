@@ -10,27 +10,32 @@ use thiserror::Error;
 /// Why serving ends before the input does, or at its end.
 #[derive(Clone, Copy, Debug, PartialEq, Eq, Error)]
 pub enum ServeError {
-    /// The input is no request within the limits. That was answered.
+    /// The input is no request within the limits. That was answered, and nothing behind it is run: begin a new stream.
     #[error("protocol error: {0}")]
     Protocol(ProtocolFault),
-    /// A request begins as one of HTTP does. Neither it nor what follows is run or answered.
+    /// A request begins as one of HTTP does, so a web page may have sent it. Neither it nor what follows is run or
+    /// answered: close the stream.
     #[error("a request begins with {0}, as one of HTTP does")]
     Http(HttpWord),
-    /// The input ends within a request.
+    /// The input ends within a request. Those before it were answered: send the last one again, in a new stream.
     #[error("the input ends within a request")]
     Truncated,
-    /// The input could not be read.
+    /// The input could not be read. The whole requests that had come were answered: begin a new stream.
     #[error("the input could not be read")]
     ReadFault,
-    /// The replies could not be written.
+    /// The replies could not be written, or only in part. What was run is in the store: begin a new stream, and read
+    /// what the store has.
     #[error("the output could not be written")]
     WriteFault,
-    /// A stream was read or written as often as is counted, 2^64 - 1 times.
+    /// A stream was read or written as often as is counted, 2^64 - 1 times. Begin a new one.
     #[error("the input does not end")]
     NoEnd,
-    /// The store could not be synced. No reply was written that answers a write since the last sync.
+    /// The store could not be synced. No reply was written that answers a write since the last sync, and such a write
+    /// may be lost: open the store again, and read what it has.
     #[error("not synced: {0}")]
     NotSynced(StoreError),
+    /// Memory ran out. The request that was being answered may have been run: begin a new stream once there is more,
+    /// and read what the store has.
     #[error("out of memory")]
     OutOfMemory,
 }

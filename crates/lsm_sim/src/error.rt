@@ -14,16 +14,18 @@ use thiserror::Error;
 /// Why a script was not run to its end.
 #[derive(Clone, Copy, Debug, PartialEq, Eq, Error)]
 pub enum RunError {
-    /// The number of the first faulty line, from 1, and what is wrong with it. Nothing was run or written.
+    /// The number of the first faulty line, from 1, and what is wrong with it. Nothing was run or written: mend the
+    /// line.
     #[error("line {0}: {1}")]
     Script(u64, Reason),
-    /// The script could not be read. Nothing was run or written.
+    /// The script could not be read, and nothing was run or written; or a read of the threads found no version, or the
+    /// history of their store is not what they recorded. Run it again.
     #[error("read fault")]
     ReadFault,
-    /// A reply could not be written. A prefix of the lines was.
+    /// A reply could not be written. A prefix of the lines was: run it again, to another output.
     #[error("write fault")]
     WriteFault,
-    /// Memory ran out outside an event. A prefix of the lines was written.
+    /// Memory ran out outside an event. A prefix of the lines was written: run it again once there is more.
     #[error("out of memory")]
     OutOfMemory,
 }

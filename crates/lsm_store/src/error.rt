@@ -5,14 +5,16 @@ use lsm_key::KeyError;
 use std::alloc::{AllocError, AllocFailed};
 use thiserror::Error;
 
-/// Why a store refuses a call. It holds what it held before, and the call can be tried again; after a refused sync a vault may refuse
-/// each further one.
+/// Why a store refuses a call. It holds what it held before, and the call can be tried again; after a refused sync a
+/// vault may refuse each further one.
 #[derive(Clone, Copy, Debug, PartialEq, Eq, Error)]
 pub enum StoreError {
-    /// A key or a value is outside its limits. Never for want of memory.
+    /// A key or a value is outside its limits, or a batch is full; never that memory ran out. Write a shorter one, a
+    /// key that is not empty, or fewer operations at once.
     #[error("{0}")]
     Key(KeyError),
-    /// The coordinator refuses the call.
+    /// The coordinator refuses the call, for a reason of its own or since memory ran out. What helps is said at the
+    /// reason.
     #[error("{0}")]
     Coord(CoordError),
 }

@@ -8,8 +8,9 @@ use std::{fmt, io};
 /// Why a figure is not taken, in words.
 #[derive(Clone, Copy)]
 pub(crate) enum TimingError {
+    /// What failed, in words: run the figure again, or a smaller one if memory ran out.
     Plain(&'static str),
-    /// The coordinator refused a call.
+    /// The coordinator refused a call, which ends the figure. What helps is said at the reason.
     Coord(CoordError),
 }
 

@@ -18,13 +18,15 @@ pub(crate) struct Request {
 /// Why a command line asks for nothing.
 #[derive(Clone, Copy)]
 pub(crate) enum OptionsError<'a> {
-    /// The help is asked for.
+    /// The help is asked for, and is printed.
     Help,
+    /// No word names a command. The help lists them.
     NoCommand,
-    /// An option or a number is not given its value.
+    /// The option or the number of this name is not given its value. Add it.
     NoValue(&'static str),
+    /// This word is no command, or is one more than the command takes. Leave it out.
     Unexpected(&'a str),
-    /// A word is no value of an option or a number.
+    /// This word is no value of the option or the number of this name. The help says which there are.
     Invalid(&'a str, &'static str),
 }
 

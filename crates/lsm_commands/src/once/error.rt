@@ -13,23 +13,25 @@ use thiserror::Error;
 /// Why a command of one call fails.
 #[derive(Debug, Drop, Error)]
 pub(crate) enum OnceError {
-    /// An argument is no word, so that it stands for no bytes.
+    /// An argument is no word, so that it spells no bytes. Write its bytes as the text says.
     #[error("error: '{0}' is not a word: a space in it is written %20, and any other byte % and two hexadecimal digits")]
     NotAWord(String),
-    /// The store refuses the call, and holds what it held.
+    /// The store refuses the call, and holds what it held. What helps is said at the reason.
     #[error("error: {0}")]
     Refused(StoreError),
-    /// The store could not be synced. What was written may be lost.
+    /// The store could not be synced. What was written may be lost: read what the store has, and write it again.
     #[error("error: not synced: {0}")]
     NotSynced(StoreError),
-    /// A standard stream is not open.
+    /// A standard stream is not open. Run the command with all three.
     #[error("{0}")]
     Command(CommandError),
+    /// Standard input could not be read. Some pairs of an import may be in the store: run it again.
     #[error("read fault")]
     ReadFault,
-    /// A part of the output may be written.
+    /// Standard output could not be written, or only in part. Run the command again, to another output.
     #[error("write fault")]
     WriteFault,
+    /// Memory ran out. Some pairs of an import may be in the store: run the command again once there is more.
     #[error("out of memory")]
     OutOfMemory,
 }

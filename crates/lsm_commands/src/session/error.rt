@@ -8,15 +8,18 @@ use thiserror::Error;
 /// Why a session ends before its input does.
 #[derive(Clone, Copy, Debug, PartialEq, Eq, Error)]
 pub(crate) enum SessionError {
-    /// A command could not be read.
+    /// A command could not be read. Begin another session.
     #[error("read fault")]
     ReadFault,
-    /// An answer could not be written. A part of it may have been.
+    /// An answer could not be written. A part of it may have been, and its call was made: begin another session, and
+    /// read what the store has.
     #[error("write fault")]
     WriteFault,
+    /// Memory ran out outside of a call of the store. Begin another session once there is more.
     #[error("out of memory")]
     OutOfMemory,
-    /// The store could not be synced. What was written since the last sync is not answered, and may be lost.
+    /// The store could not be synced. What was written since the last sync is not answered, and may be lost: begin
+    /// another session, and read what the store has.
     #[error("error: not synced: {0}")]
     NotSynced(StoreError),
 }

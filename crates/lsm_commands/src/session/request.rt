@@ -26,22 +26,22 @@ pub(crate) enum Request {
 /// Why a line is not done.
 #[derive(Clone, Copy, Debug, PartialEq, Eq, Error)]
 pub(crate) enum LineFault {
-    /// Its words are no command.
+    /// Its words are no command, for this reason. `help` lists how commands are written.
     #[error("{0}")]
     Words(Reason),
-    /// Only a script can have it, since it is about nodes that a store has not.
+    /// Only a script can have it, since it is about nodes that a store has not: `lsmsim` runs scripts.
     #[error("not a command of a store")]
     NotOfAStore,
-    /// It is not a put, and nothing else is imported.
+    /// It is not a put, and nothing else is imported. Leave it out.
     #[error("not a put: an import takes lines 'put KEY VALUE'")]
     NotAPut,
-    /// Its key or its value is outside the limits.
+    /// Its key or its value is outside the limits. Take a shorter one, or a key that is not empty.
     #[error("{0}")]
     Key(KeyError),
-    /// It is longer than any command within the limits.
+    /// It is longer than any command within the limits. Divide it.
     #[error("too long")]
     TooLong,
-    /// It is as long as a terminal lets a line be, so its end may be cut off.
+    /// It is as long as a terminal lets a line be, so its end may be cut off. Give it from a file or over a pipe.
     #[error("too long: a terminal cuts a line off at 4095 bytes")]
     MaybeCut,
 }
