@@ -1,4 +1,5 @@
--- A dispatch in turns: it hands out jobs and takes letters, one after another, until nothing is left to do or it stops for a reason (RocksDB wiki, Remote Compaction: the host decides where a job runs and how its bytes travel).
+-- A dispatch in turns: it hands out jobs and takes letters, one after another, until nothing is left to do or it stops for a reason
+-- (RocksDB wiki, Remote Compaction: the host decides where a job runs and how its bytes travel).
 use Rattle.std.specs.Prelude.{◌≡◌, ◌⊎◌, ℕ, ◌+◌, ◌<◌, ◌≤◌, true, false, List, [], ◌∷◌, ◌++◌, Option, None, Some, IfSome}
 use Rattle.std.specs.List.{flat_map}
 use Rattle.std.specs.Io.KnownBytes.{Appends, Consumes, IsAtEnd}

@@ -1,4 +1,5 @@
--- A worker over two streams: it takes the messages that come, one after another, and sends what comes of each (RocksDB wiki, Remote Compaction: the host decides where a job runs and how its bytes travel).
+-- A worker over two streams: it takes the messages that come, one after another, and sends what comes of each (RocksDB wiki, Remote
+-- Compaction: the host decides where a job runs and how its bytes travel).
 use Rattle.std.specs.Prelude.{◌≡◌, ◌⊎◌, ℕ, Bool, true, false, List, [], ◌∷◌, ◌++◌, Option, IfSome}
 use Rattle.std.specs.Io.KnownBytes.{Appends, Consumes, IsAtEnd}
 use Rattle.lsm_msg.specs.declared.message.Message.{Message}

@@ -6,7 +6,25 @@ use Rattle.lsm_world.specs.declared.reply.Reply.{Reply}
 use Rattle.lsm_world.specs.declared.reply.Reply.TheVariants as reply
 use Rattle.lsm_world.specs.Replies.{why_of}
 use Rattle.lsm_line.specs.Lines.{wrote_text, snapped_text, released_text, got_text, scanned_text, shown_text, refused_text, as_line}
-use Rattle.lsm_script.specs.Lines.{froze_text, flushed_text, picked_text, returned_text, stale_text, served_text, installed_text, collecting_text, merged_text, opened_text, restarted_text, trimmed_text, messages_text, read_text, waiting_text, advanced_text, restarted_follower_text}
+use Rattle.lsm_script.specs.Lines.{
+  froze_text,
+  flushed_text,
+  picked_text,
+  returned_text,
+  stale_text,
+  served_text,
+  installed_text,
+  collecting_text,
+  merged_text,
+  opened_text,
+  restarted_text,
+  trimmed_text,
+  messages_text,
+  read_text,
+  waiting_text,
+  advanced_text,
+  restarted_follower_text,
+}
 
 -- the text of a reply
 abbrev pub text_of : Reply → List ℕ

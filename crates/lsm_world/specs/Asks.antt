@@ -1,4 +1,5 @@
--- What an event makes of the nodes: it asks one node, whose own answer is the reply, and what that node sends is stored (RocksDB wiki, Remote Compaction: the primary schedules a job, a worker runs it, the primary installs its result).
+-- What an event makes of the nodes: it asks one node, whose own answer is the reply, and what that node sends is stored (RocksDB wiki,
+-- Remote Compaction: the primary schedules a job, a worker runs it, the primary installs its result).
 use Rattle.std.specs.Prelude.{◌≡◌, ◌⊎◌, ℕ, ◌+◌, ◌≤◌, List, [], ◌∷◌, ◌++◌, Option, None, Some, Result, Ok, Err, length, map, max, nat_eq, if◌then◌else◌}
 use Rattle.std.specs.Option.{option_and_then}
 use Rattle.lsm_key.specs.declared.batch.KeyError.{KeyError}
@@ -30,7 +31,27 @@ use Rattle.lsm_coord.specs.declared.coord.install.Install.TheVariants as became
 use Rattle.lsm_coord.specs.declared.dispatcher.Dispatcher.{Dispatcher}
 use Rattle.lsm_coord.specs.declared.dispatcher.Dispatcher.TheVariants.{Idle, Busy}
 use Rattle.lsm_coord.specs.declared.error.CoordError.TheVariants as error
-use Rattle.lsm_coord.specs.Contract.Calls.{AppendRefuses, write_fault, IsWritten, freeze_fault, IsFrozen, flush_fault, Adds, FlushRefuses, snapshot_fault, after_snapshot, release_fault, after_release, after_give_back, GetRefuses, ScanRefuses, TrimRefuses, trim_fault, with_floor, with_live_tables}
+use Rattle.lsm_coord.specs.Contract.Calls.{
+  AppendRefuses,
+  write_fault,
+  IsWritten,
+  freeze_fault,
+  IsFrozen,
+  flush_fault,
+  Adds,
+  FlushRefuses,
+  snapshot_fault,
+  after_snapshot,
+  release_fault,
+  after_release,
+  after_give_back,
+  GetRefuses,
+  ScanRefuses,
+  TrimRefuses,
+  trim_fault,
+  with_floor,
+  with_live_tables,
+}
 use Rattle.lsm_coord.specs.Contract.Desks.{dispatcher_of, with_dispatcher}
 use Rattle.lsm_coord.specs.Contract.Installing.{Became}
 use Rattle.lsm_coord.specs.Contract.Picking.{IsPicked, Picks, PickRefuses}
@@ -131,8 +152,12 @@ Dispatches old d r new = ⊥
 -- a dispatcher gives back the claim that it holds
 abbrev pub GivesUp : NodesValue → ℕ → Reply → NodesValue → Type 0
 GivesUp old d (reply.Refused why.NoClaim) new = (dispatcher_of old.desk d ≡ Idle) × (new ≡ old)
-GivesUp old d (reply.Returned id) new = (claim : LiveJob) × (dispatcher_of old.desk d ≡ Busy claim) × (id ≡ claim.id) × (settle_answer old.core.book id ≡ Live) × (new ≡ record old { core = after_give_back old.core id; desk = with_dispatcher old.desk d Idle })
-GivesUp old d (reply.StaleClaim id) new = (claim : LiveJob) × (dispatcher_of old.desk d ≡ Busy claim) × (id ≡ claim.id) × (settle_answer old.core.book id ≡ Stale) × (new ≡ record old { core = after_give_back old.core id; desk = with_dispatcher old.desk d Idle })
+GivesUp old d (reply.Returned id) new =
+    (claim : LiveJob) × (dispatcher_of old.desk d ≡ Busy claim) × (id ≡ claim.id) × (settle_answer old.core.book id ≡ Live)
+    × (new ≡ record old { core = after_give_back old.core id; desk = with_dispatcher old.desk d Idle })
+GivesUp old d (reply.StaleClaim id) new =
+    (claim : LiveJob) × (dispatcher_of old.desk d ≡ Busy claim) × (id ≡ claim.id) × (settle_answer old.core.book id ≡ Stale)
+    × (new ≡ record old { core = after_give_back old.core id; desk = with_dispatcher old.desk d Idle })
 GivesUp old d r new = ⊥
 
 -- ---- what a message does

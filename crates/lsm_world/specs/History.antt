@@ -1,4 +1,5 @@
--- What the nodes of a store have made so far, and what each of them, and each message, may have of it (RocksDB wiki, Remote Compaction: a job names its inputs, and its result stands for them; LevelDB, implementation notes: file numbers are not reused).
+-- What the nodes of a store have made so far, and what each of them, and each message, may have of it (RocksDB wiki, Remote Compaction: a
+-- job names its inputs, and its result stands for them; LevelDB, implementation notes: file numbers are not reused).
 use Rattle.std.specs.Prelude.{◌≡◌, ℕ, ◌+◌, ◌∷◌, ◌<◌, ◌≤◌, List, [], Option, None, Some, IfSome, filter, length, nat_eq, true, map, slice_get}
 use Rattle.std.specs.FinMap.{get}
 use Rattle.lsm_key.specs.Sets.{IsIn}

@@ -1,4 +1,5 @@
--- Schedules of a new store, written out, in which each event comes, with each reply that is no refusal: what a reader can check by hand (RocksDB wiki, Remote Compaction; Read-only and secondary instances).
+-- Schedules of a new store, written out, in which each event comes, with each reply that is no refusal: what a reader can check by hand
+-- (RocksDB wiki, Remote Compaction; Read-only and secondary instances).
 use Rattle.std.specs.Prelude.{ℕ, List, [], ◌∷◌, None, Some}
 use Rattle.lsm_key.specs.declared.op.Op.TheVariants.{Put, Delete}
 use Rattle.lsm_edit.specs.declared.file.FileMeta.{FileMeta}

@@ -1,4 +1,5 @@
--- Worlds that a user would call broken. Where its replies show it, a world is a list of events with these replies, and no run of a new store; where only a claim, a message or a table shows it, a chain of its nodes' steps, and no such chain can be (the store's own).
+-- Worlds that a user would call broken. Where its replies show it, a world is a list of events with these replies, and no run of a new
+-- store; where only a claim, a message or a table shows it, a chain of its nodes' steps, and no such chain can be (the store's own).
 use Rattle.std.specs.Prelude.{◌≡◌, ℕ, ◌+◌, List, [], ◌∷◌, None, Some, length}
 use Rattle.lsm_key.specs.Sets.{IsIn}
 use Rattle.lsm_key.specs.declared.op.Op.TheVariants.{Put}

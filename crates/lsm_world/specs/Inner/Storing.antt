@@ -17,7 +17,14 @@ store_of (Down stopped) = down_store stopped
 
 -- no store: never between calls
 abbrev pub no_store : StoreValue
-no_store = down_store (record { stored = empty_vault; failures = 0; book = new_book 0; limits = record { l0 = 1; base = 1; block = 1; l0_some = lit≤ tt; l0_most = lit≤ tt; base_some = lit≤ tt; base_most = lit≤ tt; block_some = lit≤ tt; block_most = lit≤ tt }; desk = []; network = record { workers = []; followers = []; messages = [] } })
+no_store = down_store (record {
+  stored = empty_vault;
+  failures = 0;
+  book = new_book 0;
+  limits = record { l0 = 1; base = 1; block = 1; l0_some = lit≤ tt; l0_most = lit≤ tt; base_some = lit≤ tt; base_most = lit≤ tt; block_some = lit≤ tt; block_most = lit≤ tt };
+  desk = [];
+  network = record { workers = []; followers = []; messages = [] };
+})
 
 -- what contracts see of the nodes that a world holds
 abbrev pub store_in : {V : Type 0} → Option (Store V) → StoreValue
