@@ -14,7 +14,8 @@ use Rattle.lsm_pick.specs.Closure.{Candidate}
 use Rattle.lsm_pick.specs.Due.{is_due, levels, of_level}
 use Rattle.lsm_pick.specs.Rule.{IsFirst, level_candidates, candidates, file_candidates}
 
-in_part : {X Y : Type 0} (f : X → List Y) (xs : List X) (y : Y) → IsIn y (flat_map f xs) → (x : X) × IsIn x xs × IsIn y (f x)
+-- an element that makes it
+pub in_part : {X Y : Type 0} (f : X → List Y) (xs : List X) (y : Y) → IsIn y (flat_map f xs) → (x : X) × IsIn x xs × IsIn y (f x)
 in_part f [] y m = absurd m
 in_part f (x ∷ xs) y m = elim (IsIn-append_cases y (f x) (flat_map f xs) m) [
   | inl a ↦ (x, inl refl, a)
@@ -56,9 +57,16 @@ candidate_level limits files t m =
     let le = low at.0 due.0 in
     omega (arith, is, le)
 
--- what is picked is of such a level
-pub picked_level : (limits : Limits) (files : List FileMeta) (live : List LiveJob) (want : Want) → IsFirst files live (candidates limits files) want → want.level ≤ MAX_JOB_LEVEL
-picked_level limits files live want first =
-    let here : IsIn first.candidate (candidates limits files) = subst (IsIn first.candidate) (sym first.order) (IsIn-append_right first.candidate first.before (first.candidate ∷ first.after) (inl refl)) in
-    let le = candidate_level limits files first.candidate here in
+-- a candidate begins with one of the files
+pub candidate_listed : (limits : Limits) (files : List FileMeta) (t : Candidate) → IsIn t (candidates limits files) → IsIn t.first files
+candidate_listed limits files t m =
+    let at = in_part (level_candidates files) (filter (is_due limits files) levels) t m in
+    let file = in_part file_candidates (of_level at.0 files) t at.2 in
+    subst (λ (f : FileMeta). IsIn f files) (sym (first_by file.0 t (eqb file.0.level 0) file.2)) (IsIn-filter (λ (f : FileMeta). eqb f.level at.0) file.0 files file.1).0
+
+-- what is picked among candidates, in whatever order, is of such a level
+pub picked_level : (limits : Limits) (files : List FileMeta) (live : List LiveJob) (ts : List Candidate) → ((t : Candidate) → IsIn t ts → IsIn t (candidates limits files)) → (want : Want) → IsFirst files live ts want → want.level ≤ MAX_JOB_LEVEL
+picked_level limits files live ts within want first =
+    let here : IsIn first.candidate ts = subst (IsIn first.candidate) (sym first.order) (IsIn-append_right first.candidate first.before (first.candidate ∷ first.after) (inl refl)) in
+    let le = candidate_level limits files first.candidate (within first.candidate here) in
     omega (arith, ((first.taken).asks).level, le)

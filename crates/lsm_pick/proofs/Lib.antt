@@ -9,3 +9,6 @@ pub mod ProposedIsLegal
 pub mod ProposedIsRemovable
 pub mod CandidateLevels
 pub mod OneWant
+pub mod SameCandidates
+pub mod ClosureExists
+pub mod BothOrders

@@ -6,6 +6,7 @@ use Rattle.lsm_claim.specs.declared.job.LiveJob.{LiveJob}
 use Rattle.lsm_claim.specs.declared.job.Want.{Want}
 use Rattle.lsm_edit.specs.declared.file.FileMeta.{FileMeta}
 use Rattle.lsm_edit.specs.Served.{IsServed, ServedValue}
+use Rattle.lsm_edit.specs.Version.{IsVersion}
 use Rattle.lsm_pick.specs.After.{CompactPointersValue, candidates_after}
 use Rattle.lsm_pick.specs.Closure.{Candidate}
 use Rattle.lsm_pick.specs.Outcome.{CanPick}
@@ -23,4 +24,4 @@ pub record AreAlike (files : List FileMeta) (live : List LiveJob) (ts us : List 
   pub too_large : AreTooLarge files live ts ↔ AreTooLarge files live us
 
 abbrev pub BothOrdersAreAlike : Type 0
-BothOrdersAreAlike = (pointers : CompactPointersValue) (limits : Limits) (s : ServedValue) (live : List LiveJob) → IsServed s → AreAlike s.version.files live (candidates_after pointers limits s) (candidates limits s.version.files)
+BothOrdersAreAlike = (pointers : CompactPointersValue) (limits : Limits) (s : ServedValue) (live : List LiveJob) → IsServed s → IsVersion s.version → AreAlike s.version.files live (candidates_after pointers limits s) (candidates limits s.version.files)

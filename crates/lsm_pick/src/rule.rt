@@ -65,13 +65,13 @@ pub fn pick_after(
     limits: &Limits,
     pointers: Option<&CompactPointers>,
 ) -> Result<Option<Want>, PickError>
-    ensures some { IfOk result (λ picked. IfSome picked (IsFirst served.now.version.files book.now.live (candidates_in (option_copied pointers) limits.now served.now))) }
-    ensures none { IfOk result (λ picked. picked ≡ None → AreBlocked served.now.version.files book.now.live (candidates_in (option_copied pointers) limits.now served.now)) }
+    ensures some { IfOk result (λ picked. IfSome picked (IsFirst served.now.version.files book.now.live (candidates_in (option_copied pointers.entry) limits.now served.now))) }
+    ensures none { IfOk result (λ picked. picked ≡ None → AreBlocked served.now.version.files book.now.live (candidates_in (option_copied pointers.entry) limits.now served.now)) }
     ensures level { IfOk result (λ picked. IfSome picked (λ want. want.level ≤ MAX_JOB_LEVEL)) }
     ensures legal { IfOk result (λ picked. IfSome picked (IsLegal served.now.version.files)) }
     ensures removable { IfOk result (λ picked. IfSome picked (λ want. AreRemoved Install want.files)) }
-    ensures too_wide { IfErr result (λ e. e ≡ TooWide → AreTooLarge served.now.version.files book.now.live (candidates_in (option_copied pointers) limits.now served.now)) }
-    ensures memory { IfErr result (λ e. e ≡ OutOfMemory → CanPick served.now.version.files book.now.live (candidates_in (option_copied pointers) limits.now served.now)) }
+    ensures too_wide { IfErr result (λ e. e ≡ TooWide → AreTooLarge served.now.version.files book.now.live (candidates_in (option_copied pointers.entry) limits.now served.now)) }
+    ensures memory { IfErr result (λ e. e ≡ OutOfMemory → CanPick served.now.version.files book.now.live (candidates_in (option_copied pointers.entry) limits.now served.now)) }
 {
     // Proof hint: the version's invariant.
     let _listing = served.listing();
@@ -90,8 +90,8 @@ fn try_all(
     limits: &Limits,
     pointers: Option<&CompactPointers>,
 ) -> Result<Outcome, AllocError>
-    ensures ok { IfOk result (HasOutcome served.now.version.files live.now (candidates_in (option_copied pointers) limits.now served.now)) }
-    ensures err { OnErr result (CanPick served.now.version.files live.now (candidates_in (option_copied pointers) limits.now served.now)) }
+    ensures ok { IfOk result (HasOutcome served.now.version.files live.now (candidates_in (option_copied pointers.entry) limits.now served.now)) }
+    ensures err { OnErr result (CanPick served.now.version.files live.now (candidates_in (option_copied pointers.entry) limits.now served.now)) }
 {
     let mut outcome = Outcome::Blocked;
     for level in 0..MAX_JOB_LEVEL + 1 {
@@ -115,8 +115,8 @@ fn try_level_in(
     level: u8,
 ) -> Result<Outcome, AllocError>
     requires { level ≤ MAX_JOB_LEVEL }
-    ensures ok { IfOk result (HasOutcome served.now.version.files live.now (level_candidates_in (option_copied pointers) served.now level)) }
-    ensures err { OnErr result (CanPick served.now.version.files live.now (level_candidates_in (option_copied pointers) served.now level)) }
+    ensures ok { IfOk result (HasOutcome served.now.version.files live.now (level_candidates_in (option_copied pointers.entry) served.now level)) }
+    ensures err { OnErr result (CanPick served.now.version.files live.now (level_candidates_in (option_copied pointers.entry) served.now level)) }
 {
     match pointers {
         Some(pointers) if level > 0 => {
