@@ -33,7 +33,7 @@ module _ {X : Type 0} (p : X → Bool) where
 
 module _ (files : List FileMeta) (t : Candidate) where
   -- joins, and has keys outside
-  is_left : List ℕ → List ℕ → FileMeta → Bool
+  abbrev is_left : List ℕ → List ℕ → FileMeta → Bool
   is_left lo hi f = (may_join t f && is_met lo hi f) && not (is_inside lo hi f)
 
   inside_by : (lo hi : List ℕ) (f : FileMeta) → is_left lo hi f ≡ false → may_join t f ≡ true → is_met lo hi f ≡ true → (b : Bool) → is_inside lo hi f ≡ b → is_inside lo hi f ≡ true

@@ -2,7 +2,7 @@
 use Rattle.std.proofs.Common.{◌≡◌, ℕ, Bool, true, false, cond, ◌&&◌, List, ◌++◌, [], ◌∷◌, Option, None, Some, inl, inr, refl, sym, ap, subst, eqb}
 use Rattle.std.specs.Bool.{beq}
 use Rattle.std.specs.List.{filter, flat_map}
-use Rattle.std.proofs.lemmas.Bool.{and_parts, and_from}
+use Rattle.std.proofs.lemmas.Bool.{and_parts, and_from, eq-eqb, eqb-true}
 use Rattle.lsm_key.specs.Order.{key_lt}
 use Rattle.lsm_key.specs.Sets.{IsIn, SameMembers}
 use Rattle.lsm_key.specs.declared.limits.Limits.{Limits}
@@ -95,3 +95,17 @@ module _ (limits : Limits) (s : ServedValue) (sound : IsServed s) where
 pub by_level : (pointers : Option CompactPointersValue) (limits : Limits) (s : ServedValue) → candidates_in pointers limits s ≡ flat_map (level_candidates_in pointers s) (due_levels limits s.version.files)
 by_level None limits s = refl
 by_level (Some pointers) limits s = refl
+
+-- level 0 has its own order
+pub in_level_zero : (pointers : Option CompactPointersValue) (s : ServedValue) (level : ℕ) → level ≡ 0 → level_candidates_in pointers s level ≡ level_candidates s.version.files level
+in_level_zero None s level zero = refl
+in_level_zero (Some pointers) s level zero =
+    ap (λ (b : Bool). cond b (level_candidates s.version.files level) (flat_map placed_candidates (level_after level (pointer_at pointers level) s.places))) (eq-eqb level 0 zero)
+
+-- a deeper level goes on after its pointer
+pub in_deeper_level : (pointers : CompactPointersValue) (s : ServedValue) (level : ℕ) → (level ≡ 0 → ⊥) → level_candidates_in (Some pointers) s level ≡ flat_map placed_candidates (level_after level (pointer_at pointers level) s.places)
+in_deeper_level pointers s level deep = by (eqb level 0) refl
+  where
+    by : (b : Bool) → eqb level 0 ≡ b → cond b (level_candidates s.version.files level) (flat_map placed_candidates (level_after level (pointer_at pointers level) s.places)) ≡ flat_map placed_candidates (level_after level (pointer_at pointers level) s.places)
+    by true e = absurd (deep (eqb-true level 0 e))
+    by false e = refl

@@ -118,11 +118,12 @@ fn try_level_in(
     ensures ok { IfOk result (HasOutcome served.now.version.files live.now (level_candidates_in (option_copied pointers.entry) served.now level)) }
     ensures err { OnErr result (CanPick served.now.version.files live.now (level_candidates_in (option_copied pointers.entry) served.now level)) }
 {
+    if level == 0 {
+        return try_level(alloc, served, live, level);
+    }
     match pointers {
-        Some(pointers) if level > 0 => {
-            try_level_after(alloc, served, live, level, pointers.at(level))
-        }
-        _ => try_level(alloc, served, live, level),
+        None => try_level(alloc, served, live, level),
+        Some(pointers) => try_level_after(alloc, served, live, level, pointers.at(level)),
     }
 }
 
