@@ -1,17 +1,14 @@
 -- Lists of the same candidates have outcomes alike.
-use Rattle.std.proofs.Common.{◌≡◌, Bool, true, false, List, [], ◌∷◌, ◌++◌, ◌⊎◌, inl, inr, refl, sym, ap, subst, ◌∙◌}
+use Rattle.std.proofs.Common.{List, [], ◌∷◌, ◌⊎◌, inl, inr, refl, sym, ap, subst, ◌∙◌}
 use Rattle.std.proofs.lemmas.Bool.{true≢false}
 use Rattle.lsm_key.specs.Sets.{IsIn, SameMembers}
-use Rattle.lsm_key.specs.declared.limits.Limits.{Limits}
 use Rattle.lsm_key.proofs.Membership.{IsIn-append_right, SameMembers-sym}
 use Rattle.lsm_claim.specs.declared.job.LiveJob.{LiveJob}
 use Rattle.lsm_claim.specs.declared.job.Want.{Want}
 use Rattle.lsm_edit.specs.declared.file.FileMeta.{FileMeta}
-use Rattle.lsm_edit.specs.Served.{IsServed, ServedValue}
-use Rattle.lsm_edit.specs.Version.{IsVersion}
-use Rattle.lsm_pick.specs.After.{CompactPointersValue, candidates_after}
+use Rattle.lsm_pick.specs.After.{candidates_after}
 use Rattle.lsm_pick.specs.Closure.{Candidate}
-use Rattle.lsm_pick.specs.Laws.{AreAlike, BothOrdersAreAlike}
+use Rattle.lsm_pick.specs.Laws.{BothOrdersAreAlike}
 use Rattle.lsm_pick.specs.Outcome.{CanPick}
 use Rattle.lsm_pick.specs.Rule.{AreBlocked, AreTooLarge, IsEligible, IsSkipped, candidates, fits_limits, is_free}
 use Rattle.lsm_pick.proofs.CandidateLevels.{candidate_listed}

@@ -1,7 +1,7 @@
 -- Both orders have the same candidates.
-use Rattle.std.proofs.Common.{◌≡◌, ℕ, Bool, true, false, cond, ◌&&◌, List, ◌++◌, [], ◌∷◌, Option, None, Some, inl, inr, refl, sym, ap, subst, eqb}
+use Rattle.std.proofs.Common.{◌≡◌, ℕ, Bool, true, false, cond, ◌&&◌, List, [], ◌∷◌, Option, None, Some, inl, inr, refl, ap, subst, eqb}
 use Rattle.std.specs.Bool.{beq}
-use Rattle.std.specs.List.{filter, flat_map}
+use Rattle.std.specs.List.{flat_map}
 use Rattle.std.proofs.lemmas.Bool.{and_parts, and_from, eq-eqb, eqb-true}
 use Rattle.lsm_key.specs.Order.{key_lt}
 use Rattle.lsm_key.specs.Sets.{IsIn, SameMembers}

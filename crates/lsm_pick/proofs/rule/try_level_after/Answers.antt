@@ -3,7 +3,7 @@ use Rattle.std.specs.List.{flat_map}
 use Rattle.std.proofs.lemmas.Grind.{flat_map-append}
 use Rattle.lsm_pick.specs.After.{part_of_level}
 use Rattle.lsm_pick.specs.Closure.{Candidate}
-use Rattle.lsm_pick.specs.Outcome.{HasOutcome, CanPick, or_later}
+use Rattle.lsm_pick.specs.Outcome.{HasOutcome, CanPick}
 use Rattle.lsm_pick.proofs.Outcomes.{outcome_or, outcome_picked, told, can_pick_later, can_pick_more}
 use Rattle.lsm_pick.proofs.SameCandidates.{placed_candidates}
 use Rattle.lsm_pick.proofs.rule.try_level_after.Goals as goal

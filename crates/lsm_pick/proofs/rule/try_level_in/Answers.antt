@@ -1,4 +1,4 @@
-use Rattle.std.proofs.Common.{◌≡◌, ◌∙◌, Bor, List, ℕ, Option, sym, ap, subst}
+use Rattle.std.proofs.Common.{◌∙◌, Bor, List, ℕ, Option, sym, ap, subst}
 use Rattle.std.specs.List.{flat_map}
 use Rattle.std.specs.Option.{option_copied}
 use Rattle.std.specs.Result.{IfOk, OnErr}
@@ -24,18 +24,18 @@ pub returns-in-Some-clause-ok : goal.returns-in-Some-clause-ok
 returns-in-Some-clause-ok c =
     let files = c.args.served.now.version.files in
     let whole =
-        ap (λ (o : Option (Bor CompactPointersValue)). level_candidates_in (option_copied o) c.args.served.now c.args.level) c.in-Some.is
-        ∙ in_deeper_level c.in-Some.pointers.now c.args.served.now c.args.level c.if-level-eq0.false
-        ∙ ap (λ (k : List ℕ). flat_map placed_candidates (level_after c.args.level k c.args.served.now.places)) (sym c.at.ensures) in
+    ap (λ (o : Option (Bor CompactPointersValue)). level_candidates_in (option_copied o) c.args.served.now c.args.level) c.in-Some.is
+    ∙ in_deeper_level c.in-Some.pointers.now c.args.served.now c.args.level c.if-level-eq0.false
+    ∙ ap (λ (k : List ℕ). flat_map placed_candidates (level_after c.args.level k c.args.served.now.places)) (sym c.at.ensures) in
     subst (λ (ts : List Candidate). IfOk c.try_level_after.result (HasOutcome files c.args.live.now ts)) (sym whole) c.try_level_after.ensures.ok
 
 pub returns-in-Some-clause-err : goal.returns-in-Some-clause-err
 returns-in-Some-clause-err c =
     let files = c.args.served.now.version.files in
     let whole =
-        ap (λ (o : Option (Bor CompactPointersValue)). level_candidates_in (option_copied o) c.args.served.now c.args.level) c.in-Some.is
-        ∙ in_deeper_level c.in-Some.pointers.now c.args.served.now c.args.level c.if-level-eq0.false
-        ∙ ap (λ (k : List ℕ). flat_map placed_candidates (level_after c.args.level k c.args.served.now.places)) (sym c.at.ensures) in
+    ap (λ (o : Option (Bor CompactPointersValue)). level_candidates_in (option_copied o) c.args.served.now c.args.level) c.in-Some.is
+    ∙ in_deeper_level c.in-Some.pointers.now c.args.served.now c.args.level c.if-level-eq0.false
+    ∙ ap (λ (k : List ℕ). flat_map placed_candidates (level_after c.args.level k c.args.served.now.places)) (sym c.at.ensures) in
     subst (λ (ts : List Candidate). OnErr c.try_level_after.result (CanPick files c.args.live.now ts)) (sym whole) c.try_level_after.ensures.err
 
 pub returns-in-None-clause-ok : goal.returns-in-None-clause-ok
