@@ -41,6 +41,7 @@ pub mod ReturnedClaims
 pub mod VaultRefusals
 pub mod PutOutputs
 pub mod GatheredParts
+pub mod PickOrders
 pub mod PickedJobs
 pub mod ServedOneWay
 pub mod LoggedBounds

@@ -1,5 +1,5 @@
 -- The job of a want is within the rules of a job, and sound.
-use Rattle.std.proofs.Common.{◌≡◌, ℕ, zero, suc, ◌+◌, ◌-◌, ◌<◌, ◌≤◌, Bool, true, false, cond, ◌&&◌, ◌⊎◌, List, [], ◌∷◌, length, get_or, filter, map, refl, sym, subst, ◌∙◌, arith, inl, inr, All, AllPairs, Result, Ok, Err, IfOk, OnErr}
+use Rattle.std.proofs.Common.{◌≡◌, ℕ, zero, suc, ◌+◌, ◌-◌, ◌<◌, ◌≤◌, Bool, true, false, cond, ◌&&◌, ◌⊎◌, List, [], ◌∷◌, length, get_or, filter, map, Option, None, refl, sym, subst, ◌∙◌, arith, inl, inr, All, AllPairs, Result, Ok, Err, IfOk, OnErr}
 use Rattle.std.specs.Prelude.{◌↔◌, flat_map, nat_eq, nat_lt, nat_le, sum_by}
 use Rattle.std.specs.List.{range_with_len, list_any}
 use Rattle.std.proofs.lemmas.Bool.{and_parts, and_from, cases_eq, cases_lt, eqb-true, eq-eqb, ltb-true, lt-ltb, leb-true}
@@ -32,6 +32,7 @@ use Rattle.lsm_msg.specs.Legal.{IsLegal, KnowsDeeper, Takes, touches}
 use Rattle.lsm_msg.specs.Merge.{is_in_ranges}
 use Rattle.lsm_edit.specs.File.{AreKeys}
 use Rattle.lsm_msg.specs.Rules.{AreDeeper, AreInputs, IsInput, IsJobId}
+use Rattle.lsm_pick.specs.After.{CompactPointersValue}
 use Rattle.lsm_pick.specs.Rule.{inputs_of, is_deeper}
 use Rattle.lsm_pick.proofs.ProposedIsLegal.{input_taken, taken_input}
 use Rattle.lsm_coord.specs.declared.error.CoordError.TheVariants.{OutOfMemory}
@@ -39,7 +40,7 @@ use Rattle.lsm_coord.specs.declared.snapshot.Snapshot.{Snapshot}
 use Rattle.lsm_coord.specs.Contract.Value.{CoordValue}
 use Rattle.lsm_coord.specs.Contract.Memory.{AreLegal, AreJobWants, IsJobWant}
 use Rattle.lsm_coord.specs.Contract.Sound.{IsSound, KeepsSound}
-use Rattle.lsm_coord.specs.Contract.Picking.{IsJobFor, IsPicked, MayClaim, PickRefuses, deeper_files, deeper_levels, range_of, touches_at}
+use Rattle.lsm_coord.specs.Contract.Picking.{IsJobFor, IsPickedAfter, MayClaim, PickRefuses, deeper_files, deeper_levels, range_of, touches_at}
 
 all_from : {X : Type 0} (P : X → Type 0) (xs : List X) → ((x : X) → IsIn x xs → P x) → All P xs
 all_from P xs h k d lt = h (get_or xs k d) (IsIn-at xs k d lt)
@@ -141,7 +142,7 @@ deeper_are v want is few = record {
 
 -- ---- the job
 
-pub within_rules : (c : CoordValue) (want : Want) (job : JobParts) → IsVersion c.served.version → 1 ≤ c.served.version.epoch → c.book.epoch ≡ c.served.version.epoch → IsTarget c.limits.block → MayClaim c want → IsJobFor c want job → length job.points ≤ MAX_POINTS → IsJob job
+pub within_rules : {pointers : Option CompactPointersValue} (c : CoordValue) (want : Want) (job : JobParts) → IsVersion c.served.version → 1 ≤ c.served.version.epoch → c.book.epoch ≡ c.served.version.epoch → IsTarget c.limits.block → MayClaim pointers c want → IsJobFor c want job → length job.points ≤ MAX_POINTS → IsJob job
 within_rules c want job is opened epoch target may of few =
     let v : VersionValue = c.served.version in
     let limits = and_parts (nat_le (length (inputs_of v.files want)) MAX_INPUTS) _ may.next.taken.within in
@@ -185,7 +186,7 @@ deeper_known served want job is version legal level inputs deeper p q mp mq inpu
       absurd (let bad : true ≡ false = sym found ∙ clear in cc)
 ]
 
-pub picked_sound : (old new : CoordValue) (claim : LiveJob) (job : JobParts) → IsServed old.served → IsVersion old.served.version → IsPicked old claim job new → IsSound new job
+pub picked_sound : {pointers : Option CompactPointersValue} (old new : CoordValue) (claim : LiveJob) (job : JobParts) → IsServed old.served → IsVersion old.served.version → IsPickedAfter pointers old claim job new → IsSound new job
 picked_sound old new claim job is version picked =
     let want : Want = picked.want in
     let files : List FileMeta = old.served.version.files in
@@ -240,5 +241,5 @@ claimed_or_not (Ok claim) old new want ok err = inl ok
 claimed_or_not (Err e) old new want ok err = inr err
 
 -- the reason why memory may run out
-pub wants_memory : (c : CoordValue) (want : Want) → MayClaim c want → PickRefuses c OutOfMemory
+pub wants_memory : (c : CoordValue) (want : Want) → MayClaim None c want → PickRefuses c OutOfMemory
 wants_memory c want may = (may.free, (want, may.next), may.fits)

@@ -12,7 +12,9 @@ use Rattle.lsm_msg.specs.declared.job.JobParts.{JobParts}
 use Rattle.lsm_key.specs.declared.range.KeyRange.{KeyRange}
 use Rattle.lsm_msg.specs.Legal.{IsLegal, touches}
 use Rattle.lsm_pick.specs.Closure.{Candidate}
+use Rattle.lsm_pick.specs.Outcome.{CanPick}
 use Rattle.lsm_pick.specs.Rule.{IsFirst, AreBlocked, AreTooLarge, inputs_of, candidates}
+use Rattle.lsm_pick.specs.After.{CompactPointersValue, candidates_in}
 use Rattle.lsm_coord.specs.declared.error.CoordError.{CoordError}
 use Rattle.lsm_coord.specs.declared.error.CoordError.TheVariants.{BookFull, TooWide, NumbersExhausted, OutOfMemory}
 use Rattle.lsm_coord.specs.declared.snapshot.Snapshot.{Snapshot}
@@ -59,9 +61,20 @@ HasFreeClaim c = length c.book.live < MAX_LIVE_CLAIMS
 abbrev pub candidates_of : CoordValue → List Candidate
 candidates_of c = candidates c.limits c.served.version.files
 
+-- the same in the order of compact pointers, if there are any
+abbrev pub candidates_in_order : Option CompactPointersValue → CoordValue → List Candidate
+candidates_in_order pointers c = candidates_in pointers c.limits c.served
+
 -- the compaction of the first eligible candidate
 abbrev pub NextCompaction : CoordValue → Want → Type 0
 NextCompaction c want = IsFirst c.served.version.files c.book.live (candidates_of c) want
+
+abbrev pub NextCompactionAfter : Option CompactPointersValue → CoordValue → Want → Type 0
+NextCompactionAfter pointers c want = IsFirst c.served.version.files c.book.live (candidates_in_order pointers c) want
+
+-- a candidate is eligible; and so in every order, as they all have the same candidates
+abbrev pub SomethingToCompact : CoordValue → Type 0
+SomethingToCompact c = CanPick c.served.version.files c.book.live (candidates_of c)
 
 -- every candidate conflicts with a running job, or there is none
 abbrev pub NothingToCompact : CoordValue → Type 0
@@ -72,30 +85,37 @@ abbrev pub OnlyTooLarge : CoordValue → Type 0
 OnlyTooLarge c = AreTooLarge c.served.version.files c.book.live (candidates_of c)
 
 -- the compaction is the next one, is one that a job may have, may be merged and can be claimed
-pub record MayClaim (c : CoordValue) (want : Want) : Type 0 where
+pub record MayClaim (pointers : Option CompactPointersValue) (c : CoordValue) (want : Want) : Type 0 where
   pub free : HasFreeClaim c
   pub fits : c.book.made < MAX_NUMBER
-  pub next : NextCompaction c want
+  pub next : NextCompactionAfter pointers c want
   pub orderly : IsJobWant want
   pub legal : IsLegal c.served.version.files want
 
 -- its claim with its job, and the job in the book
-pub record IsPicked (old : CoordValue) (claim : LiveJob) (job : JobParts) (new : CoordValue) : Type 0 where
+pub record IsPickedAfter (pointers : Option CompactPointersValue) (old : CoordValue) (claim : LiveJob) (job : JobParts) (new : CoordValue) : Type 0 where
   pub want : Want
-  pub may : MayClaim old want
+  pub may : MayClaim pointers old want
   pub claim_is : claim ≡ next_job old.book want
   pub job_is : IsJobFor old want job
   pub new_is : new ≡ record old { book = after_claim old.book want }
 
--- what is picked, or that there is nothing to compact
-abbrev pub Picks : CoordValue → CoordValue → Option (LiveJob × JobParts) → Type 0
-Picks old new None = HasFreeClaim old × NothingToCompact old × (new ≡ old)
-Picks old new (Some picked) = IsPicked old picked.0 picked.1 new
+-- what is picked in the order of the pointers, or that there is nothing to compact
+abbrev pub PicksAfter : Option CompactPointersValue → CoordValue → CoordValue → Option (LiveJob × JobParts) → Type 0
+PicksAfter pointers old new None = HasFreeClaim old × NothingToCompact old × (new ≡ old)
+PicksAfter pointers old new (Some picked) = IsPickedAfter pointers old picked.0 picked.1 new
 
--- why nothing is picked: the first reason that holds
+-- what is picked without pointers
+abbrev pub IsPicked : CoordValue → LiveJob → JobParts → CoordValue → Type 0
+IsPicked old claim job new = IsPickedAfter None old claim job new
+
+abbrev pub Picks : CoordValue → CoordValue → Option (LiveJob × JobParts) → Type 0
+Picks old new picked = PicksAfter None old new picked
+
+-- why nothing is picked, in whatever order: the first reason that holds
 abbrev pub PickRefuses : CoordValue → CoordError → Type 0
 PickRefuses c BookFull = MAX_LIVE_CLAIMS ≤ length c.book.live
 PickRefuses c TooWide = HasFreeClaim c × OnlyTooLarge c
-PickRefuses c NumbersExhausted = HasFreeClaim c × ((want : Want) × NextCompaction c want) × (MAX_NUMBER ≤ c.book.made)
-PickRefuses c OutOfMemory = HasFreeClaim c × ((want : Want) × NextCompaction c want) × (c.book.made < MAX_NUMBER)
+PickRefuses c NumbersExhausted = HasFreeClaim c × SomethingToCompact c × (MAX_NUMBER ≤ c.book.made)
+PickRefuses c OutOfMemory = HasFreeClaim c × SomethingToCompact c × (c.book.made < MAX_NUMBER)
 PickRefuses c e = ⊥

@@ -12,7 +12,7 @@ invariant_of-self g c =
     let i = c.self.invariant.0 in
     let want = c.args.want in
     let files = m.versions.served.version.files in
-    let legal : IsLegal files want = subst (λ (v : CoordValue). IsLegal v.served.version.files want) (sym c.self.view_is) c.requires.legal in
+    let legal : IsLegal files want = subst (λ (v : CoordValue). IsLegal v.served.version.files want) (sym c.self.view_is) c.requires.1.legal in
     let new = c.claim.new.self in
     let either = claimed_or_not c.claim.result m.book new want c.claim.ensures.ok c.claim.ensures.err in (
       record {
@@ -26,7 +26,7 @@ invariant_of-self g c =
           | inr e ↦ subst (λ (b : BookValue). AreLegal files b.live) (sym e) i.legal
         ];
         orderly = elim either [
-          | inl e ↦ subst (λ (b : BookValue). AreJobWants b.live) (sym e) (orderly_claimed m.book want i.orderly c.requires.orderly)
+          | inl e ↦ subst (λ (b : BookValue). AreJobWants b.live) (sym e) (orderly_claimed m.book want i.orderly c.requires.1.orderly)
           | inr e ↦ subst (λ (b : BookValue). AreJobWants b.live) (sym e) i.orderly
         ];
         few = i.few;

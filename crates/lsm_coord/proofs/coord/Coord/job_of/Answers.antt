@@ -32,4 +32,4 @@ unwrap-requires g c =
     let opened : 1 ≤ c.args.self.now.served.version.epoch = subst (λ (v : CoordValue). 1 ≤ v.served.version.epoch) c.self.view_is c.self.invariant.0.opened in
     let epoch : c.args.self.now.book.epoch ≡ c.args.self.now.served.version.epoch = subst (λ (v : CoordValue). v.book.epoch ≡ v.served.version.epoch) c.self.view_is c.self.invariant.0.same_epoch in
     let target : IsTarget c.args.self.now.limits.block = subst (λ (v : CoordValue). IsTarget v.limits.block) c.self.view_is (m.limits.block_some, m.limits.block_most) in
-    c.new.ensures.within.1 (within_rules c.args.self.now want parts version opened epoch target c.requires of few)
+    c.new.ensures.within.1 (within_rules c.args.self.now want parts version opened epoch target c.requires.1 of few)
