@@ -34,13 +34,13 @@ def free_port():
         return free.getsockname()[1]
 
 
-def waits_until(is_so, seconds=60):
-    """Waits until it is so; returns whether it ever was."""
+def waits_until(is_so, seconds=60, pause=0.01):
+    """Waits until it is so, with a pause of so many seconds between two looks; returns whether it ever was."""
     end = time.monotonic() + seconds
     while not is_so():
         if time.monotonic() > end:
             return False
-        time.sleep(0.01)
+        time.sleep(pause)
     return True
 
 
