@@ -101,7 +101,18 @@ def try_logs(folders):
     folders.says("a log with what is no record", folder, "", LOG_LINES, BAD_LOG, command=("dump", "--log"))
 
 
+def try_levels(folders):
+    """Refuses a dump that prints the files of one level alone, each at level 0, or in the order of their numbers."""
+    folder = folders.room / "levels"
+    for lines, limits in ((b"put a 1\nput z 1\n", ["--base", "10"]), (b"put b 2\ndel y\n", []), (b"put a 3\n", None)):
+        given = lines + (b"flush\n" if limits is None else b"flush\ncompact\n")
+        status, out, err = folders.cli.ask("store", "--dir", folder.name, "--l0", "1", *(limits or []), given=given, room=folders.room)
+        folders.cli.tell(f"a session of {given}", "" if (status, err) == (0, b"") else f"status {status}, {out}, {err}")
+    entries = "L0 file 6: a @5 put 3\nL1 file 5: b @3 put 2\nL1 file 5: y @4 del\nL2 file 3: a @1 put 1\nL2 file 3: z @2 put 1\n"
+    folders.says("three levels", folder, "", entries)
+
+
 def tried(cli, room):
     folders = Folders(cli, room)
-    for part in (try_tables, try_edits, try_logs):
+    for part in (try_tables, try_edits, try_logs, try_levels):
         part(folders)
