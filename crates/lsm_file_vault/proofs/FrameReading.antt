@@ -34,7 +34,7 @@ frame_takes file x fits e =
     subst (λ (y : List ℕ × List ℕ). file ≡ frame y.0 ++ y.1) (ok_is {F = FrameFault} p.0 x g.1) whole
 
 -- one more frame behind the others
-frames_more : (held : List (List ℕ)) (bytes : List ℕ) → frames (held ++ bytes ∷ []) ≡ frames held ++ frame bytes
+pub frames_more : (held : List (List ℕ)) (bytes : List ℕ) → frames (held ++ bytes ∷ []) ≡ frames held ++ frame bytes
 frames_more [] bytes = append-nil (frame bytes)
 frames_more (first ∷ held) bytes = ap (λ (l : List ℕ). frame first ++ l) (frames_more held bytes) ∙ sym (append_assoc (frame first) (frames held) (frame bytes))
 

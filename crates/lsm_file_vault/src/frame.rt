@@ -10,15 +10,16 @@
 //! The complement tells a length that was damaged from one whose bytes were cut off.
 
 ghost use Rattle.std.specs.List.{list_all};
-ghost use Rattle.std.specs.Prelude.{◌≡◌, ◌==◌, ◌<◌, ◌≤◌, ◌^◌, ◌++◌, length, drop, IfOk, IsErr, OnOk};
+ghost use Rattle.std.specs.Prelude.{◌≡◌, ◌==◌, ◌<◌, ◌≤◌, ◌^◌, ◌++◌, length, drop, take, IfOk, IsErr, OnOk};
 ghost use Rattle.lsm_key.specs.Reading.{Gives};
 ghost use Rattle.lsm_file_vault.specs.declared.frame.TheConstants.{HEAD_BYTES};
-ghost use Rattle.lsm_file_vault.specs.Frames.{TakesFrame, checksum, ends_in_zeros, frame_at, frames, header_of, is_torn, only_frame_at};
+ghost use Rattle.lsm_file_vault.specs.Frames.{TakesFrame, checksum, ends_in_zeros, frame, frame_at, frames, header_of, is_torn, only_frame_at};
 
 use bytes::{BufMut, Bytes, BytesMut};
 use lsm_key::{Refused, know_bytes, read_piece, read_u32, read_u64};
 use std::alloc::{AllocError, Global};
 use std::hash::{DefaultHasher, Hasher};
+use std::io::{self, ErrorKind};
 
 /// How many bytes of a frame stand before those that it holds.
 pub(crate) const HEAD_BYTES: usize = 16;
@@ -46,15 +47,49 @@ pub(crate) fn checksum_of(bytes: &[u8]) -> u64
     hasher.finish()
 }
 
-/// Appends the header of the frame of these bytes, which go behind it.
-pub(crate) fn write_header(out: &mut BytesMut, bytes: &[u8]) -> Result<(), AllocError>
+// Appends the header of the frame of these bytes, which go behind it. If that is refused, a part of it may be there.
+fn write_header(out: &mut BytesMut, bytes: &[u8]) -> Result<(), AllocError>
     requires { length bytes.now < 2 ^ 32 }
-    ensures { OnOk result (out.new.items ≡ out.old.items ++ header_of bytes.now) }
+    ensures ok { OnOk result (out.new.items ≡ out.old.items ++ header_of bytes.now) }
+    ensures front { take (length out.old.items) out.new.items ≡ out.old.items }
 {
     let len = bytes.len() as u32;
     out.put_u32(len)?;
     out.put_u32(u32::MAX - len)?;
     out.put_u64(checksum_of(bytes))
+}
+
+/// The frames of these edits or log records, one after another.
+pub(crate) fn frames_of(alloc: Global, held: &[Bytes]) -> io::Result<BytesMut>
+    ensures { IfOk result (λ framed. framed.items ≡ frames held.now) }
+{
+    let mut framed = BytesMut::new(alloc);
+    for bytes in held {
+        put_frame(&mut framed, bytes.as_slice())?;
+    }
+    Ok(framed)
+}
+
+/// Appends the frame of an edit or of a log record. If that is refused, a part of it may be there.
+pub(crate) fn put_frame(out: &mut BytesMut, bytes: &[u8]) -> io::Result<()>
+    ensures ok { OnOk result (out.new.items ≡ out.old.items ++ frame bytes.now) }
+    ensures front { take (length out.old.items) out.new.items ≡ out.old.items }
+{
+    frame_header(out, bytes)?;
+    out.extend_from_slice(bytes)?;
+    Ok(())
+}
+
+/// Appends the header of a frame of these bytes. More than a frame can hold is refused.
+pub(crate) fn frame_header(out: &mut BytesMut, bytes: &[u8]) -> io::Result<()>
+    ensures ok { OnOk result (out.new.items ≡ out.old.items ++ header_of bytes.now) }
+    ensures front { take (length out.old.items) out.new.items ≡ out.old.items }
+{
+    if bytes.len() > u32::MAX as usize {
+        return Err(ErrorKind::InvalidInput.into());
+    }
+    write_header(out, bytes)?;
+    Ok(())
 }
 
 /// The bytes of a frame from the front.

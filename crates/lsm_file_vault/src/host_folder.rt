@@ -6,7 +6,7 @@ ghost use Rattle.lsm_file_vault.specs.declared.log_sync.LogSync.TheVariants.{Eac
 
 use crate::aside::{rename_lost_table, write_lost_bytes};
 use crate::error::called;
-use crate::frame::write_header;
+use crate::frame::{frame_header, frames_of, put_frame};
 use crate::log_file::LogFile;
 use crate::names::{EDITS, NEW_FILE, file_path, table_path};
 use crate::{Change, Contents, FileCall, Folder, FolderError, Incidents, LogSync, Notes, SetAside};
@@ -302,31 +302,6 @@ fn write_parts<F: Write + OpenFile>(file: &mut F, front: &[u8], rest: &[u8]) -> 
     file.write_all(front)?;
     file.write_all(rest)?;
     file.sync_all()
-}
-
-/// The frames of these edits or log records, one after another.
-pub(crate) fn frames_of(alloc: Global, held: &[Bytes]) -> io::Result<BytesMut> {
-    let mut framed = BytesMut::new(alloc);
-    for bytes in held {
-        put_frame(&mut framed, bytes.as_slice())?;
-    }
-    Ok(framed)
-}
-
-/// Appends the frame of an edit or of a log record.
-pub(crate) fn put_frame(out: &mut BytesMut, bytes: &[u8]) -> io::Result<()> {
-    frame_header(out, bytes)?;
-    out.extend_from_slice(bytes)?;
-    Ok(())
-}
-
-// Appends the header of a frame of these bytes. More than a frame can hold is refused.
-fn frame_header(out: &mut BytesMut, bytes: &[u8]) -> io::Result<()> {
-    if bytes.len() > u32::MAX as usize {
-        return Err(ErrorKind::InvalidInput.into());
-    }
-    write_header(out, bytes)?;
-    Ok(())
 }
 
 // Syncs the folder's list of files.

@@ -8,8 +8,8 @@ use Rattle.lsm_file_vault.proofs.frame.write_header.Goals as goal
 regrouped : (out a b c : List ℕ) → ((out ++ a) ++ b) ++ c ≡ out ++ (a ++ (b ++ c))
 regrouped out a b c = append_assoc (out ++ a) b c ∙ append_assoc out a (b ++ c)
 
-pub returns : goal.returns
-returns c =
+pub returns-clause-ok : goal.returns-clause-ok
+returns-clause-ok c =
     let len = length c.args.bytes.now in
     let whole : c.put_u32-2.new.self.items ++ to_be_bytes w64 c.checksum_of.result ≡ c.args.out.now.items ++ header_of c.args.bytes.now =
     rw (c.in_ok-put_u32-2.ensures.ok, c.in_ok-put_u32.ensures.ok, c.checksum_of.ensures)
