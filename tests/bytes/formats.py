@@ -1,13 +1,15 @@
 """The formats of docs/FORMATS.md, read as that page tells them: a second reader beside the library's, for the tests of bytes.
 
-table, edit, base and message take bytes and return the value, or raise Fault with the first fault's name. A table is its target and its entries; an edit,
-a base and a message are their fields in turn."""
+table, edit, base, log_record and message take bytes and return the value, or raise Fault with the first fault's name. A table is its target and its
+entries; an edit, a base and a message are their fields in turn; a log record is its code, its sequence and its operations."""
 import contextlib
 
 # The longest key of a table or a message of version 1, and the longest of all.
 LEAST_KEY, MOST_SHORT_KEY, MOST_KEY, MOST_VALUE = 1, 1024, 4096, 65_536
 MOST_NUMBER, MOST_SEQUENCE, MOST_COUNT = 2**63 - 1, 2**56 - 1, 2**32 - 1
 MOST_TABLE, MOST_MESSAGE = 16_777_216, 1_073_741_824
+# The most operations of a batch and their weight, and what one weighs beside its key and value.
+MOST_OPERATIONS, MOST_WEIGHT, ENTRY_WEIGHT = 1_000, 4_000_000, 14
 NODES, LEVELS = 4, 7
 
 
@@ -196,6 +198,42 @@ def has_long_key(kind, data):
     with contextlib.suppress(Fault):
         {"edit": edit_fields, "base": base_fields}[kind](fields)
     return fields.has_long_key
+
+
+# ---- log records
+
+
+def operation(fields, weight_before, is_last):
+    """A key and its value, or of a deletion a key alone, and what it and those before it weigh. That is tested at the last length of the last one."""
+
+    def weigh(length):
+        weight = weight_before + ENTRY_WEIGHT + length
+        if is_last and weight > MOST_WEIGHT:
+            raise Fault("BadField")
+        return weight
+
+    is_put = fields.number(1, 0, 1, "BadField")
+    length = fields.number(2, LEAST_KEY, MOST_KEY, "BadField")
+    if not is_put:
+        weight = weigh(length)
+        return (fields.piece(length),), weight
+    key, length = fields.piece(length), fields.number(4, 0, MOST_VALUE, "BadField")
+    weight = weigh(len(key) + length)
+    return (key, fields.piece(length)), weight
+
+
+def log_record(data):
+    fields, operations, weight = Fields(data), [], 0
+    code = fields.number(1, 1, 2, "BadField")
+    first = fields.number(8, 1, MOST_SEQUENCE if code == 2 else 2**64 - 1, "BadField")
+    count = fields.number(4, 1, MOST_OPERATIONS, "BadField") if code == 1 else 0
+    if first + count - 1 > MOST_SEQUENCE:
+        raise Fault("BadField")
+    for left in reversed(range(count)):
+        found, weight = operation(fields, weight, is_last=left == 0)
+        operations.append(found)
+    fields.end()
+    return code, first, *operations
 
 
 # ---- messages
