@@ -132,6 +132,13 @@ def table(data):
     return target, [it[:3] for it in found]
 
 
+def found(entries, key, at):
+    """What a look-up among the entries of a table finds: of the key's entry of the greatest sequence up to there."""
+    for _, (_, is_put), value in (it for it in entries if it[0] == key and it[1][0] <= at):
+        return f"value {value.hex()}" if is_put else "deleted"
+    return "absent"
+
+
 # ---- edits and bases
 
 
