@@ -1,4 +1,4 @@
-//! Tests of `lsm_block` by its public calls: look-ups, ranges and keys further on among keys that are easily mistaken for one another.
+//! Tests of `lsm_block` by its public calls: the faults of bytes by name, and the calls that no table makes. Look-ups are in tests/bytes.
 //!
 //! They are a crate of their own, so that `lsm_block` is proved once. It has no code beside them.
 #![tactic(auto)]
