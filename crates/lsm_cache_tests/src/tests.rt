@@ -1,4 +1,4 @@
-//! Look-ups through a cache that holds fewer blocks than they ask for.
+//! Look-ups through a cache that holds fewer blocks than they ask for; and what the entries of a table are encoded as, which no program asks.
 
 ghost use Rattle.lsm_key.specs.Entries.{IsEntry};
 ghost use Rattle.std.specs.Prelude.{◌≤◌, IfOk};
@@ -6,7 +6,7 @@ ghost use Rattle.std.specs.Prelude.{◌≤◌, IfOk};
 use bytes::{Bytes, BytesMut};
 use lsm_cache::{BlockCache, CachedTable, copy_entry, copy_value};
 use lsm_key::{Entry, InternalKey, Kind, Seq};
-use lsm_table::{BuildError, Table, TableBuilder};
+use lsm_table::{BuildError, Table, TableBuilder, encode_table};
 use std::alloc::{AllocError, Global};
 use std::marker::Model;
 use std::num::NonZeroUsize;
@@ -358,5 +358,20 @@ fn a_deletion_has_no_value(rt: HostRuntime) -> Result<(), Fail> {
     assert!(rt; deleted?.is_none());
     let value = put?.ok_or("no value")?;
     assert!(rt; value.as_slice() == b"1".as_slice());
+    Ok(())
+}
+
+// What the entries of a table are encoded as, without a builder.
+fn encoded(alloc: Global, table: &Table) -> Result<Bytes, Fail> {
+    let entries = table.entries(alloc)?;
+    Ok(encode_table(alloc, table.block(), &entries)?)
+}
+
+#[test]
+fn entries_are_encoded_as_they_were(rt: HostRuntime) -> Result<(), Fail> {
+    let table = Table::open(rt.alloc(), Bytes::copy_from_slice(rt.alloc(), &TWO_BLOCKS)?)?;
+    let encoded = encoded(rt.alloc(), &table);
+    drop(table);
+    assert!(rt; encoded?.as_slice() == TWO_BLOCKS.as_slice());
     Ok(())
 }

@@ -4,7 +4,7 @@ use Rattle.lsm_table.specs.Cuts.{cut_of}
 use Rattle.lsm_table.specs.Tables.{table, table_of}
 use Rattle.lsm_table.proofs.TableCuts.{cut_one}
 use Rattle.lsm_table.proofs.TableSizes.{target_is}
-use Rattle.lsm_table_tests.proofs.tests.encoded.Goals as goal
+use Rattle.lsm_cache_tests.proofs.tests.encoded.Goals as goal
 
 pub encode_table-requires-clause-small : goal.encode_table-requires-clause-small
 encode_table-requires-clause-small c =
