@@ -1,5 +1,7 @@
 //! Look-ups through a cache that holds fewer blocks than they ask for; and what the entries of a table are encoded as, which no program asks.
 
+mod beside;
+
 ghost use Rattle.lsm_key.specs.Entries.{IsEntry};
 ghost use Rattle.std.specs.Prelude.{◌≤◌, IfOk};
 
