@@ -134,6 +134,26 @@ def try_alike(folders):
         folders.answers(f"keys that begin alike {what}", what.replace(" ", "_"), lines, out, *options)
 
 
+def try_levels(folders):
+    """Files of three levels, whose ranges meet: from before all keys, at the edges of files, between two entries or files, and after all."""
+    held = {}
+    for keys, options in (("ah", "13"), ("pz", "13"), ("ce", "7000"), ("gk", "7000"), ("mo", "7000"), ("by", ""), ("bm", "")):
+        seq = 2 * len(held) + 1
+        held[keys] = [seq, seq + 1]
+        lines, out = [f"batch put {keys[0]} {seq} put {keys[1]} {seq + 1}", "flush"], [f"seq {seq}-{seq + 1}", f"flushed {seq + 1}"]
+        if options:
+            lines, out, options = [*lines, "compact"], [*out, "compacted"], ["--l0", "1", "--base", options]
+        folders.answers(f"a file of {keys[0]} and {keys[1]}", "three_levels", lines, out, *options)
+    # A table has 32 bytes beside its two entries, and an entry 15 beside the digits of its value.
+    shown = "L0 2 files 132 bytes 4 entries\nL1 3 files 193 bytes 6 entries\nL2 2 files 128 bytes 4 entries\n"
+    status, out, _ = folders.cli.ask("check", "--dir", "three_levels", room=folders.room)
+    folders.cli.case("files of three levels", (0, shown), (status, "".join(it + "\n" for it in out.decode().split("\n") if it.startswith("L"))))
+    newest = {key: seq for keys, seqs in held.items() for key, seq in zip(keys, seqs)}
+    froms = ['""', *"abcdefhikmnpz", "b1", "z1"]
+    looks = [(f"scan {lo} ~ 99", range_of([f"{key}={newest[key]}" for key in sorted(newest) if lo == '""' or key >= lo])) for lo in froms]
+    folders.answers("ranges over three levels", "three_levels", *zip(*looks))
+
+
 def try_prefixes(folders):
     """A memtable behind one of a thousand entries expects keys to begin as those do, and finds any others too."""
     keys = ["user:profile", "z", "user:1", "user", "uses", "user:", "a"]
@@ -154,5 +174,5 @@ def try_prefixes(folders):
 
 def tried(cli, room):
     folders = Folders(cli, room)
-    for part in (try_bytes, try_alike, try_prefixes):
+    for part in (try_bytes, try_alike, try_levels, try_prefixes):
         part(folders)
