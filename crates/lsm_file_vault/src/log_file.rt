@@ -198,11 +198,20 @@ impl<R: Files + AllocGlobal + Drop> LogFile<R> {
             return Ok(());
         }
         self.refuse_if_broken()?;
-        // In doubt until it is synced: another sync after one that fails does not bring to the disk what that one was to bring.
-        self.is_broken = true;
-        write_at(&mut self.file, self.bytes, self.gathered.as_slice())?;
+        self.sync_gathered()?;
         self.count_gathered();
         self.is_unsynced = false;
+        Ok(())
+    }
+
+    // Writes what is gathered, and syncs the file. In doubt until it is synced: another sync after one that fails does not bring to the
+    // disk what that one was to bring.
+    fn sync_gathered(&mut self) -> io::Result<()>
+        ensures doubt { self.new.is_broken ≡ is_err result }
+        ensures same { self.new ≡ record (self.old) { file = self.new.file; is_broken = self.new.is_broken } }
+    {
+        self.is_broken = true;
+        write_at(&mut self.file, self.bytes, self.gathered.as_slice())?;
         self.is_broken = false;
         Ok(())
     }
