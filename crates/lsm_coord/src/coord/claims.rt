@@ -1,6 +1,6 @@
 //! Claims of jobs: how they are picked, and how they are given back.
 
-ghost use Rattle.std.specs.Prelude.{◌≡◌, ℕ, None, IfOk, IfErr, IfSome, OnOk, OnErr};
+ghost use Rattle.std.specs.Prelude.{◌≡◌, ℕ, Option, None, IfOk, IfErr, IfSome, OnOk, OnErr};
 ghost use Rattle.std.specs.Option.{option_copied};
 ghost use Rattle.lsm_claim.specs.Book.{settle_answer, after_claim, next_job};
 ghost use Rattle.lsm_edit.specs.Served.{IsServed};

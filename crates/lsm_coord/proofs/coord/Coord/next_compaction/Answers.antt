@@ -9,7 +9,7 @@ returns-clause-some g c = rw (← c.self.view_is, ← c.served.ensures.served) c
 pub returns-clause-something : goal.returns-clause-something
 returns-clause-something g c =
     let m = c.self.inside in
-    let alike = orders_alike (option_copied c.args.pointers.entry) m.limits c.served.result.now m.versions.served m.book.live c.served.ensures.served c.served.ensures.sound in
+    let alike = orders_alike (option_copied c.args.pointers) m.limits c.served.result.now m.versions.served m.book.live c.served.ensures.served c.served.ensures.sound in
     rw (← c.self.view_is, ← c.served.ensures.served) (given_so c.pick_after.result (λ want first. alike.some.0 (want, first)) c.pick_after.ensures.some)
 
 pub returns-clause-orderly : goal.returns-clause-orderly
@@ -21,17 +21,17 @@ returns-clause-legal g c = rw (← c.self.view_is, ← c.served.ensures.served) 
 pub returns-clause-none : goal.returns-clause-none
 returns-clause-none g c =
     let m = c.self.inside in
-    let alike = orders_alike (option_copied c.args.pointers.entry) m.limits c.served.result.now m.versions.served m.book.live c.served.ensures.served c.served.ensures.sound in
+    let alike = orders_alike (option_copied c.args.pointers) m.limits c.served.result.now m.versions.served m.book.live c.served.ensures.served c.served.ensures.sound in
     rw (← c.self.view_is, ← c.served.ensures.served) (none_so c.pick_after.result alike.none.0 c.pick_after.ensures.none)
 
 pub returns-clause-too_wide : goal.returns-clause-too_wide
 returns-clause-too_wide g c =
     let m = c.self.inside in
-    let alike = orders_alike (option_copied c.args.pointers.entry) m.limits c.served.result.now m.versions.served m.book.live c.served.ensures.served c.served.ensures.sound in
+    let alike = orders_alike (option_copied c.args.pointers) m.limits c.served.result.now m.versions.served m.book.live c.served.ensures.served c.served.ensures.sound in
     rw (← c.self.view_is, ← c.served.ensures.served) (refused_so c.pick_after.result TooWide alike.too_large.0 c.pick_after.ensures.too_wide)
 
 pub returns-clause-memory : goal.returns-clause-memory
 returns-clause-memory g c =
     let m = c.self.inside in
-    let alike = orders_alike (option_copied c.args.pointers.entry) m.limits c.served.result.now m.versions.served m.book.live c.served.ensures.served c.served.ensures.sound in
+    let alike = orders_alike (option_copied c.args.pointers) m.limits c.served.result.now m.versions.served m.book.live c.served.ensures.served c.served.ensures.sound in
     rw (← c.self.view_is, ← c.served.ensures.served) (refused_so c.pick_after.result OutOfMemory alike.some.0 c.pick_after.ensures.memory)

@@ -10,10 +10,10 @@ use Rattle.lsm_coord.proofs.PickedJobs.{claim_keeps, picked_sound}
 use Rattle.lsm_coord.proofs.coord.Coord.pick_after.Goals as goal
 
 pub job_of-requires : goal.job_of-requires
-job_of-requires g c = (option_copied c.args.pointers.entry, subst (λ (o : Option Want). IfSome o (MayClaim (option_copied c.args.pointers.entry) c.args.self.now)) c.in-Some.is c.in_ok-want.ensures.some)
+job_of-requires g c = (option_copied c.args.pointers, subst (λ (o : Option Want). IfSome o (MayClaim (option_copied c.args.pointers) c.args.self.now)) c.in-Some.is c.in_ok-want.ensures.some)
 
 pub claim-requires : goal.claim-requires
-claim-requires g c = (option_copied c.args.pointers.entry, subst (λ (o : Option Want). IfSome o (MayClaim (option_copied c.args.pointers.entry) c.args.self.now)) c.in-Some.is c.in_ok-want.ensures.some)
+claim-requires g c = (option_copied c.args.pointers, subst (λ (o : Option Want). IfSome o (MayClaim (option_copied c.args.pointers) c.args.self.now)) c.in-Some.is c.in_ok-want.ensures.some)
 
 pub returns-in_err-job-clause-refused : goal.returns-in_err-job-clause-refused
 returns-in_err-job-clause-refused g c =
@@ -28,7 +28,7 @@ returns-in_err-claim-clause-refused g c =
 pub returns-clause-ok : goal.returns-clause-ok
 returns-clause-ok g c = record {
   want = c.in-Some.want;
-  may = subst (λ (o : Option Want). IfSome o (MayClaim (option_copied c.args.pointers.entry) c.args.self.now)) c.in-Some.is c.in_ok-want.ensures.some;
+  may = subst (λ (o : Option Want). IfSome o (MayClaim (option_copied c.args.pointers) c.args.self.now)) c.in-Some.is c.in_ok-want.ensures.some;
   claim_is = c.in_ok-claim.ensures.claim;
   job_is = c.in_ok-job.ensures.job;
   new_is = c.in_ok-claim.ensures.ok;
