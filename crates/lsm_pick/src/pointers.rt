@@ -5,7 +5,6 @@ ghost use Rattle.lsm_key.specs.declared.limits.TheConstants.{MAX_JOB_LEVEL};
 ghost use Rattle.lsm_pick.specs.After.{pointer_at};
 
 use bytes::Bytes;
-use lsm_claim::Want;
 use lsm_edit::FileMeta;
 use lsm_key::MAX_JOB_LEVEL;
 use std::marker::Model;
@@ -40,18 +39,18 @@ impl CompactPointers {
         }
     }
 
-    /// Moves the pointer of a job's level to the greatest key of the job's inputs there, which are listed among the
-    /// files. Not to the end of its hull: that is among the keys of the level's next file, which would be passed over.
-    /// Shares the key; a key that can't be shared leaves the pointer.
-    pub fn follow(&mut self, want: &Want, files: &[FileMeta]) {
-        if want.level == 0 || want.level > MAX_JOB_LEVEL {
+    /// Moves the pointer of a job's level to the greatest key of the job's inputs there. Not to the end of its hull:
+    /// that is among the keys of the level's next file, which would be passed over. Shares the key; a key that can't be
+    /// shared leaves the pointer.
+    pub fn follow(&mut self, level: u8, inputs: &[FileMeta]) {
+        if level == 0 || level > MAX_JOB_LEVEL {
             return;
         }
-        let Some(last) = last_key(want, files) else {
+        let Some(last) = last_key(level, inputs) else {
             return;
         };
         match last.clone() {
-            Ok(key) => self.keys[want.level as usize - 1] = key,
+            Ok(key) => self.keys[level as usize - 1] = key,
             Err(_) => {}
         }
     }
@@ -66,11 +65,11 @@ impl CompactPointers {
     }
 }
 
-// The greatest key of the job's inputs of its own level.
-fn last_key<'a>(want: &Want, files: &'a [FileMeta]) -> Option<&'a Bytes> {
+// The greatest key of the files of a level.
+fn last_key(level: u8, files: &[FileMeta]) -> Option<&Bytes> {
     let mut last: Option<&Bytes> = None;
     for file in files {
-        if file.level == want.level && want.files.as_slice().contains(&file.number) {
+        if file.level == level {
             last = later(last, &file.largest);
         }
     }

@@ -56,8 +56,8 @@ pub fn pick(
 }
 
 /// The same in the order of the pointers, if there are any: below level 0 the files after a level's pointer come first,
-/// then the others, each by key. So a level is merged all round, and not again and again where its files have the least
-/// numbers.
+/// then the others, each by key. So a level is merged all round, which writes less in the end. A level's candidates are
+/// found by a pass over the version's files, or by two.
 pub fn pick_after(
     alloc: Global,
     served: &Served,
