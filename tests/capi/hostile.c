@@ -402,6 +402,22 @@ static void try_long_keys(void) {
     tell("keys of up to 4,096 bytes");
 }
 
+/* More bytes than a table or a message may have are refused as such, and not copied. */
+static void try_too_many_bytes(void) {
+    size_t table = (UINT64_C(16) << 20) + 1, message = (UINT64_C(1) << 30) + 1;
+    const uint8_t *at = mmap(NULL, message, PROT_READ, MAP_PRIVATE | MAP_ANONYMOUS | MAP_NORESERVE, -1, 0);
+    if (at == MAP_FAILED) exit(2);
+    struct luddimpa_checked_table checked = luddimpa_table_check(at, table);
+    expect(checked.status == LUDDIMPA_NOT_A_TABLE && checked.fault == LUDDIMPA_TOO_MANY_BYTES, "a table");
+    expect(luddimpa_table_get(at, table, at, 1, LUDDIMPA_LATEST, third.at, 0).status == LUDDIMPA_NOT_A_TABLE, "a value in one");
+    struct luddimpa_checked_message told = luddimpa_message_check(at, message);
+    expect(told.status == LUDDIMPA_NOT_A_MESSAGE && told.fault == LUDDIMPA_TOO_MANY_BYTES, "a message");
+    struct luddimpa_merged_job merged = luddimpa_merge(at, message, at, 0, third.at, 0);
+    expect(merged.status == LUDDIMPA_NOT_A_JOB && merged.fault == LUDDIMPA_TOO_MANY_BYTES, "a job");
+    munmap((void *)at, message);
+    tell("more bytes than there may be");
+}
+
 /* ---- what is not right */
 
 static long calls;
@@ -454,7 +470,7 @@ int main(void) {
     setvbuf(stdout, NULL, _IOLBF, 0);
     first = pages_of(), second = pages_of(), third = pages_of();
     held = 0;
-    try_gets(), try_tables(), try_edits(), try_messages(), try_counts(), try_merges(), try_long_keys();
+    try_gets(), try_tables(), try_edits(), try_messages(), try_counts(), try_merges(), try_long_keys(), try_too_many_bytes();
 
     struct bytes table = of(put_hex), deletion = of(deletion_hex), key = of("61"), edits = of(edits_hex), none = {0};
     struct bytes job = of(job_hex), list = listed(put_hex, NULL), two = of(two_hex), both = listed(put_hex, deletion_hex);

@@ -65,6 +65,24 @@ def try_sessions(cli, room):
     cli.says("what is in no table is there again", at, given=b"get a\nget b\nstats\n", out=b"value 1\nvalue 2\n" + stats, room=room)
 
 
+def try_stats(cli, room):
+    """The amplification is what was written to tables for each byte of a flush, to two places."""
+    stats = b"stats last 2 flushed 2 L0 1 files 48 bytes 1 entries L1 1 files 48 bytes 1 entries flushes 96 bytes compactions 48 bytes amplification 1.50\n"
+    answers = b"seq 1\nflushed 1\nseq 2\nflushed 2\ncompacted\n" + stats
+    cli.says("stats after a compaction", ["store", "--dir", "stats", "--l0", "2"], given=b"put a 1\nflush\nput b 2\nflush\ncompact\nstats\n", out=answers, room=room)
+
+
+def try_many(cli, room):
+    """Refuses a session, and a command, that stops before nothing is due: each of 40 files goes down to level 2 or 3, by itself."""
+    lines = "".join(f"put k{at:02} 1\nflush\n" for at in range(40)).encode()
+    at = ["store", "--dir", "many", "--l0", "1", "--base", "1"]
+    cli.says("a session of 40 flushes", at, given=lines, out=b"".join(b"seq %d\nflushed %d\n" % (it, it) for it in range(1, 41)), room=room)
+    status, out, err = cli.ask(*at, given=b"compact\nstats\n", room=room)
+    cli.tell("over a hundred compactions in one call", "" if (status, err) == (0, b"") and out.startswith(b"compacted\n") and b" due" not in out else f"status {status}, {out}, {err}")
+    made = int(cli.ask("check", "--dir", "many", room=room)[1].split(b"version ")[1].split()[0])
+    cli.tell("and there are over a hundred", "" if made > 42 + 100 else f"it is at version {made}")
+
+
 def try_frozen(cli, room):
     """A log that says what was frozen, as a coordinator leaves it that froze and wrote on."""
     at = ["--dir", "frozen"]
@@ -78,5 +96,5 @@ def try_frozen(cli, room):
 
 
 def tried(cli, room):
-    for part in (try_stores, try_sessions, try_frozen):
+    for part in (try_stores, try_sessions, try_stats, try_many, try_frozen):
         part(cli, room)

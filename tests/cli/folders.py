@@ -59,6 +59,10 @@ def try_tables(folders):
     shutil.copy(table(folder, 2), table(folder, 1))
     other = "file 1: its record says 67 bytes, and its table has 47\n"
     folders.says("a table of another file", folder, f"{FILES}{other}version 3 flushed 3: 2 files, 1 damaged\n", SECOND, other)
+    folder = folders.copy()
+    table(folder, 9).write_bytes(b"x")
+    beside = "table 9: its bytes are not those that were written, and no file needs it\n"
+    folders.says("a damaged table that no file needs", folder, f"{FILES}{beside}version 3 flushed 3: 2 files, 1 damaged\n", FIRST + SECOND, beside)
     folder, wrong = folders.copy(), []
     file = table(folder, 2)
     good, lost = file.read_bytes(), "file 2: its bytes are not those that were written\n"
@@ -98,11 +102,13 @@ def try_logs(folders):
     report = f"{counted}{TORN_LOG}version 3 flushed 3: 2 files, 0 damaged, the last log record not whole\n"
     folders.says("a torn log", folder, report, FIRST + SECOND, TORN_LOG)
     write_log(folder, [WRITE_4, NO_RECORD, WRITE_5])
-    folders.says("a log with what is no record", folder, "", LOG_LINES, BAD_LOG, command=("dump", "--log"))
+    counted = f"{FILES}log 3 records, 1 operations above 3, {(folder / 'log').stat().st_size} bytes\n"
+    report = f"{counted}{BAD_LOG}version 3 flushed 3: 2 files, 0 damaged, the log bad\n"
+    folders.says("a log with what is no record", folder, report, LOG_LINES, BAD_LOG, command=("dump", "--log"))
 
 
 def try_levels(folders):
-    """Refuses a dump that prints the files of one level alone, each at level 0, or in the order of their numbers."""
+    """Refuses a dump that prints the files of one level alone, each at level 0, or in the order of their numbers, and one, or a check, without the last level."""
     folder = folders.room / "levels"
     for lines, limits in ((b"put a 1\nput z 1\n", ["--base", "10"]), (b"put b 2\ndel y\n", []), (b"put a 3\n", None)):
         given = lines + (b"flush\n" if limits is None else b"flush\ncompact\n")
@@ -110,6 +116,11 @@ def try_levels(folders):
         folders.cli.tell(f"a session of {given}", "" if (status, err) == (0, b"") else f"status {status}, {out}, {err}")
     entries = "L0 file 6: a @5 put 3\nL1 file 5: b @3 put 2\nL1 file 5: y @4 del\nL2 file 3: a @1 put 1\nL2 file 3: z @2 put 1\n"
     folders.says("three levels", folder, "", entries)
+    folder = folders.room / "deepest"
+    value = "v" * 20_000
+    lines = f"put a {value}\nflush\ncompact\n".encode()
+    folders.cli.says("a session whose file goes down to the deepest level", ["store", "--dir", folder.name, "--l0", "1", "--base", "1"], out=b"seq 1\nflushed 1\ncompacted\n", given=lines, room=folders.room)
+    folders.says("the deepest level", folder, "L6 1 files 20047 bytes 1 entries\nversion 8 flushed 1: 1 files, no damage\n", f"L6 file 7: a @1 put {value}\n")
 
 
 def tried(cli, room):

@@ -71,6 +71,14 @@ def long_lines():
         fails(line + more, b"too big inline request")
 
 
+@case("inline requests of as many words as a line may have")
+def many_words():
+    """Refuses an inline request that has the limit of words of an array: only its line has a limit."""
+    with serving() as it:
+        it.send(b"SET a 1\r\nEXISTS" + b" a" * 32_764 + b"\r\n")
+        same([it.reply(), it.reply()], ["OK", 32_764])
+
+
 def unread(pipe):
     """How many bytes of a pipe were not read yet."""
     return int.from_bytes(fcntl.ioctl(pipe, termios.FIONREAD, bytes(4)), sys.byteorder)
