@@ -8,6 +8,11 @@ MAX_WORDS, MAX_WORD, MAX_REQUEST, MAX_LINE, MAX_HEADER = 2001, 131_072, 4_131_07
 # A line that announces a number of words or of bytes, as nearly all do.
 ANNOUNCES = re.compile(rb"[*$](0|[1-9][0-9]{0,6})\r\n")
 ARRAY, BULK = b"*$"
+# A plain request, as nearly all are, up to the length of its last word: a GET or DEL of one key or a SET.
+SIZE = rb"\$(0|[1-9][0-9]{0,4})\r\n"
+PLAIN = re.compile(rb"\*(?:2\r\n\$3\r\n(?:GET|DEL)|3\r\n\$3\r\nSET\r\n%b([^\r]*))\r\n%b" % (SIZE, SIZE))
+# A reply that is a line.
+LINE = re.compile(rb"(?:[+:-][^\r]*|\$-1)\r\n")
 
 
 class Fault(Exception):
@@ -49,6 +54,17 @@ def inline_at(data):
     return words[0] if words else None, request, end + 1
 
 
+def plain_end(data, at):
+    """The end of the request at a place if it is a plain one, and whole; otherwise None. All it takes is within the limits."""
+    found = PLAIN.match(data, at)
+    if found:
+        size, key, last = found.groups()
+        end = found.end() + int(last) + 2
+        if (size is None or int(size) == len(key)) and data[end - 2 : end] == b"\r\n":
+            return end
+    return None
+
+
 def request_at(data):
     """The first word of the request ahead, or None if it has no words, its bytes, and its end."""
     if not data:
@@ -76,6 +92,9 @@ def request_at(data):
 
 def reply_end(data, at):
     """The end of the reply at a place, or None if not all of it has come."""
+    line = LINE.match(data, at)
+    if line:
+        return line.end()
     left = 1
     while left:
         line = data.find(b"\r\n", at)
