@@ -22,7 +22,7 @@ use Rattle.lsm_coord.specs.Contract.Memory.{IsFit}
 use Rattle.lsm_coord.specs.Contract.Value.{CoordValue, version_set}
 use Rattle.lsm_versions.specs.Opening.{is_live}
 use Rattle.lsm_store.specs.Compacting.{Compacts, IsLeft}
-use Rattle.lsm_store.specs.Store.{CompactsIfFull, Holds, IsDueAfter, IsNoneDue, Keeps, LeavesNoneDue, LetsOthersGo, ServesCurrentAlone}
+use Rattle.lsm_store.specs.Store.{CompactsIfBehind, Holds, IsBehind, IsDueAfter, IsNoneDue, Keeps, LeavesNoneDue, LetsOthersGo, ServesCurrentAlone}
 use Rattle.lsm_store.specs.declared.due.Due.{Due}
 use Rattle.lsm_store.specs.declared.due.Due.TheVariants as due
 use Rattle.lsm_store.specs.declared.error.StoreError.{StoreError}
@@ -113,9 +113,10 @@ pub written_due : (old new : CoordValue) (ops : List Op) → IsWritten old ops n
 written_due old new ops written none = subst IsNoneDue (sym written.rest) none
 
 -- a batch that has room is written without a flush
-pub room_there : (old new : CoordValue) (ops : List Op) → write_fault old ops ≡ None → CompactsIfFull old ops new
+pub room_there : (old new : CoordValue) (ops : List Op) → write_fault old ops ≡ None → CompactsIfBehind old ops new
 room_there old new ops none full = let e = sym none ∙ full in absurd cc
 
 -- the compactions before a write
-pub room_made : (old mid emptied new : CoordValue) (ops : List Op) → mid ≡ old → LeavesNoneDue mid emptied → (IsNoneDue emptied → IsNoneDue new) → CompactsIfFull old ops new
-room_made old mid emptied new ops same none due full writes snapshots held = due (none writes snapshots (subst (λ (c : CoordValue). Holds c writes snapshots) (sym same) held))
+pub room_made : (old mid emptied new : CoordValue) (ops : List Op) → mid ≡ old → (IsBehind mid → LeavesNoneDue mid emptied) → (IsNoneDue emptied → IsNoneDue new) → CompactsIfBehind old ops new
+room_made old mid emptied new ops same none due full behind writes snapshots held =
+    due (none (subst IsBehind (sym same) behind) writes snapshots (subst (λ (c : CoordValue). Holds c writes snapshots) (sym same) held))

@@ -78,6 +78,10 @@ flush_keeps old new number seq file follows writes snapshots h =
 pub accepts_then : (old mid new : CoordValue) (ops : List Op) → Keeps old mid → Accepts mid ops new → Accepts old ops new
 accepts_then old mid new ops keeps accepts writes snapshots h = accepts writes snapshots (keeps writes snapshots h)
 
+-- and what keeps it all after that
+pub accepts_kept : (old mid new : CoordValue) (ops : List Op) → Accepts old ops mid → Keeps mid new → Accepts old ops new
+accepts_kept old mid new ops accepts keeps writes snapshots h = keeps (writes ++ ops) snapshots (accepts writes snapshots h)
+
 -- ---- snapshots
 
 pub snapshot_adds : (old new : CoordValue) (id : SnapId) (seq : ℕ) → Follows old say.Snap (say.Snapped id seq) new → AddsSnapshot old id new

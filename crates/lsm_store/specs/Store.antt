@@ -11,6 +11,7 @@ use Rattle.lsm_coord.specs.declared.error.CoordError.{CoordError}
 use Rattle.lsm_coord.specs.declared.error.CoordError.TheVariants as coord
 use Rattle.lsm_coord.specs.declared.snapshot.SnapId.{SnapId}
 use Rattle.lsm_coord.specs.declared.snapshot.Snapshot.{Snapshot}
+use Rattle.lsm_pick.specs.Due.{is_full}
 use Rattle.lsm_coord.specs.Model.Range.{IsRange}
 use Rattle.lsm_coord.specs.Model.State.{State, same_snapshot_id, snapshot_at}
 use Rattle.lsm_coord.specs.Contract.Calls.{FlushRefuses, next_id, write_fault}
@@ -212,9 +213,13 @@ IsNoneDue c = NothingToCompact c ⊎ OnlyTooLarge c
 abbrev pub LeavesNoneDue : CoordValue → CoordValue → Type 0
 LeavesNoneDue old new = (writes : List Op) (snapshots : List Snapshot) → Holds old writes snapshots → IsNoneDue new
 
--- a write for which the memtable had to be flushed leaves no compaction due
-abbrev pub CompactsIfFull : CoordValue → List Op → CoordValue → Type 0
-CompactsIfFull old ops new = write_fault old ops ≡ Some coord.MemtableFull → LeavesNoneDue old new
+-- compactions are behind the writes: level 0 has as many files as it may have
+abbrev pub IsBehind : CoordValue → Type 0
+IsBehind c = is_full c.limits c.served.version.files ≡ true
+
+-- a write that finds the memtable full, and compactions behind, leaves none due
+abbrev pub CompactsIfBehind : CoordValue → List Op → CoordValue → Type 0
+CompactsIfBehind old ops new = write_fault old ops ≡ Some coord.MemtableFull → IsBehind old → LeavesNoneDue old new
 
 -- why the next compaction is not made
 abbrev pub NextRefuses : CoordValue → CoordValue → CoordError → Type 0

@@ -1,6 +1,7 @@
 //! The store over a vault: how it is opened and closed. Its calls stand in files of their own, by what they do.
 
 mod compact;
+mod pace;
 mod range;
 mod read;
 mod snapshots;
@@ -23,6 +24,8 @@ use std::marker::Model;
 pub struct Store<V: Vault> {
     alloc: Global,
     coord: Coord<V>,
+    // What the accepted batches weigh for which no compaction was run yet. It determines only when one is.
+    unpaced: usize,
 }
 
 impl<V: Vault> Model for Store<V> {
@@ -62,7 +65,11 @@ impl<V: Vault> Store<V> {
         ensures stays { (writes : List Op) → HoldsStored (V.stored vault) writes → IfErr result (λ e. HoldsStored (V.stored e.1) writes) }
     {
         match Coord::open(alloc, vault, options.limits) {
-            Ok(coord) => Ok(Store { alloc, coord }),
+            Ok(coord) => Ok(Store {
+                alloc,
+                coord,
+                unpaced: 0,
+            }),
             Err(refused) => Err(refused),
         }
     }
@@ -73,7 +80,11 @@ impl<V: Vault> Store<V> {
         ensures failures { V.failures result ≡ self.failures }
         ensures stored { (writes : List Op) (snapshots : List Snapshot) → Holds self writes snapshots → HoldsStored self.stored writes }
     {
-        let Store { alloc: _, coord } = self;
+        let Store {
+            alloc: _,
+            coord,
+            unpaced: _,
+        } = self;
         coord.close()
     }
 }

@@ -4,7 +4,7 @@ ghost use Rattle.std.specs.Prelude.{◌≡◌, ◌∷◌, ◌≤◌, [], None, I
 ghost use Rattle.lsm_key.specs.declared.op.Op.TheVariants.{Delete, Put};
 ghost use Rattle.lsm_key.specs.Limits.{push_fault};
 ghost use Rattle.lsm_coord.specs.Contract.Calls.{AppendRefuses, write_fault};
-ghost use Rattle.lsm_store.specs.Store.{Accepts, CanWrite, CompactsIfFull, EmptiesMemtable, FlushNextRefuses, FlushesNext, IsNoneDue, Keeps, LeavesNoneDue, OfCoord, OpRefuses, RoomRefuses, StoreFlushRefuses, Stores, VaultRefuses, WriteRefuses};
+ghost use Rattle.lsm_store.specs.Store.{Accepts, CanWrite, CompactsIfBehind, EmptiesMemtable, FlushNextRefuses, FlushesNext, IsBehind, IsNoneDue, Keeps, LeavesNoneDue, OfCoord, OpRefuses, RoomRefuses, StoreFlushRefuses, Stores, VaultRefuses, WriteRefuses};
 
 use super::Store;
 use crate::StoreError;
@@ -17,7 +17,7 @@ impl<V: Vault> Store<V> {
     /// Puts a key with its value. Copies both. If it is refused, the store holds what it held.
     pub fn put(&mut self, key: &[u8], value: &[u8]) -> Result<(), StoreError>
         ensures ok { OnOk result ((push_fault [] (Put key.now value.now) ≡ None) × CanWrite self.old (Put key.now value.now ∷ []) × Accepts self.old (Put key.now value.now ∷ []) self.new) }
-        ensures compacted { OnOk result (CompactsIfFull self.old (Put key.now value.now ∷ []) self.new) }
+        ensures compacted { OnOk result (CompactsIfBehind self.old (Put key.now value.now ∷ []) self.new) }
         ensures err { OnErr result (Keeps self.old self.new) }
         ensures refused { IfErr result (OpRefuses self.old (Put key.now value.now) self.new) }
     {
@@ -29,7 +29,7 @@ impl<V: Vault> Store<V> {
     /// Deletes a key, whether it has a value or not. Copies it. If it is refused, the store holds what it held.
     pub fn delete(&mut self, key: &[u8]) -> Result<(), StoreError>
         ensures ok { OnOk result ((push_fault [] (Delete key.now) ≡ None) × CanWrite self.old (Delete key.now ∷ []) × Accepts self.old (Delete key.now ∷ []) self.new) }
-        ensures compacted { OnOk result (CompactsIfFull self.old (Delete key.now ∷ []) self.new) }
+        ensures compacted { OnOk result (CompactsIfBehind self.old (Delete key.now ∷ []) self.new) }
         ensures err { OnErr result (Keeps self.old self.new) }
         ensures refused { IfErr result (OpRefuses self.old (Delete key.now) self.new) }
     {
@@ -40,7 +40,7 @@ impl<V: Vault> Store<V> {
     // Applies a batch of one operation.
     fn write_op(&mut self, op: Op) -> Result<(), StoreError>
         ensures ok { OnOk result ((push_fault [] op ≡ None) × CanWrite self.old (op ∷ []) × Accepts self.old (op ∷ []) self.new) }
-        ensures compacted { OnOk result (CompactsIfFull self.old (op ∷ []) self.new) }
+        ensures compacted { OnOk result (CompactsIfBehind self.old (op ∷ []) self.new) }
         ensures err { OnErr result (Keeps self.old self.new) }
         ensures refused { IfErr result (OpRefuses self.old op self.new) }
     {
@@ -50,15 +50,17 @@ impl<V: Vault> Store<V> {
     }
 
     /// Applies a batch as a whole: its operations are in the store, and in the vault, once this is `Ok`. If the memtable has no room for
-    /// it, it is flushed first, and all compactions that are due are run. If it is refused, the store holds what it held, and the call
-    /// can be tried again.
+    /// it, it is flushed first; if level 0 was due already, all compactions that are due are run then. Otherwise they are run one by one,
+    /// each after a twelfth of a memtable was written; a compaction that is refused then refuses no write, and is due again. If the
+    /// batch is refused, the store holds what it held, and the call can be tried again.
     pub fn write(&mut self, batch: &Batch) -> Result<(), StoreError>
         ensures ok { OnOk result (CanWrite self.old batch.now × Accepts self.old batch.now self.new) }
-        ensures compacted { OnOk result (CompactsIfFull self.old batch.now self.new) }
+        ensures compacted { OnOk result (CompactsIfBehind self.old batch.now self.new) }
         ensures err { OnErr result (Keeps self.old self.new) }
         ensures refused { IfErr result (WriteRefuses self.old batch.now self.new) }
     {
         let Err(why) = self.accept(batch) else {
+            self.keep_pace();
             return Ok(());
         };
         if why != CoordError::MemtableFull {
@@ -71,7 +73,7 @@ impl<V: Vault> Store<V> {
         Ok(())
     }
 
-    // Applies a batch, if the memtable has room for it.
+    // Applies a batch, if the memtable has room for it, and counts what it weighs.
     fn accept(&mut self, batch: &Batch) -> Result<(), CoordError>
         ensures ok { OnOk result ((write_fault self.old batch.now ≡ None) × Accepts self.old batch.now self.new) }
         ensures due { OnOk result (IsNoneDue self.old → IsNoneDue self.new) }
@@ -79,18 +81,23 @@ impl<V: Vault> Store<V> {
         ensures refused { IfErr result (λ e. AppendRefuses (write_fault self.old batch.now) self.old e self.new) }
     {
         self.coord.write(batch)?;
+        self.unpaced = self.unpaced.saturating_add(batch.weight());
         Ok(())
     }
 
-    // Empties the memtable, so that each batch has room, and runs the compactions that are due.
+    // Empties the memtable, so that each batch has room. If compactions are behind, runs all that are due.
     fn make_room(&mut self) -> Result<(), StoreError>
         ensures ok { OnOk result (EmptiesMemtable self.old self.new) }
-        ensures compacted { OnOk result (LeavesNoneDue self.old self.new) }
+        ensures compacted { OnOk result (IsBehind self.old → LeavesNoneDue self.old self.new) }
         ensures keeps { Keeps self.old self.new }
         ensures refused { IfErr result (OfCoord (RoomRefuses self.old self.new)) }
         ensures failures { self.old.failures ≤ self.new.failures }
     {
+        let is_behind = self.is_due(0);
         self.flush()?;
+        if !is_behind {
+            return Ok(());
+        }
         self.compact(u64::MAX)?;
         // Proof hint: the coordinator's invariant.
         let _listing = self.coord.show();

@@ -24,7 +24,7 @@ returns-in_err-compact-clause-failures g c =
     omega (arith, flushed, compacted)
 
 pub returns-clause-compacted : goal.returns-clause-compacted
-returns-clause-compacted g c =
+returns-clause-compacted g c = λ behind.
     none_due c.args.self.now c.flush.new.self c.compact.new.self _ (λ writes snapshots held. (c.in_ok-flush.ensures.ok writes snapshots held).0) (subst IsFit c.self.view_is c.show-listing.ensures.fit) c.in_ok-compact.ensures.ok
 
 pub returns-clause-failures : goal.returns-clause-failures

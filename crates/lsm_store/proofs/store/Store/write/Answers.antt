@@ -1,15 +1,18 @@
-use Rattle.std.proofs.Common.{rules, ◌≡◌, ◌≤◌, arith, inr}
+use Rattle.std.proofs.Common.{rules, ◌≡◌, ◌≤◌, arith, inl, inr}
 use Rattle.std.proofs.lemmas.Result.{err_from_is_err_and}
 use Rattle.lsm_key.specs.declared.limits.TheConstants.{MAX_BATCH_WEIGHT}
 use Rattle.lsm_key.specs.Limits.{total_weight}
 use Rattle.lsm_coord.specs.declared.error.CoordError.TheVariants.{MemtableFull}
 use Rattle.lsm_store.proofs.CurrentAlone.{room_made, room_there}
 use Rattle.lsm_store.proofs.StoreCompactions.{append_refuses_write, emptied_refuses_write, full_same, room_refuses_write}
-use Rattle.lsm_store.proofs.StoreSteps.{accepts_then, keeps_then}
+use Rattle.lsm_store.proofs.StoreSteps.{accepts_kept, accepts_then, keeps_then}
 use Rattle.lsm_store.proofs.store.Store.write.Goals as goal
 
+pub returns-in_default-clause-ok : goal.returns-in_default-clause-ok
+returns-in_default-clause-ok g c = (inl c.in_default.ensures.ok.0, accepts_kept _ _ _ _ c.in_default.ensures.ok.1 c.keep_pace.ensures)
+
 pub returns-in_default-clause-compacted : goal.returns-in_default-clause-compacted
-returns-in_default-clause-compacted g c = room_there c.args.self.now c.accept.new.self c.args.batch.now c.in_default.ensures.ok.0
+returns-in_default-clause-compacted g c = room_there c.args.self.now c.keep_pace.new.self c.args.batch.now c.in_default.ensures.ok.0
 
 pub returns-then-ne-clause-refused : goal.returns-then-ne-clause-refused
 returns-then-ne-clause-refused g c =
