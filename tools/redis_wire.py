@@ -1,7 +1,7 @@
 """Redis's protocol, RESP2, as far as tools/redis-mux looks at it: where a request and a reply end, and the first word of a request."""
 import re
 
-# The limits of the program, 'lsmsim serve'.
+# The limits of the program, 'luddimpa serve'.
 MAX_WORDS, MAX_WORD, MAX_REQUEST, MAX_LINE, MAX_HEADER = 2001, 131_072, 4_131_072, 65_536, 32
 
 
