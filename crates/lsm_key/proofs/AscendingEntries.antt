@@ -6,7 +6,7 @@ use Rattle.lsm_key.specs.Order.{Precedes, precedes, IsAscending, IsInOrder}
 use Rattle.lsm_key.specs.Sets.{IsIn}
 use Rattle.lsm_key.proofs.Membership.{IsIn-append_cases, IsIn-at, IsIn-place}
 use Rattle.lsm_key.proofs.EntryOrder.{far}
-use Rattle.lsm_key.proofs.MergedLists.{entries_weak}
+use Rattle.lsm_key.proofs.WeakOrder.{entries_weak}
 
 -- each entry stands before all that follow
 abbrev pub Falls : List Entry → Type 0

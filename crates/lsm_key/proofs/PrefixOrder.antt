@@ -3,6 +3,7 @@ use Rattle.std.proofs.Common.{Bool, true, false, cond, ◌&&◌, length, take, d
 use Rattle.std.specs.declared.cmp.Ordering.{Ordering}
 use Rattle.std.specs.declared.cmp.Ordering.TheVariants.{Less, Equal, Greater}
 use Rattle.std.specs.Bool.{nat_lt}
+use Rattle.std.specs.Int.{w64, from_be_bytes}
 use Rattle.std.specs.Ordering.{nat_cmp, ordering_then, match_ordering, is_lt}
 use Rattle.std.specs.Cmp.Lexicographic.{slice_cmp}
 use Rattle.std.specs.Str.{bytes_eq}
@@ -37,6 +38,18 @@ leading_next (suc n) (b ∷ bs) =
 -- one more byte
 pub leading_more : (n : ℕ) (key : List ℕ) → leading (n + 1) key ≡ leading n key * 256 + byte_at key n
 leading_more n key = ap (λ (m : ℕ). leading m key) (add-one n) ∙ leading_next n key
+
+-- of a key that has all 8 bytes
+pub leading_loaded : (key : List ℕ) → 8 ≤ length key → from_be_bytes w64 (take 8 key) ≡ leading 8 key
+leading_loaded [] long = absurd (omega arith)
+leading_loaded (a ∷ []) long = absurd (omega arith)
+leading_loaded (a ∷ b ∷ []) long = absurd (omega arith)
+leading_loaded (a ∷ b ∷ c ∷ []) long = absurd (omega arith)
+leading_loaded (a ∷ b ∷ c ∷ d ∷ []) long = absurd (omega arith)
+leading_loaded (a ∷ b ∷ c ∷ d ∷ e ∷ []) long = absurd (omega arith)
+leading_loaded (a ∷ b ∷ c ∷ d ∷ e ∷ f ∷ []) long = absurd (omega arith)
+leading_loaded (a ∷ b ∷ c ∷ d ∷ e ∷ f ∷ g ∷ []) long = absurd (omega arith)
+leading_loaded (a ∷ b ∷ c ∷ d ∷ e ∷ f ∷ g ∷ h ∷ rest) long = omega arith
 
 -- of two numbers the one with the smaller first digit is smaller
 digits_apart : (p a b r s : ℕ) → b < a → s < p → a * p + r < b * p + s → ⊥

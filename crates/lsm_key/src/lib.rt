@@ -12,7 +12,6 @@ mod laws;
 mod lent;
 mod limits;
 mod lookup;
-mod merge;
 mod number;
 mod op;
 mod prefix;
@@ -40,7 +39,6 @@ pub use limits::{
     MAX_POINTS, MAX_SHORT_KEY_BYTES, MAX_SNAPSHOTS, MAX_TABLE_BYTES, MAX_VALUE_BYTES, NUM_LEVELS,
 };
 pub use lookup::compare_place;
-pub use merge::merge_lists;
 pub use number::{FileNumber, VersionNumber};
 pub use op::Op;
 pub use prefix::prefix_of;
