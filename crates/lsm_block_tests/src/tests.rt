@@ -1,23 +1,68 @@
-//! A block of three entries and one of two: beginnings, changes, limits on their keys; and the calls that no table makes.
+//! Blocks of three entries and of two, field by field: beginnings, changes, limits on their keys; and the calls that no table makes.
 
 ghost use Rattle.std.specs.Prelude.{◌≤◌};
 
-use bytes::{BufMut, Bytes, BytesMut};
+use bytes::Bytes;
 use lsm_block::{Block, BlockFault, Cursor, decode_block, encode_block};
 use lsm_key::{Entry, MAX_KEY_BYTES, MAX_SHORT_KEY_BYTES, Refused};
 use std::alloc::{AllocError, Global};
 use std::process::Abort;
 use std::test::Fail;
 
-// Of the key a, at sequence 2 a put of x, and at sequence 1 a deletion; of the key bc, at sequence 3 a put of nothing.
-const THREE: [u8; 47] = [
-    0, 1, 0x61, 0, 0, 0, 0, 0, 0, 2, 1, 0, 0, 0, 1, 0x78, //
-    0, 1, 0x61, 0, 0, 0, 0, 0, 0, 1, 0, 0, 0, 0, 0, //
-    0, 2, 0x62, 0x63, 0, 0, 0, 0, 0, 0, 3, 1, 0, 0, 0, 0,
+mod field;
+
+use field::Field::{self, Key, KeyLength, Kind, Sequence, Value, ValueLength};
+use field::{EntryFields, bytes_of, changed};
+
+const PUT_A: EntryFields = [
+    KeyLength(1),
+    Key(b"a"),
+    Sequence(2),
+    Kind(1),
+    ValueLength(1),
+    Value(b"x"),
 ];
 
-// Where its entries end.
-const ENDS: [usize; 3] = [16, 31, 47];
+const DELETE_A: EntryFields = [
+    KeyLength(1),
+    Key(b"a"),
+    Sequence(1),
+    Kind(0),
+    ValueLength(0),
+    Value(b""),
+];
+
+const PUT_BC: EntryFields = [
+    KeyLength(2),
+    Key(b"bc"),
+    Sequence(3),
+    Kind(1),
+    ValueLength(0),
+    Value(b""),
+];
+
+const LATER_DELETE_A: EntryFields = [
+    KeyLength(1),
+    Key(b"a"),
+    Sequence(2),
+    Kind(0),
+    ValueLength(0),
+    Value(b""),
+];
+
+const EARLIER_PUT_A: EntryFields = [
+    KeyLength(1),
+    Key(b"a"),
+    Sequence(1),
+    Kind(1),
+    ValueLength(1),
+    Value(b"1"),
+];
+
+// The blocks of the tests, which keep every rule: of two keys, and of one.
+const THREE: [EntryFields; 3] = [PUT_A, DELETE_A, PUT_BC];
+
+const TWO: [EntryFields; 2] = [LATER_DELETE_A, EARLIER_PUT_A];
 
 // The fault of the bytes as a block of keys of at most so many bytes, or none.
 fn fault_of(alloc: Global, bytes: &[u8], max_key: usize) -> Result<Option<BlockFault>, Fail>
@@ -31,33 +76,50 @@ fn fault_of(alloc: Global, bytes: &[u8], max_key: usize) -> Result<Option<BlockF
     }
 }
 
-#[test]
-fn a_beginning_is_shorter_or_truncated(rt: HostRuntime) -> Result<(), Fail> {
-    for len in 0..48 {
-        let found = fault_of(rt.alloc(), &THREE[..len], MAX_KEY_BYTES)?;
-        let want = if ENDS.contains(&len) {
-            None
-        } else {
-            Some(BlockFault::Truncated)
-        };
-        assert!(rt; found == want, "{len}");
+// Whether some of the entries from the front, but not none, have so many bytes.
+fn is_end(alloc: Global, entries: &[EntryFields], length: usize) -> Result<bool, AllocError> {
+    let mut end = 0usize;
+    for entry in entries {
+        end = end.saturating_add(bytes_of(alloc, entry)?.len());
+        if end == length {
+            return Ok(true);
+        }
+    }
+    Ok(false)
+}
+
+// Each beginning of the bytes of these entries is a shorter block, or truncated.
+fn see_beginnings(
+    rt: &impl Abort,
+    alloc: Global,
+    entries: &[EntryFields],
+    bytes: &[u8],
+) -> Result<(), Fail> {
+    for length in 0..bytes.len() {
+        let found = fault_of(alloc, &bytes[..length], MAX_KEY_BYTES)?;
+        let is_block = is_end(alloc, entries, length)?;
+        let want = if is_block { None } else { SHORT };
+        assert!(rt; found == want, "{length}");
     }
     Ok(())
 }
 
-// Of the key a, at sequence 2 a deletion, at sequence 1 a put of 1.
-const TWO: [u8; 31] = [
-    0, 1, 0x61, 0, 0, 0, 0, 0, 0, 2, 0, 0, 0, 0, 0, //
-    0, 1, 0x61, 0, 0, 0, 0, 0, 0, 1, 1, 0, 0, 0, 1, 0x31,
-];
+#[test]
+fn a_beginning_is_shorter_or_truncated(rt: HostRuntime) -> Result<(), Fail> {
+    let bytes = bytes_of(rt.alloc(), THREE.as_flattened())?;
+    see_beginnings(&rt, rt.alloc(), &THREE, &bytes)
+}
 
-// A block, how many of its bytes there are, which of them are changed to what, the limit on its keys, and the fault that the bytes then
-// have, or none.
+#[test]
+fn a_beginning_of_versions_is_shorter_or_truncated(rt: HostRuntime) -> Result<(), Fail> {
+    let bytes = bytes_of(rt.alloc(), TWO.as_flattened())?;
+    see_beginnings(&rt, rt.alloc(), &TWO, &bytes)
+}
+
+// A block, which fields of which of its entries have other values, and the fault that the bytes then have, or none.
 type Row = (
-    &'static [u8],
-    usize,
-    &'static [(usize, u8)],
-    usize,
+    &'static [EntryFields],
+    &'static [(usize, Field)],
     Option<BlockFault>,
 );
 
@@ -69,124 +131,159 @@ const ORDER: Option<BlockFault> = Some(BlockFault::OutOfOrder);
 
 const SHORT: Option<BlockFault> = Some(BlockFault::Truncated);
 
-const ROWS: [Row; 40] = [
+const ROWS: [Row; 31] = [
     // A key's length.
-    (&THREE, 47, &[(1, 0)], 4096, LENGTH),
-    (&THREE, 47, &[(0, 16)], 4096, LENGTH),
-    (&THREE, 47, &[(0, 1)], 4096, SHORT),
-    (&THREE, 47, &[(32, 0xff)], 4096, SHORT),
+    (&THREE, &[(0, KeyLength(0))], LENGTH),
+    (&THREE, &[(0, KeyLength(4_097))], LENGTH),
+    (&THREE, &[(0, KeyLength(257))], SHORT),
+    (&THREE, &[(2, KeyLength(255))], SHORT),
     // A trailer's kind and sequence.
-    (&THREE, 47, &[(10, 2)], 4096, KIND),
-    (&THREE, 47, &[(26, 0xff)], 4096, KIND),
-    (&THREE, 47, &[(9, 0)], 4096, KIND),
-    (&THREE, 47, &[(25, 0)], 4096, KIND),
+    (&THREE, &[(0, Kind(2))], KIND),
+    (&THREE, &[(1, Kind(255))], KIND),
+    (&THREE, &[(0, Sequence(0))], KIND),
+    (&THREE, &[(1, Sequence(0))], KIND),
     // A value's length: of a put, and of a deletion.
-    (&THREE, 47, &[(12, 1)], 4096, LENGTH),
-    (&THREE, 47, &[(11, 0xff)], 4096, LENGTH),
-    (&THREE, 47, &[(14, 0xff)], 4096, SHORT),
-    (&THREE, 47, &[(46, 1)], 4096, SHORT),
-    (&THREE, 47, &[(30, 1)], 4096, LENGTH),
+    (&THREE, &[(0, ValueLength(65_537))], LENGTH),
+    (&THREE, &[(0, ValueLength(4_278_190_081))], LENGTH),
+    (&THREE, &[(0, ValueLength(255))], SHORT),
+    (&THREE, &[(2, ValueLength(1))], SHORT),
+    (&THREE, &[(1, ValueLength(1))], LENGTH),
     // The order: keys, and the sequences of one key.
-    (&THREE, 47, &[(2, 0x62)], 4096, ORDER),
-    (&THREE, 47, &[(18, 0x60)], 4096, ORDER),
-    (&THREE, 47, &[(25, 2)], 4096, ORDER),
-    (&THREE, 47, &[(9, 1)], 4096, ORDER),
-    (&THREE, 47, &[(33, 0x60)], 4096, ORDER),
+    (&THREE, &[(0, Key(b"b"))], ORDER),
+    (&THREE, &[(1, Key(b"`"))], ORDER),
+    (&THREE, &[(1, Sequence(2))], ORDER),
+    (&THREE, &[(0, Sequence(1))], ORDER),
+    (&THREE, &[(2, Key(b"`c"))], ORDER),
     // Other entries.
-    (&THREE, 47, &[(15, 0x79)], 4096, None),
-    (&THREE, 47, &[(26, 1)], 4096, None),
-    (&THREE, 47, &[(33, 0x61)], 4096, None),
-    // Its third key has two bytes.
-    (&THREE, 47, &[], 2, None),
-    (&THREE, 47, &[], 1, LENGTH),
-    (&THREE, 31, &[], 1, None),
-    (&THREE, 47, &[], 0, LENGTH),
-    // Bytes that end, one changed byte, and of two faults the first.
-    (&TWO, 0, &[], 4096, SHORT),
-    (&TWO, 14, &[], 4096, SHORT),
-    (&TWO, 30, &[], 4096, SHORT),
-    (&TWO, 31, &[(1, 0)], 4096, LENGTH),
-    (&TWO, 31, &[(0, 16)], 4096, LENGTH),
-    (&TWO, 31, &[(10, 2)], 4096, KIND),
-    (&TWO, 31, &[(9, 0)], 4096, KIND),
-    (&TWO, 31, &[(14, 1)], 4096, LENGTH),
-    (&TWO, 31, &[(27, 1)], 4096, LENGTH),
-    (&TWO, 31, &[(9, 1)], 4096, ORDER),
-    (&TWO, 2, &[(1, 0)], 4096, LENGTH),
-    (&TWO, 11, &[(10, 2)], 4096, KIND),
-    (&TWO, 15, &[(14, 1)], 4096, LENGTH),
-    (&TWO, 31, &[(10, 2), (14, 1)], 4096, KIND),
-    (&TWO, 31, &[(9, 1), (28, 1)], 4096, SHORT),
+    (&THREE, &[(0, Value(b"y"))], None),
+    (&THREE, &[(1, Kind(1))], None),
+    (&THREE, &[(2, Key(b"ac"))], None),
+    // No entry, one changed field, and of two faults the first.
+    (&[], &[], SHORT),
+    (&TWO, &[(0, KeyLength(0))], LENGTH),
+    (&TWO, &[(0, KeyLength(4_097))], LENGTH),
+    (&TWO, &[(0, Kind(2))], KIND),
+    (&TWO, &[(0, Sequence(0))], KIND),
+    (&TWO, &[(0, ValueLength(1))], LENGTH),
+    (&TWO, &[(1, ValueLength(65_537))], LENGTH),
+    (&TWO, &[(0, Sequence(1))], ORDER),
+    (&TWO, &[(0, Kind(2)), (0, ValueLength(1))], KIND),
+    (&TWO, &[(0, Sequence(1)), (1, ValueLength(257))], SHORT),
 ];
 
-// The fault of the first bytes of a block with some of them changed, or none.
-fn fault_with(
+// The fault of the bytes of fields, or none.
+fn fault_of_fields(
     alloc: Global,
-    block: &[u8],
-    len: usize,
-    changes: &[(usize, u8)],
+    fields: &[Field],
     max_key: usize,
 ) -> Result<Option<BlockFault>, Fail> {
-    let mut bytes = Vec::from_slice(alloc, block)?;
-    for (at, byte) in changes {
-        if let Some(place) = bytes.get_mut(*at) {
-            *place = *byte;
-        }
-    }
-    bytes.truncate(len);
+    let bytes = bytes_of(alloc, fields)?;
     fault_of(alloc, &bytes, max_key.min(MAX_KEY_BYTES))
+}
+
+// The fault of a block with some fields changed, or none.
+fn fault_with(
+    alloc: Global,
+    entries: &[EntryFields],
+    changes: &[(usize, Field)],
+) -> Result<Option<BlockFault>, Fail> {
+    let changed = changed(alloc, entries, changes)?;
+    fault_of_fields(alloc, changed.as_flattened(), MAX_KEY_BYTES)
 }
 
 #[test]
 fn each_fault_of_a_block(rt: HostRuntime) -> Result<(), Fail> {
-    for (block, len, changes, max_key, want) in ROWS {
-        let found = fault_with(rt.alloc(), block, len, changes, max_key)?;
-        assert!(rt; found == want, "{len} bytes, {changes:?}, {max_key}");
+    for (entries, changes, want) in ROWS {
+        let found = fault_with(rt.alloc(), entries, changes)?;
+        assert!(rt; found == want, "{changes:?}");
+    }
+    Ok(())
+}
+
+// The first fields of a block, whose last one has a fault: what follows it is not missed.
+const BEGINNINGS: [(&[Field], Option<BlockFault>); 3] = [
+    (&[KeyLength(0)], LENGTH),
+    (&[KeyLength(1), Key(b"a"), Sequence(2), Kind(2)], KIND),
+    (
+        &[
+            KeyLength(1),
+            Key(b"a"),
+            Sequence(2),
+            Kind(0),
+            ValueLength(1),
+        ],
+        LENGTH,
+    ),
+];
+
+#[test]
+fn a_fault_comes_before_what_is_missing(rt: HostRuntime) -> Result<(), Fail> {
+    for (fields, want) in BEGINNINGS {
+        let found = fault_of_fields(rt.alloc(), fields, MAX_KEY_BYTES)?;
+        assert!(rt; found == want, "{fields:?}");
+    }
+    Ok(())
+}
+
+// Whole blocks, the limit on their keys, and the fault that the bytes then have, or none.
+const LIMITS: [(&[EntryFields], usize, Option<BlockFault>); 6] = [
+    (&THREE, 4_096, None),
+    (&TWO, 4_096, None),
+    (&THREE, 2, None),
+    (&THREE, 1, LENGTH),
+    (&[PUT_A, DELETE_A], 1, None),
+    (&THREE, 0, LENGTH),
+];
+
+#[test]
+fn keys_are_within_their_limit(rt: HostRuntime) -> Result<(), Fail> {
+    for (entries, max_key, want) in LIMITS {
+        let found = fault_of_fields(rt.alloc(), entries.as_flattened(), max_key)?;
+        assert!(rt; found == want, "{max_key}");
     }
     Ok(())
 }
 
 // The block of a put of nothing at sequence 1, whose key has so many bytes.
-fn block_of_key(alloc: Global, len: usize) -> Result<Vec<u8>, AllocError> {
-    let key = vec![in alloc; 0x61u8; len]?;
-    let mut out = BytesMut::new(alloc);
-    out.put_u16(u16::try_from(len).unwrap_or(0))?;
-    out.put_slice(key.as_slice())?;
-    out.put_slice(&[0, 0, 0, 0, 0, 0, 1, 1, 0, 0, 0, 0])?;
-    Vec::from_slice(alloc, out.as_slice())
+fn block_of_key(alloc: Global, length: u16) -> Result<Vec<u8>, AllocError> {
+    let mut bytes = bytes_of(alloc, &[KeyLength(length)])?;
+    bytes.resize(usize::from(length).saturating_add(2), b'a')?;
+    let rest = bytes_of(alloc, &[Sequence(1), Kind(1), ValueLength(0)])?;
+    bytes.extend_from_slice(&rest)?;
+    Ok(bytes)
 }
 
 // Its faults as a block of keys of any length, and as one of short keys.
 fn faults_of_key(
     alloc: Global,
-    len: usize,
+    length: u16,
 ) -> Result<(Option<BlockFault>, Option<BlockFault>), Fail> {
-    let bytes = block_of_key(alloc, len)?;
+    let bytes = block_of_key(alloc, length)?;
     let any = fault_of(alloc, &bytes, MAX_KEY_BYTES)?;
     Ok((any, fault_of(alloc, &bytes, MAX_SHORT_KEY_BYTES)?))
 }
 
+// A key's length, and both faults.
+const KEYS: [(u16, Option<BlockFault>, Option<BlockFault>); 4] = [
+    (1_024, None, None),
+    (1_025, None, LENGTH),
+    (4_096, None, LENGTH),
+    (4_097, LENGTH, LENGTH),
+];
+
 #[test]
 fn a_key_has_at_most_4096_bytes(rt: HostRuntime) -> Result<(), Fail> {
-    for (len, want, want_short) in [
-        (1024, None, None),
-        (1025, None, Some(BlockFault::BadLength)),
-        (4096, None, Some(BlockFault::BadLength)),
-        (
-            4097,
-            Some(BlockFault::BadLength),
-            Some(BlockFault::BadLength),
-        ),
-    ] {
-        let found = faults_of_key(rt.alloc(), len)?;
-        assert!(rt; found == (want, want_short), "{len}");
+    for (length, want, want_short) in KEYS {
+        let found = faults_of_key(rt.alloc(), length)?;
+        assert!(rt; found == (want, want_short), "{length}");
     }
     Ok(())
 }
 
 // The block of three entries.
 fn block_of_three(alloc: Global) -> Result<Block, Fail> {
-    match decode_block(alloc, Bytes::from_static(&THREE), MAX_KEY_BYTES) {
+    let bytes = Bytes::from_vec(bytes_of(alloc, THREE.as_flattened())?)?;
+    match decode_block(alloc, bytes, MAX_KEY_BYTES) {
         Ok(block) => Ok(block),
         Err(Refused::Fault(_)) => Err("no block")?,
         Err(Refused::OutOfMemory) => Err("out of memory")?,
@@ -230,7 +327,7 @@ fn sequences(alloc: Global, block: &Block) -> Result<Vec<u64>, Fail> {
 
 // A block is lent to what sees it, so that no assertion drops it.
 fn see_three(rt: &impl Abort, alloc: Global, block: &Block) -> Result<(), Fail> {
-    assert!(rt; written(alloc, block)?.as_slice() == THREE.as_slice());
+    assert!(rt; written(alloc, block)?.as_slice() == block.bytes());
     assert!(rt; sequences(alloc, block)?.as_slice() == [2, 1, 3].as_slice());
     let between = block.range(alloc, b"a", b"bc")?;
     assert!(rt; between.len() == 2);

@@ -14,6 +14,7 @@ mod laws;
 mod log_record;
 mod logged_op;
 mod next;
+mod numbers;
 mod recorded;
 mod served;
 mod valid;
@@ -36,7 +37,8 @@ pub use log_record::{
     LogRecord, WRITE_HEAD_BYTES, append_write, decode_log, encode_freeze, encode_log, encode_write,
 };
 pub use logged_op::{LoggedOp, find_logged};
+pub use numbers::{has_file, is_among, is_listed};
 pub use recorded::{is_as_recorded, open_as_recorded};
 pub use served::{LevelCursor, Listing, Placed, Prepared, Room, Served};
 pub use valid::{are_keys, files_rise};
-pub use version::{ApplyError, Version, has_file, is_among, is_listed, removed_by};
+pub use version::{ApplyError, Version, removed_by};

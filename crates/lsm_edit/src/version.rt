@@ -1,13 +1,14 @@
 //! Versions: the files that a store has after each edit.
 
-ghost use Rattle.std.specs.Prelude.{◌≡◌, ◌≤◌, ◌&&◌, ◌||◌, ◌++◌, ◌↔◌, false, not, None, OnOk, OnErr, IfOk, IfErr, IsTrue, nat_eq, nat_lt, nat_le};
+ghost use Rattle.std.specs.Prelude.{◌≡◌, ◌≤◌, ◌&&◌, ◌||◌, ◌++◌, ◌↔◌, false, not, None, OnOk, OnErr, IfOk, IfErr, IsTrue, nat_lt, nat_le};
 ghost use Rattle.std.specs.List.{list_any};
 ghost use Rattle.std.specs.List.Sorted.{IsNonDecreasing};
 ghost use Rattle.lsm_key.specs.Faults.{Refuses};
 ghost use Rattle.lsm_edit.specs.Edit.{IsEdit};
-ghost use Rattle.lsm_edit.specs.Version.{clashes, goes_back, has_number, has_overlap, is_low, miscounts, files_without, is_listed, FileNumbersRise};
+ghost use Rattle.lsm_edit.specs.Version.{clashes, goes_back, has_number, has_overlap, is_low, miscounts, files_without, is_listed};
 
 use crate::file::same_files;
+use crate::numbers::{has_file, is_among, is_listed, lacks};
 use crate::{Edit, EditKind, FileMeta};
 use lsm_key::{MAX_NUMBER, Seq};
 use std::alloc::{AllocError, AllocFailed, Global};
@@ -285,43 +286,6 @@ pub fn removed_by(edit: &Edit) -> &[u64]
     ensures ascending { IsNonDecreasing result.now }
 {
     edit.removed.as_slice()
-}
-
-/// Whether the number is one of these, which ascend.
-pub fn is_among(numbers: &[u64], number: u64) -> bool
-    requires { IsNonDecreasing numbers.now }
-    ensures { result ≡ list_any (λ n. nat_eq number n) numbers.now }
-{
-    numbers.binary_search(&number).is_ok()
-}
-
-// Whether one of the numbers is no file's.
-fn lacks(files: &[FileMeta], numbers: &[u64]) -> bool
-    requires { FileNumbersRise files.now }
-    ensures { result ≡ list_any (λ n. not (list_any (has_number n) files.now)) numbers.now }
-{
-    numbers.iter().any(|number| !has_file(files, *number))
-}
-
-/// Whether the number is one of the files', whose numbers rise. O(log n).
-pub fn has_file(files: &[FileMeta], number: u64) -> bool
-    requires { FileNumbersRise files.now }
-    ensures { result ≡ list_any (has_number number) files.now }
-{
-    files
-        .binary_search_by_key(&number, |file| file.number)
-        .is_ok()
-}
-
-/// Whether the file is one of these, whose numbers rise, by its whole record. O(log n).
-pub fn is_listed(files: &[FileMeta], file: &FileMeta) -> bool
-    requires { FileNumbersRise files.now }
-    ensures { result ≡ is_listed files.now file.now }
-{
-    match files.binary_search_by_key(&file.number, |other| other.number) {
-        Ok(at) => *file == files[at],
-        Err(_) => false,
-    }
 }
 
 // Whether two of the files overlap, once these are removed and added.

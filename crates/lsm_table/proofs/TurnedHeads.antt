@@ -11,7 +11,7 @@ use Rattle.lsm_key.specs.declared.entry.Entry.{Entry}
 use Rattle.lsm_key.specs.Order.{IsInOrder, precedes}
 use Rattle.lsm_key.specs.Sets.{IsIn}
 use Rattle.lsm_key.proofs.Membership.{IsIn-append_cases, IsIn-append_left, IsIn-append_right, IsIn-at, IsIn-place}
-use Rattle.lsm_key.proofs.MergedLists.{entries_weak}
+use Rattle.lsm_key.proofs.WeakOrder.{entries_weak}
 use Rattle.lsm_key.specs.Places.{all_entries}
 use Rattle.lsm_key.proofs.AscendingEntries.{first_in_order, rest_in_order}
 use Rattle.lsm_table.specs.Heads.{AdvancesHeads, AllInOrder, AreTurned, PutInOrder, TakesFirst, first_of, lists_ahead}

@@ -8,7 +8,8 @@ ghost use Rattle.lsm_edit.specs.Served.{AreAsRecorded, IsServed};
 ghost use Rattle.lsm_edit.specs.Prepared.{IsPreparedBy, IsReadyFor, after_taking_up, prepared_by};
 
 use super::{Placed, Served, put_each};
-use crate::version::{copies_of, is_among, removed_by};
+use crate::numbers::is_among;
+use crate::version::{copies_of, removed_by};
 use crate::{Edit, FileMeta, Version};
 use lsm_table::Table;
 use std::alloc::AllocError;

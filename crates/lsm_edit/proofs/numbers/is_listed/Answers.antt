@@ -7,7 +7,7 @@ use Rattle.lsm_edit.specs.declared.file.FileMeta.{FileMeta}
 use Rattle.lsm_edit.specs.File.{same_file}
 use Rattle.lsm_edit.proofs.ListedFiles.{listed_at, unlisted}
 use Rattle.lsm_edit.proofs.NumberSearch.{files_rise, searched}
-use Rattle.lsm_edit.proofs.version.is_listed.Goals as goal
+use Rattle.lsm_edit.proofs.numbers.is_listed.Goals as goal
 
 pub returns-in-Ok : goal.returns-in-Ok
 returns-in-Ok c =

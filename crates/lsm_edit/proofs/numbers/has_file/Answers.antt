@@ -4,7 +4,7 @@ use Rattle.std.proofs.lemmas.List.Sorted.{answers_always}
 use Rattle.std.specs.Prelude.{nat_eq}
 use Rattle.lsm_edit.specs.declared.file.FileMeta.{FileMeta}
 use Rattle.lsm_edit.proofs.NumberSearch.{searched, files_rise}
-use Rattle.lsm_edit.proofs.version.has_file.Goals as goal
+use Rattle.lsm_edit.proofs.numbers.has_file.Goals as goal
 
 pub returns : goal.returns
 returns c =

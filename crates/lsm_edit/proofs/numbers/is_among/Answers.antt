@@ -2,7 +2,7 @@ use Rattle.std.proofs.Common.{ℕ, sym, ◌∙◌}
 use Rattle.std.proofs.lemmas.Bool.{eq-eqb, eqb-true, false_from_ne_true}
 use Rattle.std.specs.Prelude.{nat_eq}
 use Rattle.lsm_edit.proofs.NumberSearch.{searched}
-use Rattle.lsm_edit.proofs.version.is_among.Goals as goal
+use Rattle.lsm_edit.proofs.numbers.is_among.Goals as goal
 
 pub returns : goal.returns
 returns c =
