@@ -4,8 +4,8 @@
 //! their first fault, that every job keeps the rules of its format, and that a copy is the same value. Its definitions
 //! say which files may be merged and which entries the outputs of a job hold; its laws, that the install of such
 //! outputs changes no read, and that neither it nor a flush invalidates other jobs. It stands on `lsm_edit` for
-//! versions with their tables and for their bytes, on `lsm_claim` for the names of jobs, their wants and ranges of
-//! keys, and on `lsm_key` for fields and for what is visible in a set of entries.
+//! versions with their tables and for their bytes, on `lsm_claim` for the names of jobs, their wants and which
+//! of these conflict, and on `lsm_key` for fields, ranges of keys, limits and what is visible in a set of entries.
 #![tactic(auto)]
 
 mod fault;

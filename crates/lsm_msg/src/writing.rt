@@ -28,9 +28,10 @@
 mod job;
 mod result;
 
-ghost use Rattle.std.specs.Prelude.{◌≡◌, ◌++◌, ◌≤◌, OnOk, length};
+ghost use Rattle.std.specs.Prelude.{◌≡◌, ◌++◌, ◌≤◌, IfErr, OnOk, length};
 ghost use Rattle.std.specs.Int.{w64, to_be_bytes};
 ghost use Rattle.lsm_edit.specs.File.{size};
+ghost use Rattle.lsm_key.specs.declared.refused.Refused.TheVariants.{OutOfMemory};
 ghost use Rattle.lsm_key.specs.Reading.{Gives};
 ghost use Rattle.lsm_msg.specs.declared.message.TheConstants.{MAX_MESSAGE_BYTES};
 ghost use Rattle.lsm_msg.specs.Messages.{AreTableBytes, IsBody, body_text, encoding, message, node, sized};
@@ -55,7 +56,9 @@ const HEAD_BYTES: usize = 10;
 /// memory.
 pub fn encode(alloc: Global, m: &Message) -> Result<Bytes, MsgError>
     requires { IsBody m.now.body }
-    ensures { Gives (λ b. b) result (encoding m.now) }
+    ensures exact { Gives (λ b. b) result (encoding m.now) }
+    // A message that is too large is refused as that, also if there is no memory.
+    ensures fits { IfErr result (λ e. e ≡ OutOfMemory → length (message m.now) ≤ MAX_MESSAGE_BYTES) }
 {
     let size = body_bytes(&m.body).saturating_add(HEAD_BYTES);
     if size > MAX_MESSAGE_BYTES {

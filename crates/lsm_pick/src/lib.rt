@@ -3,8 +3,8 @@
 //! It promises the rule exactly: levels that need compaction from the lowest up, in each the files by number, and of
 //! these the first whose closure conflicts with no running job and is within the job limits. The same of a second
 //! order, in which each level below level 0 goes on after its compact pointer; both orders have the same candidates. It
-//! stands on `lsm_edit` for versions and the search order of their files, on `lsm_claim` for live jobs, and on
-//! `lsm_msg` for the limits of a job and for what may be merged.
+//! stands on `lsm_edit` for versions and the search order of their files, on `lsm_claim` for live jobs, on `lsm_msg` for
+//! what may be merged, and on `lsm_key` for the limits of a job.
 #![tactic(auto)]
 
 mod due;

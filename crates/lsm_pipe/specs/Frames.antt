@@ -106,12 +106,16 @@ MessageRefuses known e = FrameRefuses known e
 abbrev pub ExceedsFrame : Message → Type 0
 ExceedsFrame m = MAX_MESSAGE_BYTES < length (message m)
 
--- why a message is not sent
+-- the message has no more bytes than a frame may have
+abbrev pub FitsFrame : Message → Type 0
+FitsFrame m = length (message m) ≤ MAX_MESSAGE_BYTES
+
+-- why a message is not sent: that it has too many bytes comes before all else
 abbrev pub SendRefuses : Message → PipeError → Type 0
 SendRefuses m TooLarge = ExceedsFrame m
-SendRefuses m NoEnd = Unit {0}
-SendRefuses m WriteFault = Unit {0}
-SendRefuses m OutOfMemory = Unit {0}
+SendRefuses m NoEnd = FitsFrame m
+SendRefuses m WriteFault = FitsFrame m
+SendRefuses m OutOfMemory = FitsFrame m
 SendRefuses m e = ⊥
 
 -- the sink takes no more bytes

@@ -5,7 +5,7 @@ ghost use Rattle.std.specs.Io.KnownBytes.{Appends};
 ghost use Rattle.lsm_msg.specs.Messages.{IsMessage, IsSpelled, message, sized};
 ghost use Rattle.lsm_io.specs.Reports.{ReportsAfter, ReportsFaults};
 ghost use Rattle.lsm_pipe.specs.Counting.{MayFollow, read_faults_of, write_faults_of};
-ghost use Rattle.lsm_pipe.specs.Frames.{IsSinkError, MessageRefuses, NoMessage, SendRefuses, SendStops, TakesMessage, framed};
+ghost use Rattle.lsm_pipe.specs.Frames.{FitsFrame, IsSinkError, MessageRefuses, NoMessage, SendRefuses, SendStops, TakesMessage, framed};
 
 use crate::error::PipeError;
 use crate::frame::{read_frame, write_frame};
@@ -47,6 +47,7 @@ pub fn send<W: Sink>(alloc: Global, writer: &mut W, m: &Message) -> Result<(), P
     requires { IsMessage m.now }
     ensures ok { OnOk result (Appends (W.contents writer.old) (W.contents writer.new) (sized (message m.now))) }
     ensures flushed { OnOk result (W.is_flushed writer.new ≡ true) }
+    ensures fits { OnOk result (FitsFrame m.now) }
     ensures refused { IfErr result (SendRefuses m.now) }
     ensures unsent { IfErr result (λ e. IsSinkError e ⊎ (writer.new ≡ writer.old)) }
     ensures counted { ReportsAfter MayFollow result (W.writes writer.old) (W.writes writer.new) }

@@ -18,7 +18,7 @@ impl fmt::Display for ScriptLine<'_> {
             Event::Freeze => f.write_str("freeze"),
             Event::Flush => f.write_str("flush"),
             Event::Snap => f.write_str("snap"),
-            Event::Release(id) => write!(f, "release {}.{}", id.epoch, id.number),
+            Event::Release(id) => write!(f, "release {id}"),
             Event::Get(key, at) => write!(f, "get {}{}", Word(key.as_slice()), At(*at)),
             Event::Scan(range) => write_scan(f, range),
             Event::Show => f.write_str("show c"),
@@ -46,7 +46,7 @@ impl fmt::Display for At {
     fn fmt<W: fmt::Write>(&self, f: &mut fmt::Formatter<W>) -> fmt::Result {
         match self.0 {
             None => Ok(()),
-            Some(id) => write!(f, " @{}.{}", id.epoch, id.number),
+            Some(id) => write!(f, " @{id}"),
         }
     }
 }
