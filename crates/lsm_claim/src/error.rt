@@ -8,7 +8,7 @@ use thiserror::Error;
 #[derive(Clone, Copy, Debug, PartialEq, Eq, Error)]
 pub enum ClaimError {
     /// This live job shares a level and a key with the one that is asked for. Claim that one once this one has ended.
-    #[error("the live job {}.{} shares a level, and has a key in common", .0.epoch, .0.number)]
+    #[error("the live job {0} shares a level, and has a key in common")]
     Overlaps(JobId),
     /// `MAX_LIVE_CLAIMS` claims are live. Settle one of them first.
     #[error("four claims are live")]

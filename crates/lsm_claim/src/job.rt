@@ -6,12 +6,20 @@ ghost use Rattle.lsm_claim.specs.Levels.{shares_level, uses_level};
 use crate::Hull;
 use lsm_key::Items;
 use std::alloc::{AllocError, Global};
+use std::fmt;
 
 /// The name of a job: the epoch that issued it, and its number there, from 1.
 #[derive(Clone, Copy, Debug, PartialEq, Eq)]
 pub struct JobId {
     pub epoch: u64,
     pub number: u64,
+}
+
+/// `E.N`: the epoch and the number.
+impl fmt::Display for JobId {
+    fn fmt<W: fmt::Write>(&self, f: &mut fmt::Formatter<W>) -> fmt::Result {
+        write!(f, "{}.{}", self.epoch, self.number)
+    }
 }
 
 /// The inputs of one compaction: files of a level and of the next one, and their key range.

@@ -9,7 +9,7 @@ use Rattle.lsm_key.specs.Places.{all_entries}
 use Rattle.lsm_key.specs.Sets.{IsIn}
 use Rattle.lsm_key.proofs.AscendingEntries.{first_in_order, rest_in_order}
 use Rattle.lsm_key.proofs.Membership.{SameMembers-permutation}
-use Rattle.lsm_key.proofs.MergedLists.{entries_weak}
+use Rattle.lsm_key.proofs.WeakOrder.{entries_weak}
 use Rattle.lsm_table.specs.Heads.{AllInOrder, TakesFirst}
 use Rattle.lsm_table.proofs.ReadLists.{cons_in_order}
 use Rattle.lsm_coord.specs.Inner.Scan.{AreBelow, AreFirstPairs, is_hidden, pair_of, shown_pairs}

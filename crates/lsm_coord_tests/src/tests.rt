@@ -4,6 +4,7 @@ mod copies;
 mod devices;
 mod restarts;
 mod results;
+mod table;
 
 use lsm_coord::{CoordError, InstallError};
 use std::test::Fail;

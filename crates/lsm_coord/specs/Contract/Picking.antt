@@ -65,10 +65,7 @@ candidates_of c = candidates c.limits c.served.version.files
 abbrev pub candidates_in_order : Option CompactPointersValue → CoordValue → List Candidate
 candidates_in_order pointers c = candidates_in pointers c.limits c.served
 
--- the compaction of the first eligible candidate
-abbrev pub NextCompaction : CoordValue → Want → Type 0
-NextCompaction c want = IsFirst c.served.version.files c.book.live (candidates_of c) want
-
+-- the compaction of the first eligible candidate in that order
 abbrev pub NextCompactionAfter : Option CompactPointersValue → CoordValue → Want → Type 0
 NextCompactionAfter pointers c want = IsFirst c.served.version.files c.book.live (candidates_in_order pointers c) want
 

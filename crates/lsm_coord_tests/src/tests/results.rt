@@ -1,5 +1,6 @@
 //! Results that are no outputs of their job, and then one that is.
 
+use super::table::{EntryFields, TableFields, bytes_of};
 use bytes::Bytes;
 use lsm_claim::{Claim, JobId};
 use lsm_coord::{Coord, CoordError, Desk, Install, InstallError, Seat};
@@ -20,41 +21,114 @@ enum Became {
     Other,
 }
 
-/// The deletion of a at sequence 2 and its put at sequence 1.
-pub(crate) const MERGED: &[u8] =
-    b"LSMT\x01\0\0\x10\0\0\0\0\x02\0\0\0\x01\0\0\0\x1f\0\x01a\0\0\0\0\0\0\x01\x01\0\x01a\0\0\0\0\0\0\x02\0\0\0\0\0\0\x01a\0\0\0\0\0\0\x01\x01\0\0\0\x011";
+const DELETE_A: EntryFields = EntryFields {
+    key: b"a",
+    sequence: 2,
+    kind: 0,
+    value: b"",
+};
 
-/// The same without its last byte.
-const CUT: &[u8] =
-    b"LSMT\x01\0\0\x10\0\0\0\0\x02\0\0\0\x01\0\0\0\x1f\0\x01a\0\0\0\0\0\0\x01\x01\0\x01a\0\0\0\0\0\0\x02\0\0\0\0\0\0\x01a\0\0\0\0\0\0\x01\x01\0\0\0\x01";
+const PUT_A: EntryFields = EntryFields {
+    key: b"a",
+    sequence: 1,
+    kind: 1,
+    value: b"1",
+};
 
-/// The same under the block target 16,777,216.
-const OTHER_TARGET: &[u8] =
-    b"LSMT\x01\x01\0\0\0\0\0\0\x02\0\0\0\x01\0\0\0\x1f\0\x01a\0\0\0\0\0\0\x01\x01\0\x01a\0\0\0\0\0\0\x02\0\0\0\0\0\0\x01a\0\0\0\0\0\0\x01\x01\0\0\0\x011";
+const PUT_B: EntryFields = EntryFields {
+    key: b"b",
+    sequence: 1,
+    kind: 1,
+    value: b"1",
+};
 
-/// The same in version 2, which no key of it needs.
-const NEEDLESS: &[u8] =
-    b"LSMT\x02\0\0\x10\0\0\0\0\x02\0\0\0\x01\0\0\0\x1f\0\x01a\0\0\0\0\0\0\x01\x01\0\x01a\0\0\0\0\0\0\x02\0\0\0\0\0\0\x01a\0\0\0\0\0\0\x01\x01\0\0\0\x011";
+/// The entries of both files, as a merge that drops none has them.
+pub(crate) const MERGED: TableFields = TableFields {
+    version: 1,
+    target: 4_096,
+    entries: &[DELETE_A, PUT_A],
+    missing: 0,
+};
 
-/// A put of b at sequence 1.
-const OF_B: &[u8] =
-    b"LSMT\x01\0\0\x10\0\0\0\0\x01\0\0\0\x01\0\0\0\x10\0\x01b\0\0\0\0\0\0\x01\x01\0\x01b\0\0\0\0\0\0\x01\x01\0\0\0\x011";
+const CUT: TableFields = TableFields {
+    version: 1,
+    target: 4_096,
+    entries: &[DELETE_A, PUT_A],
+    missing: 1,
+};
+
+const OTHER_TARGET: TableFields = TableFields {
+    version: 1,
+    target: 16_777_216,
+    entries: &[DELETE_A, PUT_A],
+    missing: 0,
+};
+
+/// In version 2, which no key of it needs.
+const NEEDLESS: TableFields = TableFields {
+    version: 2,
+    target: 4_096,
+    entries: &[DELETE_A, PUT_A],
+    missing: 0,
+};
+
+const OF_B: TableFields = TableFields {
+    version: 1,
+    target: 4_096,
+    entries: &[PUT_B],
+    missing: 0,
+};
 
 const BAD: Became = Became::Kept(InstallError::BadResult);
 
 /// Version 4 has no new file.
 const DONE: Became = Became::Installed(4, 0);
 
-/// Results of the job of both files: the job's number, the tables, and what becomes of them. The right one is that of a merge without
-/// snapshots, which keeps nothing.
-const RESULTS: [(u64, &[&[u8]], Became); 7] = [
-    (1, &[OF_B], BAD),
-    (1, &[CUT], BAD),
-    (1, &[MERGED, MERGED], BAD),
-    (1, &[OTHER_TARGET], BAD),
-    (1, &[NEEDLESS], BAD),
-    (2, &[], Became::Kept(InstallError::WrongJob)),
-    (1, &[], DONE),
+/// A result of the job of both files: the number that it gives as the job's, its tables, and what becomes of it.
+#[derive(Clone, Copy)]
+struct Case {
+    job: u64,
+    tables: &'static [TableFields],
+    becomes: Became,
+}
+
+/// The right one is that of a merge without snapshots, which keeps nothing.
+const RESULTS: [Case; 7] = [
+    Case {
+        job: 1,
+        tables: &[OF_B],
+        becomes: BAD,
+    },
+    Case {
+        job: 1,
+        tables: &[CUT],
+        becomes: BAD,
+    },
+    Case {
+        job: 1,
+        tables: &[MERGED, MERGED],
+        becomes: BAD,
+    },
+    Case {
+        job: 1,
+        tables: &[OTHER_TARGET],
+        becomes: BAD,
+    },
+    Case {
+        job: 1,
+        tables: &[NEEDLESS],
+        becomes: BAD,
+    },
+    Case {
+        job: 2,
+        tables: &[],
+        becomes: Became::Kept(InstallError::WrongJob),
+    },
+    Case {
+        job: 1,
+        tables: &[],
+        becomes: DONE,
+    },
 ];
 
 // The store, its desk and each result are owned by functions of one exit behind them: each exit of a function is proved with all that it
@@ -141,21 +215,27 @@ fn install<V: Vault>(
 pub(crate) fn result_of(
     alloc: Global,
     number: u64,
-    tables: &[&'static [u8]],
+    tables: &[TableFields],
 ) -> Result<JobResult, AllocError> {
     let mut list = Items::new(alloc);
     for table in tables {
-        list.push(Bytes::from_static(table))?;
+        list.push(bytes_of(alloc, table)?)?;
     }
     let job = JobId { epoch: 1, number };
     Ok(JobResult { job, tables: list })
 }
 
+fn add_thousand(tables: &mut Items<Bytes>, table: &Bytes) -> Result<(), AllocError> {
+    for _ in 0..1_000 {
+        tables.push(table.clone()?)?;
+    }
+    Ok(())
+}
+
 /// A thousand tables, and one of 4 MB that is none.
 fn add_large(alloc: Global, tables: &mut Items<Bytes>) -> Result<(), Fail> {
-    for _ in 0..1_000 {
-        tables.push(Bytes::from_static(MERGED))?;
-    }
+    let merged = bytes_of(alloc, &MERGED)?;
+    add_thousand(tables, &merged)?;
     let zeros = vec![in alloc; 0u8; 4_000_000]?;
     tables.push(Bytes::from_vec(zeros)?)?;
     Ok(())
@@ -211,9 +291,10 @@ fn see<V: Vault>(
     pick(coord, desk, index)?;
     let (kept, is_left) = outcome(coord, desk, index, large_result(alloc)?)?;
     assert!(rt; kept == BAD && is_left, "{kept:?} of a large one");
-    for (number, tables, wanted) in RESULTS {
-        let made = result_of(alloc, number, tables)?;
+    for case in RESULTS {
+        let made = result_of(alloc, case.job, case.tables)?;
         let (became, is_left) = outcome(coord, desk, index, made)?;
+        let wanted = case.becomes;
         assert!(rt; became == wanted, "{wanted:?}, and not {became:?}");
         assert!(rt; is_left || became == DONE, "{became:?} changed the version");
     }
