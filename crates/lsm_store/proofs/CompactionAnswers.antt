@@ -11,6 +11,7 @@ use Rattle.lsm_edit.specs.Served.{IsServed, ServedValue}
 use Rattle.lsm_edit.specs.Version.{IsVersion}
 use Rattle.lsm_msg.specs.declared.job.JobParts.{JobParts}
 use Rattle.lsm_msg.specs.declared.job.JobResult.{JobResult}
+use Rattle.lsm_pick.specs.After.{CompactPointersValue}
 use Rattle.lsm_merge.specs.Outputs as merge
 use Rattle.lsm_coord.specs.declared.coord.install.Install.TheVariants as became
 use Rattle.lsm_coord.specs.declared.coord.install.InstallError.{InstallError}
@@ -19,26 +20,25 @@ use Rattle.lsm_coord.specs.declared.error.CoordError.{CoordError}
 use Rattle.lsm_coord.specs.Model.Changes.{IsIndex}
 use Rattle.lsm_coord.specs.Model.Event as say
 use Rattle.lsm_coord.specs.Contract.Installing.{AreOutputTables, Became, HasNumbers, Rejects}
-use Rattle.lsm_coord.specs.Contract.Picking.{IsPicked}
+use Rattle.lsm_coord.specs.Contract.Picking.{IsPickedAfter}
 use Rattle.lsm_coord.specs.Contract.Replies.{error_of}
 use Rattle.lsm_coord.specs.Contract.Shows.{Follows, Shows}
 use Rattle.lsm_coord.specs.Contract.Sound.{KeepsSound}
 use Rattle.lsm_coord.specs.Model.State.{State}
 use Rattle.lsm_coord.specs.Model.Step.{Step}
 use Rattle.lsm_coord.specs.Contract.Value.{CoordValue}
-use Rattle.lsm_coord.proofs.PickedJobs.{wants_memory}
 use Rattle.lsm_coord.proofs.StateRefusals.{give_up_may}
 use Rattle.lsm_coord.proofs.GiveBackSteps.{live_before, Shows-beside}
 use Rattle.lsm_coord.proofs.VaultRefusals.{stored_shows}
-use Rattle.lsm_store.specs.Compacting.{Compacts, CompactionRefuses, GivesBack, IsLeft, IsCompacted, KeptBack, tables_at}
-use Rattle.lsm_store.proofs.Compactions.{claim_live, is_held, keeps_then, left_stored, made_of_inputs, made_outputs, named, served_is, stored_keep}
+use Rattle.lsm_store.specs.Compacting.{CompactionRefusesAfter, CompactsAfter, GivesBack, IsLeft, IsCompacted, KeptBack, tables_at}
+use Rattle.lsm_store.proofs.Compactions.{claim_live, is_held, keeps_then, left_stored, made_of_inputs, made_outputs, named, picked_memory, served_is, stored_keep}
 use Rattle.lsm_store.proofs.MergedOutputs.{opened_as}
 
 -- what is answered, under whichever allocator
 abbrev pub Answer : Type 0 → Type 0
 Answer Z = Result (Option (ℕ × Vec ℕ Z)) CoordError
 
-module _ (old mid new : CoordValue) (claim : LiveJob) (job : JobParts) (ver : IsVersion old.served.version) (is : IsServed old.served) (book : IsBook old.book) (picked : IsPicked old claim job mid) where
+module _ {pointers : Option CompactPointersValue} (old mid new : CoordValue) (claim : LiveJob) (job : JobParts) (ver : IsVersion old.served.version) (is : IsServed old.served) (book : IsBook old.book) (picked : IsPickedAfter pointers old claim job mid) where
   never_stale : holds mid.book claim.id ≡ false → ⊥
   never_stale h = true≢false (sym (is_held old mid claim job ver is book picked) ∙ h)
 
@@ -47,7 +47,7 @@ module _ (old mid new : CoordValue) (claim : LiveJob) (job : JobParts) (ver : Is
   answers_left made (Err x) e = left_stored old mid claim job ver is book picked e.0 e.1 new e.2
 
   module _ (made : JobResult) (same_job : made.job ≡ job.id) (m : merge.IsMerge (tables_at mid.served.places job.inputs) job made.tables) where
-    pub answers_made : {Z : Type 0} (r : Answer Z) → IfOk r (λ a. IfSome a (λ v. Became mid claim made (became.Done v.0 v.1.items) new)) → IfOk r (λ a. a ≡ None → holds mid.book claim.id ≡ false) → IfOk r (Compacts old new)
+    pub answers_made : {Z : Type 0} (r : Answer Z) → IfOk r (λ a. IfSome a (λ v. Became mid claim made (became.Done v.0 v.1.items) new)) → IfOk r (λ a. a ≡ None → holds mid.book claim.id ≡ false) → IfOk r (CompactsAfter pointers old new)
     answers_made (Ok None) done stale = absurd (never_stale (stale refl))
     answers_made (Ok (Some v)) done stale = record {
       claim = claim;
@@ -63,7 +63,7 @@ module _ (old mid new : CoordValue) (claim : LiveJob) (job : JobParts) (ver : Is
     -- ---- why it is kept back
 
     module _ (live : LiveJob) (one : live ≡ claim) where
-      refused_by : (why : InstallError) → Rejects mid.limits.block mid.served.version live made why → CompactionRefuses old (error_of why)
+      refused_by : (why : InstallError) → Rejects mid.limits.block mid.served.version live made why → CompactionRefusesAfter pointers old (error_of why)
       refused_by WrongJob x = absurd (x (same_job ∙ named old mid claim job ver is book picked ∙ ap (λ (l : LiveJob). l.id) (sym one)))
       refused_by BadResult x = absurd (x.1 (opened_as made.tables m.entries, subst (λ (l : LiveJob). AreOutputTables mid.limits.block l.want.hull made.tables (opened_as made.tables m.entries)) (sym one) (made_outputs old mid claim job ver is book picked made m)))
       refused_by NumbersExhausted x = inr (record {
@@ -77,14 +77,14 @@ module _ (old mid new : CoordValue) (claim : LiveJob) (job : JobParts) (ver : Is
         outputs = subst (λ (l : LiveJob). AreOutputTables mid.limits.block l.want.hull made.tables x.1) one x.2;
         lacks = λ has. x.3 (subst (λ (s : ServedValue). HasNumbers s.version x.1) (sym (served_is old mid claim job ver is book picked)) has);
       })
-      refused_by OutOfMemory x = wants_memory old picked.want picked.may
-      refused_by Device x = wants_memory old picked.want picked.may
+      refused_by OutOfMemory x = picked_memory old mid claim job ver is book picked
+      refused_by Device x = picked_memory old mid claim job ver is book picked
 
-    pub answers_refused : {Z : Type 0} (r : Answer Z) → IfErr r (KeptBack mid claim made) → IfErr r (CompactionRefuses old)
+    pub answers_refused : {Z : Type 0} (r : Answer Z) → IfErr r (KeptBack mid claim made) → IfErr r (CompactionRefusesAfter pointers old)
     answers_refused (Ok a) k = tt
     answers_refused (Err e) k =
         let one : k.live ≡ claim = same_Some k.live claim (sym k.is_live ∙ claim_live old mid claim job ver is book picked) in
-        subst (CompactionRefuses old) (sym k.told) (refused_by k.live one k.why k.rejects)
+        subst (CompactionRefusesAfter pointers old) (sym k.told) (refused_by k.live one k.why k.rejects)
 
     -- ---- jobs that stay sound
 

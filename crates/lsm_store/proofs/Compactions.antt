@@ -1,6 +1,7 @@
 -- A compaction from its pick on: what it installs, what it gives back, and what it leaves as it was.
-use Rattle.std.proofs.Common.{◌≡◌, ℕ, ◌+◌, ◌≤◌, Bool, true, false, not, cond, List, [], ◌∷◌, ◌++◌, Option, None, Some, refl, sym, ap, subst, ◌∙◌, arith, inl, inr}
-use Rattle.std.specs.Prelude.{◌↔◌, IfSome, find, sum_by}
+use Rattle.std.proofs.Common.{◌≡◌, ℕ, ◌+◌, ◌≤◌, Bool, true, false, not, cond, List, [], ◌∷◌, ◌++◌, Option, None, Some, Bor, MutBor, refl, sym, ap, subst, ◌∙◌, arith, inl, inr}
+use Rattle.std.specs.Prelude.{◌↔◌, IfSome, IsSomeAnd, MatchOption, find, sum_by}
+use Rattle.std.specs.Option.{option_copied, option_copied_mut}
 use Rattle.std.proofs.lemmas.Bool.{and_parts, eq-eqb, false_from_ne_true, leb-true}
 use Rattle.lsm_key.specs.Places.{AreOrdered}
 use Rattle.lsm_key.specs.Sets.{IsIn}
@@ -19,17 +20,20 @@ use Rattle.lsm_edit.proofs.VersionLaws.{rise-filter}
 use Rattle.lsm_msg.specs.declared.job.JobParts.{JobParts}
 use Rattle.lsm_msg.specs.declared.job.JobResult.{JobResult}
 use Rattle.lsm_msg.specs.Legal.{IsLegal, Takes}
+use Rattle.lsm_pick.specs.After.{CompactPointersValue}
 use Rattle.lsm_merge.specs.Inputs.{HaveSameEntry, lists_of}
 use Rattle.lsm_merge.specs.Outputs as merge
 use Rattle.lsm_versions.specs.Kept.{StaysBelow}
 use Rattle.lsm_coord.specs.Contract.Calls.{MayHaveStored, after_give_back}
 use Rattle.lsm_coord.specs.Contract.Installing.{AreOutputTables, IsLive, HoldsMergeOf}
-use Rattle.lsm_coord.specs.Contract.Picking.{IsPicked, Picks}
+use Rattle.lsm_coord.specs.Contract.Picking.{IsPickedAfter, PickRefuses, PicksAfter}
 use Rattle.lsm_coord.specs.Contract.Shows.{Shows}
 use Rattle.lsm_coord.specs.Contract.Sound.{IsSound, KeepsSound}
 use Rattle.lsm_coord.specs.Model.State.{State}
 use Rattle.lsm_coord.specs.Contract.Value.{CoordValue}
+use Rattle.lsm_coord.specs.declared.error.CoordError.TheVariants.{OutOfMemory}
 use Rattle.lsm_coord.proofs.InstallOutcomes.{held_by}
+use Rattle.lsm_coord.proofs.PickOrders.{orders_alike}
 use Rattle.lsm_coord.proofs.PickedJobs.{inputs_taken}
 use Rattle.lsm_coord.proofs.GiveBackSteps.{live_before, same_name}
 use Rattle.lsm_coord.proofs.VaultRefusals.{nothing_stored}
@@ -89,8 +93,16 @@ keeps_then old mid new first second among job sound held = second job (first job
 
 -- ---- after a pick
 
-pub picked_by : (old mid : CoordValue) (answer : Option (LiveJob × JobParts)) (claim : LiveJob) (job : JobParts) → answer ≡ Some (claim, job) → Picks old mid answer → IsPicked old claim job mid
-picked_by old mid answer claim job e h = subst (Picks old mid) e h
+-- what is lent of the pointers is what was passed
+lent : (passed : Option (MutBor CompactPointersValue)) (given : Option (Bor CompactPointersValue)) → MatchOption passed (given ≡ None) (λ x. IsSomeAnd given (λ y. y.now ≡ x.now)) → option_copied given ≡ option_copied_mut passed
+lent None given h = ap option_copied h
+lent (Some x) None h = absurd h
+lent (Some x) (Some y) h = ap Some h
+
+pub picked_by : (passed : Option (MutBor CompactPointersValue)) (given : Option (Bor CompactPointersValue)) (old mid : CoordValue) (answer : Option (LiveJob × JobParts)) (claim : LiveJob) (job : JobParts) → answer ≡ Some (claim, job)
+    → MatchOption passed (given ≡ None) (λ x. IsSomeAnd given (λ y. y.now ≡ x.now)) → PicksAfter (option_copied given) old mid answer → IsPickedAfter (option_copied_mut passed) old claim job mid
+picked_by passed given old mid answer claim job e same picks =
+    subst (λ (pointers : Option CompactPointersValue). IsPickedAfter pointers old claim job mid) (lent passed given same) (subst (PicksAfter (option_copied given) old mid) e picks)
 
 pub sound_by : (mid : CoordValue) (answer : Option (LiveJob × JobParts)) (claim : LiveJob) (job : JobParts) → answer ≡ Some (claim, job) → IfSome answer (λ r. IsSound mid r.1) → IsSound mid job
 sound_by mid answer claim job e h = subst (λ (o : Option (LiveJob × JobParts)). IfSome o (λ r. IsSound mid r.1)) e h
@@ -98,7 +110,11 @@ sound_by mid answer claim job e h = subst (λ (o : Option (LiveJob × JobParts))
 pub merges_by : (tables : List Opened) (job : JobParts) (made other : Option JobResult) → made ≡ other → Merges tables job made → Merges tables job other
 merges_by tables job made other e h = subst (Merges tables job) e h
 
-module _ (old mid : CoordValue) (claim : LiveJob) (job : JobParts) (ver : IsVersion old.served.version) (is : IsServed old.served) (book : IsBook old.book) (picked : IsPicked old claim job mid) where
+module _ {pointers : Option CompactPointersValue} (old mid : CoordValue) (claim : LiveJob) (job : JobParts) (ver : IsVersion old.served.version) (is : IsServed old.served) (book : IsBook old.book) (picked : IsPickedAfter pointers old claim job mid) where
+  -- memory may run out for it: it is due in the order by number too
+  pub picked_memory : PickRefuses old OutOfMemory
+  picked_memory = (picked.may.free, (orders_alike pointers old.limits old.served old.served old.book.live refl (is, ver)).some.0 (picked.want, picked.may.next), picked.may.fits)
+
   pub served_is : mid.served ≡ old.served
   served_is = ap (λ (c : CoordValue). c.served) picked.new_is
 

@@ -21,7 +21,8 @@ use Rattle.lsm_coord.specs.Contract.Calls.{IsWritten, with_floor, with_live_tabl
 use Rattle.lsm_coord.specs.Contract.Memory.{IsFit}
 use Rattle.lsm_coord.specs.Contract.Value.{CoordValue, version_set}
 use Rattle.lsm_versions.specs.Opening.{is_live}
-use Rattle.lsm_store.specs.Compacting.{Compacts, IsLeft}
+use Rattle.lsm_pick.specs.After.{CompactPointersValue}
+use Rattle.lsm_store.specs.Compacting.{CompactsAfter, IsLeft}
 use Rattle.lsm_store.specs.Store.{CompactsIfBehind, Holds, IsBehind, IsDueAfter, IsNoneDue, Keeps, LeavesNoneDue, LetsOthersGo, ServesCurrentAlone}
 use Rattle.lsm_store.specs.declared.due.Due.{Due}
 use Rattle.lsm_store.specs.declared.due.Due.TheVariants as due
@@ -68,13 +69,13 @@ alone_after mid new fit is =
 -- ---- compactions
 
 -- a compaction is told by the number of the version that it made
-pub told_number : {Z : Type 0} (old mid : CoordValue) (answer : Option (ℕ × Vec ℕ Z)) (made : ℕ × Vec ℕ Z) (number : ℕ) → answer ≡ Some made → Compacts old mid answer → number ≡ made.0 → number ≡ mid.served.version.number
-told_number old mid answer made number e h same =
-    let d = (subst (Compacts old mid) e h).installed in
+pub told_number : {Z : Type 0} (pointers : Option CompactPointersValue) (old mid : CoordValue) (answer : Option (ℕ × Vec ℕ Z)) (made : ℕ × Vec ℕ Z) (number : ℕ) → answer ≡ Some made → CompactsAfter pointers old mid answer → number ≡ made.0 → number ≡ mid.served.version.number
+told_number pointers old mid answer made number e h same =
+    let d = (subst (CompactsAfter pointers old mid) e h).installed in
     same ∙ (d.5 ∙ sym (ap (λ (c : CoordValue). c.served.version.number) d.4.new_is ∙ ap (λ (x : Edit). x.number) d.4.edit_is))
 
-pub none_left : {Z : Type 0} (old new : CoordValue) (answer : Option (ℕ × Vec ℕ Z)) → answer ≡ None → Compacts old new answer → IsLeft old new
-none_left old new answer e h = (subst (Compacts old new) e h).0
+pub none_left : {Z : Type 0} (pointers : Option CompactPointersValue) (old new : CoordValue) (answer : Option (ℕ × Vec ℕ Z)) → answer ≡ None → CompactsAfter pointers old new answer → IsLeft old new
+none_left pointers old new answer e h = (subst (CompactsAfter pointers old new) e h).0
 
 -- nothing comes of a compaction that is not made
 pub left_alone : (old new : CoordValue) → IsLeft old new → ServesCurrentAlone old → ServesCurrentAlone new

@@ -15,8 +15,9 @@ use Rattle.lsm_coord.specs.declared.error.CoordError.TheVariants as coord
 use Rattle.lsm_coord.specs.Contract.Picking.{NothingToCompact, OnlyTooLarge}
 use Rattle.lsm_coord.specs.Contract.Calls.{AppendRefuses, write_fault}
 use Rattle.lsm_coord.specs.Contract.Value.{CoordValue}
+use Rattle.lsm_pick.specs.After.{CompactPointersValue}
 use Rattle.lsm_pick.specs.Rule.{AreTooLarge, candidates}
-use Rattle.lsm_store.specs.Compacting.{Compacts, CompactionRefuses, IsLeft}
+use Rattle.lsm_store.specs.Compacting.{CompactionRefusesAfter, CompactsAfter, IsLeft}
 use Rattle.lsm_store.proofs.StoreSteps.{keeps_then}
 use Rattle.lsm_store.specs.Store.{CompactRefuses, CompactsNext, EmptiesMemtable, Holds, IsDueAfter, Keeps, LeavesMemtable, NextRefuses, OfCoord, RoomRefuses, WriteRefuses}
 use Rattle.lsm_store.specs.declared.due.Due.{Due}
@@ -37,17 +38,17 @@ left_too_large old new left large =
     subst OnlyTooLarge (sym left.rest)
     (subst (λ (jobs : List LiveJob). AreTooLarge old.served.version.files jobs (candidates old.limits old.served.version.files)) (sym (left_live old new left)) large)
 
-pub next_refused : (old new : CoordValue) (e : CoordError) → old.book.live ≡ [] → IsLeft old new → CompactionRefuses old e → (e ≡ coord.Device → old.failures < new.failures) → NextRefuses old new e
-next_refused old new coord.OutOfMemory live left h failed = tt
-next_refused old new coord.Device live left h failed = failed refl
-next_refused old new coord.NumbersExhausted live left h failed = (old, (λ writes snapshots held. held), h)
-next_refused old new coord.TooWide live left h failed = left_too_large old new left h.1
-next_refused old new coord.BookFull live left h failed = let none = ap length live in absurd (omega (arith, none, h))
-next_refused old new e live left h failed = absurd h
+pub next_refused : (pointers : Option CompactPointersValue) (old new : CoordValue) (e : CoordError) → old.book.live ≡ [] → IsLeft old new → CompactionRefusesAfter pointers old e → (e ≡ coord.Device → old.failures < new.failures) → NextRefuses old new e
+next_refused pointers old new coord.OutOfMemory live left h failed = tt
+next_refused pointers old new coord.Device live left h failed = failed refl
+next_refused pointers old new coord.NumbersExhausted live left h failed = (old, (λ writes snapshots held. held), pointers, h)
+next_refused pointers old new coord.TooWide live left h failed = left_too_large old new left h.1
+next_refused pointers old new coord.BookFull live left h failed = let none = ap length live in absurd (omega (arith, none, h))
+next_refused pointers old new e live left h failed = absurd h
 
-pub none_next : {Z : Type 0} (old new : CoordValue) (answer : Option (ℕ × Vec ℕ Z)) → answer ≡ None → Compacts old new answer → CompactsNext old new false
-none_next old new answer e h writes snapshots held =
-    let none = subst (Compacts old new) e h in
+pub none_next : {Z : Type 0} (pointers : Option CompactPointersValue) (old new : CoordValue) (answer : Option (ℕ × Vec ℕ Z)) → answer ≡ None → CompactsAfter pointers old new answer → CompactsNext old new false
+none_next pointers old new answer e h writes snapshots held =
+    let none = subst (CompactsAfter pointers old new) e h in
     let is = none.1 held.state held.shown in
     (is.1, is.2)
 
@@ -66,7 +67,7 @@ same_memtable c = record { active = refl; last = refl; counted = omega arith }
 pub next_stops : (old mid new : CoordValue) (e : CoordError) → (e ≡ coord.TooWide → ⊥) → Keeps old mid → old.failures ≤ mid.failures → NextRefuses mid new e → CompactRefuses old new e
 next_stops old mid new coord.OutOfMemory other keeps counted h = tt
 next_stops old mid new coord.Device other keeps counted h = omega (arith, counted, h)
-next_stops old mid new coord.NumbersExhausted other keeps counted h = (h.0, keeps_then old mid h.0 keeps h.1, h.2)
+next_stops old mid new coord.NumbersExhausted other keeps counted h = (h.0, keeps_then old mid h.0 keeps h.1, h.2, h.3)
 next_stops old mid new coord.TooWide other keeps counted h = absurd (other refl)
 next_stops old mid new e other keeps counted h = absurd h
 
@@ -89,7 +90,7 @@ nothing_due old mid new keeps none writes snapshots h =
 pub compact_refuses_room : (old mid new : CoordValue) (e : StoreError) → Keeps old mid → old.failures ≤ mid.failures → OfCoord (CompactRefuses mid new) e → OfCoord (RoomRefuses old new) e
 compact_refuses_room old mid new (Coord coord.OutOfMemory) keeps counted h = tt
 compact_refuses_room old mid new (Coord coord.Device) keeps counted h = omega (arith, counted, h)
-compact_refuses_room old mid new (Coord coord.NumbersExhausted) keeps counted h = inr (h.0, keeps_then old mid h.0 keeps h.1, h.2)
+compact_refuses_room old mid new (Coord coord.NumbersExhausted) keeps counted h = inr (h.0, keeps_then old mid h.0 keeps h.1, h.2, h.3)
 compact_refuses_room old mid new e keeps counted h = absurd h
 
 room_refuses : (old new : CoordValue) (ops : List Op) (e : StoreError) → write_fault old ops ≡ Some coord.MemtableFull → OfCoord (RoomRefuses old new) e → WriteRefuses old ops new e

@@ -8,6 +8,7 @@ use Rattle.lsm_edit.specs.declared.served.Placed.{Placed}
 use Rattle.lsm_edit.specs.Served.{table_at}
 use Rattle.lsm_msg.specs.declared.job.JobParts.{JobParts}
 use Rattle.lsm_msg.specs.declared.job.JobResult.{JobResult}
+use Rattle.lsm_pick.specs.After.{CompactPointersValue}
 use Rattle.lsm_merge.specs.Inputs.{HaveSameEntry, lists_of}
 use Rattle.lsm_merge.specs.Outputs as merge
 use Rattle.lsm_coord.specs.declared.coord.install.Install.TheVariants as became
@@ -19,7 +20,7 @@ use Rattle.lsm_claim.specs.declared.job.JobId.{JobId}
 use Rattle.lsm_versions.specs.Kept.{StaysBelow}
 use Rattle.lsm_coord.specs.Contract.Calls.{MayHaveStored, after_give_back}
 use Rattle.lsm_coord.specs.Contract.Installing.{AreOutputTables, Became, HasNumbers, HoldsMergeOf, IsLive, IsOutput, Rejects}
-use Rattle.lsm_coord.specs.Contract.Picking.{HasFreeClaim, IsPicked, NothingToCompact, PickRefuses}
+use Rattle.lsm_coord.specs.Contract.Picking.{HasFreeClaim, IsPickedAfter, NothingToCompact, PickRefuses}
 use Rattle.lsm_coord.specs.Contract.Replies.{error_of, refusal_of}
 use Rattle.lsm_coord.specs.Model.Run.{Run}
 use Rattle.lsm_coord.specs.Contract.Shows.{Shows}
@@ -64,12 +65,12 @@ GivesBack old id made new = (mid : CoordValue) × MayHaveStored (IsOutput old.se
 
 -- ---- a compaction
 
--- a pick, a result that holds exactly what a merge keeps of the job's inputs, and its install
-pub record IsCompaction (old : CoordValue) (number : ℕ) (files : List ℕ) (new : CoordValue) : Type 0 where
+-- a pick in the order of the pointers, if there are any, a result that holds exactly what a merge keeps of the job's inputs, and its install
+pub record IsCompaction (pointers : Option CompactPointersValue) (old : CoordValue) (number : ℕ) (files : List ℕ) (new : CoordValue) : Type 0 where
   pub claim : LiveJob
   pub job : JobParts
   pub claimed : CoordValue
-  pub picked : IsPicked old claim job claimed
+  pub picked : IsPickedAfter pointers old claim job claimed
   pub made : JobResult
   pub merged : HoldsMergeOf claimed.served job made
   pub installed : Became claimed claim made (became.Done number files) new
@@ -83,16 +84,20 @@ pub record IsLeft (old new : CoordValue) : Type 0 where
   pub book : (new.book ≡ old.book) ⊎ (new.book ≡ record old.book { made = old.book.made + 1; returned = old.book.returned + 1 })
 
 -- None is returned if there is nothing to compact: if a state is shown there is no other cause
+abbrev pub CompactsAfter : {Z : Type 0} → Option CompactPointersValue → CoordValue → CoordValue → Option (ℕ × Vec ℕ Z) → Type 0
+CompactsAfter pointers old new None = IsLeft old new × ((s : State) → Shows old s → HasFreeClaim old × NothingToCompact old × (new ≡ old))
+CompactsAfter pointers old new (Some made) = IsCompaction pointers old made.0 made.1.items new
+
+-- the same without pointers
 abbrev pub Compacts : {Z : Type 0} → CoordValue → CoordValue → Option (ℕ × Vec ℕ Z) → Type 0
-Compacts old new None = IsLeft old new × ((s : State) → Shows old s → HasFreeClaim old × NothingToCompact old × (new ≡ old))
-Compacts old new (Some made) = IsCompaction old made.0 made.1.items new
+Compacts old new made = CompactsAfter None old new made
 
 -- the numbers are exhausted by the outputs of the merge
-pub record LacksNumbers (c : CoordValue) : Type 0 where
+pub record LacksNumbers (pointers : Option CompactPointersValue) (c : CoordValue) : Type 0 where
   pub claim : LiveJob
   pub job : JobParts
   pub claimed : CoordValue
-  pub picked : IsPicked c claim job claimed
+  pub picked : IsPickedAfter pointers c claim job claimed
   pub made : JobResult
   pub merged : HoldsMergeOf claimed.served job made
   pub tables : List Opened
@@ -100,10 +105,14 @@ pub record LacksNumbers (c : CoordValue) : Type 0 where
   pub lacks : HasNumbers c.served.version tables → ⊥
 
 -- why there is no compaction: what a pick refuses, the numbers of its outputs, or the device after a pick
+abbrev pub CompactionRefusesAfter : Option CompactPointersValue → CoordValue → CoordError → Type 0
+CompactionRefusesAfter pointers c NumbersExhausted = PickRefuses c NumbersExhausted ⊎ LacksNumbers pointers c
+CompactionRefusesAfter pointers c Device = PickRefuses c OutOfMemory
+CompactionRefusesAfter pointers c e = PickRefuses c e
+
+-- the same without pointers
 abbrev pub CompactionRefuses : CoordValue → CoordError → Type 0
-CompactionRefuses c NumbersExhausted = PickRefuses c NumbersExhausted ⊎ LacksNumbers c
-CompactionRefuses c Device = PickRefuses c OutOfMemory
-CompactionRefuses c e = PickRefuses c e
+CompactionRefuses c e = CompactionRefusesAfter None c e
 
 -- The events of a compaction by a dispatcher, with their replies: its pick, and the message that brings the result, or the claim
 -- that is given up.

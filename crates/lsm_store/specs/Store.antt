@@ -11,6 +11,7 @@ use Rattle.lsm_coord.specs.declared.error.CoordError.{CoordError}
 use Rattle.lsm_coord.specs.declared.error.CoordError.TheVariants as coord
 use Rattle.lsm_coord.specs.declared.snapshot.SnapId.{SnapId}
 use Rattle.lsm_coord.specs.declared.snapshot.Snapshot.{Snapshot}
+use Rattle.lsm_pick.specs.After.{CompactPointersValue}
 use Rattle.lsm_pick.specs.Due.{is_full}
 use Rattle.lsm_coord.specs.Model.Range.{IsRange}
 use Rattle.lsm_coord.specs.Model.State.{State, same_snapshot_id, snapshot_at}
@@ -19,7 +20,7 @@ use Rattle.lsm_coord.specs.Contract.Picking.{NothingToCompact, OnlyTooLarge}
 use Rattle.lsm_coord.specs.Contract.Seats.{ShowsDown}
 use Rattle.lsm_coord.specs.Contract.Shows.{Shows}
 use Rattle.lsm_coord.specs.Contract.Value.{CoordValue}
-use Rattle.lsm_store.specs.Compacting.{CompactionRefuses}
+use Rattle.lsm_store.specs.Compacting.{CompactionRefusesAfter}
 use Rattle.lsm_store.specs.declared.due.Due.{Due}
 use Rattle.lsm_store.specs.declared.due.Due.TheVariants as due
 use Rattle.lsm_store.specs.declared.error.StoreError.{StoreError}
@@ -114,12 +115,12 @@ VaultRefuses old new e = ⊥
 
 -- ---- flushes and compactions before a write
 
--- Why compactions stop: memory runs out, the device fails, or the numbers are exhausted for the next one, where those before it have
--- kept what the store held.
+-- Why compactions stop: memory runs out, the device fails, or the numbers are exhausted for the one that is next in the order of some
+-- pointers, where those before it have kept what the store held.
 abbrev pub CompactRefuses : CoordValue → CoordValue → CoordError → Type 0
 CompactRefuses old new coord.OutOfMemory = Unit {0}
 CompactRefuses old new coord.Device = old.failures < new.failures
-CompactRefuses old new coord.NumbersExhausted = (at : CoordValue) × Keeps old at × CompactionRefuses at coord.NumbersExhausted
+CompactRefuses old new coord.NumbersExhausted = (at : CoordValue) × Keeps old at × (pointers : Option CompactPointersValue) × CompactionRefusesAfter pointers at coord.NumbersExhausted
 CompactRefuses old new e = ⊥
 
 -- Why the memtables are not flushed: the numbers are exhausted, memory runs out or the device fails, for the first of them or, where

@@ -1,6 +1,7 @@
 //! Compactions: one that is due, from its pick to its install.
 
 ghost use Rattle.std.specs.Prelude.{◌≡◌, ℕ, ◌<◌, false, IfErr, IfOk, IfSome, None, OnErr};
+ghost use Rattle.std.specs.Option.{option_copied_mut};
 ghost use Rattle.lsm_claim.specs.Book.{holds};
 ghost use Rattle.lsm_coord.specs.declared.coord.install.Install.TheVariants as became;
 ghost use Rattle.lsm_coord.specs.Model.Changes.{IsIndex};
@@ -9,7 +10,7 @@ ghost use Rattle.lsm_coord.specs.Contract.Shows.{Follows, Shows};
 ghost use Rattle.lsm_coord.specs.Contract.Sound.{KeepsSound};
 ghost use Rattle.lsm_coord.specs.Model.Event.{Deliver, Installed};
 ghost use Rattle.lsm_coord.specs.Model.State.{State};
-ghost use Rattle.lsm_store.specs.Compacting.{AreServed, Compacts, CompactionRefuses, GivesBack, IsLeft, IsCompacted, KeptBack, Merges, tables_at};
+ghost use Rattle.lsm_store.specs.Compacting.{AreServed, CompactionRefuses, CompactionRefusesAfter, Compacts, CompactsAfter, GivesBack, IsLeft, IsCompacted, KeptBack, Merges, tables_at};
 
 use lsm_claim::Claim;
 use lsm_coord::{Coord, CoordError, Install};
@@ -17,6 +18,7 @@ use lsm_edit::FileMeta;
 use lsm_key::{FileNumber, Items, VersionNumber};
 use lsm_merge::{MergeError, merge};
 use lsm_msg::{Job, JobResult};
+use lsm_pick::CompactPointers;
 use lsm_table::Table;
 use lsm_vault::Vault;
 use std::alloc::{AllocError, Global};
@@ -37,13 +39,33 @@ pub fn compact_once<V: Vault>(
     ensures step { (dispatcher message : ℕ) → IsIndex dispatcher → (s : State) → Shows coord.old s → IsCompacted dispatcher message s result coord.new }
     ensures sound { KeepsSound coord.old coord.new }
 {
+    compact_in(alloc, coord, None)
+}
+
+/// `compact_once` in the order of the pointers, if there are any. They follow each job whose result is installed.
+pub(crate) fn compact_in<V: Vault>(
+    alloc: Global,
+    coord: &mut Coord<V>,
+    pointers: Option<&mut CompactPointers>,
+) -> Result<Option<(VersionNumber, Vec<FileNumber>)>, CoordError>
+    ensures ok { IfOk result (CompactsAfter (option_copied_mut pointers.entry) coord.old coord.new) }
+    ensures err { OnErr result (IsLeft coord.old coord.new) }
+    ensures refused { IfErr result (CompactionRefusesAfter (option_copied_mut pointers.entry) coord.old) }
+    ensures device { IfErr result (λ e. e ≡ CoordError.Device → coord.old.failures < coord.new.failures) }
+    ensures step { (dispatcher message : ℕ) → IsIndex dispatcher → (s : State) → Shows coord.old s → IsCompacted dispatcher message s result coord.new }
+    ensures sound { KeepsSound coord.old coord.new }
+{
     // Proof hint: the coordinator's invariant.
     let _listing = coord.show();
-    let Some((claim, job)) = coord.pick()? else {
+    let Some((claim, job)) = coord.pick_after(pointers.as_deref())? else {
         return Ok(None);
     };
     match result_of(alloc, coord, &job) {
-        Ok(Some(made)) => install(coord, claim, &made),
+        Ok(Some(made)) => {
+            let installed = install(coord, claim, &made);
+            follow(pointers, &job, installed.is_ok());
+            installed
+        }
         // Two inputs share an entry: never in a coordinator that represents a valid state.
         Ok(None) => {
             coord.give_back(claim);
@@ -53,6 +75,14 @@ pub fn compact_once<V: Vault>(
             coord.give_back(claim);
             Err(error.into())
         }
+    }
+}
+
+// Moves the pointers, if there are any, on to the end of a job whose result was installed.
+fn follow(pointers: Option<&mut CompactPointers>, job: &Job, installed: bool) {
+    match pointers {
+        Some(pointers) if installed => pointers.follow(job.level(), job.inputs()),
+        _ => {}
     }
 }
 

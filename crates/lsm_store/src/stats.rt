@@ -5,6 +5,7 @@ ghost use Rattle.lsm_pick.specs.Due.{of_level};
 ghost use Rattle.lsm_store.specs.Stats.{IsLevelStats, saturated_sum};
 
 use lsm_edit::FileMeta;
+use std::fmt;
 
 /// What a level of a store has. The sums saturate.
 #[derive(Clone, Copy, Debug, PartialEq, Eq)]
@@ -15,6 +16,14 @@ pub struct LevelStats {
     pub bytes: u64,
     /// How many entries they have: each version of a key is one, and so is a deletion.
     pub entries: u64,
+}
+
+/// `N files B bytes E entries`.
+impl fmt::Display for LevelStats {
+    fn fmt<W: fmt::Write>(&self, f: &mut fmt::Formatter<W>) -> fmt::Result {
+        let (files, bytes, entries) = (self.files, self.bytes, self.entries);
+        write!(f, "{files} files {bytes} bytes {entries} entries")
+    }
 }
 
 /// What the files of a level have.

@@ -9,6 +9,7 @@ mod write;
 
 use crate::Options;
 use lsm_coord::Coord;
+use lsm_pick::CompactPointers;
 use lsm_vault::Vault;
 use lsm_versions::OpenError;
 pub use range::Range;
@@ -24,6 +25,8 @@ use std::marker::Model;
 pub struct Store<V: Vault> {
     alloc: Global,
     coord: Coord<V>,
+    // Where each level goes on. They determine only which of the compactions that are due is the next.
+    pointers: CompactPointers,
     // What the accepted batches weigh for which no compaction was run yet. It determines only when one is.
     unpaced: usize,
 }
@@ -68,6 +71,7 @@ impl<V: Vault> Store<V> {
             Ok(coord) => Ok(Store {
                 alloc,
                 coord,
+                pointers: CompactPointers::new(),
                 unpaced: 0,
             }),
             Err(refused) => Err(refused),
@@ -83,6 +87,7 @@ impl<V: Vault> Store<V> {
         let Store {
             alloc: _,
             coord,
+            pointers: _,
             unpaced: _,
         } = self;
         coord.close()

@@ -5,7 +5,7 @@ ghost use Rattle.lsm_store.specs.Compacting.{IsLeft};
 ghost use Rattle.lsm_store.specs.Store.{CompactRefuses, CompactsNext, IsDueAfter, Keeps, LeavesMemtable, LetsOthersGo, NextRefuses, OfCoord, ServesCurrentAlone};
 
 use super::Store;
-use crate::compact::compact_once;
+use crate::compact::compact_in;
 use crate::{Due, StoreError};
 use lsm_coord::CoordError;
 use lsm_vault::Vault;
@@ -42,7 +42,12 @@ impl<V: Vault> Store<V> {
         ensures recent { LeavesMemtable self.old self.new }
         ensures refused { IfErr result (NextRefuses self.old self.new) }
     {
-        let Some((number, _files)) = compact_once(self.alloc, &mut self.coord)? else {
+        let Some((number, _files)) = compact_in(
+            self.alloc,
+            &mut self.coord,
+            Some(&mut self.pointers),
+        )?
+        else {
             return Ok(false);
         };
         self.coord.trim(number)?;
