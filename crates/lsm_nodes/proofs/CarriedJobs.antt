@@ -58,26 +58,9 @@ pub gains_none : {A : Type 0} (was : Option (List A)) → GainsKnown was was []
 gains_none None = tt
 gains_none (Some xs) = sym (append-nil xs)
 
-pub gains_then : {A : Type 0} (was mid has : Option (List A)) (xs ys : List A) → GainsKnown was mid xs → GainsKnown mid has ys → GainsKnown was has (xs ++ ys)
-gains_then None mid has xs ys a b = tt
-gains_then (Some old) None has xs ys a b = absurd a
-gains_then (Some old) (Some half) None xs ys a b = absurd b
-gains_then (Some old) (Some half) (Some new) xs ys a b = b ∙ ap (λ w. w ++ ys) a ∙ append_assoc old xs ys
-
 pub carries : (was has : Option (List JobParts)) (t u : TallyValue) (jobs : List JobParts) → Picks t u jobs → GainsKnown was has jobs → CarriesPicks was has t u
 carries was has t u jobs a gains = record { more = a.more; mine = a.mine; carried = subst (GainsKnown was has) (sym a.jobs_are) gains }
 
 -- a job was picked and carried, and what came of it was asked and counted
 pub carries_job : (was has : Option (List JobParts)) (t u v w : TallyValue) (job : JobParts) → Picks t u (job ∷ []) → Picks u v [] → Picks v w [] → GainsKnown was has (job ∷ []) → CarriesPicks was has t w
 carries_job was has t u v w job a b c gains = carries was has t w (job ∷ []) (picks_then t v w (job ∷ []) [] (picks_then t u v (job ∷ []) [] a b) c) gains
-
--- ---- several rounds
-
-pub carries_nothing : (was : Option (List JobParts)) (t : TallyValue) → CarriesPicks was was t t
-carries_nothing was t = carries was was t t [] (picks_same t t refl) (gains_none was)
-
-pub carries_then : (was mid has : Option (List JobParts)) (t u v : TallyValue) → CarriesPicks was mid t u → CarriesPicks mid has u v → CarriesPicks was has t v
-carries_then was mid has t u v a b =
-    carries was has t v (picked_jobs a.more ++ picked_jobs b.more)
-    (picks_then t u v (picked_jobs a.more) (picked_jobs b.more) (record { more = a.more; mine = a.mine; jobs_are = refl }) (record { more = b.more; mine = b.mine; jobs_are = refl }))
-    (gains_then was mid has (picked_jobs a.more) (picked_jobs b.more) a.carried b.carried)

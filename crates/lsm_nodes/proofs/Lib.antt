@@ -7,4 +7,5 @@ pub mod TalliedRecords
 pub mod MatchedRecords
 pub mod PartedHistories
 pub mod SettledRounds
+mod EndedRounds
 pub mod CarriedJobs

@@ -1,5 +1,5 @@
 -- When a history is exactly what its callers recorded.
-use Rattle.std.specs.Prelude.{ℕ, ◌+◌, ◌<◌, List, [], ◌∷◌}
+use Rattle.std.specs.Prelude.{◌≡◌, ℕ, ◌+◌, ◌<◌, List, [], ◌∷◌, length}
 use Rattle.std.specs.List.Sorted.{IsPermutation}
 use Rattle.lsm_key.specs.Sets.{IsIn}
 use Rattle.lsm_nodes.specs.declared.shared.tally.Record.{Record}
@@ -25,6 +25,12 @@ AllRise (rs ∷ rss) = RisesAbove 0 rs × AllRise rss
 pub record IsPartedInto (history : List WitnessedValue) (lists : List (List Record)) : Type 0 where
   pub rising : AllRise lists
   pub once : IsPermutation (records_from 1 history) (all_records lists)
+
+-- The lists are not the records of some history that has as many calls. A contract that can't name the history says no more
+pub record MissHistory (lists : List (List Record)) : Type 0 where
+  pub history : List WitnessedValue
+  pub as_many : length (all_records lists) ≡ length history
+  pub missed : IsPartedInto history lists → ⊥
 
 -- each of the first is one of the second
 abbrev pub AreAmong : List Record → List Record → Type 0

@@ -7,7 +7,10 @@ use Rattle.lsm_coord.specs.declared.answer.Answer.{Answer}
 use Rattle.lsm_coord.specs.declared.answer.Answer.TheVariants as answer
 use Rattle.lsm_coord.specs.declared.call.Call.{Call}
 use Rattle.lsm_coord.specs.declared.call.Call.TheVariants as call
+use Rattle.lsm_coord.specs.declared.error.CoordError.TheVariants.{OutOfMemory}
 use Rattle.lsm_nodes.specs.declared.exchange.Exchange.{Exchange}
+use Rattle.lsm_nodes.specs.declared.rounds.RoundEnd.{RoundEnd}
+use Rattle.lsm_nodes.specs.declared.rounds.RoundEnd.TheVariants as end
 use Rattle.lsm_nodes.specs.declared.shared.tally.Record.{Record}
 
 -- what contracts see of a tally
@@ -132,6 +135,14 @@ pub record SettlesPicks (t u : TallyValue) : Type 0 where
   pub picked : u.picked ≡ t.picked + count_by is_pick more
   pub returned : t.returned ≤ u.returned
   pub stale : t.stale + count_by is_stale more ≤ u.stale
+
+-- how a round ended, by what the caller counted and recorded in it: one claim was settled, as installed or not; or none was, and the
+-- pick that gave no job is recorded, unless there was no memory for it
+abbrev pub EndsRound : TallyValue → TallyValue → RoundEnd → Type 0
+EndsRound t u end.Installed = (u.picked ≡ t.picked + 1) × (u.installed ≡ t.installed + 1)
+EndsRound t u end.NotInstalled = (u.picked ≡ t.picked + 1) × (u.installed ≡ t.installed)
+EndsRound t u end.Idle = (position : ℕ) × (u ≡ after_record t (record_at position (exchange_of call.Pick answer.Idle)))
+EndsRound t u (end.Refused why) = MayRecord (why ≡ OutOfMemory) t u (exchange_of call.Pick (answer.Refused why))
 
 -- at most this many rounds of a dispatcher: the parts stay, each round settles one claim at most, and each job that it was given is settled
 pub record IsDispatched (t : TallyValue) (rounds : ℕ) (u : TallyValue) : Type 0 where

@@ -36,7 +36,7 @@ pub struct Hub<V: Vault, J: Start, N: Witness + Drop> {
 }
 
 impl<V: Vault, J: Start, N: Witness + Drop> Hub<V, J, N> {
-    ghost use Rattle.lsm_nodes.specs.Closing.{IsPartedInto};
+    ghost use Rattle.lsm_nodes.specs.Closing.{IsPartedInto, MissHistory};
     ghost use Rattle.lsm_nodes.specs.Histories.{installed_in, installs_in};
     ghost use Rattle.lsm_nodes.specs.Tallies.{new_tally};
 
@@ -54,8 +54,9 @@ impl<V: Vault, J: Start, N: Witness + Drop> Hub<V, J, N> {
 
     /// Closes it with the tally into which all others were merged: the history is then exactly the records of all tallies, each
     /// once, each caller's in its order, and the tally's installs are those of the history, which are those that the manifest has beside
-    /// the ones at the start. A refusal hands both back. Of which
-    /// history a record is wrong no clause can say here: `Shared::matches` says it.
+    /// the ones at the start. A refusal hands both back. One for a wrong record means a history of as many calls as the tally has records,
+    /// which these are not; so a hub that recorded no call closes. That this history is the hub's no clause can say here: `Shared::matches`
+    /// says it of its own.
     #[tactic(auto, using(crate::proofs::TalliedRecords::more_installs))]
     pub fn close(
         self,
@@ -63,7 +64,7 @@ impl<V: Vault, J: Start, N: Witness + Drop> Hub<V, J, N> {
     ) -> Result<Shared<V, J, N>, (CloseError, Hub<V, J, N>, Tally<J>)>
         requires { J.parts ≡ PARTS }
         ensures missing { tally.parts ≢ PARTS → IsErrAnd result (λ e. e.0 ≡ CloseError.MissingTally) }
-        ensures wrong { tally.parts ≡ PARTS → IfErr result (λ e. e.0 ≡ CloseError.WrongRecord) }
+        ensures wrong { tally.parts ≡ PARTS → IfErr result (λ e. (e.0 ≡ CloseError.WrongRecord) × MissHistory (tally.mine ∷ tally.others)) }
         ensures back { IfErr result (λ e. e.2 ≡ tally) }
         ensures history { IfOk result (λ s. IsPartedInto s.history (tally.mine ∷ tally.others)) }
         ensures installs { IfOk result (λ s. length (installed_in s.history) ≡ tally.installed) }

@@ -21,5 +21,5 @@ mod twice;
 pub use exchange::{Exchange, Witness, Witnessed};
 pub use hub::{CloseError, Hub, PARTS};
 pub use laws::hub_limits_are_these;
-pub use rounds::{Link, dispatch};
+pub use rounds::{Link, RoundEnd, dispatch};
 pub use shared::{Record, Shared, Start, Tally};

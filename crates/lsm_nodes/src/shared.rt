@@ -67,6 +67,7 @@ impl<V: Vault, J: Start, N: Witness + Drop> Shared<V, J, N> {
     ghost use Rattle.lsm_coord.specs.Contract.Restarts.{seat_of, up_seat};
     ghost use Rattle.lsm_nodes.specs.Closing.{IsPartedInto};
     ghost use Rattle.lsm_nodes.specs.Histories.{AreSoundFrom, HoldsMerges, RunsFrom, installed_in, installs_in};
+    ghost use Rattle.lsm_nodes.specs.Tallies.{records_of};
 
     /// The start of a history. Allocates nothing.
     pub fn new(alloc: Global, coord: Coord<V>, book: Book<J>) -> Shared<V, J, N>
@@ -82,11 +83,12 @@ impl<V: Vault, J: Start, N: Witness + Drop> Shared<V, J, N> {
         }
     }
 
-    /// Whether a tally with all parts has exactly the records of the history, each once, each caller's in its order. Then its
-    /// installs are those of the history.
+    /// Whether a tally with all parts, which has as many records as the history, has exactly those of the history, each once, each
+    /// caller's in its order. Then its installs are those of the history.
     pub fn matches(&mut self, tally: &mut Tally<J>) -> bool
         requires { tally.old.parts ≡ J.parts }
         ensures same { (self.new ≡ self.old) × (tally.new ≡ tally.old) }
+        ensures counted { length (records_of tally.old) ≡ length self.old.history }
         ensures exact { IsTrue result ↔ IsPartedInto self.old.history (tally.old.mine ∷ tally.old.others) }
         ensures installs { IsTrue result → length (installed_in self.old.history) ≡ tally.old.installed }
     {
@@ -126,11 +128,12 @@ impl<V: Vault, J: Start, N: Witness + Drop> Shared<V, J, N> {
     }
 }
 
-// Takes room for one more in both lists.
+// Takes room for one more in both lists. It fails only if one of them has none.
 fn has_room<N: Witness + Drop>(history: &mut Vec<Witnessed<N>>, mine: &mut Vec<Record>) -> bool
     ensures history { history.new.items ≡ history.old.items }
     ensures mine { mine.new.items ≡ mine.old.items }
     ensures room { IsTrue result → (vec_len history.new < vec_capacity history.new) × (vec_len mine.new < vec_capacity mine.new) }
+    ensures spare { (vec_len history.old < vec_capacity history.old) × (vec_len mine.old < vec_capacity mine.old) → IsTrue result }
 {
     history.reserve(1).is_ok() && mine.reserve(1).is_ok()
 }

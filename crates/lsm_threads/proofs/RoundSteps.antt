@@ -1,12 +1,16 @@
--- The installs that a dispatcher counts.
-use Rattle.std.proofs.Common.{◌≡◌, ◌≤◌, List, count_by, ap, ◌∙◌, arith}
-use Rattle.lsm_nodes.specs.declared.shared.tally.Record.{Record}
-use Rattle.lsm_nodes.specs.Tallies.{SettlesPicks, TallyValue, all_records, is_done, records_of}
-use Rattle.lsm_nodes.proofs.TalliedRecords.{count-append}
+-- Rounds of a dispatcher, one after another.
+use Rattle.std.proofs.Common.{◌≡◌, ℕ, ◌+◌, ◌<◌, arith, subst}
+use Rattle.lsm_nodes.specs.declared.rounds.RoundEnd.{RoundEnd}
+use Rattle.lsm_nodes.specs.declared.rounds.RoundEnd.TheVariants as end
+use Rattle.lsm_nodes.specs.Tallies.{EndsRound, TallyValue}
+use Rattle.lsm_threads.specs.Rounds.{InstallsEach, StopsEarly}
 
--- an install that is recorded stays so
-pub installs_stay : (t u : TallyValue) → SettlesPicks t u → u.others ≡ t.others → t.installed ≡ count_by is_done (records_of t) → u.installed ≡ count_by is_done (records_of u) → t.installed ≤ u.installed
-installs_stay t u settles others before after =
-    let mine = ap (count_by is_done) settles.mine ∙ count-append is_done t.mine settles.more in
-    let rest = ap (λ (lists : List (List Record)). count_by is_done (all_records lists)) others in
-    omega (arith, before, after, mine, rest, count-append is_done t.mine (all_records t.others), count-append is_done u.mine (all_records u.others))
+-- a round that installed its claim, after others that did
+pub installs_then : (t u v : TallyValue) (made : ℕ) (last : RoundEnd) → InstallsEach t made u → EndsRound u v last → last ≡ end.Installed → InstallsEach t (made + 1) v
+installs_then t u v made last a ends is =
+    let b = subst (EndsRound u v) is ends in
+    record { picked = omega (arith, a.picked, b.0); installed = omega (arith, a.installed, b.1) }
+
+-- the last round
+pub stops_after : (t u v : TallyValue) (made rounds : ℕ) (last : RoundEnd) → made < rounds → InstallsEach t made u → EndsRound u v last → StopsEarly t rounds v last
+stops_after t u v made rounds last less a b = record { made = made; fewer = less; before = u; each = a; ends = b }

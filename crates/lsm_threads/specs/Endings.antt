@@ -1,7 +1,10 @@
 -- How loops end (the store's own).
-use Rattle.std.specs.Prelude.{◌≡◌, ◌⊎◌, ℕ, ◌<◌, ◌≤◌}
+use Rattle.std.specs.Prelude.{◌≡◌, ◌⊎◌, ℕ, ◌<◌, ◌≤◌, length}
+use Rattle.lsm_msg.specs.declared.message.Message.{Message}
+use Rattle.lsm_msg.specs.declared.message.TheConstants.{MAX_MESSAGE_BYTES}
+use Rattle.lsm_msg.specs.Messages.{message}
 use Rattle.lsm_threads.specs.declared.ending.Ending.{Ending}
-use Rattle.lsm_threads.specs.declared.ending.Ending.TheVariants.{AtGoal, Current, Dropped, Closed, OutOfMemory}
+use Rattle.lsm_threads.specs.declared.ending.Ending.TheVariants.{AtGoal, Current, Dropped, Closed, NoMessage, TooLarge, OutOfMemory}
 
 -- what came, or was to be sent, or want of memory ends it
 abbrev pub IsOfMail : Ending → Type 0
@@ -9,6 +12,20 @@ IsOfMail AtGoal = ⊥
 IsOfMail Current = ⊥
 IsOfMail Dropped = ⊥
 IsOfMail ending = Unit {0}
+
+-- what came is no message, nothing more comes, or memory runs out
+abbrev pub IsOfArrival : Ending → Type 0
+IsOfArrival NoMessage = Unit {0}
+IsOfArrival Closed = Unit {0}
+IsOfArrival OutOfMemory = Unit {0}
+IsOfArrival ending = ⊥
+
+-- the message has too many bytes, which comes before all else; or nothing more is taken, or memory runs out
+abbrev pub IsOfSending : Message → Ending → Type 0
+IsOfSending m TooLarge = MAX_MESSAGE_BYTES < length (message m)
+IsOfSending m Closed = length (message m) ≤ MAX_MESSAGE_BYTES
+IsOfSending m OutOfMemory = length (message m) ≤ MAX_MESSAGE_BYTES
+IsOfSending m ending = ⊥
 
 -- the worker gave its job up, or what came, what was to be sent or want of memory ends it
 abbrev pub IsOfWorker : Ending → Type 0

@@ -1,9 +1,9 @@
 //! A dispatcher and its worker, in two threads.
 
-ghost use Rattle.std.specs.Prelude.{◌≡◌, ◌≢◌, ◌↔◌, ◌+◌, ◌<◌, ◌^◌, IfErr, IfOk, IsTrue, false};
+ghost use Rattle.std.specs.Prelude.{◌≡◌, ◌↔◌, ◌+◌, ◌<◌, ◌^◌, IfErr, IfOk, IsTrue, false};
 ghost use Rattle.lsm_nodes.specs.Tallies.{IsDispatched};
 ghost use Rattle.lsm_threads.specs.Endings.{IsOfWorker};
-ghost use Rattle.lsm_threads.specs.Rounds.{LeavesOneAtMost};
+ghost use Rattle.lsm_threads.specs.Rounds.{EndsRounds};
 
 use crate::ending::Ending;
 use crate::link::WorkerLink;
@@ -12,7 +12,7 @@ use crate::worker::worker_loop;
 use bytes::Bytes;
 use crossbeam_channel::{Receiver, Sender, unbounded};
 use lsm_msg::NodeIndex;
-use lsm_nodes::{Hub, Link, Start, Tally, Witness, dispatch};
+use lsm_nodes::{Hub, Link, RoundEnd, Start, Tally, Witness, dispatch};
 use lsm_vault::Vault;
 use lsm_work::Worker;
 use std::alloc::Global;
@@ -23,7 +23,8 @@ use std::thread::Threads;
 
 /// At most this many rounds of a dispatcher, beside a new worker in a thread of its own. A round is the last one if the flag is set, or if it
 /// installs nothing: nothing is due, memory ran out, or the worker has ended. Each job that it was given is settled: all but the last one are
-/// installed. Says too, if the last job came back without a result, why: how the link ended, or the worker if it closed its channels.
+/// installed. Says too how the last round ended, unless each was made and installed its claim; and, if the last job came back without a
+/// result, why: how the link ended, or the worker if it closed its channels.
 /// Refuses if there is no memory for channels, or no thread can be made, and hands the tally back.
 pub fn dispatch_with_worker<
     V: Vault + Send,
@@ -38,11 +39,11 @@ pub fn dispatch_with_worker<
     rounds: u64,
     is_over: &AtomicBool,
     tally: Tally<J>,
-) -> Result<(Tally<J>, Option<Ending>), Tally<J>>
+) -> Result<(Tally<J>, Option<RoundEnd>, Option<Ending>), Tally<J>>
     requires part { 0 < tally.parts }
     requires fits { tally.picked + rounds < 2 ^ 64 }
     ensures dispatched { IfOk result (λ r. IsDispatched tally rounds r.0) }
-    ensures left { IfOk result (λ r. LeavesOneAtMost tally r.0) }
+    ensures ends { IfOk result (λ r. EndsRounds tally rounds r.0 r.1) }
     ensures refused { IfErr result (λ t. t ≡ tally) }
 {
     let Ok((to_worker, inbox)) = unbounded(alloc) else {
@@ -54,9 +55,9 @@ pub fn dispatch_with_worker<
     thread::scope(
         thread::scope_env(),
         rt,
-        move |scope| -> Result<(Tally<J>, Option<Ending>), Tally<J>>
+        move |scope| -> Result<(Tally<J>, Option<RoundEnd>, Option<Ending>), Tally<J>>
             requires { (0 < tally.parts) × (tally.picked + rounds < 2 ^ 64) }
-            ensures ok { IfOk result (λ r. IsDispatched tally rounds r.0 × LeavesOneAtMost tally r.0) }
+            ensures ok { IfOk result (λ r. IsDispatched tally rounds r.0 × EndsRounds tally rounds r.0 r.1) }
             ensures err { IfErr result (λ t. t ≡ tally) }
         {
             let Ok(working) = scope.spawn(move || work(rt, alloc, index, inbox, outbox)) else {
@@ -64,11 +65,11 @@ pub fn dispatch_with_worker<
             };
             let port = ChannelPort::new(rt, alloc, from_worker, to_worker);
             let mut link = WorkerLink::new(rt, hub, index, port);
-            let tally = rounds_by(rt, hub, &mut link, rounds, is_over, tally);
+            let (tally, last) = rounds_by(rt, hub, &mut link, rounds, is_over, tally);
             let lost = link.lost();
             drop(link);
             let worked = working.join(rt);
-            Ok((tally, lost.map(|ending| ending.cause(worked))))
+            Ok((tally, last, lost.map(|ending| ending.cause(worked))))
         },
     )
 }
@@ -88,8 +89,8 @@ fn work<R: Wait>(
     ending
 }
 
-// Rounds up to one that installs nothing or sees the flag, at most this many.
-#[tactic(auto, using(lsm_nodes::proofs::SettledRounds::dispatched_then, lsm_nodes::proofs::SettledRounds::dispatched_within, lsm_nodes::proofs::SettledRounds::dispatched_none, crate::proofs::RoundSteps::installs_stay))]
+// Rounds up to one that installs nothing or sees the flag, at most this many, and how that one ended.
+#[tactic(auto, using(lsm_nodes::proofs::SettledRounds::dispatched_then, lsm_nodes::proofs::SettledRounds::dispatched_within, lsm_nodes::proofs::SettledRounds::dispatched_none, crate::proofs::RoundSteps::installs_then, crate::proofs::RoundSteps::stops_after))]
 fn rounds_by<V: Vault, J: Start, N: Witness + Drop, L: Link, R: Wait>(
     rt: &R,
     hub: &Hub<V, J, N>,
@@ -97,27 +98,29 @@ fn rounds_by<V: Vault, J: Start, N: Witness + Drop, L: Link, R: Wait>(
     rounds: u64,
     is_over: &AtomicBool,
     tally: Tally<J>,
-) -> Tally<J>
+) -> (Tally<J>, Option<RoundEnd>)
     requires part { 0 < tally.parts }
     requires fits { tally.picked + rounds < 2 ^ 64 }
-    ensures dispatched { IsDispatched tally rounds result }
-    ensures left { LeavesOneAtMost tally result }
+    ensures dispatched { IsDispatched tally rounds result.0 }
+    ensures ends { EndsRounds tally rounds result.0 result.1 }
 {
     let mut tally = tally;
     for _round in 0..rounds {
-        let before = tally.installed();
-        tally = dispatch(rt, hub, link, 1, tally);
-        let after = tally.installed();
-        if !goes_on(before, after, is_over.load(Ordering::SeqCst)) {
-            return tally;
+        let (next, end) = dispatch(rt, hub, link, tally);
+        tally = next;
+        if !goes_on(end, is_over.load(Ordering::SeqCst)) {
+            return (tally, Some(end));
         }
     }
-    tally
+    (tally, None)
 }
 
-// Whether a round follows one that raised the count of installs from `before` to `after`: it installed its claim, and the rounds are not over.
-fn goes_on(before: u64, after: u64, is_over: bool) -> bool
-    ensures { IsTrue result ↔ (before ≢ after) × (is_over ≡ false) }
+// Whether a round follows one that ended so: it installed its claim, and the rounds are not over.
+fn goes_on(end: RoundEnd, is_over: bool) -> bool
+    ensures { IsTrue result ↔ (end ≡ RoundEnd.Installed) × (is_over ≡ false) }
 {
-    before != after && !is_over
+    match end {
+        RoundEnd::Installed => !is_over,
+        RoundEnd::NotInstalled | RoundEnd::Idle | RoundEnd::Refused(_) => false,
+    }
 }

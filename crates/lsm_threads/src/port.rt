@@ -14,7 +14,7 @@ pub trait Port {
     ghost use Rattle.std.specs.Prelude.{List, [], ◌∷◌, Option, None, IfOk, IfErr, OnOk, OnErr};
     ghost use Rattle.lsm_msg.specs.declared.message.Message.{Message};
     ghost use Rattle.lsm_msg.specs.Messages.{IsMessage};
-    ghost use Rattle.lsm_threads.specs.Endings.{IsOfMail};
+    ghost use Rattle.lsm_threads.specs.Endings.{IsOfArrival, IsOfMail, IsOfSending};
     ghost use Rattle.lsm_threads.specs.Ports.{Traffic};
 
     // The messages that came, if they are known.
@@ -27,13 +27,15 @@ pub trait Port {
     fn receive(&mut self) -> Result<Message, Ending>
         ensures sound { IfOk result IsMessage }
         ensures ok { IfOk result (λ m. Traffic (got self.old) (got self.new) (sent self.old) (sent self.new) (m ∷ []) []) }
+        ensures refused { IfErr result IsOfArrival }
         ensures mail { IfErr result IsOfMail }
         ensures err { OnErr result (Traffic (got self.old) (got self.new) (sent self.old) (sent self.new) [] []) };
 
-    /// Sends a message. One that is refused is not sent.
+    /// Sends a message. One that is refused is not sent; one that is too large is refused for that alone.
     fn send(&mut self, m: &Message) -> Result<(), Ending>
         requires { IsMessage m.now }
         ensures ok { OnOk result (Traffic (got self.old) (got self.new) (sent self.old) (sent self.new) [] (m.now ∷ [])) }
+        ensures refused { IfErr result (IsOfSending m.now) }
         ensures mail { IfErr result IsOfMail }
         ensures err { OnErr result (Traffic (got self.old) (got self.new) (sent self.old) (sent self.new) [] []) };
 }

@@ -81,7 +81,7 @@ fn round_and_pick<V: Vault, J: Start, N: Witness + Drop, R: Wait>(
     if tally.picked() > 0 {
         return None;
     }
-    let mut tally = dispatch(rt, hub, link, 1, tally);
+    let (mut tally, _end) = dispatch(rt, hub, link, tally);
     let next = next_job(rt, hub, &mut tally)?;
     Some(RoundCounts {
         picked: tally.picked(),

@@ -3,10 +3,11 @@
 ghost use Rattle.std.specs.Prelude.{◌≡◌, ◌+◌, ◌≤◌, IfOk};
 ghost use Rattle.lsm_threads.specs.Rounds.{IsOneInstall};
 
-use super::{ThreadsError, reason_of_ending};
+use super::{ThreadsError, reason_of, reason_of_ending};
 use crate::dispatcher::dispatch_with_worker;
+use crate::ending::Ending;
 use lsm_msg::NodeIndex;
-use lsm_nodes::{Hub, PARTS, Start, Tally, Witness};
+use lsm_nodes::{Hub, PARTS, RoundEnd, Start, Tally, Witness};
 use lsm_vault::Vault;
 use std::alloc::Global;
 use std::sync::Wait;
@@ -108,15 +109,22 @@ fn one_round<
     ensures { IfOk result IsOneInstall }
 {
     let is_over = AtomicBool::new(false);
-    let Ok((tally, lost)) = dispatch_with_worker(rt, alloc, hub, index, 1, &is_over, tally) else {
+    let Ok((tally, last, lost)) = dispatch_with_worker(rt, alloc, hub, index, 1, &is_over, tally)
+    else {
         return Err(ThreadsError::OutOfMemory);
     };
     if tally.picked() == 1 && tally.installed() == 1 {
         return Ok(tally);
     }
-    match lost {
-        // Of keys that differ there is one that is due for each, so a pick or an install found no memory.
-        None => Err(ThreadsError::OutOfMemory),
-        Some(ending) => Err(reason_of_ending(ending)),
+    Err(reason_of_round(last, lost))
+}
+
+// Why a round installed nothing. Of keys that differ there is a compaction that is due for each dispatcher, so if none was due, or a result
+// came back, there was no memory for it.
+fn reason_of_round(last: Option<RoundEnd>, lost: Option<Ending>) -> ThreadsError {
+    match (last, lost) {
+        (Some(RoundEnd::Refused(why)), _) => reason_of(why),
+        (_, Some(ending)) => reason_of_ending(ending),
+        (_, None) => ThreadsError::OutOfMemory,
     }
 }

@@ -78,7 +78,7 @@ fn carry<V: Vault + Drop, J: Start, N: Witness + Drop, R: Wait>(
     let (outbox, sent) = unbounded(alloc)?;
     let port = ChannelPort::new(rt, alloc, inbox, outbox);
     let mut link = WorkerLink::new(rt, &hub, index, port);
-    let tally = dispatch(rt, &hub, &mut link, 1, tally);
+    let (tally, _end) = dispatch(rt, &hub, &mut link, tally);
     if !are_sent(rt, &sent, wanted) {
         return Err("out of memory, or other messages were sent")?;
     }

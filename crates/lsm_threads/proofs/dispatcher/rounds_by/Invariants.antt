@@ -6,5 +6,5 @@ use Rattle.lsm_threads.proofs.dispatcher.rounds_by.Given as goal
 abbrev pub invariant-loop-round : goal.invariant-loop-round
 invariant-loop-round g l = record {
   dispatched : IsDispatched l.fn.tally l._round l.tally;
-  each : InstallsEach l.fn.tally l.tally;
+  each : InstallsEach l.fn.tally l._round l.tally;
 }

@@ -1,5 +1,5 @@
 -- The ledger is the one that was begun, and the history starts at the coordinator that was opened.
-use Rattle.lsm_nodes_tests.proofs.tests.counted_anew.Given as goal
+use Rattle.lsm_nodes_tests.proofs.tests.away.counted_anew.Given as goal
 
 abbrev pub ghosts-counted-J-Ledger : goal.ghosts-counted-J-Ledger
 ghosts-counted-J-Ledger g a = record { name = a.blank.name; parts = a.blank.parts }
