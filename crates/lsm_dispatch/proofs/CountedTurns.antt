@@ -1,5 +1,5 @@
 -- What a turn counts, by what its read and its write do.
-use Rattle.std.proofs.Common.{◌≡◌, ℕ, ◌+◌, ◌<◌, ◌≤◌, List, Result, Ok, Err, IfErr, refl, arith, inr}
+use Rattle.std.proofs.Common.{◌≡◌, ℕ, ◌<◌, ◌≤◌, List, Result, Ok, Err, IfErr, refl, arith, inr}
 use Rattle.std.specs.Prelude.{OnOk}
 use Rattle.lsm_pipe.specs.declared.error.PipeError.{PipeError}
 use Rattle.lsm_pipe.specs.declared.error.PipeError.TheVariants as pipe

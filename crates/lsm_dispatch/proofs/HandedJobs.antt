@@ -1,18 +1,21 @@
 -- What a coordinator and its crew are after a job is handed out.
-use Rattle.std.proofs.Common.{◌≡◌, ℕ, zero, suc, ◌-◌, ◌<◌, ◌≤◌, List, [], ◌∷◌, get_or, refl, sym, ap, subst, ◌∙◌, inl, inr, arith}
+use Rattle.std.proofs.Common.{◌≡◌, ℕ, zero, suc, ◌-◌, ◌<◌, ◌≤◌, List, [], ◌∷◌, Option, get_or, refl, sym, ap, subst, ◌∙◌, inl, inr, arith}
 use Rattle.std.specs.Prelude.{slice_set}
 use Rattle.std.proofs.lemmas.Bool.{true≢false}
 use Rattle.lsm_key.specs.Sets.{IsIn}
 use Rattle.lsm_key.proofs.Membership.{IsIn-append_right}
 use Rattle.lsm_claim.specs.declared.job.Want.{Want}
+use Rattle.lsm_pick.specs.After.{CompactPointersValue}
 use Rattle.lsm_pick.specs.Closure.{Candidate}
 use Rattle.lsm_pick.specs.Rule.{IsBlocked, IsEligible, IsTooLarge, fits_limits, is_free}
 use Rattle.lsm_pick.proofs.OneWant.{one_want}
 use Rattle.lsm_claim.specs.declared.job.LiveJob.{LiveJob}
 use Rattle.lsm_claim.specs.Book.{BookValue, after_claim, next_job}
 use Rattle.lsm_msg.specs.declared.job.JobParts.{JobParts}
-use Rattle.lsm_coord.specs.Contract.Picking.{IsPicked, candidates_of}
+use Rattle.lsm_coord.specs.Contract.Memory.{IsFit}
+use Rattle.lsm_coord.specs.Contract.Picking.{IsPickedAfter, candidates_in_order, candidates_of}
 use Rattle.lsm_coord.specs.Contract.Value.{CoordValue}
+use Rattle.lsm_coord.proofs.PickOrders.{orders_alike}
 use Rattle.lsm_store.specs.Store.{IsNoneDue}
 use Rattle.lsm_dispatch.specs.declared.crew.WorkerState.{WorkerState}
 use Rattle.lsm_dispatch.specs.declared.crew.WorkerState.TheVariants.{Gone, Idle, Busy}
@@ -20,13 +23,13 @@ use Rattle.lsm_dispatch.specs.Crews.{CrewHolds, after_leaving, state_of, with_st
 use Rattle.lsm_dispatch.proofs.HeldClaims.{held_after_pick}
 
 -- an idle worker has a picked job, and the state that it left had no claim
-module _ (old mid new : CoordValue) (crew crew_new : List WorkerState) (index : ℕ) (claim : LiveJob) (job : JobParts)
-    (idle : state_of crew index ≡ Idle) (picked : IsPicked old claim job mid) (left : new ≡ after_leaving mid (state_of crew index)) where
+module _ {pointers : Option CompactPointersValue} (old mid new : CoordValue) (crew crew_new : List WorkerState) (index : ℕ) (claim : LiveJob) (job : JobParts)
+    (idle : state_of crew index ≡ Idle) (picked : IsPickedAfter pointers old claim job mid) (left : new ≡ after_leaving mid (state_of crew index)) where
   pub same_left : new ≡ mid
   same_left = left ∙ ap (after_leaving mid) idle
 
-  pub handed_picked : IsPicked old claim job new
-  handed_picked = subst (IsPicked old claim job) (sym same_left) picked
+  pub handed_picked : IsPickedAfter pointers old claim job new
+  handed_picked = subst (IsPickedAfter pointers old claim job) (sym same_left) picked
 
   pub handed_held : crew_new ≡ with_state crew index (Busy claim) → state_of crew_new index ≡ Busy claim → CrewHolds old.book crew → CrewHolds new.book crew_new
   handed_held now state held =
@@ -48,10 +51,11 @@ module _ (c : CoordValue) (t : Candidate) (want : Want) (taken : IsEligible c.se
   not_too_large : IsTooLarge c.served.version.files c.book.live t → ⊥
   not_too_large b = true≢false (sym taken.within ∙ ap (fits_limits c.served.version.files) (sym (one_want c.served.version.files t b.0 want b.1 taken.asks)) ∙ b.3)
 
-pub picked_due : (old new : CoordValue) (claim : LiveJob) (job : JobParts) → IsPicked old claim job new → IsNoneDue old → ⊥
-picked_due old new claim job picked none =
+pub picked_due : {pointers : Option CompactPointersValue} (old new : CoordValue) (claim : LiveJob) (job : JobParts) → IsFit old → IsPickedAfter pointers old claim job new → IsNoneDue old → ⊥
+picked_due {pointers} old new claim job fit picked none =
     let first = (picked.may).next in
-    let there : IsIn first.candidate (candidates_of old) = subst (IsIn first.candidate) (sym first.order) (IsIn-append_right first.candidate first.before (first.candidate ∷ first.after) (inl refl)) in
+    let among : IsIn first.candidate (candidates_in_order pointers old) = subst (IsIn first.candidate) (sym first.order) (IsIn-append_right first.candidate first.before (first.candidate ∷ first.after) (inl refl)) in
+    let there : IsIn first.candidate (candidates_of old) = ((orders_alike pointers old.limits old.served old.served old.book.live refl (fit.served, fit.version)).members first.candidate).0 among in
     elim none [
       | inl blocked ↦ not_blocked old first.candidate picked.want first.taken (blocked first.candidate there)
       | inr large ↦ elim (large.0 first.candidate there) [

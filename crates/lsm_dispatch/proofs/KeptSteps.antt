@@ -15,7 +15,7 @@ use Rattle.lsm_store.proofs.StoreSteps.{keeps_then}
 use Rattle.lsm_dispatch.specs.declared.crew.WorkerState.{WorkerState}
 use Rattle.lsm_dispatch.specs.declared.crew.WorkerState.TheVariants.{Gone, Idle, Busy}
 use Rattle.lsm_dispatch.specs.Crews.{CrewHolds, after_all_leave, after_leaving, has_busy}
-use Rattle.lsm_dispatch.specs.Dispatching.{IsMergeOfJob, KeepsIfMerged, Passes, RunKeeps, Taken}
+use Rattle.lsm_dispatch.specs.Dispatching.{InstallsInOrder, IsMergeOfJob, KeepsIfMerged, RunKeeps, TakenResult}
 
 pub keeps_same : (c : CoordValue) → Keeps c c
 keeps_same c writes snapshots h = h
@@ -41,20 +41,20 @@ installed_keeps old new message number files follows writes snapshots h =
 
 -- ---- in turn
 
-pub passes_first : (old mid new : CoordValue) (ts : List Taken) → Keeps old mid → Passes mid ts new → Passes old ts new
+pub passes_first : (old mid new : CoordValue) (ts : List TakenResult) → Keeps old mid → InstallsInOrder mid ts new → InstallsInOrder old ts new
 passes_first old mid new [] p q = keeps_then old mid new p q
 passes_first old mid new (t ∷ ts) p q = (keeps_then old mid t.at p q.0, q.1, q.2, q.3, q.4)
 
-pub passes_then : (old mid new : CoordValue) (ts us : List Taken) → Passes old ts mid → Passes mid us new → Passes old (ts ++ us) new
+pub passes_then : (old mid new : CoordValue) (ts us : List TakenResult) → InstallsInOrder old ts mid → InstallsInOrder mid us new → InstallsInOrder old (ts ++ us) new
 passes_then old mid new [] us p q = passes_first old mid new us p q
 passes_then old mid new (t ∷ ts) us p q = (p.0, p.1, p.2, p.3, passes_then p.1 mid new ts us p.4 q)
 
-passes_keep : (old new : CoordValue) (ts : List Taken) → Passes old ts new → ((t : Taken) → IsIn t ts → IsMergeOfJob t) → Keeps old new
+passes_keep : (old new : CoordValue) (ts : List TakenResult) → InstallsInOrder old ts new → ((t : TakenResult) → IsIn t ts → IsMergeOfJob t) → Keeps old new
 passes_keep old new [] p merged = p
 passes_keep old new (t ∷ ts) p merged =
     keeps_then old t.at new p.0 (keeps_then t.at p.1 new (p.3 (merged t (inl refl))) (passes_keep p.1 new ts p.4 (λ u m. merged u (inr m))))
 
-pub kept_if_merged : (old new : CoordValue) → (ts : List Taken) × Passes old ts new → KeepsIfMerged old new
+pub kept_if_merged : (old new : CoordValue) → (ts : List TakenResult) × InstallsInOrder old ts new → KeepsIfMerged old new
 kept_if_merged old new p = record { results = p.0; passes = p.1; keeps = passes_keep old new p.0 p.1 }
 
 pub left_keeps : (old new : CoordValue) (s : WorkerState) → new ≡ after_leaving old s → Keeps old new
@@ -73,7 +73,7 @@ run_keeps_none crew c = record { held = λ h. h; results = []; passes = keeps_sa
 pub run_keeps : (crew crew_new : List WorkerState) (old new : CoordValue) → (CrewHolds old.book crew → CrewHolds new.book crew_new) → Keeps old new → RunKeeps crew old crew_new new
 run_keeps crew crew_new old new held keeps = record { held = held; results = []; passes = keeps }
 
-pub run_passes : (crew crew_new : List WorkerState) (old new : CoordValue) → (CrewHolds old.book crew → CrewHolds new.book crew_new) → (results : List Taken) × Passes old results new → RunKeeps crew old crew_new new
+pub run_passes : (crew crew_new : List WorkerState) (old new : CoordValue) → (CrewHolds old.book crew → CrewHolds new.book crew_new) → (results : List TakenResult) × InstallsInOrder old results new → RunKeeps crew old crew_new new
 run_passes crew crew_new old new held p = record { held = held; results = p.0; passes = p.1 }
 
 pub run_keeps_then : (a b d : List WorkerState) (x y z : CoordValue) → RunKeeps a x b y → RunKeeps b y d z → RunKeeps a x d z

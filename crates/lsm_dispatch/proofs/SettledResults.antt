@@ -14,7 +14,7 @@ use Rattle.lsm_coord.specs.Contract.Value.{CoordValue}
 use Rattle.lsm_coord.proofs.InstallRefusals.{rejected_stored}
 use Rattle.lsm_store.specs.Store.{Keeps}
 use Rattle.lsm_dispatch.specs.Crews.{Ends}
-use Rattle.lsm_dispatch.specs.Dispatching.{IsMergeOfJob, Passes, ResultRefuses, Settles, Taken, TakesClaim, TrimsAfter, stays_after}
+use Rattle.lsm_dispatch.specs.Dispatching.{InstallsInOrder, IsMergeOfJob, ResultRefuses, Settles, TakenResult, TakesClaim, TrimsAfter, stays_after}
 use Rattle.lsm_dispatch.proofs.HeldClaims.{ends_kept}
 use Rattle.lsm_dispatch.proofs.KeptSteps.{keeps_same}
 
@@ -35,7 +35,7 @@ module _ (old mid new : CoordValue) (claim back : LiveJob) (made : JobResult) (w
 pub ended_same_book : (old mid new : BookValue) (ids : List JobId) → Ends old ids mid → new ≡ mid → Ends old ids new
 ended_same_book old mid new ids ends same = subst (Ends old ids) (sym same) ends
 
-pub installed_passes : (old mid new : CoordValue) (claim : LiveJob) (made : JobResult) (number : ℕ) → Settles old claim made (Ok (Some number)) mid → (IsMergeOfJob (record { at = old; claim = claim; made = made }) → Keeps old mid) → Keeps mid new → (results : List Taken) × Passes old results new
+pub installed_passes : (old mid new : CoordValue) (claim : LiveJob) (made : JobResult) (number : ℕ) → Settles old claim made (Ok (Some number)) mid → (IsMergeOfJob (record { at = old; claim = claim; made = made }) → Keeps old mid) → Keeps mid new → (results : List TakenResult) × InstallsInOrder old results new
 installed_passes old mid new claim made number settles merged after =
     (record { at = old; claim = claim; made = made } ∷ [], (keeps_same old, mid, (number, settles.0, settles.1), merged, after))
 

@@ -17,7 +17,7 @@ use Rattle.lsm_store.proofs.StoreSteps.{keeps_then}
 use Rattle.lsm_dispatch.specs.declared.crew.WorkerState.{WorkerState}
 use Rattle.lsm_dispatch.specs.declared.crew.WorkerState.TheVariants.{Gone, Idle, Busy}
 use Rattle.lsm_dispatch.specs.Crews.{CrewHolds, Ends, IsBusyWith, after_leaving, busy_claim, busy_job, state_of, with_state}
-use Rattle.lsm_dispatch.specs.Dispatching.{ActsOn, CrewRefuses, CrewTakes, IsDue, IsLeftDue, KeepsIfMerged, Passes, ResultRefuses, Taken, TakesClaim}
+use Rattle.lsm_dispatch.specs.Dispatching.{CrewRefuses, CrewTakes, HandlesMessage, InstallsInOrder, IsDue, IsLeftDue, KeepsIfMerged, ResultRefuses, TakenResult, TakesClaim}
 use Rattle.lsm_dispatch.proofs.HeldClaims.{held_after_end, set_twice}
 use Rattle.lsm_dispatch.proofs.KeptSteps.{kept_if_merged, passes_then}
 
@@ -57,7 +57,7 @@ crew_refuses old new crew crew_new index claim made e had has refuses idle =
 
 -- a result that is taken, or that ends in an error, of the worker that has its job
 pub acts_on_result : (crew crew_new : List WorkerState) (old new : CoordValue) (index : ℕ) (made : JobResult) (r : Result (Unit {0}) CoordError) → (IsBusyWith (state_of crew index) made.job → OnOk r (CrewTakes crew old index made crew_new new))
-    → ((IsBusyWith (state_of crew index) made.job → ⊥) → (crew_new ≡ crew) × (new ≡ old)) → OnOk r (ActsOn crew old (node.Worker index) (body.Result made) crew_new new)
+    → ((IsBusyWith (state_of crew index) made.job → ⊥) → (crew_new ≡ crew) × (new ≡ old)) → OnOk r (HandlesMessage crew old (node.Worker index) (body.Result made) crew_new new)
 acts_on_result crew crew_new old new index made (Ok x) taken late = (taken, late)
 acts_on_result crew crew_new old new index made (Err e) taken late = tt
 
@@ -70,7 +70,7 @@ idle_left mid new s idle left = left ∙ ap (after_leaving mid) idle
 
 -- ---- whole dispatches
 
-pub ended_keeps : (old mid last new : CoordValue) → (results : List Taken) × Passes old results mid → Keeps mid last → Keeps last new → KeepsIfMerged old new
+pub ended_keeps : (old mid last new : CoordValue) → (results : List TakenResult) × InstallsInOrder old results mid → Keeps mid last → Keeps last new → KeepsIfMerged old new
 ended_keeps old mid last new p first second = kept_if_merged old new (p.0 ++ [], passes_then old mid new p.0 [] p.1 (keeps_then mid last new first second))
 
 -- what is left is no more than what exceeds a limit

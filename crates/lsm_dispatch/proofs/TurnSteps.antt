@@ -13,6 +13,7 @@ use Rattle.lsm_pipe.specs.declared.error.PipeError.TheVariants as pipe
 use Rattle.lsm_pipe.specs.Frames.{FrameRefuses, IsSinkError, SendRefuses, framed}
 use Rattle.lsm_pipe.proofs.WorkSteps.{framed_then}
 use Rattle.lsm_coord.specs.declared.error.CoordError.{CoordError}
+use Rattle.lsm_coord.specs.Contract.Memory.{IsFit}
 use Rattle.lsm_coord.specs.Contract.Value.{CoordValue}
 use Rattle.lsm_store.specs.declared.due.Due.{Due}
 use Rattle.lsm_store.specs.Store.{IsNoneDue}
@@ -23,7 +24,7 @@ use Rattle.lsm_dispatch.specs.declared.error.DispatchError.{DispatchError}
 use Rattle.lsm_dispatch.specs.declared.error.DispatchError.TheVariants as error
 use Rattle.lsm_dispatch.specs.declared.letter.Letter.{Letter}
 use Rattle.lsm_dispatch.specs.Crews.{after_all_leave, has_busy, state_of, with_state}
-use Rattle.lsm_dispatch.specs.Dispatching.{ActRefuses, HandsOut, IsDue, JobRefuses}
+use Rattle.lsm_dispatch.specs.Dispatching.{HandlingRefuses, HandsOut, IsDue, JobRefuses}
 use Rattle.lsm_dispatch.specs.Letters.{IsLetter, NoLetter}
 use Rattle.lsm_dispatch.specs.Turns.{AsksWorker, AwaitsLetter, ComesNext, DispatchRefuses, Hands, IsNextSent, IsNoLetter, IsTurn, NoneWaits, NoneWaitsBefore, OneRefuses, ReadStops, RunEnds, RunStops, RunsOver, Takes, TakesLetter, Turn, TurnStops, TurnsThrough, bytes_read, one_or_none, sent_in}
 use Rattle.lsm_dispatch.proofs.HandedJobs.{picked_due, set_busy, state_apart}
@@ -120,22 +121,22 @@ pub waits_none : (crew : List WorkerState) (c : CoordValue) → NoneWaitsBefore 
 waits_none crew c index one below idle = absurd (none_between index one below)
 
 -- a worker that was passed over stays idle only if no compaction is due, and then none is picked for a later one
-waits_for : (n : ℕ) (crew crew_new : List WorkerState) (old new : CoordValue) (sent : Option Message) → NoneWaitsBefore n crew old → HandsOut crew old n crew_new new sent → NoneWaitsBefore (n + 1) crew_new new
-waits_for n crew crew_new old new None before hands index one below idle =
+waits_for : (n : ℕ) (crew crew_new : List WorkerState) (old new : CoordValue) (sent : Option Message) → IsFit old → NoneWaitsBefore n crew old → HandsOut crew old n crew_new new sent → NoneWaitsBefore (n + 1) crew_new new
+waits_for n crew crew_new old new None fit before hands index one below idle =
     let was : state_of crew index ≡ Idle = ap (λ (w : List WorkerState). state_of w index) (sym hands.0) ∙ idle in
     subst IsNoneDue (sym hands.1) (elim (cases_lt index n) [
       | inl less ↦ before index one less was
       | inr at ↦ elim hands.2 [ inl other ↦ absurd (other (ap (state_of crew) (between n index at below) ∙ was)) | inr none ↦ none ]
     ])
-waits_for n crew crew_new old new (Some m) before hands index one below idle =
-    let now : state_of (with_state crew n (Busy hands.1)) index ≡ Idle = ap (λ (w : List WorkerState). state_of w index) (sym hands.4) ∙ idle in
+waits_for n crew crew_new old new (Some m) fit before hands index one below idle =
+    let now : state_of (with_state crew n (Busy hands.1)) index ≡ Idle = ap (λ (w : List WorkerState). state_of w index) (sym hands.5) ∙ idle in
     absurd (elim (cases_lt index n) [
-      | inl less ↦ picked_due old new hands.1 hands.2 hands.3 (before index one less (sym (state_apart crew n index (Busy hands.1) one less) ∙ now))
+      | inl less ↦ picked_due old new hands.1 hands.2 fit hands.4 (before index one less (sym (state_apart crew n index (Busy hands.1) one less) ∙ now))
       | inr at ↦ set_busy crew (n - 1) hands.1 (ap (state_of (with_state crew n (Busy hands.1))) (between n index at below) ∙ now)
     ])
 
-pub waits_more : (n : ℕ) (crew crew_new : List WorkerState) (old new : CoordValue) → NoneWaitsBefore n crew old → AsksWorker n crew old crew_new new → NoneWaitsBefore (n + 1) crew_new new
-waits_more n crew crew_new old new before asks = waits_for n crew crew_new old new asks.0 before asks.1
+pub waits_more : (n : ℕ) (crew crew_new : List WorkerState) (old new : CoordValue) → IsFit old → NoneWaitsBefore n crew old → AsksWorker n crew old crew_new new → NoneWaitsBefore (n + 1) crew_new new
+waits_more n crew crew_new old new fit before asks = waits_for n crew crew_new old new asks.0 fit before asks.1
 
 -- ---- a letter that is taken
 
@@ -174,7 +175,7 @@ frame_fails crew c was held e waits h = stops_now crew c was held held (error.Pi
 pub letter_fails : (crew : List WorkerState) (c : CoordValue) (was left held : Option (List ℕ)) (payload : List ℕ) (e : PipeError) → AwaitsLetter crew c → Consumes was left (sized payload) → NoLetter payload e → RunStops crew c was held held (error.Pipe e)
 letter_fails crew c was left held payload e waits p h = stops_now crew c was held held (error.Pipe e) (inr (letter_refused crew c was left payload e waits p h, refl))
 
-pub act_fails : (crew crew_new : List WorkerState) (c new : CoordValue) (was left held : Option (List ℕ)) (payload : List ℕ) (m : Message) (e : CoordError) → AwaitsLetter crew c → Consumes was left (sized payload) → IsSpelled payload m → ActRefuses crew c m.src m.body e crew_new new
+pub act_fails : (crew crew_new : List WorkerState) (c new : CoordValue) (was left held : Option (List ℕ)) (payload : List ℕ) (m : Message) (e : CoordError) → AwaitsLetter crew c → Consumes was left (sized payload) → IsSpelled payload m → HandlingRefuses crew c m.src m.body e crew_new new
     → RunStops crew c was held held (error.Coord e)
 act_fails crew crew_new c new was left held payload m e waits p spelled h =
     stops_now crew c was held held (error.Coord e) (inr (record { payload = payload; next = m; crew_new = crew_new; new = new; waits = waits; comes = comes_next was left (sized payload) p; spelled = spelled; refuses = h }), refl)

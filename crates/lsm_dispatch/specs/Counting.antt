@@ -1,5 +1,5 @@
 -- When a dispatch may report that a stream failed, or that it does not end: as its streams count their calls and their faults (RocksDB: I/O errors).
-use Rattle.std.specs.Prelude.{◌≡◌, ◌⊎◌, ℕ, ◌+◌, ◌≤◌, Result, Ok, Err}
+use Rattle.std.specs.Prelude.{ℕ}
 use Rattle.lsm_pipe.specs.Counting.{MayFollow, read_faults_of, write_faults_of}
 use Rattle.lsm_dispatch.specs.declared.error.DispatchError.{DispatchError}
 use Rattle.lsm_dispatch.specs.declared.error.DispatchError.TheVariants as error

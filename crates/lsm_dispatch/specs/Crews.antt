@@ -12,13 +12,13 @@ use Rattle.lsm_dispatch.specs.declared.crew.WorkerState.TheVariants.{Gone, Idle,
 
 -- ---- a worker
 
--- the job that it has
+-- the claim of the job that a worker has, if it has one
 abbrev pub busy_job : WorkerState → Option LiveJob
 busy_job Gone = None
 busy_job Idle = None
 busy_job (Busy job) = Some job
 
--- the name of the job, if it has one
+-- the name of that job, in a list of one or none
 abbrev pub busy_claim : WorkerState → List JobId
 busy_claim Gone = []
 busy_claim Idle = []
@@ -30,7 +30,7 @@ is_busy Gone = false
 is_busy Idle = false
 is_busy (Busy job) = true
 
--- its job has this name
+-- the worker has the job of this name
 abbrev pub IsBusyWith : WorkerState → JobId → Type 0
 IsBusyWith Gone id = ⊥
 IsBusyWith Idle id = ⊥
@@ -38,19 +38,19 @@ IsBusyWith (Busy job) id = job.id ≡ id
 
 -- ---- four workers
 
--- a worker is idle at first if it is one of the first
+-- the state of the worker of this number at first: idle if its number is no more than the count, else gone
 abbrev pub start_state : ℕ → ℕ → WorkerState
 start_state count number = if nat_le number count then Idle else Gone
 
--- a crew at first: of the four workers the first ones, up to the count, are idle, and the others are gone
+-- the four workers at first
 abbrev pub new_crew : ℕ → List WorkerState
 new_crew count = start_state count 1 ∷ start_state count 2 ∷ start_state count 3 ∷ start_state count 4 ∷ []
 
--- the worker of an index, which counts from 1
+-- the state of the worker of an index, which counts from 1
 abbrev pub state_of : List WorkerState → ℕ → WorkerState
 state_of crew index = get_or crew (index - 1) Gone
 
--- in another state
+-- the crew with the worker of this index in another state
 abbrev pub with_state : List WorkerState → ℕ → WorkerState → List WorkerState
 with_state crew index state = slice_set crew (index - 1) state
 
@@ -62,21 +62,21 @@ busy_claims crew = flat_map busy_claim crew
 abbrev pub has_busy : List WorkerState → Bool
 has_busy crew = list_any is_busy crew
 
--- each live job is one that a worker has
+-- each live job is one that a worker of the crew has
 abbrev pub CrewHolds : BookValue → List WorkerState → Type 0
 CrewHolds book crew = (j : LiveJob) → IsIn j book.live → IsIn j.id (busy_claims crew)
 
--- the jobs of these names are live no more, and no other one is new
+-- the jobs of these names are live no more, and no job has become live
 abbrev pub Ends : BookValue → List JobId → BookValue → Type 0
 Ends old ids new = (j : LiveJob) → IsIn j new.live → IsIn j old.live × (IsIn j.id ids → ⊥)
 
--- a coordinator after a worker has left this state: the claim that it had is given back
+-- a coordinator after a worker has left this state: the claim of a busy worker is given back
 abbrev pub after_leaving : CoordValue → WorkerState → CoordValue
 after_leaving c Gone = c
 after_leaving c Idle = c
 after_leaving c (Busy job) = after_give_back c job.id
 
--- and after all workers have left theirs, one after another
+-- a coordinator after each worker of a crew, in order, has left its state
 abbrev pub after_all_leave : CoordValue → List WorkerState → CoordValue
 after_all_leave c [] = c
 after_all_leave c (s ∷ ss) = after_all_leave (after_leaving c s) ss

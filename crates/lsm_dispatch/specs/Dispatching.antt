@@ -1,4 +1,6 @@
--- What a dispatch does to a coordinator: it picks jobs, installs results and gives claims back (RocksDB wiki, Remote Compaction: the primary alone installs what a worker made of a job).
+-- What a dispatch does to a coordinator: it takes the results that workers bring, hands out jobs, and finds what is still due (RocksDB wiki,
+-- Remote Compaction: the primary alone installs what a worker made of a job). `old` is the coordinator before a step and `new` the one after
+-- it, `crew` the states of the workers before it and `crew_new` those after it.
 use Rattle.std.specs.Prelude.{◌≡◌, ◌⊎◌, ℕ, Bool, true, false, List, [], ◌∷◌, Option, None, Some, Result, Ok, Err, MatchOption, if◌then◌else◌}
 use Rattle.lsm_key.specs.Sets.{IsIn}
 use Rattle.lsm_claim.specs.declared.job.LiveJob.{LiveJob}
@@ -17,10 +19,11 @@ use Rattle.lsm_coord.specs.declared.error.CoordError.{CoordError}
 use Rattle.lsm_coord.specs.declared.error.CoordError.TheVariants as refusal
 use Rattle.lsm_coord.specs.Contract.Calls.{TrimRefuses, after_give_back, with_live_tables}
 use Rattle.lsm_coord.specs.Contract.Installing.{Became, HoldsSoundMerge}
-use Rattle.lsm_coord.specs.Contract.Picking.{HasFreeClaim, IsPicked, NothingToCompact, OnlyTooLarge, PickRefuses}
+use Rattle.lsm_coord.specs.Contract.Picking.{HasFreeClaim, IsPicked, IsPickedAfter, NothingToCompact, OnlyTooLarge, PickRefuses}
 use Rattle.lsm_coord.specs.Contract.Replies.{error_of}
 use Rattle.lsm_coord.specs.Contract.Serving.{TakesMemory}
 use Rattle.lsm_coord.specs.Contract.Value.{CoordValue}
+use Rattle.lsm_pick.specs.After.{CompactPointersValue}
 use Rattle.lsm_store.specs.Store.{IsNoneDue, Keeps}
 use Rattle.lsm_store.specs.declared.due.Due.{Due}
 use Rattle.lsm_store.specs.declared.due.Due.TheVariants as due
@@ -28,82 +31,55 @@ use Rattle.lsm_dispatch.specs.declared.crew.WorkerState.{WorkerState}
 use Rattle.lsm_dispatch.specs.declared.crew.WorkerState.TheVariants.{Gone, Idle, Busy}
 use Rattle.lsm_dispatch.specs.Crews.{CrewHolds, IsBusyWith, state_of, with_state}
 
--- ---- installs
+-- ---- a claim whose result comes
 
--- a result for a claim, and the coordinator that it came to
-pub record Taken : Type 0 where
-  pub at : CoordValue
-  pub claim : LiveJob
-  pub made : JobResult
-
--- the result is installed
-abbrev pub InstallsTaken : Taken → CoordValue → Type 0
-InstallsTaken t new = (number : ℕ) × (files : List ℕ) × Became t.at t.claim t.made (became.Done number files) new
-
--- it holds the merge of the claim's job
-abbrev pub IsMergeOfJob : Taken → Type 0
-IsMergeOfJob t = HoldsSoundMerge t.at t.claim.id t.made
-
--- what a trim to the version of this number leaves: the floor is raised, and the tables of files that no version from it on lists are gone
-abbrev pub TrimsTo : CoordValue → ℕ → CoordValue → Type 0
-TrimsTo old number new = new ≡ record (with_live_tables old number) { failures = new.failures }
-
--- What becomes of a claim with its result: it is installed; or its job is not live; or it is refused, and the claim is given back.
+-- What becomes of a claim when a result of its job comes. `Ok (Some number)`: the result is installed, as the version of this number.
+-- `Ok None`: the job is live no more, and nothing changes. `Err why`: the install is refused, and the claim is given back.
 abbrev pub Settles : CoordValue → LiveJob → JobResult → Result (Option ℕ) InstallError → CoordValue → Type 0
 Settles old claim made (Ok (Some number)) new = (files : List ℕ) × Became old claim made (became.Done number files) new
 Settles old claim made (Ok None) new = (holds old.book claim.id ≡ false) × (new ≡ old)
 Settles old claim made (Err why) new = (mid : CoordValue) × Became old claim made (became.Kept claim why) mid × (new ≡ after_give_back mid claim.id)
 
--- ---- whole dispatches
-
--- These results were installed, one after another, and nothing else changed what the store holds: nor did they, if they hold the merges
--- of their jobs.
-abbrev pub Passes : CoordValue → List Taken → CoordValue → Type 0
-Passes old [] new = Keeps old new
-Passes old (t ∷ ts) new = Keeps old t.at × (after : CoordValue) × InstallsTaken t after × (IsMergeOfJob t → Keeps t.at after) × Passes after ts new
-
--- some results were installed, and if each of them holds the merge of its job, the store holds what it held
-pub record KeepsIfMerged (old new : CoordValue) : Type 0 where
-  pub results : List Taken
-  pub passes : Passes old results new
-  pub keeps : ((t : Taken) → IsIn t results → IsMergeOfJob t) → Keeps old new
-
--- what a step of a dispatch keeps: each live claim is that of a busy worker, and the store holds what it held, as far as results are the
--- merges of their jobs
-pub record RunKeeps (crew : List WorkerState) (old : CoordValue) (crew_new : List WorkerState) (new : CoordValue) : Type 0 where
-  pub held : CrewHolds old.book crew → CrewHolds new.book crew_new
-  pub results : List Taken
-  pub passes : Passes old results new
-
--- ---- results that come
-
--- the worker and the result of a message, if it brings one
-abbrev pub result_in : Node → Body → Option (ℕ × JobResult)
-result_in (node.Worker index) (body.Result made) = Some (index, made)
-result_in src said = None
-
--- a worker stays unless its result is none of its job
+-- Whether the worker goes on to take jobs: not if its result is of another job, or no output of its own.
 abbrev pub stays_after : Result (Option ℕ) InstallError → Bool
 stays_after (Ok number) = true
 stays_after (Err WrongJob) = false
 stays_after (Err BadResult) = false
 stays_after (Err why) = true
 
--- the tables that the result replaced are let go
+-- A trim to the version of this number: the floor rises to it, and each table that only earlier versions list is gone from the vault.
+-- Beside that only the count of the device's failures may change.
+abbrev pub TrimsTo : CoordValue → ℕ → CoordValue → Type 0
+TrimsTo old number new = new ≡ record (with_live_tables old number) { failures = new.failures }
+
+-- Behind an install comes a trim to its version; where nothing was installed, nothing is trimmed.
 abbrev pub TrimsAfter : Result (Option ℕ) InstallError → CoordValue → CoordValue → Type 0
 TrimsAfter (Ok (Some number)) mid new = TrimsTo mid number new
 TrimsAfter (Ok None) mid new = new ≡ mid
 TrimsAfter (Err why) mid new = new ≡ mid
 
--- what becomes of a claim with its result, and whether its worker stays
+-- A result of a claim's job is taken: the claim is settled, and what an install replaced is trimmed. `stays` is whether its worker stays.
 pub record TakesClaim (old : CoordValue) (claim : LiveJob) (made : JobResult) (stays : Bool) (new : CoordValue) : Type 0 where
   pub answer : Result (Option ℕ) InstallError
-  pub mid : CoordValue
+  pub mid : CoordValue  -- the claim is settled, and nothing is trimmed yet
   pub settles : Settles old claim made answer mid
   pub trims : TrimsAfter answer mid new
   pub stays_is : stays ≡ stays_after answer
 
--- what becomes of a result from the worker that has its job: a worker that does not stay takes no more jobs
+-- The errors of taking a result: its install failed through no fault of the worker, or it succeeded and the trim after it failed.
+abbrev pub ResultRefuses : CoordValue → LiveJob → JobResult → CoordError → CoordValue → Type 0
+ResultRefuses old claim made e new =
+    ((why : InstallError) × Settles old claim made (Err why) new × (stays_after (Err why) ≡ true) × (e ≡ error_of why))
+    ⊎ ((number : ℕ) × (mid : CoordValue) × Settles old claim made (Ok (Some number)) mid × TrimRefuses mid number e new)
+
+-- ---- a message that comes
+
+-- The worker that sent the message, and its result; none if no worker sent it, or if it brings no result.
+abbrev pub result_in : Node → Body → Option (ℕ × JobResult)
+result_in (node.Worker index) (body.Result made) = Some (index, made)
+result_in src said = None
+
+-- The worker of this index has the result's job, and the result is taken. The worker is idle then, or gone if it does not stay.
 pub record CrewTakes (crew : List WorkerState) (old : CoordValue) (index : ℕ) (made : JobResult) (crew_new : List WorkerState) (new : CoordValue) : Type 0 where
   pub claim : LiveJob
   pub had : state_of crew index ≡ Busy claim
@@ -111,20 +87,7 @@ pub record CrewTakes (crew : List WorkerState) (old : CoordValue) (index : ℕ) 
   pub takes : TakesClaim old claim made stays new
   pub state : crew_new ≡ with_state crew index (if stays then Idle else Gone)
 
--- what a message does: a result is taken if its worker has its job, and nothing else changes anything
-abbrev pub ActsOn : List WorkerState → CoordValue → Node → Body → List WorkerState → CoordValue → Type 0
-ActsOn crew old src said crew_new new = MatchOption (result_in src said) ((crew_new ≡ crew) × (new ≡ old)) (λ r.
-    (IsBusyWith (state_of crew r.0) r.1.job → CrewTakes crew old r.0 r.1 crew_new new)
-    × ((IsBusyWith (state_of crew r.0) r.1.job → ⊥) → (crew_new ≡ crew) × (new ≡ old)))
-
--- why a result of a claim's job ends in an error: its install is refused, and not for what its worker made; or it is installed, and not all
--- tables that it replaced are let go
-abbrev pub ResultRefuses : CoordValue → LiveJob → JobResult → CoordError → CoordValue → Type 0
-ResultRefuses old claim made e new =
-    ((why : InstallError) × Settles old claim made (Err why) new × (stays_after (Err why) ≡ true) × (e ≡ error_of why))
-    ⊎ ((number : ℕ) × (mid : CoordValue) × Settles old claim made (Ok (Some number)) mid × TrimRefuses mid number e new)
-
--- why the result of the worker that has its job ends in an error: the worker is idle then
+-- The worker of this index has the result's job, and taking the result ends in an error. The worker is idle then.
 pub record CrewRefuses (crew : List WorkerState) (old : CoordValue) (index : ℕ) (made : JobResult) (e : CoordError) (crew_new : List WorkerState) (new : CoordValue) : Type 0 where
   pub claim : LiveJob
   pub had : state_of crew index ≡ Busy claim
@@ -132,34 +95,79 @@ pub record CrewRefuses (crew : List WorkerState) (old : CoordValue) (index : ℕ
   pub refuses : ResultRefuses old claim made e new
   pub idle : crew_new ≡ with_state crew index Idle
 
--- why a message ends in an error: a question only if there is no memory for its answer, which changes nothing
-abbrev pub ActRefuses : List WorkerState → CoordValue → Node → Body → CoordError → List WorkerState → CoordValue → Type 0
-ActRefuses crew old src said e crew_new new =
+-- What a message changes: a result is taken if the worker that sent it has its job. Any other message, also a question, changes nothing.
+abbrev pub HandlesMessage : List WorkerState → CoordValue → Node → Body → List WorkerState → CoordValue → Type 0
+HandlesMessage crew old src said crew_new new = MatchOption (result_in src said) ((crew_new ≡ crew) × (new ≡ old)) (λ r.
+    (IsBusyWith (state_of crew r.0) r.1.job → CrewTakes crew old r.0 r.1 crew_new new)
+    × ((IsBusyWith (state_of crew r.0) r.1.job → ⊥) → (crew_new ≡ crew) × (new ≡ old)))
+
+-- The errors of handling a message. With a result: that of taking it. With a question: there is no memory for its answer, and nothing changes.
+abbrev pub HandlingRefuses : List WorkerState → CoordValue → Node → Body → CoordError → List WorkerState → CoordValue → Type 0
+HandlingRefuses crew old src said e crew_new new =
     MatchOption (result_in src said) ((e ≡ refusal.OutOfMemory) × TakesMemory old said × (crew_new ≡ crew) × (new ≡ old)) (λ r. CrewRefuses crew old r.0 r.1 e crew_new new)
 
--- ---- jobs that are handed out
+-- ---- a job that is handed out
 
--- why no job is picked; that all exceed a limit is no refusal
+-- The errors of picking a job for a worker: all that a pick may be refused for, except that each compaction exceeds a limit (`TooWide`).
 abbrev pub JobRefuses : CoordValue → CoordError → Type 0
 JobRefuses c e = PickRefuses c e × (e ≡ refusal.TooWide → ⊥)
 
--- the worker was idle and has the next job, and the message takes it there; or it was not idle, or nothing is due
+-- `Some sent`: the worker was idle; the job that is next in the order of some compact pointers is picked, the worker has its claim, and `sent` is the
+-- message that takes the job to it.
+-- `None`: the worker was not idle, or no compaction is due that a job may hold; nothing changes.
 abbrev pub HandsOut : List WorkerState → CoordValue → ℕ → List WorkerState → CoordValue → Option Message → Type 0
-HandsOut crew old index crew_new new None = (crew_new ≡ crew) × (new ≡ old) × ((state_of crew index ≡ Idle → ⊥) ⊎ IsNoneDue old)
 HandsOut crew old index crew_new new (Some sent) =
-    (state_of crew index ≡ Idle) × (claim : LiveJob) × (job : JobParts) × IsPicked old claim job new × (crew_new ≡ with_state crew index (Busy claim))
+    (state_of crew index ≡ Idle) × (claim : LiveJob) × (job : JobParts) × (pointers : CompactPointersValue) × IsPickedAfter (Some pointers) old claim job new
+    × (crew_new ≡ with_state crew index (Busy claim))
     × (sent ≡ record { src = node.Coordinator; dst = node.Worker index; body = body.Job job })
+HandsOut crew old index crew_new new None = (crew_new ≡ crew) × (new ≡ old) × ((state_of crew index ≡ Idle → ⊥) ⊎ IsNoneDue old)
 
 -- ---- what is due
 
--- what is due at a coordinator, and what asking leaves of it: the same, but that the book may count a claim that was given back
+-- What is due, found by a pick whose claim is given back: `Nothing`; `TooLarge`, only what exceeds a job size limit; or `More`, where the
+-- book has counted the claim and all else is as before.
 abbrev pub IsDue : CoordValue → CoordValue → Due → Type 0
 IsDue old new due.Nothing = (new ≡ old) × HasFreeClaim old × NothingToCompact old
 IsDue old new due.TooLarge = (new ≡ old) × HasFreeClaim old × OnlyTooLarge old
 IsDue old new due.More = (claim : LiveJob) × (job : JobParts) × (mid : CoordValue) × IsPicked old claim job mid × (new ≡ after_give_back mid claim.id)
 
--- what is due at the end of a dispatch: nothing, or what exceeds a job size limit
+-- What is still due when a dispatch has ended well: nothing, or only what exceeds a job size limit.
 abbrev pub IsLeftDue : CoordValue → Due → Type 0
 IsLeftDue c due.Nothing = NothingToCompact c
 IsLeftDue c due.TooLarge = OnlyTooLarge c
 IsLeftDue c due.More = ⊥
+
+-- ---- what the store holds after a whole dispatch
+
+-- a result, with the claim that it came for and the coordinator at that moment
+pub record TakenResult : Type 0 where
+  pub at : CoordValue
+  pub claim : LiveJob
+  pub made : JobResult
+
+-- The result is installed in that coordinator, which becomes the new one.
+abbrev pub InstallsTaken : TakenResult → CoordValue → Type 0
+InstallsTaken t new = (number : ℕ) × (files : List ℕ) × Became t.at t.claim t.made (became.Done number files) new
+
+-- The result is the merge of the inputs of the claim's job.
+abbrev pub IsMergeOfJob : TakenResult → Type 0
+IsMergeOfJob t = HoldsSoundMerge t.at t.claim.id t.made
+
+-- From the old coordinator to the new one exactly these results were installed, in this order. Nothing else changed what the store holds,
+-- and nor did the install of a result that is the merge of its job.
+abbrev pub InstallsInOrder : CoordValue → List TakenResult → CoordValue → Type 0
+InstallsInOrder old [] new = Keeps old new
+InstallsInOrder old (t ∷ ts) new = Keeps old t.at × (after : CoordValue) × InstallsTaken t after × (IsMergeOfJob t → Keeps t.at after) × InstallsInOrder after ts new
+
+-- Some results were installed, and if each of them is the merge of its job, the store holds what it held.
+pub record KeepsIfMerged (old new : CoordValue) : Type 0 where
+  pub results : List TakenResult
+  pub passes : InstallsInOrder old results new
+  pub keeps : ((t : TakenResult) → IsIn t results → IsMergeOfJob t) → Keeps old new
+
+-- What each part of a dispatch keeps: if the busy workers had every live claim before, they have every one after; and installs alone, of
+-- these results, changed what the store holds.
+pub record RunKeeps (crew : List WorkerState) (old : CoordValue) (crew_new : List WorkerState) (new : CoordValue) : Type 0 where
+  pub held : CrewHolds old.book crew → CrewHolds new.book crew_new
+  pub results : List TakenResult
+  pub passes : InstallsInOrder old results new

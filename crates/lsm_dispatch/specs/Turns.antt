@@ -21,75 +21,76 @@ use Rattle.lsm_dispatch.specs.declared.error.DispatchError.TheVariants as error
 use Rattle.lsm_dispatch.specs.declared.letter.Letter.{Letter}
 use Rattle.lsm_dispatch.specs.declared.letter.Letter.TheVariants as letter
 use Rattle.lsm_dispatch.specs.Crews.{after_leaving, has_busy, state_of, with_state}
-use Rattle.lsm_dispatch.specs.Dispatching.{ActRefuses, ActsOn, HandsOut, IsDue, JobRefuses}
+use Rattle.lsm_dispatch.specs.Dispatching.{HandlesMessage, HandlingRefuses, HandsOut, IsDue, JobRefuses}
 use Rattle.lsm_dispatch.specs.Letters.{IsLetter, NoLetter}
 
 -- ---- who waits
 
--- each worker before this number that is idle was asked, and no compaction is due that it may have
+-- if a worker below this number is idle, no compaction is due that a job may hold
 abbrev pub NoneWaitsBefore : ℕ → List WorkerState → CoordValue → Type 0
 NoneWaitsBefore number crew c = (index : ℕ) → 1 ≤ index → index < number → state_of crew index ≡ Idle → IsNoneDue c
 
--- each of all workers
+-- the same of all workers
 abbrev pub NoneWaits : List WorkerState → CoordValue → Type 0
 NoneWaits crew c = NoneWaitsBefore (MAX_NODES + 1) crew c
 
--- a letter is waited for only while a worker has a job, and no idle one may have one
+-- the dispatch waits for a letter: a worker has a job, and if another is idle, no compaction is due that a job may hold
 abbrev pub AwaitsLetter : List WorkerState → CoordValue → Type 0
 AwaitsLetter crew c = (has_busy crew ≡ true) × NoneWaits crew c
 
--- the worker of this number is asked: it gets a job, if it is idle and one is due
+-- the worker of this number is looked at: it gets the next job, if it is idle and one is due
 abbrev pub AsksWorker : ℕ → List WorkerState → CoordValue → List WorkerState → CoordValue → Type 0
 AsksWorker number crew old crew_new new = (sent : Option Message) × HandsOut crew old number crew_new new sent
 
 -- ---- turns
 
--- a turn: the worker of this number gets a job, if it is idle and one is due, or the bytes of a frame come; and the message that is
--- sent, if one is
+-- A turn. `Hands`: the worker of this index gets the next job, if it is idle and one is due. `Takes`: a frame with this payload comes.
+-- `sent` is the message that is sent in the turn, if one is.
 pub data Turn : Type 0 where
   Hands : (index : ℕ) (sent : Option Message) → Turn
   Takes : (payload : List ℕ) (sent : Option Message) → Turn
 
--- what a letter does, and what is answered: a question is answered, a result taken; the claim of a worker that goes or comes is given back
+-- What a letter changes, and what is sent in answer. A question is answered and a result taken. A worker that is gone, or there again, has
+-- no job any more: its claim is given back.
 abbrev pub TakesLetter : List WorkerState → CoordValue → Letter → Option Message → List WorkerState → CoordValue → Type 0
-TakesLetter crew old (letter.Message m) sent crew_new new = ActsOn crew old m.src m.body crew_new new × (sent ≡ answer_message old m m.body)
+TakesLetter crew old (letter.Message m) sent crew_new new = HandlesMessage crew old m.src m.body crew_new new × (sent ≡ answer_message old m m.body)
 TakesLetter crew old (letter.Gone index) sent crew_new new = (crew_new ≡ with_state crew index Gone) × (new ≡ after_leaving old (state_of crew index)) × (sent ≡ None)
 TakesLetter crew old (letter.There index) sent crew_new new = (crew_new ≡ with_state crew index Idle) × (new ≡ after_leaving old (state_of crew index)) × (sent ≡ None)
 
--- what a turn does: a worker is asked whether it takes a job, or a letter is taken that was waited for
+-- what a turn changes: it hands out a job, or takes a letter that was waited for
 abbrev pub IsTurn : List WorkerState → CoordValue → Turn → List WorkerState → CoordValue → Type 0
 IsTurn crew old (Hands index sent) crew_new new = HandsOut crew old index crew_new new sent
 IsTurn crew old (Takes payload sent) crew_new new = AwaitsLetter crew old × (l : Letter) × IsLetter payload l × TakesLetter crew old l sent crew_new new
 
--- one after another
+-- the turns follow one another, from the first crew and coordinator to the last
 abbrev pub TurnsThrough : List WorkerState → CoordValue → List Turn → List WorkerState → CoordValue → Type 0
 TurnsThrough crew old [] crew_new new = (crew_new ≡ crew) × (new ≡ old)
 TurnsThrough crew old (t ∷ ts) crew_new new = (crew_mid : List WorkerState) × (mid : CoordValue) × IsTurn crew old t crew_mid mid × TurnsThrough crew_mid mid ts crew_new new
 
--- the frame that is read in a turn
+-- the bytes that are read in a turn: those of its frame
 abbrev pub bytes_read : Turn → List ℕ
 bytes_read (Hands index sent) = []
 bytes_read (Takes payload sent) = sized payload
 
--- the message, if there is one
+-- a message that may be there, as a list of one or none
 abbrev pub one_or_none : Option Message → List Message
 one_or_none None = []
 one_or_none (Some m) = m ∷ []
 
--- the message that is sent in a turn
+-- the message that is sent in a turn, as a list of one or none
 abbrev pub sent_in : Turn → List Message
 sent_in (Hands index sent) = one_or_none sent
 sent_in (Takes payload sent) = one_or_none sent
 
--- A dispatch goes on: what a reader loses is the frames of the letters that it takes, and what a writer gets is the frames of the messages that
--- it sends, each of them a job that was picked for its worker, or an answer.
+-- A dispatch goes on for some turns. The reader had the bytes `was` to give and has `left`, the writer had `held` and has `holds`, each if it
+-- is known: what was read is the frames of the letters, and what was written is the frames of the messages that the turns send.
 pub record RunsOver (crew : List WorkerState) (old : CoordValue) (was left held holds : Option (List ℕ)) (crew_new : List WorkerState) (new : CoordValue) : Type 0 where
   pub turns : List Turn
   pub through : TurnsThrough crew old turns crew_new new
   pub read : Consumes was left (flat_map bytes_read turns)
   pub written : Appends held holds (framed (flat_map sent_in turns))
 
--- it went on until no worker had a job, and none was due for an idle one
+-- it went on until no worker had a job, and none was due for an idle one: the reader had `was`, the writer `held`, and they have `left` and `holds`
 pub record RunEnds (crew : List WorkerState) (old : CoordValue) (was left held holds : Option (List ℕ)) (new : CoordValue) : Type 0 where
   pub crew_new : List WorkerState
   pub runs : RunsOver crew old was left held holds crew_new new
@@ -98,11 +99,11 @@ pub record RunEnds (crew : List WorkerState) (old : CoordValue) (was left held h
 
 -- ---- why it stops
 
--- these bytes come next
+-- of the bytes that a reader has, if they are known, these come next
 abbrev pub ComesNext : Option (List ℕ) → List ℕ → Type 0
 ComesNext known bytes = IfSome known (λ all. (rest : List ℕ) × (all ≡ bytes ++ rest))
 
--- the message that the next turn sends
+-- some turn that may come next sends this message
 pub record IsNextSent (crew : List WorkerState) (c : CoordValue) (known : Option (List ℕ)) (m : Message) : Type 0 where
   pub turn : Turn
   pub crew_new : List WorkerState
@@ -146,7 +147,7 @@ pub record ActStops (crew : List WorkerState) (c : CoordValue) (known : Option (
   pub waits : AwaitsLetter crew c
   pub comes : ComesNext known (sized payload)
   pub spelled : IsSpelled payload next
-  pub refuses : ActRefuses crew c next.src next.body e crew_new new
+  pub refuses : HandlingRefuses crew c next.src next.body e crew_new new
 
 -- Why a dispatch stops at this point, by what is left of its input then. If it was not the sink that failed, nothing more was written.
 abbrev pub TurnStops : List WorkerState → CoordValue → Option (List ℕ) → Option (List ℕ) → Option (List ℕ) → DispatchError → Type 0

@@ -4,7 +4,8 @@ ghost use Rattle.std.specs.Prelude.{◌≡◌, ◌↔◌, ◌∷◌, [], IsTrue}
 ghost use Rattle.lsm_dispatch.specs.Crews.{IsBusyWith, has_busy, is_busy, busy_job, new_crew, start_state, state_of, with_state};
 
 use lsm_claim::{Claim, JobId};
-use lsm_msg::NodeIndex;
+use lsm_msg::{Job, NodeIndex};
+use lsm_pick::CompactPointers;
 use std::marker::Model;
 use std::mem;
 
@@ -24,6 +25,8 @@ pub struct Crew {
     second: WorkerState,
     third: WorkerState,
     fourth: WorkerState,
+    // Where each level goes on. They determine only which of the jobs that are due is handed out next.
+    pointers: CompactPointers,
 }
 
 impl Model for Crew {
@@ -92,6 +95,7 @@ impl Crew {
             second: start_state(count, 2),
             third: start_state(count, 3),
             fourth: start_state(count, 4),
+            pointers: CompactPointers::new(),
         }
     }
 
@@ -131,6 +135,18 @@ impl Crew {
             || self.fourth.is_busy()
     }
 
+    /// Where each level goes on.
+    pub(crate) fn pointers(&self) -> &CompactPointers {
+        &self.pointers
+    }
+
+    /// Moves the pointers on to the end of a job.
+    pub(crate) fn follow(&mut self, job: &Job)
+        ensures { self.new ≡ self.old }
+    {
+        self.pointers.follow(job.level(), job.inputs());
+    }
+
     /// Its workers, one by one.
     pub(crate) fn into_states(self) -> (WorkerState, WorkerState, WorkerState, WorkerState)
         ensures { self ≡ result.0 ∷ result.1 ∷ result.2 ∷ result.3 ∷ [] }
@@ -140,6 +156,7 @@ impl Crew {
             second,
             third,
             fourth,
+            pointers: _,
         } = self;
         (first, second, third, fourth)
     }

@@ -103,6 +103,8 @@ fn hand_out_all<V: Vault, W: Sink>(
     ensures unread { IfErr result (λ e. read_faults_in e ≡ 0) }
 {
     for number in 1..MAX_NODES + 1 {
+        // Proof hint: the coordinator's invariant.
+        let _listing = coord.show();
         hand_out_to(alloc, coord, crew, number, writer)?;
     }
     Ok(())

@@ -7,7 +7,7 @@ ghost use Rattle.lsm_coord.specs.Contract.Serving.{answer_message};
 ghost use Rattle.lsm_store.specs.Store.{Keeps};
 ghost use Rattle.lsm_dispatch.specs.declared.crew.WorkerState.TheVariants as state;
 ghost use Rattle.lsm_dispatch.specs.Crews.{CrewHolds, IsBusyWith, after_all_leave, after_leaving, has_busy, state_of, with_state};
-ghost use Rattle.lsm_dispatch.specs.Dispatching.{ActRefuses, ActsOn, CrewRefuses, CrewTakes, HandsOut, JobRefuses, Passes, Taken};
+ghost use Rattle.lsm_dispatch.specs.Dispatching.{CrewRefuses, CrewTakes, HandlesMessage, HandlingRefuses, HandsOut, InstallsInOrder, JobRefuses, TakenResult};
 
 use crate::crew::{Crew, WorkerState};
 use crate::install::take_result;
@@ -16,8 +16,8 @@ use lsm_msg::{Body, JobResult, Message, Node, NodeIndex};
 use lsm_vault::Vault;
 
 impl Crew {
-    /// Picks a job for a worker, if it is idle and a compaction is due, and returns the message that takes it there. A compaction that
-    /// exceeds a job size limit is not due for a worker.
+    /// Picks a job for a worker, if it is idle and a compaction is due, and returns the message that takes it there. Each level goes on
+    /// after the files that were handed out last. A compaction that exceeds a job size limit is not due for a worker.
     pub fn hand_out<V: Vault>(
         &mut self,
         coord: &mut Coord<V>,
@@ -34,9 +34,11 @@ impl Crew {
         if !self.state(index).is_idle() {
             return Ok(None);
         }
-        match coord.pick() {
+        match coord.pick_after(Some(self.pointers())) {
             Ok(Some((claim, job))) => {
                 self.set_state(coord, index, WorkerState::Busy(claim));
+                // Before the result comes, so that the next worker gets what comes after it.
+                self.follow(&job);
                 Ok(Some(Message::to_worker(index, job)))
             }
             Ok(None) => Ok(None),
@@ -53,12 +55,12 @@ impl Crew {
         coord: &mut Coord<V>,
         message: &Message,
     ) -> Result<Option<Message>, CoordError>
-        ensures acts { OnOk result (ActsOn self.old coord.old message.now.src message.now.body self.new coord.new) }
+        ensures acts { OnOk result (HandlesMessage self.old coord.old message.now.src message.now.body self.new coord.new) }
         ensures answered { IfOk result (λ answer. answer ≡ answer_message coord.old message.now message.now.body) }
-        ensures refused { IfErr result (λ e. ActRefuses self.old coord.old message.now.src message.now.body e self.new coord.new) }
+        ensures refused { IfErr result (λ e. HandlingRefuses self.old coord.old message.now.src message.now.body e self.new coord.new) }
         ensures sound { IsMessage message.now → IfOk result (λ answer. IfSome answer IsMessage) }
         ensures held { CrewHolds coord.old.book self.old → CrewHolds coord.new.book self.new }
-        ensures passes { (results : List Taken) × Passes coord.old results coord.new }
+        ensures passes { (results : List TakenResult) × InstallsInOrder coord.old results coord.new }
     {
         match &message.body {
             Body::Result(made) => {
@@ -76,10 +78,10 @@ impl Crew {
         src: Node,
         made: &JobResult,
     ) -> Result<(), CoordError>
-        ensures acts { OnOk result (ActsOn self.old coord.old src (body.Result made.now) self.new coord.new) }
-        ensures refused { IfErr result (λ e. ActRefuses self.old coord.old src (body.Result made.now) e self.new coord.new) }
+        ensures acts { OnOk result (HandlesMessage self.old coord.old src (body.Result made.now) self.new coord.new) }
+        ensures refused { IfErr result (λ e. HandlingRefuses self.old coord.old src (body.Result made.now) e self.new coord.new) }
         ensures held { CrewHolds coord.old.book self.old → CrewHolds coord.new.book self.new }
-        ensures passes { (results : List Taken) × Passes coord.old results coord.new }
+        ensures passes { (results : List TakenResult) × InstallsInOrder coord.old results coord.new }
     {
         match src {
             Node::Worker(index) => self.on_result(coord, index, made),
@@ -97,7 +99,7 @@ impl Crew {
         ensures late { (IsBusyWith (state_of self.old index) made.now.job → ⊥) → (self.new ≡ self.old) × (coord.new ≡ coord.old) }
         ensures refused { IfErr result (λ e. CrewRefuses self.old coord.old index made.now e self.new coord.new) }
         ensures held { CrewHolds coord.old.book self.old → CrewHolds coord.new.book self.new }
-        ensures passes { (results : List Taken) × Passes coord.old results coord.new }
+        ensures passes { (results : List TakenResult) × InstallsInOrder coord.old results coord.new }
     {
         if !self.state(index).has_job(made.job) {
             return Ok(());

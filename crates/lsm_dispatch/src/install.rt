@@ -6,7 +6,7 @@ ghost use Rattle.lsm_coord.specs.Contract.Installing.{HoldsSoundMerge};
 ghost use Rattle.lsm_coord.specs.Contract.Replies.{error_of};
 ghost use Rattle.lsm_store.specs.Store.{Keeps};
 ghost use Rattle.lsm_dispatch.specs.Crews.{Ends};
-ghost use Rattle.lsm_dispatch.specs.Dispatching.{IsDue, JobRefuses, Passes, ResultRefuses, Settles, Taken, TakesClaim, TrimsTo, stays_after};
+ghost use Rattle.lsm_dispatch.specs.Dispatching.{InstallsInOrder, IsDue, JobRefuses, ResultRefuses, Settles, TakenResult, TakesClaim, TrimsTo, stays_after};
 
 use lsm_claim::Claim;
 use lsm_coord::{Coord, CoordError, Install, InstallError};
@@ -25,7 +25,7 @@ pub(crate) fn take_result<V: Vault>(
     ensures ok { IfOk result (λ stays. TakesClaim coord.old claim made.now stays coord.new) }
     ensures refused { IfErr result (λ e. ResultRefuses coord.old claim made.now e coord.new) }
     ensures ended { Ends coord.old.book (claim.id ∷ []) coord.new.book }
-    ensures passes { (results : List Taken) × Passes coord.old results coord.new }
+    ensures passes { (results : List TakenResult) × InstallsInOrder coord.old results coord.new }
 {
     match install(coord, claim, made) {
         Ok(Some(number)) => {
@@ -84,8 +84,8 @@ fn trim<V: Vault>(coord: &mut Coord<V>, number: VersionNumber) -> Result<(), Coo
     Ok(())
 }
 
-/// What is still due: nothing, compactions of which each exceeds a job size limit, or more. It picks the next job, and gives it
-/// back.
+/// What is still due: nothing, compactions of which each exceeds a job size limit, or more. It picks the next job by number, and
+/// gives it back: what is due is the same in every order.
 pub fn due_of<V: Vault>(coord: &mut Coord<V>) -> Result<Due, CoordError>
     ensures ok { IfOk result (IsDue coord.old coord.new) }
     ensures err { OnErr result (coord.new ≡ coord.old) }

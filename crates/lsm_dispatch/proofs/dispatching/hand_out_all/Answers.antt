@@ -18,7 +18,7 @@ loop-number-preserved g c =
     let written = g.W.Sink.contents in
     record {
       runs = λ input. runs_then c.args.crew.now c.loop-number.crew c.hand_out_to.new.crew c.args.coord.now c.loop-number.coord c.hand_out_to.new.coord input input input (written c.args.writer.now) (written c.loop-number.writer) (written c.hand_out_to.new.writer) (c.loop-number.invariant.runs input) (c.in_ok-hand_out_to.ensures.ok input);
-      asks = waits_more c.loop-number.number c.loop-number.crew c.hand_out_to.new.crew c.loop-number.coord c.hand_out_to.new.coord c.loop-number.invariant.asks c.in_ok-hand_out_to.ensures.asks;
+      asks = waits_more c.loop-number.number c.loop-number.crew c.hand_out_to.new.crew c.loop-number.coord c.hand_out_to.new.coord c.show-listing.ensures.fit c.loop-number.invariant.asks c.in_ok-hand_out_to.ensures.asks;
       counted = omega (arith, c.loop-number.invariant.counted, c.in_ok-hand_out_to.ensures.counted);
       sound = c.in_ok-hand_out_to.ensures.faults ∙ c.loop-number.invariant.sound;
       keeps = run_keeps_then c.args.crew.now c.loop-number.crew c.hand_out_to.new.crew c.args.coord.now c.loop-number.coord c.hand_out_to.new.coord c.loop-number.invariant.keeps c.in_ok-hand_out_to.ensures.keeps;
