@@ -22,7 +22,7 @@ impl fmt::Display for Label<'_> {
                 let (version, file) = (made.number.number(), made.file.number());
                 write!(f, "version {version} file {file}")
             }
-            Reply::Picked(job, _) => write!(f, "job {}.{}", job.id.epoch, job.id.number),
+            Reply::Picked(job, _) => write!(f, "job {}", job.id),
             Reply::Installed(version, _) => write!(f, "version {}", version.number()),
             Reply::Collecting(missing, _) => write!(f, "collecting {missing}"),
             Reply::Merged(_) => f.write_str("merged"),

@@ -87,7 +87,7 @@ impl Model {
                 } else {
                     "stale"
                 };
-                format!(in self.alloc; "{name} {}.{}", held.id.epoch, held.id.number)
+                format!(in self.alloc; "{name} {}", held.id)
             }
         }
     }

@@ -7,7 +7,7 @@ use Rattle.lsm_coord.specs.Model.State.{first_state}
 use Rattle.lsm_key.specs.declared.limits.Limits.{Limits}
 use Rattle.lsm_world.specs.declared.event.Event.{Event}
 use Rattle.lsm_world.specs.declared.reply.Reply.{Reply}
-use Rattle.lsm_world.specs.Asks.{AsksIfTaken}
+use Rattle.lsm_world.specs.Asks.Store.{AsksIfTaken}
 use Rattle.lsm_world.specs.Events.{event_of}
 use Rattle.lsm_world.specs.Nodes.{StoreValue}
 use Rattle.lsm_world.specs.Replies.{reply_of}

@@ -33,7 +33,13 @@ use Rattle.lsm_world.specs.declared.refusal.Refusal.TheVariants as why
 use Rattle.lsm_world.specs.declared.reply.Reply.{Reply}
 use Rattle.lsm_world.specs.declared.reply.Reply.TheVariants as reply
 use Rattle.lsm_world.specs.declared.reply.Sent.{Sent}
-use Rattle.lsm_world.specs.Asks.{Asks, AsksNetwork, AsksNode, AsksOther, Calls, Delivers, DeliversAt, DeliversOn, Dispatches, GivesUp, Receives, TakesResult, follower_reply, dispatcher_reply, looked_up, worker_reply}
+use Rattle.lsm_world.specs.Asks.Coordinator.{Calls}
+use Rattle.lsm_world.specs.Asks.Deliveries.{Delivers, DeliversAt, Receives}
+use Rattle.lsm_world.specs.Asks.Dispatchers.{Dispatches, GivesUp, TakesResult, dispatcher_reply}
+use Rattle.lsm_world.specs.Asks.Followers.{follower_reply, looked_up}
+use Rattle.lsm_world.specs.Asks.Network.{AsksNetwork, DeliversOn}
+use Rattle.lsm_world.specs.Asks.WhileUp.{Asks, AsksNode, AsksOther}
+use Rattle.lsm_world.specs.Asks.Workers.{worker_reply}
 use Rattle.lsm_world.specs.Nodes.{NetworkValue, NodesValue}
 use Rattle.lsm_world.specs.Schedules.{device_failures}
 use Rattle.lsm_world.proofs.PlainReplies.{one_reason, two_reasons}

@@ -17,7 +17,12 @@ use Rattle.lsm_world.specs.declared.refusal.Refusal.TheVariants as why
 use Rattle.lsm_world.specs.declared.reply.Reply.{Reply}
 use Rattle.lsm_world.specs.declared.reply.Reply.TheVariants as reply
 use Rattle.lsm_world.specs.declared.reply.Sent.{Sent}
-use Rattle.lsm_world.specs.Asks.{Delivers, DeliversAt, DeliversOn, Receives, follower_reply, dispatcher_reply, stored_message, worker_reply}
+use Rattle.lsm_world.specs.Asks.Deliveries.{Delivers, DeliversAt, Receives}
+use Rattle.lsm_world.specs.Asks.Dispatchers.{dispatcher_reply}
+use Rattle.lsm_world.specs.Asks.Followers.{follower_reply}
+use Rattle.lsm_world.specs.Asks.Messages.{stored_message}
+use Rattle.lsm_world.specs.Asks.Network.{DeliversOn}
+use Rattle.lsm_world.specs.Asks.Workers.{worker_reply}
 use Rattle.lsm_world.specs.Inner.Handing.{IsStored}
 use Rattle.lsm_world.specs.Inner.Working.{IsMessageAt}
 use Rattle.lsm_world.specs.Nodes.{NetworkValue, NodesValue, at_index}

@@ -29,7 +29,7 @@ use Rattle.lsm_coord.specs.Model.Event as say
 use Rattle.lsm_coord.proofs.InstallOutcomes.{held_by}
 use Rattle.lsm_coord.proofs.VaultRefusals.{stored_keeps}
 use Rattle.lsm_world.specs.declared.reply.Reply.{Reply}
-use Rattle.lsm_world.specs.Asks.{Dispatches, GivesUp, TakesResult, dispatcher_reply, job_message}
+use Rattle.lsm_world.specs.Asks.Dispatchers.{Dispatches, GivesUp, TakesResult, dispatcher_reply, job_message}
 use Rattle.lsm_world.specs.History.{History, IsHistory, IsKnown, IsResultOf}
 use Rattle.lsm_world.specs.Inner.Handing.{TellsPicked, desk_settled, settled_reply}
 use Rattle.lsm_world.specs.Nodes.{NodesValue, nodes_of}

@@ -2,7 +2,6 @@
 use Rattle.std.proofs.Common.{◌≡◌, ◌⊎◌, ℕ, Bool, false, cond, List, Option, None, Some, refl, sym, ap, subst, ◌∙◌, inl, inr}
 use Rattle.std.specs.Option.{option_map, option_or}
 use Rattle.lsm_key.specs.declared.batch.KeyError.{KeyError}
-use Rattle.lsm_key.specs.declared.batch.KeyError.TheVariants as key
 use Rattle.lsm_key.specs.declared.op.Op.{Op}
 use Rattle.lsm_key.specs.Limits.{batch_fault}
 use Rattle.lsm_msg.specs.declared.message.Message.{Message}
@@ -11,7 +10,7 @@ use Rattle.lsm_msg.specs.declared.node.Node.TheVariants.{Coordinator, Worker, Fo
 use Rattle.lsm_vault.specs.Stored.{VaultValue}
 use Rattle.lsm_coord.specs.declared.dispatcher.Dispatcher.{Dispatcher}
 use Rattle.lsm_coord.specs.Model.Event as say
-use Rattle.lsm_coord.specs.Model.Rules.{key_refusal, refusal, unless_down, write_refusal}
+use Rattle.lsm_coord.specs.Model.Rules.{key_refusal, unless_down, write_refusal}
 use Rattle.lsm_coord.specs.Model.State.{State}
 use Rattle.lsm_coord.specs.Model.Step.{Step}
 use Rattle.lsm_world.specs.declared.event.Event.{Event}
@@ -19,7 +18,9 @@ use Rattle.lsm_world.specs.declared.event.Event.TheVariants as event
 use Rattle.lsm_world.specs.declared.refusal.Refusal.TheVariants as why
 use Rattle.lsm_world.specs.declared.reply.Reply.{Reply}
 use Rattle.lsm_world.specs.declared.reply.Reply.TheVariants as reply
-use Rattle.lsm_world.specs.Asks.{AsksDown, AsksNetwork, AsksOtherDown, DeliversAtDown, DeliversDown, DeliversOn, LacksMemory, down_write}
+use Rattle.lsm_world.specs.Asks.Network.{AsksNetwork, DeliversOn}
+use Rattle.lsm_world.specs.Asks.WhileDown.{AsksDown, AsksOtherDown, DeliversAtDown, DeliversDown, down_write}
+use Rattle.lsm_world.specs.Memory.{LacksMemory}
 use Rattle.lsm_world.specs.Events.{event_of}
 use Rattle.lsm_world.specs.History.{History, IsDownHistory}
 use Rattle.lsm_world.specs.Inner.Handing.{IsForCoordinator, IsOfNetwork, IsOther}
@@ -31,6 +32,7 @@ use Rattle.lsm_world.specs.Schedules.{IsPlain}
 use Rattle.lsm_world.specs.Shown.{FollowsStore}
 use Rattle.lsm_world.proofs.DeliveredMessages.{passed_by_number}
 use Rattle.lsm_world.proofs.NetworkSteps.{network_plain, receiver_plain}
+use Rattle.lsm_world.proofs.RefusedBatches.{key_step}
 
 -- ---- the history
 
@@ -58,18 +60,8 @@ forced_down : (s : State) (other : Option say.Refusal) → s.up ≡ false → un
 forced_down s other down = ap (λ (up : Bool). cond up other (Some say.Down)) down
 
 module _ (s : State) (down : s.up ≡ false) where
-  key_step : (ops : List Op) (e : KeyError) → batch_fault ops ≡ Some e → Step s (say.Write ops) (reply_of (reply.Refused (why.Key e))) s
-  key_step ops e fault = by e (ap (λ (o : Option KeyError). option_or (option_map key_refusal o) (unless_down s (write_refusal s ops))) fault)
-    where
-      by : (k : KeyError) → refusal s (say.Write ops) ≡ Some (key_refusal k) → Step s (say.Write ops) (reply_of (reply.Refused (why.Key k))) s
-      by key.EmptyKey forced = (inl forced, refl)
-      by key.KeyTooLong forced = (inl forced, refl)
-      by key.ValueTooLong forced = (inl forced, refl)
-      by key.BatchFull forced = (inl forced, refl)
-      by key.OutOfMemory forced = (tt, refl)
-
   write_step : (ops : List Op) (o : Option KeyError) → batch_fault ops ≡ o → Step s (say.Write ops) (reply_of (reply.Refused (down_write o))) s
-  write_step ops (Some e) fault = key_step ops e fault
+  write_step ops (Some e) fault = key_step s ops e fault
   write_step ops None fault = (inl (ap (λ (o : Option KeyError). option_or (option_map key_refusal o) (unless_down s (write_refusal s ops))) fault ∙ forced_down s (write_refusal s ops) down), refl)
 
   -- a write

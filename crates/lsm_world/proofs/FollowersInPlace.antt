@@ -5,7 +5,8 @@ use Rattle.lsm_msg.specs.declared.message.Message.{Message}
 use Rattle.lsm_follow.specs.declared.change.FollowChange.{FollowChange}
 use Rattle.lsm_follow.specs.Followers.{FollowerValue, FollowOutcome, new_follower}
 use Rattle.lsm_world.specs.declared.reply.Sent.{Sent}
-use Rattle.lsm_world.specs.Asks.{Sends, ask_message}
+use Rattle.lsm_world.specs.Asks.Followers.{ask_message}
+use Rattle.lsm_world.specs.Asks.Messages.{Sends}
 use Rattle.lsm_world.specs.History.{IsKnown, IsNetwork}
 use Rattle.lsm_world.specs.Inner.Handing.{IsStored}
 use Rattle.lsm_world.specs.Inner.Working.{HasFollowed, KeepsNetwork}

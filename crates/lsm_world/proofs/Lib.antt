@@ -18,6 +18,7 @@ pub mod AnsweredVersions
 pub mod FirstHistory
 pub mod RunningSchedules
 pub mod PlainReplies
+pub mod RefusedBatches
 pub mod MergedResults
 pub mod Installs
 pub mod OneSpelling

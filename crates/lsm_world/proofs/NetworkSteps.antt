@@ -35,7 +35,11 @@ use Rattle.lsm_world.specs.declared.refusal.Refusal.TheVariants as why
 use Rattle.lsm_world.specs.declared.reply.Reply.{Reply}
 use Rattle.lsm_world.specs.declared.reply.Reply.TheVariants as reply
 use Rattle.lsm_world.specs.declared.reply.Sent.{Sent}
-use Rattle.lsm_world.specs.Asks.{AsksNetwork, DeliversOn, LacksMemory, ListsVersion, follower_reply, looked_up, worker_reply}
+use Rattle.lsm_world.specs.Asks.Coordinator.{ListsVersion}
+use Rattle.lsm_world.specs.Asks.Followers.{follower_reply, looked_up}
+use Rattle.lsm_world.specs.Asks.Network.{AsksNetwork, DeliversOn}
+use Rattle.lsm_world.specs.Asks.Workers.{worker_reply}
+use Rattle.lsm_world.specs.Memory.{LacksMemory}
 use Rattle.lsm_world.specs.Events.{event_of}
 use Rattle.lsm_world.specs.History.{History, IsFollowerOf, IsHistoryBy, IsStoreHistory, IsVersionOf, versions_in}
 use Rattle.lsm_world.specs.Inner.Handing.{IsOfNetwork, IsStored}

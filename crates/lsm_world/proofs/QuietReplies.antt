@@ -7,7 +7,7 @@ use Rattle.lsm_coord.specs.Model.State.{State}
 use Rattle.lsm_coord.specs.Model.Step.{Leaves, Step}
 use Rattle.lsm_world.specs.declared.event.Event.{Event}
 use Rattle.lsm_world.specs.declared.event.Event.TheVariants as event
-use Rattle.lsm_world.specs.Asks.{dispatcher_reply}
+use Rattle.lsm_world.specs.Asks.Dispatchers.{dispatcher_reply}
 use Rattle.lsm_world.specs.Events.{event_of}
 use Rattle.lsm_world.specs.Inner.Handing.{IsOfCoordinator}
 use Rattle.lsm_world.specs.Replies.{reply_of}

@@ -15,7 +15,7 @@ use Rattle.lsm_world.specs.declared.event.Event.{Event}
 use Rattle.lsm_world.specs.declared.refusal.Refusal.TheVariants as why
 use Rattle.lsm_world.specs.declared.reply.Reply.{Reply}
 use Rattle.lsm_world.specs.declared.reply.Reply.TheVariants as reply
-use Rattle.lsm_world.specs.Asks.{AsksIfTaken}
+use Rattle.lsm_world.specs.Asks.Store.{AsksIfTaken}
 use Rattle.lsm_world.specs.Events.{event_of}
 use Rattle.lsm_world.specs.Nodes.{NodesValue, StoreValue, up_store}
 use Rattle.lsm_world.specs.Replies.{reply_of}

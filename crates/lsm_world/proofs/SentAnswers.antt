@@ -19,7 +19,8 @@ use Rattle.lsm_coord.specs.Contract.Value.{CoordValue}
 use Rattle.lsm_merge.proofs.ResultTables.{tables_may_be_sent}
 use Rattle.lsm_world.specs.declared.reply.Sent.{Sent}
 use Rattle.lsm_world.specs.declared.reply.Reply.{Reply}
-use Rattle.lsm_world.specs.Asks.{ServesMessage, Receives, Sends}
+use Rattle.lsm_world.specs.Asks.Deliveries.{Receives, ServesMessage}
+use Rattle.lsm_world.specs.Asks.Messages.{Sends}
 use Rattle.lsm_world.specs.History.{History, IsHistory, IsKnown}
 use Rattle.lsm_world.specs.Inner.Handing.{IsQuestion, IsStored}
 use Rattle.lsm_world.specs.Nodes.{NodesValue}

@@ -9,7 +9,7 @@ use Rattle.lsm_msg.specs.declared.fault.MsgFault.TheVariants.{TooLarge}
 use Rattle.lsm_msg.specs.declared.message.Message.{Message}
 use Rattle.lsm_msg.specs.declared.message.TheConstants.{MAX_MESSAGE_BYTES}
 use Rattle.lsm_msg.specs.Messages.{IsMessage, IsSpelled, encoding, message}
-use Rattle.lsm_world.specs.Asks.{AreSpelled}
+use Rattle.lsm_world.specs.Asks.Messages.{AreSpelled}
 
 pub none_spelled : AreSpelled [] []
 none_spelled = tt

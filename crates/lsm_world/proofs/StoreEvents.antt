@@ -21,7 +21,10 @@ use Rattle.lsm_coord.specs.Model.Step.{Step}
 use Rattle.lsm_world.specs.declared.event.Event.{Event}
 use Rattle.lsm_world.specs.declared.event.Event.TheVariants as event
 use Rattle.lsm_world.specs.declared.reply.Reply.{Reply}
-use Rattle.lsm_world.specs.Asks.{Asks, AsksBy, AsksDown, AsksNode, AsksStore, LacksMemory, RestartsCoordinator, restart_answer}
+use Rattle.lsm_world.specs.Asks.Store.{AsksBy, AsksStore, RestartsCoordinator, restart_answer}
+use Rattle.lsm_world.specs.Asks.WhileDown.{AsksDown}
+use Rattle.lsm_world.specs.Asks.WhileUp.{Asks, AsksNode}
+use Rattle.lsm_world.specs.Memory.{LacksMemory}
 use Rattle.lsm_world.specs.declared.store.Store.{Store}
 use Rattle.lsm_world.specs.declared.store.Store.TheVariants.{Up, Down}
 use Rattle.lsm_world.specs.History.{History, IsDownHistory, IsStoreHistory, versions_in}
@@ -40,6 +43,11 @@ use Rattle.lsm_world.proofs.RestartedNodes.{goes_up, stays_down, stops}
 use Rattle.lsm_world.proofs.StoreSteps.{current_answers, shows_after}
 
 -- ---- a node is asked
+
+-- any event but one
+pub no_restart : (e : Event) → (e ≡ event.RestartCoordinator → ⊥) → IsNoRestart e
+no_restart event.RestartCoordinator other = absurd (other refl)
+no_restart e other = tt
 
 module _ (old new : NodesValue) (r : Reply) where
   node_asks : (e : Event) → IsNoRestart e → AsksNode old e r new → AsksBy (Some old.core) (up_store old) e r (up_store new)

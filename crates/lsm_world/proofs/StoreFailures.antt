@@ -15,7 +15,9 @@ use Rattle.lsm_world.specs.declared.event.Event.TheVariants as event
 use Rattle.lsm_world.specs.declared.refusal.Refusal.TheVariants as why
 use Rattle.lsm_world.specs.declared.reply.Reply.{Reply}
 use Rattle.lsm_world.specs.declared.reply.Reply.TheVariants as reply
-use Rattle.lsm_world.specs.Asks.{AsksDown, AsksOtherDown, DeliversAtDown, DeliversDown, LacksMemory, RestartsCoordinator, down_write, restart_answer}
+use Rattle.lsm_world.specs.Asks.Store.{RestartsCoordinator, restart_answer}
+use Rattle.lsm_world.specs.Asks.WhileDown.{AsksDown, AsksOtherDown, DeliversAtDown, DeliversDown, down_write}
+use Rattle.lsm_world.specs.Memory.{LacksMemory}
 use Rattle.lsm_world.specs.Nodes.{StoreValue}
 use Rattle.lsm_world.proofs.CountedFailures.{Counts, network_counted, passed_counted, still}
 

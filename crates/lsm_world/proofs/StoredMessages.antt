@@ -6,7 +6,7 @@ use Rattle.lsm_msg.specs.declared.message.Message.{Message}
 use Rattle.lsm_msg.specs.Messages.{IsSpelled}
 use Rattle.lsm_world.specs.declared.reply.Sent.{Sent}
 use Rattle.lsm_world.specs.declared.reply.Sent.TheVariants as sent
-use Rattle.lsm_world.specs.Asks.{AreSpelled, Sends}
+use Rattle.lsm_world.specs.Asks.Messages.{AreSpelled, Sends}
 use Rattle.lsm_world.specs.History.{History, IsHistory, IsKnown, IsNetwork, IsSent}
 use Rattle.lsm_world.specs.Nodes.{NetworkValue, NodesValue}
 

@@ -4,7 +4,7 @@ use Rattle.lsm_msg.specs.declared.message.Message.{Message}
 use Rattle.lsm_work.specs.declared.change.WorkChange.{WorkChange}
 use Rattle.lsm_work.specs.Workers.{WorkOutcome, WorkerValue}
 use Rattle.lsm_world.specs.declared.reply.Sent.{Sent}
-use Rattle.lsm_world.specs.Asks.{Sends}
+use Rattle.lsm_world.specs.Asks.Messages.{Sends}
 use Rattle.lsm_world.specs.History.{IsNetwork}
 use Rattle.lsm_world.specs.Inner.Handing.{IsStored}
 use Rattle.lsm_world.specs.Inner.Working.{HasWorked, KeepsNetwork}

@@ -31,7 +31,11 @@ use Rattle.lsm_coord.specs.Contract.Serving.{table_body}
 use Rattle.lsm_coord.specs.Contract.Value.{version_set}
 use Rattle.lsm_coord.specs.declared.dispatcher.Dispatcher.{Dispatcher}
 use Rattle.lsm_coord.specs.declared.dispatcher.Dispatcher.TheVariants.{Idle, Busy}
-use Rattle.lsm_world.specs.Asks.{Asks, AsksNode, Delivers, HoldsJob, Sends, ask_message, stored_message}
+use Rattle.lsm_world.specs.Asks.Deliveries.{Delivers}
+use Rattle.lsm_world.specs.Asks.Dispatchers.{HoldsJob}
+use Rattle.lsm_world.specs.Asks.Followers.{ask_message}
+use Rattle.lsm_world.specs.Asks.Messages.{Sends, stored_message}
+use Rattle.lsm_world.specs.Asks.WhileUp.{Asks, AsksNode}
 use Rattle.lsm_world.specs.Inner.Working.{IsMessageAt}
 use Rattle.lsm_world.specs.Nodes.{NodesValue}
 use Rattle.lsm_world.specs.WrongWorlds.{IsFetchOf, IsResultOfJob, LateResultIsNotInstalled, LostMessageCountsNoNumber, ReturnedClaimInstallsNothing, TableLetGoIsNotServed}

@@ -1,10 +1,14 @@
--- Which events take no memory but for their place in the trace (the store's own).
+-- What a lack of memory does to an event, and which events take no memory but for their place in the trace (the store's own).
 use Rattle.std.specs.Prelude.{◌≡◌}
 use Rattle.lsm_world.specs.declared.event.Event.{Event}
 use Rattle.lsm_world.specs.declared.event.Event.TheVariants as event
 use Rattle.lsm_world.specs.declared.refusal.Refusal.TheVariants as why
 use Rattle.lsm_world.specs.declared.reply.Reply.{Reply}
 use Rattle.lsm_world.specs.declared.reply.Reply.TheVariants as reply
+
+-- memory ran out: the event is refused for that, and nothing is done
+abbrev pub LacksMemory : {X : Type 0} → X → Reply → X → Type 0
+LacksMemory old r new = (r ≡ reply.Refused why.OutOfMemory) × (new ≡ old)
 
 -- the event takes no memory beside its place in the trace
 abbrev pub TakesNoMemory : Event → Type 0

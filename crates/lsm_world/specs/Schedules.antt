@@ -23,7 +23,7 @@ use Rattle.lsm_world.specs.declared.event.Event.{Event}
 use Rattle.lsm_world.specs.declared.refusal.Refusal.TheVariants as why
 use Rattle.lsm_world.specs.declared.reply.Reply.{Reply}
 use Rattle.lsm_world.specs.declared.reply.Reply.TheVariants as reply
-use Rattle.lsm_world.specs.Asks.{AsksIfTaken}
+use Rattle.lsm_world.specs.Asks.Store.{AsksIfTaken}
 use Rattle.lsm_world.specs.Events.{event_of}
 use Rattle.lsm_world.specs.History.{first_indices}
 use Rattle.lsm_world.specs.Shown.{ShowsStore}
@@ -97,7 +97,7 @@ IsTraced old steps new = new ≡ old ++ trace_of steps
 abbrev pub IsTaken : WorldValue → Event → Reply → WorldValue → Type 0
 IsTaken old e r new = IsTraced old.trace ((e, r) ∷ []) new.trace
 
--- no manifest is bad, no table is missing, no log is bad, and no result is of another job or not its merge
+-- no manifest is bad, no table is missing, no log is bad, and no result is refused as of another job or as none of its job
 abbrev pub IsPlain : Reply → Type 0
 IsPlain (reply.Refused (why.Open opening.BadManifest)) = ⊥
 IsPlain (reply.Refused (why.Open opening.MissingTable)) = ⊥

@@ -18,7 +18,7 @@ use Rattle.lsm_world.specs.declared.reply.PickedJob.{PickedJob}
 use Rattle.lsm_world.specs.declared.reply.Reply.TheVariants as reply
 use Rattle.lsm_world.specs.declared.reply.Sent.{Sent}
 use Rattle.lsm_world.specs.declared.reply.Sent.TheVariants as sent
-use Rattle.lsm_world.specs.Asks.{Asks}
+use Rattle.lsm_world.specs.Asks.WhileUp.{Asks}
 use Rattle.lsm_world.specs.Headline.{ReadsAreNewest}
 use Rattle.lsm_world.specs.Inner.Working.{IsMessageAt}
 use Rattle.lsm_world.specs.Nodes.{NodesValue}

@@ -1,15 +1,18 @@
 //! What the coordinator answers to its events.
 
-ghost use Rattle.std.specs.Prelude.{◌≡◌, ◌⊎◌, Some};
+ghost use Rattle.std.specs.Prelude.{◌≡◌, ◌⊎◌, IfErr, IfOk, None, OnOk, Some};
+ghost use Rattle.lsm_key.specs.Limits.{batch_fault};
 ghost use Rattle.lsm_coord.specs.Contract.Memory.{IsFit};
 ghost use Rattle.lsm_coord.specs.Contract.Shows.{Follows, Shows};
 ghost use Rattle.lsm_coord.specs.Model.State.{State};
 ghost use Rattle.lsm_world.specs.declared.event.Event.TheVariants.{Flush, Freeze, Get, Release, Scan, Show, Snap, Trim, Write};
-ghost use Rattle.lsm_world.specs.Asks.{Calls, LacksMemory, restarted_as};
+ghost use Rattle.lsm_world.specs.Asks.Coordinator.{Calls};
+ghost use Rattle.lsm_world.specs.Asks.Store.{restarted_as};
 ghost use Rattle.lsm_world.specs.Events.{event_of};
+ghost use Rattle.lsm_world.specs.Inner.Batches.{RefusesBatch};
 ghost use Rattle.lsm_world.specs.Inner.Handing.{IsOfCoordinator};
 ghost use Rattle.lsm_world.specs.Inner.Upkeep.{KeepsFiles};
-ghost use Rattle.lsm_world.specs.Memory.{IsNotShort};
+ghost use Rattle.lsm_world.specs.Memory.{IsNotShort, LacksMemory};
 ghost use Rattle.lsm_world.specs.Replies.{reply_of};
 ghost use Rattle.lsm_world.specs.Schedules.{IsPlain};
 
@@ -26,6 +29,7 @@ use std::alloc::Global;
 pub(crate) fn answer<V: Vault>(alloc: Global, coord: &mut Coord<V>, event: &Event) -> Reply
     requires own { IsOfCoordinator event.now }
     requires shown { (s : State) × Shows coord.old s }
+    ensures own { IsOfCoordinator event.now }
     ensures calls { LacksMemory coord.old result coord.new ⊎ Calls coord.old event.now result coord.new }
     ensures follows { Follows coord.old (event_of event.now) (reply_of result) coord.new }
     ensures files { KeepsFiles coord.old coord.new }
@@ -53,25 +57,27 @@ fn write<V: Vault>(alloc: Global, coord: &mut Coord<V>, ops: &Items<Op>) -> Repl
     ensures files { KeepsFiles coord.old coord.new }
     ensures plain { IsPlain result }
 {
-    match ops.as_slice().to_vec(alloc) {
-        Err(_) => Reply::Refused(Refusal::OutOfMemory),
-        Ok(ops) => write_batch(coord, ops),
-    }
-}
-
-// The same of operations that are handed over.
-fn write_batch<V: Vault>(coord: &mut Coord<V>, ops: Vec<Op>) -> Reply
-    ensures calls { Calls coord.old (Write ops.items) result coord.new }
-    ensures follows { Follows coord.old (event_of (Write ops.items)) (reply_of result) coord.new }
-    ensures files { KeepsFiles coord.old coord.new }
-    ensures plain { IsPlain result }
-{
-    match Batch::from_vec(ops) {
-        Err(error) => Reply::Refused(Refusal::Key(error)),
+    match batch_of(alloc, ops) {
+        Err(why) => Reply::Refused(why),
         Ok(batch) => match coord.write(&batch) {
             Err(error) => Reply::Refused(Refusal::Coord(error)),
             Ok((first, last)) => Reply::Wrote(first, last),
         },
+    }
+}
+
+// The batch of the operations, which it copies.
+fn batch_of(alloc: Global, ops: &Items<Op>) -> Result<Batch, Refusal>
+    ensures ok { IfOk result (λ batch. batch ≡ ops.now) }
+    ensures faultless { OnOk result (batch_fault ops.now ≡ None) }
+    ensures refused { IfErr result (RefusesBatch ops.now) }
+{
+    let Ok(ops) = ops.as_slice().to_vec(alloc) else {
+        return Err(Refusal::OutOfMemory);
+    };
+    match Batch::from_vec(ops) {
+        Err(error) => Err(Refusal::Key(error)),
+        Ok(batch) => Ok(batch),
     }
 }
 

@@ -4,7 +4,7 @@ ghost use Rattle.std.specs.Prelude.{◌≡◌, IfOk, All};
 ghost use Rattle.std.specs.Option.{option_copied};
 ghost use Rattle.lsm_msg.specs.declared.message.Message.{Message};
 ghost use Rattle.lsm_msg.specs.Messages.{IsMessage, IsSpelled};
-ghost use Rattle.lsm_world.specs.Asks.{AreSpelled, Sends, stored_message};
+ghost use Rattle.lsm_world.specs.Asks.Messages.{AreSpelled, Sends, stored_message};
 
 use crate::reply::Sent;
 use bytes::Bytes;

@@ -6,11 +6,13 @@ ghost use Rattle.std.specs.Prelude.{◌≡◌, ◌⊎◌, ◌≤◌, ◌∷◌, 
 ghost use Rattle.lsm_msg.specs.Messages.{IsMessage};
 ghost use Rattle.lsm_world.specs.declared.refusal.Refusal.TheVariants.{NoMessage, OutOfMemory};
 ghost use Rattle.lsm_world.specs.declared.event.Event.TheVariants.{RestartWorker};
-ghost use Rattle.lsm_world.specs.Asks.{AsksNetwork, DeliversOn, IsWork, LacksMemory, Sends, stored_message, worker_reply};
+ghost use Rattle.lsm_world.specs.Asks.Messages.{Sends, stored_message};
+ghost use Rattle.lsm_world.specs.Asks.Network.{AsksNetwork, DeliversOn};
+ghost use Rattle.lsm_world.specs.Asks.Workers.{IsWork, worker_reply};
 ghost use Rattle.lsm_world.specs.History.{History, IsNetwork, first_indices};
 ghost use Rattle.lsm_world.specs.Inner.Handing.{IsOfNetwork, IsOther, IsStored};
 ghost use Rattle.lsm_world.specs.Inner.Working.{HasWorked, IsMessageAt, IsSoundAsk, KeepsNetwork};
-ghost use Rattle.lsm_world.specs.Memory.{IsNotShort};
+ghost use Rattle.lsm_world.specs.Memory.{IsNotShort, LacksMemory};
 ghost use Rattle.lsm_world.specs.Schedules.{first_followers, idle_worker};
 
 use crate::event::Event;
@@ -66,6 +68,7 @@ impl Network {
     /// Lets a worker or a follower answer an event.
     pub(crate) fn answer(&mut self, event: &Event) -> Reply
         requires { IsOfNetwork event.now }
+        ensures own { IsOfNetwork event.now }
         ensures asks { LacksMemory self.old result self.new ⊎ AsksNetwork self.old event.now result self.new }
         ensures keeps { KeepsNetwork self.old self.new }
         ensures sound { IsSoundAsk self.old event.now }

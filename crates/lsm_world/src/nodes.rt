@@ -46,10 +46,10 @@ impl<V: Vault> Nodes<V> {
     ghost use Rattle.std.specs.FinMap.{empty};
     ghost use Rattle.lsm_claim.specs.Book.{new_book};
     ghost use Rattle.lsm_coord.specs.Model.State.{State, first_state};
-    ghost use Rattle.lsm_world.specs.Asks.{Asks};
+    ghost use Rattle.lsm_world.specs.Asks.WhileUp.{Asks};
     ghost use Rattle.lsm_world.specs.Events.{event_of};
     ghost use Rattle.lsm_world.specs.History.{History, IsHistory};
-    ghost use Rattle.lsm_world.specs.Inner.Handing.{IsNoRestart, IsOfCoordinator, IsOfNetwork};
+    ghost use Rattle.lsm_world.specs.Inner.Handing.{IsNoRestart};
     ghost use Rattle.lsm_world.specs.Memory.{IsNotShort};
     ghost use Rattle.lsm_world.specs.Replies.{reply_of};
     ghost use Rattle.lsm_world.specs.Nodes.{nodes_of, up_store};
@@ -92,35 +92,12 @@ impl<V: Vault> Nodes<V> {
             | Event::RestartFollower(_)
             | Event::Ask(_)
             | Event::Read(_, _)
-            | Event::ShowFollower(_) => self.ask_other(event),
-            _ => self.ask(event),
+            | Event::ShowFollower(_) => self.network.answer(event),
+            _ => coordinator::answer(self.alloc, &mut self.coord, event),
         }
     }
 
-    // Lets the coordinator answer one of its events.
-    fn ask(&mut self, event: &Event) -> Reply
-        requires shown { (s : State) × Shows self.old.core s }
-        requires own { IsOfCoordinator event.now }
-        ensures asks { Asks self.old event.now result self.new }
-        ensures follows { FollowsStore (up_store self.old) (event_of event.now) (reply_of result) (up_store self.new) }
-        ensures plain { IsPlain result }
-        ensures memory { IsNotShort event.now result }
-    {
-        coordinator::answer(self.alloc, &mut self.coord, event)
-    }
-
-    // Lets a worker or a follower answer an event.
-    fn ask_other(&mut self, event: &Event) -> Reply
-        requires { IsOfNetwork event.now }
-        ensures asks { Asks self.old event.now result self.new }
-        ensures follows { FollowsStore (up_store self.old) (event_of event.now) (reply_of result) (up_store self.new) }
-        ensures plain { IsPlain result }
-        ensures memory { IsNotShort event.now result }
-    {
-        self.network.answer(event)
-    }
-
-    /// What is so of all nodes. Does nothing.
+    /// Proof hint: the nodes' invariant.
     pub(crate) fn known(&self)
         ensures history { (h : History) × IsHistory h self.now }
         ensures fit { IsFit self.now.core }

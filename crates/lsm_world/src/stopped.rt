@@ -2,7 +2,8 @@
 
 ghost use Rattle.std.specs.Prelude.{◌≡◌, ◌⊎◌};
 ghost use Rattle.lsm_key.specs.Limits.{batch_fault};
-ghost use Rattle.lsm_world.specs.Asks.{AsksDown, DeliversDown, LacksMemory, down_write};
+ghost use Rattle.lsm_world.specs.Asks.WhileDown.{AsksDown, DeliversDown, down_write};
+ghost use Rattle.lsm_world.specs.Memory.{LacksMemory};
 ghost use Rattle.lsm_world.specs.declared.event.Event.TheVariants.{Deliver};
 ghost use Rattle.lsm_world.specs.Inner.Handing.{IsForCoordinator};
 ghost use Rattle.lsm_world.specs.declared.refusal.Refusal.TheVariants.{Down, OutOfMemory};
@@ -56,7 +57,7 @@ impl<V: Vault> Stopped<V> {
     ghost use Rattle.lsm_world.specs.Replies.{reply_of};
     ghost use Rattle.lsm_coord.specs.Contract.Restarts.{seat_of};
     ghost use Rattle.lsm_world.specs.History.{History, IsDownHistory};
-    ghost use Rattle.lsm_world.specs.Inner.Handing.{IsNoRestart, IsOfNetwork, IsOther, IsStored};
+    ghost use Rattle.lsm_world.specs.Inner.Handing.{IsNoRestart, IsOther, IsStored};
     ghost use Rattle.lsm_world.specs.Inner.Stopping.{down_store};
     ghost use Rattle.lsm_world.specs.Memory.{IsNotShort};
     ghost use Rattle.lsm_world.specs.Shown.{FollowsStore};
@@ -75,19 +76,9 @@ impl<V: Vault> Stopped<V> {
             | Event::RestartFollower(_)
             | Event::Ask(_)
             | Event::Read(_, _)
-            | Event::ShowFollower(_) => self.ask_other(event),
+            | Event::ShowFollower(_) => self.network.answer(event),
             _ => refuse(event),
         }
-    }
-
-    // Lets a worker or a follower answer an event.
-    fn ask_other(&mut self, event: &Event) -> Reply
-        requires { IsOfNetwork event.now }
-        ensures asks { LacksMemory (down_store self.old) result (down_store self.new) ⊎ AsksDown (down_store self.old) event.now result (down_store self.new) }
-        ensures follows { FollowsStore (down_store self.old) (event_of event.now) (reply_of result) (down_store self.new) }
-        ensures memory { IsNotShort event.now result }
-    {
-        self.network.answer(event)
     }
 
     // Delivers the message of a number, if it is for a worker or a follower.
@@ -165,7 +156,7 @@ impl<V: Vault> Stopped<V> {
         (Seat::Down(vault, book, limits), desk, network)
     }
 
-    /// What is so of all nodes. Does nothing.
+    /// Proof hint: the nodes' invariant.
     pub(crate) fn known(&self)
         ensures idle { self.now.book.live ≡ [] }
         ensures history { (h : History) × IsDownHistory h self.now.stored self.now.desk self.now.network }

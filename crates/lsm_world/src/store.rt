@@ -4,7 +4,7 @@ ghost use Rattle.std.specs.Prelude.{◌≡◌, ◌+◌, ◌≤◌, IsSome, None,
 ghost use Rattle.lsm_coord.specs.Contract.Restarts.{seat_of};
 ghost use Rattle.lsm_coord.specs.Model.State.{State};
 ghost use Rattle.lsm_world.specs.declared.event.Event.TheVariants.{RestartCoordinator};
-ghost use Rattle.lsm_world.specs.Asks.{AsksStore, restart_answer, restarted_as};
+ghost use Rattle.lsm_world.specs.Asks.Store.{AsksStore, restart_answer, restarted_as};
 ghost use Rattle.lsm_world.specs.Events.{event_of};
 ghost use Rattle.lsm_world.specs.History.{History, IsStoreHistory};
 ghost use Rattle.lsm_world.specs.Inner.Storing.{IsIdleWhileDown, store_in, store_of};
@@ -40,54 +40,13 @@ impl<V: Vault> Store<V> {
     ghost use Rattle.lsm_coord.specs.Contract.Restarts.{seat_of};
     ghost use Rattle.lsm_coord.specs.Model.State.{State};
     ghost use Rattle.lsm_world.specs.declared.event.Event.TheVariants.{RestartCoordinator};
-    ghost use Rattle.lsm_world.specs.Asks.{AsksStore};
+    ghost use Rattle.lsm_world.specs.Asks.Store.{AsksStore};
     ghost use Rattle.lsm_world.specs.Events.{event_of};
     ghost use Rattle.lsm_world.specs.History.{History, IsDownHistory};
-    ghost use Rattle.lsm_world.specs.Inner.Handing.{IsNoRestart};
     ghost use Rattle.lsm_world.specs.Inner.Storing.{IsFitWhileUp, store_of};
-    ghost use Rattle.lsm_world.specs.Memory.{IsNotShort};
     ghost use Rattle.lsm_world.specs.Replies.{reply_of};
     ghost use Rattle.lsm_world.specs.Schedules.{IsFitBy, IsPlain, device_failures};
     ghost use Rattle.lsm_world.specs.Shown.{FollowsStore, ShowsStore};
-
-    // Lets one node answer an event.
-    fn answer(self, alloc: Global, event: &Event) -> (Store<V>, Reply)
-        requires { (s : State) × ShowsStore (store_of self) s }
-        ensures asks { AsksStore (store_of self) event.now result.1 (store_of result.0) }
-        ensures follows { FollowsStore (store_of self) (event_of event.now) (reply_of result.1) (store_of result.0) }
-        ensures plain { IsPlain result.1 }
-        ensures counted { device_failures result.1 + (store_of self).seat.failures ≤ (store_of result.0).seat.failures }
-        ensures memory { IsNotShort event.now result.1 }
-    {
-        match event {
-            Event::RestartCoordinator => self.restart(alloc),
-            _ => self.ask(event),
-        }
-    }
-
-    // Lets a node answer another event than a restart of the coordinator.
-    fn ask(self, event: &Event) -> (Store<V>, Reply)
-        requires shown { (s : State) × ShowsStore (store_of self) s }
-        requires other { IsNoRestart event.now }
-        ensures asks { AsksStore (store_of self) event.now result.1 (store_of result.0) }
-        ensures follows { FollowsStore (store_of self) (event_of event.now) (reply_of result.1) (store_of result.0) }
-        ensures plain { IsPlain result.1 }
-        ensures counted { device_failures result.1 + (store_of self).seat.failures ≤ (store_of result.0).seat.failures }
-        ensures memory { IsNotShort event.now result.1 }
-    {
-        match self {
-            Store::Up(nodes) => {
-                let mut nodes = nodes;
-                let reply = nodes.answer(event);
-                (Store::Up(nodes), reply)
-            }
-            Store::Down(stopped) => {
-                let mut stopped = stopped;
-                let reply = stopped.answer(event);
-                (Store::Down(stopped), reply)
-            }
-        }
-    }
 
     // Opens the coordinator over what its vault has.
     fn restart(self, alloc: Global) -> (Store<V>, Reply)
@@ -121,7 +80,7 @@ impl<V: Vault> Store<V> {
         }
     }
 
-    /// What is so of all nodes. Does nothing.
+    /// Proof hint: the nodes' invariant.
     pub(crate) fn known(&self)
         requires { (s : State) × ShowsStore (store_of self.now) s }
         ensures fit { IsFitBy (store_of self.now).seat.core (store_of self.now).seat }
@@ -156,12 +115,21 @@ pub(crate) fn answer<V: Vault>(place: &mut Option<Store<V>>, alloc: Global, even
     ensures counted { device_failures result + (store_in place.old).seat.failures ≤ (store_in place.new).seat.failures }
     ensures memory { IsNotShort event.now result }
 {
-    let Some(store) = place.take() else {
-        unreachable!()
-    };
-    let (store, reply) = store.answer(alloc, event);
-    put(place, store);
-    reply
+    match event {
+        Event::RestartCoordinator => {
+            let Some(store) = place.take() else {
+                unreachable!()
+            };
+            let (store, reply) = store.restart(alloc);
+            put(place, store);
+            reply
+        }
+        _ => match place {
+            Some(Store::Up(nodes)) => nodes.answer(event),
+            Some(Store::Down(stopped)) => stopped.answer(event),
+            None => unreachable!(),
+        },
+    }
 }
 
 // Puts a store into its place.

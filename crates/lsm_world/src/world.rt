@@ -7,7 +7,7 @@ ghost use Rattle.lsm_vault.specs.Stored.{empty_vault};
 ghost use Rattle.lsm_versions.specs.declared.error.OpenError.TheVariants.{Device, OutOfMemory};
 ghost use Rattle.lsm_versions.specs.Manifest.{read_edits};
 ghost use Rattle.lsm_versions.specs.Opening.{CountsRefusal};
-ghost use Rattle.lsm_world.specs.Asks.{AsksIfTaken};
+ghost use Rattle.lsm_world.specs.Asks.Store.{AsksIfTaken};
 ghost use Rattle.lsm_world.specs.Events.{event_of};
 ghost use Rattle.lsm_world.specs.Headline.{FollowerReadsAreNewest, GiveOneAnswer, ReadsAreNewest, ScansAreNewest, ShowOneListing};
 ghost use Rattle.lsm_world.specs.Memory.{IsNotShort};
@@ -128,8 +128,8 @@ impl<V: Vault> World<V> {
     /// Nodes that show one version number show one listing, and followers at one version give one answer (`one_listing`,
     /// `one_answer`).
     /// No file is merged twice: none is removed by two of the vault's edits (`world`).
-    /// No manifest and no log is found bad, no table is missing, no result is of another job or not its merge (`plain`), and a
-    /// device is said to have failed only where the vault counted a failure (`counted`).
+    /// No manifest and no log is found bad, no table is missing, no result is refused as of another job or as none of its job
+    /// (`plain`), and a device is said to have failed only where the vault counted a failure (`counted`).
     pub fn run(&mut self, events: &[Event]) -> Result<Vec<Reply>, AllocError>
         // As many replies as events, so that `zip` puts each event beside its reply.
         ensures each { IfOk result (λ replies. length replies.items ≡ length events.now) }
@@ -158,7 +158,7 @@ impl<V: Vault> World<V> {
         Ok(replies)
     }
 
-    /// The events that were taken, in order, refused ones too. What every world is, is so of this one.
+    /// The events that were taken, in order, refused ones too. The clause `world` says what holds of every world.
     pub fn trace(&self) -> &[Event]
         ensures trace { result.now ≡ self.now.trace }
         ensures world { IsWorld self.now }
@@ -167,7 +167,7 @@ impl<V: Vault> World<V> {
         self.trace.as_slice()
     }
 
-    // What every world is. Does nothing.
+    // Proof hint: the world's invariant.
     fn known(&self)
         ensures { IsWorld self.now }
     {

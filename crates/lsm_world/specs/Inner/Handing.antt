@@ -22,7 +22,8 @@ use Rattle.lsm_world.specs.declared.reply.PickedJob.{PickedJob}
 use Rattle.lsm_world.specs.declared.reply.Reply.{Reply}
 use Rattle.lsm_world.specs.declared.reply.Reply.TheVariants as reply
 use Rattle.lsm_world.specs.declared.reply.Sent.{Sent}
-use Rattle.lsm_world.specs.Asks.{Sends, TellsJob, job_message}
+use Rattle.lsm_world.specs.Asks.Dispatchers.{TellsJob, job_message}
+use Rattle.lsm_world.specs.Asks.Messages.{Sends}
 
 -- the event is one of the coordinator's own
 abbrev pub IsOfCoordinator : Event → Type 0

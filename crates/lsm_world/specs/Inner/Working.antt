@@ -11,7 +11,7 @@ use Rattle.lsm_work.specs.declared.change.WorkChange.{WorkChange}
 use Rattle.lsm_work.specs.Workers.{WorkerValue, Works}
 use Rattle.lsm_world.specs.declared.event.Event.{Event}
 use Rattle.lsm_world.specs.declared.event.Event.TheVariants as event
-use Rattle.lsm_world.specs.Asks.{stored_message}
+use Rattle.lsm_world.specs.Asks.Messages.{stored_message}
 use Rattle.lsm_world.specs.History.{AreFilesOf, AreJobsOf, History, IsNetwork}
 use Rattle.lsm_world.specs.Nodes.{NetworkValue, at_index, with_index}
 

@@ -6,7 +6,8 @@ ghost use Rattle.lsm_coord.specs.declared.dispatcher.Dispatcher.TheVariants.{Idl
 ghost use Rattle.lsm_coord.specs.Contract.Desks.{dispatcher_of, with_dispatcher};
 ghost use Rattle.lsm_msg.specs.Messages.{IsMessage};
 ghost use Rattle.lsm_world.specs.declared.event.Event.TheVariants.{GiveUp, Pick};
-ghost use Rattle.lsm_world.specs.Asks.{Asks, AsksNode, TellsJob, job_message};
+ghost use Rattle.lsm_world.specs.Asks.Dispatchers.{TellsJob, job_message};
+ghost use Rattle.lsm_world.specs.Asks.WhileUp.{Asks, AsksNode};
 ghost use Rattle.lsm_world.specs.Events.{event_of};
 ghost use Rattle.lsm_world.specs.Inner.Handing.{TellsPicked, settled_reply};
 ghost use Rattle.lsm_world.specs.Memory.{IsNotShort};

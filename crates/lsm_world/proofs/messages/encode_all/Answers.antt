@@ -7,4 +7,4 @@ pub loop-message-preserved : goal.loop-message-preserved
 loop-message-preserved c =
     let sound : IsMessage c.message-item.result = rw c.message-item.is (c.requires c.loop-message.message-index c.message-item.result c.loop-message-test.true) in
     rw (take_more c.args.messages.now c.loop-message.message-index c.message-item.result c.loop-message-test.true, ← c.message-item.is, c.in_ok-push-in-Ok.ensures.items)
-    (one_more_spelled _ _ _ _ c.loop-message.invariant (encoded c.message-item.result c.in-Ok.text sound c.in-Ok.ensures))
+    (one_more_spelled _ _ _ _ c.loop-message.invariant (encoded c.message-item.result c.in-Ok.text sound c.in-Ok.ensures.exact))

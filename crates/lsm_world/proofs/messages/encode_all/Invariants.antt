@@ -1,6 +1,6 @@
 -- the messages so far are encoded
 use Rattle.std.proofs.Common.{take}
-use Rattle.lsm_world.specs.Asks.{AreSpelled}
+use Rattle.lsm_world.specs.Asks.Messages.{AreSpelled}
 use Rattle.lsm_world.proofs.messages.encode_all.Given as goal
 
 abbrev pub invariant-loop-message : goal.invariant-loop-message

@@ -1,7 +1,7 @@
 -- The question of a follower names a version of the history.
 use Rattle.std.proofs.Common.{◌∷◌, [], subst}
 use Rattle.lsm_msg.specs.declared.message.Message.{Message}
-use Rattle.lsm_world.specs.Asks.{Sends}
+use Rattle.lsm_world.specs.Asks.Messages.{Sends}
 use Rattle.lsm_world.proofs.FollowersInPlace.{ask_keeps}
 use Rattle.lsm_world.proofs.network.Network.ask.Goals as goal
 

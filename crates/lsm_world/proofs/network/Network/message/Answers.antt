@@ -1,6 +1,6 @@
 -- A text that is stored under the number is that of a message that was sent.
 use Rattle.std.proofs.Common.{ap, sym, ◌∙◌}
-use Rattle.lsm_world.specs.Asks.{stored_message}
+use Rattle.lsm_world.specs.Asks.Messages.{stored_message}
 use Rattle.lsm_world.specs.Nodes.{NetworkValue}
 use Rattle.lsm_world.proofs.DeliveredMessages.{text_stored}
 use Rattle.lsm_world.proofs.network.Network.message.Goals as goal

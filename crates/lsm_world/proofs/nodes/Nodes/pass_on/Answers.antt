@@ -1,6 +1,7 @@
 -- The coordinator and its desk are as before.
 use Rattle.std.proofs.Common.{◌⊎◌, subst, sym}
-use Rattle.lsm_world.specs.Asks.{Delivers, LacksMemory}
+use Rattle.lsm_world.specs.Asks.Deliveries.{Delivers}
+use Rattle.lsm_world.specs.Memory.{LacksMemory}
 use Rattle.lsm_world.specs.Inner.Handing.{IsStored}
 use Rattle.lsm_world.specs.Nodes.{NodesValue, nodes_of, up_store}
 use Rattle.lsm_world.proofs.NetworkSteps.{delivery_plain, network_delivery_follows}

@@ -20,7 +20,7 @@ returns-then-is_some-clause-asks g c =
 pub invariant_of-self-in-Ok-Some : goal.invariant_of-self-in-Ok-Some
 invariant_of-self-in-Ok-Some g c =
     let idle : dispatcher_of c.self.inside.desk c.args.dispatcher ≡ Idle = sym c.dispatcher.ensures ∙ is_idle c.dispatcher.result.now c.id.result c.id.ensures (sym c.is_some.ensures ∙ c.if-is_some.false) in
-    let picked = picked_by _ _ _ _ _ c.in-Ok-Some.field-0-is c.in-Ok-Some.ensures.ok in
+    let picked = picked_by None None _ _ _ _ _ c.in-Ok-Some.field-0-is refl c.in-Ok-Some.ensures.ok in
     let sound = sound_by _ _ _ _ c.in-Ok-Some.field-0-is c.in-Ok-Some.ensures.job in
     let kept = pick_keeps _ _ _ _ _ idle picked _ _ c.hand_out.ensures.reply c.self.invariant.0 c.know_fit.ensures sound c.in-Ok-Some.ensures.sound c.hand_out.ensures.job c.self.invariant.1 in
     rw (c.hand_out.ensures.desk, c.hand_out.ensures.network) (kept.more, kept.known)
@@ -39,14 +39,14 @@ returns-in-Ok-None-clause-asks g c =
 pub returns-in-Ok-Some-clause-asks : goal.returns-in-Ok-Some-clause-asks
 returns-in-Ok-Some-clause-asks g c =
     let idle : dispatcher_of c.self.inside.desk c.args.dispatcher ≡ Idle = sym c.dispatcher.ensures ∙ is_idle c.dispatcher.result.now c.id.result c.id.ensures (sym c.is_some.ensures ∙ c.if-is_some.false) in
-    let picked = picked_by _ _ _ _ _ c.in-Ok-Some.field-0-is c.in-Ok-Some.ensures.ok in
+    let picked = picked_by None None _ _ _ _ _ c.in-Ok-Some.field-0-is refl c.in-Ok-Some.ensures.ok in
     rw (← c.self.view_is, c.hand_out.ensures.desk, c.hand_out.ensures.network) (inr (pick_asks _ _ _ _ _ idle picked _ _ c.hand_out.ensures.reply))
 
 pub returns-in-Ok-Some-clause-follows : goal.returns-in-Ok-Some-clause-follows
 returns-in-Ok-Some-clause-follows g c =
     let before : NodesValue = nodes_of c.self.inside.coord c.self.inside.desk c.self.inside.network in
     let idle : dispatcher_of c.self.inside.desk c.args.dispatcher ≡ Idle = sym c.dispatcher.ensures ∙ is_idle c.dispatcher.result.now c.id.result c.id.ensures (sym c.is_some.ensures ∙ c.if-is_some.false) in
-    let picked = picked_by _ _ _ _ _ c.in-Ok-Some.field-0-is c.in-Ok-Some.ensures.ok in
+    let picked = picked_by None None _ _ _ _ _ c.in-Ok-Some.field-0-is refl c.in-Ok-Some.ensures.ok in
     let sound = sound_by _ _ _ _ c.in-Ok-Some.field-0-is c.in-Ok-Some.ensures.job in
     let after : NodesValue = nodes_of c.pick.new.self (with_dispatcher c.self.inside.desk c.args.dispatcher (Busy c.in-Ok-Some.claim)) (record before.network { messages = c.hand_out.new.network.messages }) in
     let low : 1 ≤ c.args.dispatcher = search rules in

@@ -2,7 +2,7 @@
 use Rattle.std.proofs.Common.{◌≡◌, Some, inr, refl, sym, subst, ◌∙◌}
 use Rattle.lsm_coord.specs.Contract.Serving.{answer_message}
 use Rattle.lsm_coord.specs.Model.Event as say
-use Rattle.lsm_world.specs.Asks.{Receives}
+use Rattle.lsm_world.specs.Asks.Deliveries.{Receives}
 use Rattle.lsm_world.specs.Inner.Handing.{IsStored}
 use Rattle.lsm_world.specs.Nodes.{NodesValue, nodes_of}
 use Rattle.lsm_world.specs.Replies.{reply_of}

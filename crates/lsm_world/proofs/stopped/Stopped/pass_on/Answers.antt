@@ -1,6 +1,7 @@
 -- What outlives the coordinator is as before.
 use Rattle.std.proofs.Common.{◌⊎◌, subst, sym}
-use Rattle.lsm_world.specs.Asks.{DeliversDown, LacksMemory}
+use Rattle.lsm_world.specs.Asks.WhileDown.{DeliversDown}
+use Rattle.lsm_world.specs.Memory.{LacksMemory}
 use Rattle.lsm_world.specs.Inner.Handing.{IsStored}
 use Rattle.lsm_world.specs.Inner.Stopping.{StoppedValue, down_store}
 use Rattle.lsm_world.proofs.DownEvents.{down_keeps, passed_down}
