@@ -19,13 +19,9 @@ use std::process::ExitCode;
 /// Has the compactions of a folder's store made by this number of workers behind standard input and output, until none is due. What they
 /// made, and what exceeds a job size limit, is reported.
 pub(crate) fn dispatch_jobs(rt: &HostRuntime, place: Place<'_>, number: u8) -> ExitCode {
-    match NodeIndex::new(number) {
-        Some(workers) => dispatch_to(rt, place, workers),
-        None => ExitCode::from(REFUSED),
-    }
-}
-
-fn dispatch_to(rt: &HostRuntime, place: Place<'_>, workers: NodeIndex) -> ExitCode {
+    let Some(workers) = NodeIndex::new(number) else {
+        return ExitCode::from(REFUSED);
+    };
     let screen = Screen::new(rt);
     if let Err(error) = check_streams(rt) {
         return screen.fail(&error);
@@ -45,6 +41,7 @@ fn dispatch_to(rt: &HostRuntime, place: Place<'_>, workers: NodeIndex) -> ExitCo
     }
     let status = end(dispatched, &screen);
     screen.report_device(&incidents.take_error());
+    drop(coord.close());
     status
 }
 

@@ -2,7 +2,7 @@
 
 use crate::{CommandError, Screen};
 use lsm_file_vault::read;
-use lsm_inspect::{Report, check};
+use lsm_inspect::{Report, check, dump, dump_log};
 use lsm_options::FAILED;
 use std::io;
 use std::process::ExitCode;
@@ -17,23 +17,19 @@ pub(crate) fn check_folder(rt: &HostRuntime, folder: &str) -> ExitCode {
     }
 }
 
-/// Prints the entries of the tables of a folder, and reports what is damaged there. The exit status is 0 only if nothing is.
-pub(crate) fn dump_folder(rt: &HostRuntime, folder: &str) -> ExitCode {
-    let screen = Screen::new(rt);
-    let dumped = print_entries(rt, folder);
-    status_of(dumped, &screen)
+/// What a dump prints.
+#[derive(Clone, Copy)]
+pub(crate) enum Dumped {
+    /// The entries of the tables.
+    Tables,
+    /// The records of the log.
+    Log,
 }
 
-/// Prints the records of the log of a folder, and reports what is damaged there. The exit status is 0 only if nothing is.
-pub(crate) fn dump_log(rt: &HostRuntime, folder: &str) -> ExitCode {
+/// Prints what a folder holds, and reports what is damaged there. The exit status is 0 only if nothing is.
+pub(crate) fn dump_folder(rt: &HostRuntime, folder: &str, dumped: Dumped) -> ExitCode {
     let screen = Screen::new(rt);
-    let dumped = print_records(rt, folder);
-    status_of(dumped, &screen)
-}
-
-// The exit status of a dump, of which what is damaged is reported.
-fn status_of(dumped: Result<Report, CommandError>, screen: &Screen<'_>) -> ExitCode {
-    match dumped {
+    match print_dump(rt, folder, dumped) {
         Ok(report) => {
             screen.report_lines(&report.faults());
             if report.is_whole() {
@@ -62,18 +58,19 @@ fn report_of(rt: &HostRuntime, folder: &str) -> Result<Report, CommandError> {
 fn print_report(rt: &HostRuntime, folder: &str, screen: &Screen<'_>) -> Result<bool, CommandError> {
     screen.show_checking(folder);
     let report = report_of(rt, folder)?;
-    println!(rt; "{report}").map_err(|_| CommandError::WriteFault)?;
+    let printed = println!(rt; "{report}");
+    if printed.is_err() {
+        return Err(CommandError::WriteFault);
+    }
     Ok(report.is_whole())
 }
 
-// Prints the entries of the tables.
-fn print_entries(rt: &HostRuntime, folder: &str) -> Result<Report, CommandError> {
+// Prints the dump, and returns what is damaged.
+fn print_dump(rt: &HostRuntime, folder: &str, dumped: Dumped) -> Result<Report, CommandError> {
     let contents = read(rt, folder)?;
-    Ok(lsm_inspect::dump(rt.alloc(), &contents, io::writer(rt))?)
-}
-
-// Prints the records of the log.
-fn print_records(rt: &HostRuntime, folder: &str) -> Result<Report, CommandError> {
-    let contents = read(rt, folder)?;
-    Ok(lsm_inspect::dump_log(rt.alloc(), &contents, io::writer(rt))?)
+    let printed = match dumped {
+        Dumped::Tables => dump(rt.alloc(), &contents, io::writer(rt)),
+        Dumped::Log => dump_log(rt.alloc(), &contents, io::writer(rt)),
+    };
+    Ok(printed?)
 }

@@ -8,7 +8,7 @@ use std::fmt;
 
 /// What jobs have made whose results were installed: how many they are, of how many files they made how many others, and the length of
 /// these in bytes.
-#[derive(Clone, Copy, Debug, PartialEq, Eq)]
+#[derive(Clone, Copy)]
 pub(crate) struct Made {
     jobs: u64,
     inputs: u64,

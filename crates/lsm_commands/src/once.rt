@@ -3,7 +3,6 @@
 ghost use Rattle.std.specs.Prelude.{OnOk};
 ghost use Rattle.lsm_commands.specs.Once.{WritesSequence};
 
-mod error;
 mod import;
 mod pairs;
 mod value;
@@ -14,8 +13,7 @@ use crate::session::answer::{Answer, answer_call};
 use crate::session::compact::{compact_all, write_due};
 use crate::session::lines::write_answer;
 use crate::session::stats::write_stats;
-use crate::{Screen, check_streams};
-use error::OnceError;
+use crate::{CommandError, Screen, check_streams};
 use import::import;
 use lsm_io::write_out;
 use lsm_key::{Items, Op};
@@ -31,7 +29,7 @@ use value::write_value;
 use work::Work;
 
 /// How a value is written.
-#[derive(Clone, Copy, Debug, PartialEq, Eq)]
+#[derive(Clone, Copy)]
 pub enum Form {
     /// Its bytes, and nothing else.
     Bytes,
@@ -81,18 +79,20 @@ pub fn run_once(rt: &HostRuntime, place: Place<'_>, once: &Once<'_>) -> ExitCode
         Ok(opened) => opened,
         Err(error) => return fail_to_open(rt, place.folder, &screen, &error),
     };
-    match act(rt, &mut opened, &screen, work) {
+    let status = match act(rt, &mut opened, &screen, work) {
         Ok(status) => status,
         Err(error) => {
             let status = error.end(&screen);
             screen.report_device(&opened.incidents.take_error());
             status
         }
-    }
+    };
+    opened.close();
+    status
 }
 
 // Reads the words, before anything is touched.
-fn begin(rt: &HostRuntime, once: &Once<'_>) -> Result<Work, OnceError> {
+fn begin(rt: &HostRuntime, once: &Once<'_>) -> Result<Work, CommandError> {
     check_streams(rt)?;
     Work::of(rt.alloc(), once)
 }
@@ -103,7 +103,7 @@ fn act(
     opened: &mut OpenStore,
     screen: &Screen<'_>,
     work: Work,
-) -> Result<ExitCode, OnceError> {
+) -> Result<ExitCode, CommandError> {
     let (alloc, store) = (rt.alloc(), &mut opened.store);
     let writer = &mut io::writer(rt);
     match work {
@@ -128,15 +128,15 @@ fn write<V: Vault, W: Write>(
     store: &mut Store<V>,
     op: Op,
     writer: &mut W,
-) -> Result<(), OnceError>
+) -> Result<(), CommandError>
     ensures { OnOk result (WritesSequence store.old op store.new (W.contents writer.old) (W.contents writer.new)) }
 {
     let ops = Items::from_vec(vec![in alloc; op]?);
     let answer = answer_call(alloc, store, Call::Write(ops));
     if let Answer::Refused(why) = answer {
-        return Err(OnceError::Refused(why));
+        return Err(CommandError::Refused(why));
     }
-    store.sync().map_err(OnceError::NotSynced)?;
+    store.sync().map_err(CommandError::NotSynced)?;
     let mut out = Vec::new(alloc);
     write_answer(alloc, &mut out, &answer)?;
     Ok(write_out(writer, &mut out)?)
@@ -147,7 +147,7 @@ fn show_stats<W: Write>(
     alloc: Global,
     store: &mut FolderStore,
     writer: &mut W,
-) -> Result<(), OnceError> {
+) -> Result<(), CommandError> {
     let written = store.written()?;
     let mut out = Vec::new(alloc);
     write_stats(store, &mut out, written)?;
@@ -161,7 +161,7 @@ fn compact<W: Write>(
     store: &mut FolderStore,
     screen: &Screen<'_>,
     writer: &mut W,
-) -> Result<(), OnceError> {
+) -> Result<(), CommandError> {
     store.flush()?;
     let due = compact_all(store, screen)?;
     let mut out = Vec::new(alloc);

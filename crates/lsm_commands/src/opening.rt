@@ -3,7 +3,7 @@
 ghost use Rattle.std.specs.Prelude.{◌≡◌, [], IfOk};
 
 use crate::inspect::report_faults;
-use crate::{CommandError, Screen};
+use crate::{CommandError, Screen, check_streams};
 use lsm_coord::Coord;
 use lsm_file_vault::{FileCall, FileVault, FolderError, HostFolder, Incidents, Opened};
 use lsm_options::Place;
@@ -18,18 +18,42 @@ pub(crate) type FolderVault = FileVault<HostFolder<HostRuntime>>;
 /// A store in a folder.
 pub(crate) type FolderStore = Store<FolderVault>;
 
-/// A store in a folder that was opened, and what happens in the folder beside the results of its calls.
-#[derive(Drop)]
+/// A store in a folder that was opened, and what happens in the folder beside the results of its calls. It is closed in the end, and
+/// never dropped: to drop a store is dear to prove.
 pub(crate) struct OpenStore {
     pub(crate) store: FolderStore,
     pub(crate) incidents: Incidents,
 }
 
 /// The same, of the store's coordinator.
-#[derive(Drop)]
 pub(crate) struct OpenCoord {
     pub(crate) coord: Coord<FolderVault>,
     pub(crate) incidents: Incidents,
+}
+
+impl OpenStore {
+    /// Ends the store, and lets go of its folder.
+    pub(crate) fn close(self) {
+        let OpenStore { store, incidents } = self;
+        drop(store.close());
+        drop(incidents);
+    }
+}
+
+/// The store of a folder, for a command that reads and writes the standard streams. If one of them or the store is not open the reason is
+/// reported, and the exit status is returned.
+pub(crate) fn store_over_streams(
+    rt: &HostRuntime,
+    place: Place<'_>,
+    screen: &Screen<'_>,
+) -> Result<OpenStore, ExitCode> {
+    if let Err(error) = check_streams(rt) {
+        return Err(screen.fail(&error));
+    }
+    match open_store(rt, place, screen) {
+        Ok(opened) => Ok(opened),
+        Err(error) => Err(fail_to_open(rt, place.folder, screen, &error)),
+    }
 }
 
 /// Opens the folder, and the store that it has. Files that are set aside are reported.
@@ -65,7 +89,7 @@ pub(crate) fn open_made_store(
     open_store(rt, place, screen)
 }
 
-/// The same, but the coordinator of the store, whose compactions are made elsewhere. A folder that is not there is not made.
+/// Opens the store's coordinator alone, for compactions that workers make. A folder that is not there is not made.
 pub(crate) fn open_coord(
     rt: &HostRuntime,
     place: Place<'_>,

@@ -8,18 +8,10 @@ use std::io::{self, IsTerminal};
 use std::process::ExitCode;
 
 /// Standard error.
+#[derive(Clone, Copy)]
 pub(crate) struct Screen<'a> {
     rt: &'a HostRuntime,
     is_terminal: bool,
-}
-
-impl Drop for Screen<'_> {
-    fn drop(self) {
-        let Screen {
-            rt: _,
-            is_terminal: _,
-        } = self;
-    }
 }
 
 impl<'a> Screen<'a> {

@@ -1,7 +1,7 @@
 //! The command `serve`: requests of Redis clients.
 
-use crate::opening::{fail_to_open, open_store};
-use crate::{CommandError, Screen, check_streams};
+use crate::opening::store_over_streams;
+use crate::{CommandError, Screen};
 use lsm_io::{CountedReader, CountedWriter};
 use lsm_key::Limits;
 use lsm_options::Place;
@@ -15,15 +15,13 @@ use std::process::ExitCode;
 /// synced; the store is not flushed.
 pub(crate) fn serve_folder(rt: &HostRuntime, place: Place<'_>) -> ExitCode {
     let screen = Screen::new(rt);
-    if let Err(error) = check_streams(rt) {
-        return screen.fail(&error);
-    }
-    let mut opened = match open_store(rt, place, &screen) {
+    let mut opened = match store_over_streams(rt, place, &screen) {
         Ok(opened) => opened,
-        Err(error) => return fail_to_open(rt, place.folder, &screen, &error),
+        Err(status) => return status,
     };
     let status = serve_from(rt, &mut opened.store, &screen);
     screen.report_device(&opened.incidents.take_error());
+    opened.close();
     status
 }
 
@@ -32,7 +30,12 @@ pub(crate) fn serve_memory(rt: &HostRuntime, limits: Limits) -> ExitCode {
     let screen = Screen::new(rt);
     let vault = MemoryVault::new(rt.alloc());
     match Store::open(rt.alloc(), vault, Options { limits }) {
-        Ok(mut store) => serve_from(rt, &mut store, &screen),
+        Ok(store) => {
+            let mut store = store;
+            let status = serve_from(rt, &mut store, &screen);
+            drop(store.close());
+            status
+        }
         Err((why, _vault)) => screen.fail(&CommandError::Store(why, None)),
     }
 }

@@ -3,17 +3,15 @@
 pub(crate) mod answer;
 pub(crate) mod compact;
 pub(crate) mod console;
-pub(crate) mod error;
 pub(crate) mod lines;
 pub(crate) mod request;
 pub(crate) mod stats;
 mod talk;
 pub(crate) mod usage;
 
-use crate::opening::{OpenStore, fail_to_open, open_store};
-use crate::{Screen, check_streams};
+use crate::opening::{OpenStore, store_over_streams};
+use crate::{CommandError, Screen};
 use console::Console;
-use error::SessionError;
 use lsm_options::{Place, REFUSED};
 use std::io;
 use std::io::IsTerminal;
@@ -24,14 +22,11 @@ use talk::talk;
 /// is synced; the store is not flushed. Faults are reported on standard error.
 pub(crate) fn run_session(rt: &HostRuntime, place: Place<'_>) -> ExitCode {
     let screen = Screen::new(rt);
-    if let Err(error) = check_streams(rt) {
-        return screen.fail(&error);
-    }
-    let mut opened = match open_store(rt, place, &screen) {
+    let mut opened = match store_over_streams(rt, place, &screen) {
         Ok(opened) => opened,
-        Err(error) => return fail_to_open(rt, place.folder, &screen, &error),
+        Err(status) => return status,
     };
-    match talk_to(rt, &mut opened, &screen) {
+    let status = match talk_to(rt, &mut opened, &screen) {
         Ok(true) => ExitCode::SUCCESS,
         Ok(false) => ExitCode::from(REFUSED),
         Err(error) => {
@@ -39,7 +34,9 @@ pub(crate) fn run_session(rt: &HostRuntime, place: Place<'_>) -> ExitCode {
             screen.report_device(&opened.incidents.take_error());
             status
         }
-    }
+    };
+    opened.close();
+    status
 }
 
 // Answers the commands of standard input, and syncs the store, however they end. Returns whether all of its lines were commands.
@@ -47,13 +44,13 @@ fn talk_to(
     rt: &HostRuntime,
     opened: &mut OpenStore,
     screen: &Screen<'_>,
-) -> Result<bool, SessionError> {
+) -> Result<bool, CommandError> {
     let has_prompt = rt.stdin().is_terminal();
     let mut console = Console::new(rt.alloc(), rt.reader(), io::writer(rt), has_prompt)?;
     let (store, incidents) = (&mut opened.store, &opened.incidents);
     let talked = talk(rt.alloc(), store, incidents, &mut console, screen);
-    match talked {
-        Ok(_) | Err(SessionError::NotSynced(_)) => {}
+    match &talked {
+        Ok(_) | Err(CommandError::NotSynced(_)) => {}
         Err(_) => {
             // What was done and not answered promises nothing, but need not be lost.
             let _ = store.sync();

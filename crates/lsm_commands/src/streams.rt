@@ -6,10 +6,16 @@ use std::io::{Read, Write};
 /// Whether the standard streams are open: the next file that is opened would take the place of one that is closed.
 pub(crate) fn check_streams(rt: &HostRuntime) -> Result<(), CommandError> {
     let read = rt.stdin().read(&mut []);
-    read.map_err(|_| CommandError::ReadFault)?;
+    if read.is_err() {
+        return Err(CommandError::ReadFault);
+    }
     let written = rt.stdout().write(&[]);
-    written.map_err(|_| CommandError::WriteFault)?;
+    if written.is_err() {
+        return Err(CommandError::WriteFault);
+    }
     let written = rt.stderr().write(&[]);
-    written.map_err(|_| CommandError::WriteFault)?;
+    if written.is_err() {
+        return Err(CommandError::WriteFault);
+    }
     Ok(())
 }

@@ -10,13 +10,9 @@ use std::process::ExitCode;
 /// Merges the jobs that come as messages on standard input, as the worker of this number, and writes the messages that it sends to
 /// standard output, until the input ends.
 pub(crate) fn work_as(rt: &HostRuntime, number: u8) -> ExitCode {
-    match NodeIndex::new(number) {
-        Some(index) => work(rt, index),
-        None => ExitCode::from(REFUSED),
-    }
-}
-
-fn work(rt: &HostRuntime, index: NodeIndex) -> ExitCode {
+    let Some(index) = NodeIndex::new(number) else {
+        return ExitCode::from(REFUSED);
+    };
     let screen = Screen::new(rt);
     if let Err(error) = check_streams(rt) {
         return screen.fail(&error);

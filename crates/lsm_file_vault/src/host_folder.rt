@@ -1,6 +1,6 @@
 //! A folder of the operating system: the calls on files behind a vault. No clause tells of a file, so they stand apart, to be read.
 
-ghost use Rattle.std.specs.Prelude.{◌≡◌, ◌++◌, ◌∷◌, [], IfOk, OnOk, is_ok, if◌then◌else◌};
+ghost use Rattle.std.specs.Prelude.{◌≡◌, ◌<◌, ◌↔◌, ◌++◌, ◌∷◌, [], IfOk, IsTrue, OnOk, false, is_ok, if◌then◌else◌};
 ghost use Rattle.lsm_file_vault.specs.LogFiles.{AreSynced};
 ghost use Rattle.lsm_file_vault.specs.declared.log_sync.LogSync.TheVariants.{Each};
 
@@ -64,6 +64,7 @@ impl<R: Files + AllocGlobal + Drop> HostFolder<R> {
         ensures edits { IfOk result (λ folder. ⟦<HostFolder<R> as Folder>⟧.edits folder ≡ contents.now.edits.items) }
         ensures log { IfOk result (λ folder. ⟦<HostFolder<R> as Folder>⟧.log folder ≡ contents.now.log.items) }
         ensures synced { IfOk result ⟦<HostFolder<R> as Folder>⟧.is_synced }
+        ensures torn { IfOk result (λ folder. (IsTrue folder.is_torn ↔ 0 < contents.now.torn_bytes) × (folder.torn ≡ contents.now.torn)) }
     {
         let torn = contents.torn.clone()?;
         let last = last_of(contents.edits.as_slice());
@@ -143,6 +144,7 @@ impl<R: Files + AllocGlobal + Drop> HostFolder<R> {
     fn write_edit(&mut self, edit: &[u8]) -> io::Result<()>
         ensures same { self.new.notes ≡ self.old.notes }
         ensures synced { OnOk result (AreSynced self.new.log_file.is_unsynced self.new.log_file.gathered.items) }
+        ensures torn { OnOk result (self.new.is_torn ≡ false) }
     {
         self.refuse_if_broken()?;
         let mut framed = BytesMut::new(self.files.alloc());

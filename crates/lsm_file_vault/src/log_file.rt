@@ -1,6 +1,6 @@
 //! The file of a folder's log: a frame for each record.
 
-ghost use Rattle.std.specs.Prelude.{◌≡◌, ◌↔◌, ◌++◌, [], IfOk, IsErr, IsOk, IsTrue, OnErr, OnOk, false, if◌then◌else◌, is_err, length, take, true};
+ghost use Rattle.std.specs.Prelude.{◌≡◌, ◌<◌, ◌↔◌, ◌++◌, [], IfOk, IsErr, IsOk, IsTrue, OnErr, OnOk, false, if◌then◌else◌, is_err, length, take, true};
 ghost use Rattle.lsm_file_vault.specs.Frames.{frame, frames};
 ghost use Rattle.lsm_file_vault.specs.LogFiles.{IsShort, AreSynced, cuts_none, gathered_after, is_late, is_unsynced_after, place_after, place_behind};
 ghost use Rattle.lsm_file_vault.specs.declared.log_sync.LogSync.TheVariants.{Each};
@@ -58,6 +58,7 @@ impl<R: Files + AllocGlobal + Drop> LogFile<R> {
         ensures synced { IfOk result (λ file. AreSynced file.is_unsynced file.gathered.items) }
         ensures log_sync { IfOk result (λ file. file.log_sync ≡ log_sync) }
         ensures bytes { IfOk result (λ file. file.bytes ≡ contents.now.log_bytes) }
+        ensures torn { IfOk result (λ file. (IsTrue file.is_torn ↔ 0 < contents.now.torn_log_bytes) × (file.torn ≡ contents.now.torn_log)) }
         ensures doubt { IfOk result (λ file. file.is_broken ≡ false) }
     {
         let torn = contents.torn_log.clone()?;

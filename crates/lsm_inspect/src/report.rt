@@ -186,8 +186,7 @@ fn write_levels<W: fmt::Write>(f: &mut fmt::Formatter<W>, report: &Report) -> fm
     for level in &ALL_LEVELS {
         let stats = report.level_stats(*level);
         if stats.files > 0 {
-            let (files, bytes, entries) = (stats.files, stats.bytes, stats.entries);
-            writeln!(f, "L{level} {files} files {bytes} bytes {entries} entries")?;
+            writeln!(f, "L{level} {stats}")?;
         }
     }
     Ok(())

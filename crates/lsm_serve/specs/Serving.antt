@@ -56,11 +56,11 @@ RepliesInTurn old (request ∷ requests) bytes new =
     × ((EndsStream request × (bytes ≡ first) × MayHaveFailed mid new)
     ⊎ ((EndsStream request → ⊥) × (rest : List ℕ) × RepliesInTurn mid requests rest new × (bytes ≡ first ++ rest)))
 
--- the bytes of a request: an array of its words within the limits, or a line of them
+-- the bytes are a request's: an array of its words within the limits, or a line of them
 abbrev pub IsSentAs : List (List ℕ) → List ℕ → Type 0
 IsSentAs words bytes = (AreWords words × (bytes ≡ request_bytes words)) ⊎ ((line : List ℕ) × IsLine line × (words ≡ line_words line) × (bytes ≡ line ++ 10 ∷ []))
 
--- the bytes of requests, one after another
+-- the bytes are those of the requests, one after another
 abbrev pub AreSentAs : List (List (List ℕ)) → List ℕ → Type 0
 AreSentAs [] bytes = bytes ≡ []
 AreSentAs (request ∷ requests) bytes = (first : List ℕ) × (rest : List ℕ) × IsSentAs request first × AreSentAs requests rest × (bytes ≡ first ++ rest)
@@ -93,7 +93,7 @@ pub record RepliesBefore (word : HttpWord) (old : CoordValue) (requests : List (
   pub replies : RepliesInTurn old done bytes new
   pub written : Appends held holds bytes
 
--- no other requests are a reason to end: only the streams, a sync and memory are
+-- the error is a stream's, a sync's or memory's, never a request's
 abbrev pub IsNoFault : ServeError → Type 0
 IsNoFault (Protocol fault) = ⊥
 IsNoFault Truncated = ⊥

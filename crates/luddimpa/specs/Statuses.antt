@@ -9,23 +9,23 @@ use Rattle.lsm_edit.specs.declared.version.ApplyError.TheVariants as apply
 use Rattle.lsm_msg.specs.declared.fault.MsgFault.{MsgFault}
 use Rattle.lsm_msg.specs.declared.fault.MsgFault.TheVariants as message
 use Rattle.luddimpa.specs.declared.status.Status.{Status}
-use Rattle.luddimpa.specs.declared.status.Status.TheVariants.{Ok, Deleted, Absent, OutOfMemory, NoSequence, NotATable, CutShort, NotAnEdit, DoesNotApply, NotAJob, WrongTable, SameEntry, TooLarge, NotAMessage}
+use Rattle.luddimpa.specs.declared.status.Status.TheVariants as status
 
 abbrev pub status_code : Status → ℕ
-status_code Ok = 0
-status_code Deleted = 1
-status_code Absent = 2
-status_code OutOfMemory = 3
-status_code NoSequence = 4
-status_code NotATable = 5
-status_code CutShort = 6
-status_code NotAnEdit = 7
-status_code DoesNotApply = 8
-status_code NotAJob = 9
-status_code WrongTable = 10
-status_code SameEntry = 11
-status_code TooLarge = 12
-status_code NotAMessage = 13
+status_code status.Ok = 0
+status_code status.Deleted = 1
+status_code status.Absent = 2
+status_code status.OutOfMemory = 3
+status_code status.NoSequence = 4
+status_code status.NotATable = 5
+status_code status.CutShort = 6
+status_code status.NotAnEdit = 7
+status_code status.DoesNotApply = 8
+status_code status.NotAJob = 9
+status_code status.WrongTable = 10
+status_code status.SameEntry = 11
+status_code status.TooLarge = 12
+status_code status.NotAMessage = 13
 
 -- ---- what is wrong with bytes; 0 is nothing
 

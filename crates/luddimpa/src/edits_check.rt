@@ -14,7 +14,8 @@ use lsm_key::Refused;
 use std::alloc::Global;
 
 /// Checks a list of edits, each behind its length in four bytes: that each is an edit, and applies to the version that those before it
-/// make; the first one to version 0. The answer tells of the version that those which apply make, up to the first that does not.
+/// make; the first one to version 0. Returns the version after all of them, or after those before the first that is refused, and why
+/// that one is.
 #[unsafe(no_mangle)]
 pub extern "C" fn luddimpa_edits_check(alloc: Global, edits: &[u8]) -> CheckedEdits
     ensures { (version : VersionValue) × (fault : Option EditsFault) × (result ≡ checked_edits_of version fault) × ChecksEdits edits.now version fault }

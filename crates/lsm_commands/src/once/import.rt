@@ -1,10 +1,9 @@
 //! The command `import`: the pairs of lines, in batches.
 
-use super::error::OnceError;
-use crate::Screen;
 use crate::opening::FolderStore;
 use crate::session::console::{NextLine, read_line};
 use crate::session::request::{FaultyLine, LineFault};
+use crate::{CommandError, Screen};
 use lsm_io::write_out;
 use lsm_key::{Batch, KeyError, MAX_BATCH_OPS, Op, Refused};
 use lsm_line::{Call, Words, put, write_line_end, write_number, write_text};
@@ -23,7 +22,7 @@ const BUFFER_BYTES: usize = 65_536;
 const FULL_WEIGHT: usize = 3_900_000;
 
 /// What an import has done.
-#[derive(Clone, Copy, Debug, PartialEq, Eq)]
+#[derive(Clone, Copy)]
 struct Imported {
     /// How many pairs of its lines are in the store.
     pairs: u64,
@@ -48,10 +47,12 @@ pub(crate) fn import<W: Write>(
     store: &mut FolderStore,
     screen: &Screen<'_>,
     writer: &mut W,
-) -> Result<ExitCode, OnceError> {
+) -> Result<ExitCode, CommandError> {
     let alloc = rt.alloc();
-    let reader = BufReader::with_capacity(alloc, BUFFER_BYTES, rt.reader());
-    let mut reader = reader.map_err(|_| OnceError::OutOfMemory)?;
+    let Ok(reader) = BufReader::with_capacity(alloc, BUFFER_BYTES, rt.reader()) else {
+        return Err(CommandError::OutOfMemory);
+    };
+    let mut reader = reader;
     let imported = import_lines(alloc, store, &mut reader)?;
     if let Some(faulty) = imported.faulty {
         screen.report(&faulty);
@@ -71,28 +72,14 @@ fn import_lines<V: Vault, R: BufRead>(
     alloc: Global,
     store: &mut Store<V>,
     reader: &mut R,
-) -> Result<Imported, OnceError> {
+) -> Result<Imported, CommandError> {
     let mut pending = Pending::new(alloc);
     let mut line = Vec::new(alloc);
-    let mut faulty = None;
-    for number in 1..u64::MAX {
-        match pending.take_line(store, reader, &mut line)? {
-            Taken::Line => {}
-            Taken::End => break,
-            Taken::Faulty(fault) => {
-                faulty = Some(FaultyLine { number, fault });
-                break;
-            }
-        }
-    }
-    pending.write(store)?;
-    store.sync().map_err(OnceError::NotSynced)?;
-    let pairs = pending.pairs;
-    Ok(Imported { pairs, faulty })
+    pending.take_lines(store, reader, &mut line)
 }
 
 // What came of a line.
-#[derive(Clone, Copy, Debug, PartialEq, Eq)]
+#[derive(Clone, Copy)]
 enum Taken {
     Line,
     End,
@@ -117,13 +104,39 @@ impl Pending {
         }
     }
 
+    // Takes lines, up to one that is faulty, and syncs their pairs. What is dear to drop is lent here, so that no refusal drops it.
+    fn take_lines<V: Vault, R: BufRead>(
+        &mut self,
+        store: &mut Store<V>,
+        reader: &mut R,
+        line: &mut Vec<u8>,
+    ) -> Result<Imported, CommandError> {
+        let mut faulty = None;
+        for number in 1..u64::MAX {
+            match self.take_line(store, reader, line)? {
+                Taken::Line => {}
+                Taken::End => break,
+                Taken::Faulty(fault) => {
+                    faulty = Some(FaultyLine { number, fault });
+                    break;
+                }
+            }
+        }
+        self.write(store)?;
+        if let Err(why) = store.sync() {
+            return Err(CommandError::NotSynced(why));
+        }
+        let pairs = self.pairs;
+        Ok(Imported { pairs, faulty })
+    }
+
     // Takes the next line.
     fn take_line<V: Vault, R: BufRead>(
         &mut self,
         store: &mut Store<V>,
         reader: &mut R,
         line: &mut Vec<u8>,
-    ) -> Result<Taken, OnceError> {
+    ) -> Result<Taken, CommandError> {
         match read_line(reader, line)? {
             NextLine::End => return Ok(Taken::End),
             NextLine::TooLong | NextLine::MaybeCut => return Ok(Taken::Faulty(LineFault::TooLong)),
@@ -132,13 +145,13 @@ impl Pending {
         match put_in(self.alloc, line) {
             Ok(None) => Ok(Taken::Line),
             Ok(Some(op)) => self.add(store, op),
-            Err(Refused::OutOfMemory) => Err(OnceError::OutOfMemory),
+            Err(Refused::OutOfMemory) => Err(CommandError::OutOfMemory),
             Err(Refused::Fault(fault)) => Ok(Taken::Faulty(fault)),
         }
     }
 
     // Adds a put, behind those that are written first if the batch is full.
-    fn add<V: Vault>(&mut self, store: &mut Store<V>, op: Op) -> Result<Taken, OnceError> {
+    fn add<V: Vault>(&mut self, store: &mut Store<V>, op: Op) -> Result<Taken, CommandError> {
         if self.batch.ops().len() >= MAX_BATCH_OPS || self.batch.weight() >= FULL_WEIGHT {
             self.write(store)?;
         }
@@ -147,7 +160,7 @@ impl Pending {
                 self.pairs = self.pairs.saturating_add(1);
                 Ok(Taken::Line)
             }
-            Err(KeyError::OutOfMemory) => Err(OnceError::OutOfMemory),
+            Err(KeyError::OutOfMemory) => Err(CommandError::OutOfMemory),
             Err(why) => Ok(Taken::Faulty(LineFault::Key(why))),
         }
     }

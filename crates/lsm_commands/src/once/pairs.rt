@@ -3,7 +3,7 @@
 ghost use Rattle.std.specs.Prelude.{◌≡◌, ◌++◌, [], IfOk, OnOk};
 ghost use Rattle.lsm_commands.specs.Once.{IsOfAll, WritesPairs, pair_line};
 
-use super::error::OnceError;
+use crate::CommandError;
 use bytes::Bytes;
 use lsm_io::write_out;
 use lsm_key::MAX_KEY_BYTES;
@@ -59,7 +59,7 @@ pub(crate) fn write_pairs<V: Vault, W: Write>(
     store: &Store<V>,
     range: &PairRange,
     writer: &mut W,
-) -> Result<(), OnceError>
+) -> Result<(), CommandError>
     ensures { OnOk result (WritesPairs store.now range.now (W.contents writer.old) (W.contents writer.new)) }
 {
     let mut out = Vec::new(alloc);

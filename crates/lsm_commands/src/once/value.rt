@@ -6,7 +6,7 @@ ghost use Rattle.lsm_line.specs.Lines.{hex_digit};
 ghost use Rattle.lsm_commands.specs.Once.{WritesValue, hex_text, value_text};
 
 use super::Form;
-use super::error::OnceError;
+use crate::CommandError;
 use bytes::Bytes;
 use lsm_io::write_out;
 use lsm_line::write_line_end;
@@ -22,7 +22,7 @@ pub(crate) fn write_value<V: Vault, W: Write>(
     key: &Bytes,
     form: Form,
     writer: &mut W,
-) -> Result<bool, OnceError>
+) -> Result<bool, CommandError>
     ensures written { IfOk result (WritesValue store.old key.now form (W.contents writer.old) (W.contents writer.new)) }
     ensures same { store.new ≡ store.old }
 {

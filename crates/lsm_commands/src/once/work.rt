@@ -4,9 +4,9 @@ ghost use Rattle.std.specs.Prelude.{◌≡◌, IfOk, Ok};
 ghost use Rattle.lsm_line.specs.Commands.{key_or_value};
 ghost use Rattle.lsm_commands.specs.Once.{IsWorkOf};
 
-use super::error::OnceError;
 use super::pairs::PairRange;
 use super::{Form, Once};
+use crate::CommandError;
 use bytes::Bytes;
 use lsm_key::{Op, Refused};
 use lsm_line::key_or_value;
@@ -26,7 +26,7 @@ pub(crate) enum Work {
 
 impl Work {
     /// What a command does. Its words are read, and nothing else.
-    pub(crate) fn of(alloc: Global, once: &Once<'_>) -> Result<Work, OnceError>
+    pub(crate) fn of(alloc: Global, once: &Once<'_>) -> Result<Work, CommandError>
         ensures { IfOk result (IsWorkOf once.now) }
     {
         match once {
@@ -56,12 +56,12 @@ impl Work {
 }
 
 // The bytes that a word of the arguments spells. An argument without a byte is the empty text.
-fn bytes_of(alloc: Global, word: &str) -> Result<Bytes, OnceError>
+fn bytes_of(alloc: Global, word: &str) -> Result<Bytes, CommandError>
     ensures { IfOk result (λ bytes. key_or_value word.now ≡ Ok bytes) }
 {
     match key_or_value(alloc, word.as_bytes()) {
         Ok(bytes) => Ok(bytes),
-        Err(Refused::OutOfMemory) => Err(OnceError::OutOfMemory),
-        Err(Refused::Fault(_)) => Err(OnceError::NotAWord(String::from_str(alloc, word)?)),
+        Err(Refused::OutOfMemory) => Err(CommandError::OutOfMemory),
+        Err(Refused::Fault(_)) => Err(CommandError::NotAWord(String::from_str(alloc, word)?)),
     }
 }

@@ -12,7 +12,7 @@ use lsm_vault::Vault;
 use std::alloc::Global;
 
 /// What a store answers to a call.
-#[derive(Debug, Drop)]
+#[derive(Drop)]
 pub(crate) enum Answer {
     /// The first and the last sequence of a batch.
     Wrote(Seq, Seq),

@@ -1,6 +1,6 @@
 //! Where a session's commands come from, and where its answers go.
 
-use super::error::SessionError;
+use crate::CommandError;
 use lsm_io::write_out;
 use lsm_key::MAX_BATCH_WEIGHT;
 use lsm_line::write_text;
@@ -18,7 +18,7 @@ const MAX_TYPED_BYTES: usize = 4_095;
 const BUFFER_BYTES: usize = 65_536;
 
 /// The next line, or what was found in its place.
-#[derive(Clone, Copy, Debug, PartialEq, Eq)]
+#[derive(Clone, Copy)]
 pub(crate) enum NextLine {
     /// A line.
     Line,
@@ -47,11 +47,11 @@ impl<R: Read + Drop, W: Write + Drop> Console<R, W> {
         reader: R,
         writer: W,
         has_prompt: bool,
-    ) -> Result<Console<R, W>, SessionError> {
+    ) -> Result<Console<R, W>, CommandError> {
         // Nothing but memory is wanted to make one.
-        let reader = BufReader::with_capacity(alloc, BUFFER_BYTES, reader).map_err(
-            |_| SessionError::OutOfMemory,
-        )?;
+        let Ok(reader) = BufReader::with_capacity(alloc, BUFFER_BYTES, reader) else {
+            return Err(CommandError::OutOfMemory);
+        };
         Ok(Console {
             reader,
             writer,
@@ -60,10 +60,10 @@ impl<R: Read + Drop, W: Write + Drop> Console<R, W> {
         })
     }
 
-    /// Asks for a line, where a person types them.
-    pub(crate) fn prompt(&mut self) -> Result<(), SessionError> {
+    /// Writes a text behind the answers so far, where a person types the commands.
+    pub(crate) fn prompt(&mut self, text: &str) -> Result<(), CommandError> {
         if self.has_prompt {
-            write_text(&mut self.out, "> ")?;
+            write_text(&mut self.out, text)?;
         }
         Ok(())
     }
@@ -74,7 +74,7 @@ impl<R: Read + Drop, W: Write + Drop> Console<R, W> {
     }
 
     /// Reads the next line, without its end.
-    pub(crate) fn read_line(&mut self, line: &mut Vec<u8>) -> Result<NextLine, SessionError> {
+    pub(crate) fn read_line(&mut self, line: &mut Vec<u8>) -> Result<NextLine, CommandError> {
         let found = read_line(&mut self.reader, line)?;
         if self.has_prompt && line.len() >= MAX_TYPED_BYTES {
             return Ok(NextLine::MaybeCut);
@@ -83,16 +83,8 @@ impl<R: Read + Drop, W: Write + Drop> Console<R, W> {
     }
 
     /// Writes the answers so far.
-    pub(crate) fn write_out(&mut self) -> Result<(), SessionError> {
+    pub(crate) fn write_out(&mut self) -> Result<(), CommandError> {
         Ok(write_out(&mut self.writer, &mut self.out)?)
-    }
-
-    /// Ends the line of a prompt behind which nothing was typed.
-    pub(crate) fn end_prompt(&mut self) -> Result<(), SessionError> {
-        if self.has_prompt {
-            write_text(&mut self.out, "\n")?;
-        }
-        Ok(())
     }
 }
 
@@ -100,14 +92,14 @@ impl<R: Read + Drop, W: Write + Drop> Console<R, W> {
 pub(crate) fn read_line<R: BufRead>(
     reader: &mut R,
     line: &mut Vec<u8>,
-) -> Result<NextLine, SessionError> {
+) -> Result<NextLine, CommandError> {
     line.clear();
     let mut found = NextLine::End;
     for _ in 0..u64::MAX {
         let piece = match reader.fill_buf() {
             Ok(piece) => piece,
             Err(error) if error.kind() == ErrorKind::Interrupted => continue,
-            Err(_) => return Err(SessionError::ReadFault),
+            Err(_) => return Err(CommandError::ReadFault),
         };
         if piece.is_empty() {
             return Ok(found);
@@ -123,12 +115,14 @@ pub(crate) fn read_line<R: BufRead>(
             None => reader.consume(len),
         }
     }
-    Err(SessionError::ReadFault)
+    Err(CommandError::ReadFault)
 }
 
 // Adds a piece to a line, or drops the line if it is too long with it.
-fn extend(line: &mut Vec<u8>, piece: &[u8], found: NextLine) -> Result<NextLine, SessionError> {
-    if found == NextLine::TooLong || piece.len() > MAX_LINE_BYTES.saturating_sub(line.len()) {
+fn extend(line: &mut Vec<u8>, piece: &[u8], found: NextLine) -> Result<NextLine, CommandError> {
+    if matches!(found, NextLine::TooLong)
+        || piece.len() > MAX_LINE_BYTES.saturating_sub(line.len())
+    {
         line.clear();
         return Ok(NextLine::TooLong);
     }

@@ -5,11 +5,10 @@ use lsm_line::{
     Call, Reason, Words, batch, delete, flush, get, put, release, scan, show_store, snap,
 };
 use std::alloc::Global;
-use std::str;
-use thiserror::Error;
+use std::{fmt, str};
 
 /// What a line asks of a store.
-#[derive(Debug, Drop)]
+#[derive(Drop)]
 pub(crate) enum Request {
     /// A call of the store.
     Call(Call),
@@ -24,36 +23,56 @@ pub(crate) enum Request {
 }
 
 /// Why a line is not done.
-#[derive(Clone, Copy, Debug, PartialEq, Eq, Error)]
+#[derive(Clone, Copy)]
 pub(crate) enum LineFault {
     /// Its words are no command, for this reason. `help` lists how commands are written.
-    #[error("{0}")]
     Words(Reason),
     /// Only a script can have it, since it is about nodes that a store has not: `lsmsim` runs scripts.
-    #[error("not a command of a store")]
     NotOfAStore,
     /// It is not a put, and nothing else is imported. Leave it out.
-    #[error("not a put: an import takes lines 'put KEY VALUE'")]
     NotAPut,
     /// Its key or its value is outside the limits. Take a shorter one, or a key that is not empty.
-    #[error("{0}")]
     Key(KeyError),
     /// It is longer than any command within the limits. Divide it.
-    #[error("too long")]
     TooLong,
     /// It is as long as a terminal lets a line be, so its end may be cut off. Give it from a file or over a pipe.
-    #[error("too long: a terminal cuts a line off at 4095 bytes")]
     MaybeCut,
 }
 
+impl fmt::Display for LineFault {
+    fn fmt<W: fmt::Write>(&self, f: &mut fmt::Formatter<W>) -> fmt::Result {
+        match *self {
+            LineFault::Words(why) => write!(f, "{why}"),
+            LineFault::NotOfAStore => f.write_str("not a command of a store"),
+            LineFault::NotAPut => f.write_str("not a put: an import takes lines 'put KEY VALUE'"),
+            LineFault::Key(why) => write!(f, "{why}"),
+            LineFault::TooLong => f.write_str("too long"),
+            LineFault::MaybeCut => f.write_str(
+                "too long: a terminal cuts a line off at 4095 bytes",
+            ),
+        }
+    }
+}
+
 /// A line that is not done, as it is reported.
-#[derive(Clone, Copy, Debug, PartialEq, Eq, Error)]
-#[error("line {number}: {fault}")]
+#[derive(Clone, Copy)]
 pub(crate) struct FaultyLine {
     /// From 1.
     pub(crate) number: u64,
     pub(crate) fault: LineFault,
 }
+
+impl fmt::Display for FaultyLine {
+    fn fmt<W: fmt::Write>(&self, f: &mut fmt::Formatter<W>) -> fmt::Result {
+        let (number, fault) = (self.number, self.fault);
+        write!(f, "line {number}: {fault}")
+    }
+}
+
+/// The commands that only a script has.
+const OF_SCRIPTS: [&str; 8] = [
+    "freeze", "trim", "pick", "giveup", "deliver", "restart", "ask", "read",
+];
 
 /// What a line asks, or `None` if it has no command: it has no word, or its first one begins with `#`.
 pub(crate) fn request_in(
@@ -67,14 +86,15 @@ pub(crate) fn request_in(
     if matches!(name.first(), Some(b'#')) {
         return Ok(None);
     }
-    let asked = match str::from_utf8(name).unwrap_or("") {
+    let name = str::from_utf8(name).unwrap_or("");
+    if is_of_a_script(name) {
+        return Err(Refused::Fault(LineFault::NotOfAStore));
+    }
+    let asked = match name {
         "compact" => alone(words, Request::Compact),
         "stats" => alone(words, Request::Stats),
         "help" => alone(words, Request::Help),
         "quit" | "exit" => alone(words, Request::Quit),
-        "freeze" | "trim" | "pick" | "giveup" | "deliver" | "restart" | "ask" | "read" => {
-            return Err(Refused::Fault(LineFault::NotOfAStore));
-        }
         name => called(alloc, name, words),
     };
     match asked {
@@ -82,6 +102,15 @@ pub(crate) fn request_in(
         Err(Refused::OutOfMemory) => Err(Refused::OutOfMemory),
         Err(Refused::Fault(reason)) => Err(Refused::Fault(LineFault::Words(reason))),
     }
+}
+
+fn is_of_a_script(name: &str) -> bool {
+    for command in &OF_SCRIPTS {
+        if name == *command {
+            return true;
+        }
+    }
+    false
 }
 
 // A request of one word.
@@ -95,16 +124,16 @@ fn alone(mut args: Words<'_>, request: Request) -> Result<Request, Refused<Reaso
 // The call of this name, by the words after it.
 fn called(alloc: Global, name: &str, args: Words<'_>) -> Result<Request, Refused<Reason>> {
     let call = match name {
-        "put" => put(alloc, args)?,
-        "del" => delete(alloc, args)?,
-        "batch" => batch(alloc, args)?,
-        "get" => get(alloc, args)?,
-        "scan" => scan(alloc, args)?,
-        "snap" => snap(args)?,
-        "release" => release(args)?,
-        "flush" => flush(args)?,
-        "show" => show_store(args)?,
-        _ => return Err(Refused::Fault(Reason::UnknownCommand)),
+        "put" => put(alloc, args),
+        "del" => delete(alloc, args),
+        "batch" => batch(alloc, args),
+        "get" => get(alloc, args),
+        "scan" => scan(alloc, args),
+        "snap" => snap(args),
+        "release" => release(args),
+        "flush" => flush(args),
+        "show" => show_store(args),
+        _ => Err(Refused::Fault(Reason::UnknownCommand)),
     };
-    Ok(Request::Call(call))
+    Ok(Request::Call(call?))
 }

@@ -47,15 +47,7 @@ fn write_level_stats(out: &mut Vec<u8>, level: u8, stats: LevelStats) -> Result<
     if stats.files == 0 {
         return Ok(());
     }
-    write_text(out, " L")?;
-    write_number(out, u64::from(level))?;
-    write_text(out, " ")?;
-    write_number(out, stats.files as u64)?;
-    write_text(out, " files ")?;
-    write_number(out, stats.bytes)?;
-    write_text(out, " bytes ")?;
-    write_number(out, stats.entries)?;
-    write_text(out, " entries")
+    write!(out, " L{level} {stats}").map_err(|_| AllocError)
 }
 
 // ` flushes B bytes compactions B bytes amplification A.AA`: the last is the bytes of both for each byte of a flush, and comes only
@@ -72,5 +64,8 @@ fn write_written(out: &mut Vec<u8>, written: Written) -> Result<(), AllocError> 
     let flushed = u128::from(written.flushed);
     let hundredths = (flushed + u128::from(written.compacted)) * 100 / flushed;
     let (whole, part) = (hundredths / 100, hundredths % 100);
-    write!(out, " amplification {whole}.{part:02}").map_err(|_| AllocError)
+    match write!(out, " amplification {whole}.{part:02}") {
+        Ok(()) => Ok(()),
+        Err(_) => Err(AllocError),
+    }
 }

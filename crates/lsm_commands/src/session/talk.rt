@@ -3,12 +3,11 @@
 use super::answer::answer_call;
 use super::compact::compact;
 use super::console::{Console, NextLine};
-use super::error::SessionError;
 use super::lines::write_answer;
 use super::request::{FaultyLine, LineFault, Request, request_in};
 use super::stats::stats;
 use super::usage::{quotes_of, usage_of};
-use crate::Screen;
+use crate::{CommandError, Screen};
 use lsm_file_vault::Incidents;
 use lsm_key::Refused;
 use lsm_line::{write_line_end, write_text};
@@ -19,7 +18,7 @@ use std::alloc::Global;
 use std::io::{Read, Write};
 
 /// What comes after a line.
-#[derive(Clone, Copy, Debug, PartialEq, Eq)]
+#[derive(Clone, Copy)]
 enum Next {
     Line,
     End,
@@ -33,27 +32,40 @@ pub(crate) fn talk<R: Read + Drop, W: Write + Drop, V: Vault>(
     incidents: &Incidents,
     console: &mut Console<R, W>,
     screen: &Screen<'_>,
-) -> Result<bool, SessionError> {
+) -> Result<bool, CommandError> {
     let mut line = Vec::new(alloc);
+    talk_by(alloc, store, incidents, console, screen, &mut line)
+}
+
+// The same, with room for a line.
+fn talk_by<R: Read + Drop, W: Write + Drop, V: Vault>(
+    alloc: Global,
+    store: &mut Store<V>,
+    incidents: &Incidents,
+    console: &mut Console<R, W>,
+    screen: &Screen<'_>,
+    line: &mut Vec<u8>,
+) -> Result<bool, CommandError> {
     let mut are_right = true;
     for number in 1..u64::MAX {
-        let answered = match next_line(store, console, &mut line)? {
+        let answered = match next_line(store, console, line)? {
             NextLine::End => {
-                console.end_prompt()?;
+                // Nothing was typed behind the last prompt, whose line ends here.
+                console.prompt("\n")?;
                 break;
             }
             NextLine::TooLong => Err(Refused::Fault(LineFault::TooLong)),
             NextLine::MaybeCut => Err(Refused::Fault(LineFault::MaybeCut)),
-            NextLine::Line => answer_line(alloc, store, &line, screen, &mut console.out),
+            NextLine::Line => answer_line(alloc, store, line, screen, &mut console.out),
         };
         match answered {
             Ok(Next::Line) => {}
             Ok(Next::End) => break,
-            Err(Refused::OutOfMemory) => return Err(SessionError::OutOfMemory),
+            Err(Refused::OutOfMemory) => return Err(CommandError::OutOfMemory),
             Err(Refused::Fault(fault)) => {
                 are_right = false;
                 write_answers(store, console)?;
-                report_fault(screen, &line, &FaultyLine { number, fault });
+                report_fault(screen, line, &FaultyLine { number, fault });
             }
         }
         report_device(store, console, screen, incidents)?;
@@ -67,8 +79,8 @@ fn next_line<R: Read + Drop, W: Write + Drop, V: Vault>(
     store: &mut Store<V>,
     console: &mut Console<R, W>,
     line: &mut Vec<u8>,
-) -> Result<NextLine, SessionError> {
-    console.prompt()?;
+) -> Result<NextLine, CommandError> {
+    console.prompt("> ")?;
     if console.is_due() {
         write_answers(store, console)?;
     }
@@ -79,8 +91,8 @@ fn next_line<R: Read + Drop, W: Write + Drop, V: Vault>(
 fn write_answers<R: Read + Drop, W: Write + Drop, V: Vault>(
     store: &mut Store<V>,
     console: &mut Console<R, W>,
-) -> Result<(), SessionError> {
-    store.sync().map_err(SessionError::NotSynced)?;
+) -> Result<(), CommandError> {
+    store.sync().map_err(CommandError::NotSynced)?;
     console.write_out()?;
     Ok(())
 }
@@ -91,7 +103,7 @@ fn report_device<R: Read + Drop, W: Write + Drop, V: Vault>(
     console: &mut Console<R, W>,
     screen: &Screen<'_>,
     incidents: &Incidents,
-) -> Result<(), SessionError> {
+) -> Result<(), CommandError> {
     let error = incidents.take_error();
     if error.is_some() {
         write_answers(store, console)?;
