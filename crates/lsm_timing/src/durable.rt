@@ -1,11 +1,11 @@
 //! A store in a folder: its filling, its opening, and gets.
 
-use crate::batches::BATCH;
 use crate::bench::Bench;
 use crate::error::{NO_FOLDER, TimingError, USED_FOLDER};
 use crate::figure::Figure;
-use crate::fill::{DEFAULT, fill, opened, with_files};
-use crate::reads::get_present;
+use crate::fill::{DEFAULT, opened, time_filling, with_files};
+use crate::load::{BATCH, Load};
+use crate::reads::{Keys, time_get};
 use lsm_coord::Coord;
 use lsm_file_vault::{FileVault, HostFolder, open};
 use std::fs;
@@ -22,26 +22,26 @@ pub(crate) fn time_durable(bench: Bench, entries: u64, reads: u64) -> Result<(),
         return Err(USED_FOLDER);
     }
     // The folder's lock is let go at its end, so that it can be opened again.
-    time_filling(bench, entries)?;
-    time_opening(bench, entries, reads)
+    time_over(bench, true, entries, reads)?;
+    time_over(bench, false, entries, reads)
 }
 
-fn time_filling(bench: Bench, entries: u64) -> Result<(), TimingError> {
+// The figures of the store in the folder, if it is new, and else those of its opening and of gets.
+fn time_over(bench: Bench, is_new: bool, entries: u64, reads: u64) -> Result<(), TimingError> {
+    let opening = Figure::begin(bench, "durable_open")?;
     let mut coord = store_in_folder(bench)?;
-    time_fill_in(bench, &mut coord, entries)
-}
-
-fn time_fill_in(bench: Bench, coord: &mut FolderCoord, entries: u64) -> Result<(), TimingError> {
-    let figure = Figure::begin(bench, "durable_fill")?;
-    fill(bench, coord, entries, BATCH)?;
-    figure.end(bench, entries, with_files(0, coord))?;
-    Ok(())
-}
-
-fn time_opening(bench: Bench, entries: u64, reads: u64) -> Result<(), TimingError> {
-    let figure = Figure::begin(bench, "durable_open")?;
-    let mut coord = store_in_folder(bench)?;
-    time_in(bench, figure, &mut coord, entries, reads)
+    let timed = if is_new {
+        time_filling(
+            bench,
+            &mut coord,
+            "durable_fill",
+            Load::puts(entries, BATCH),
+        )
+    } else {
+        time_in(bench, opening, &mut coord, entries, reads)
+    };
+    drop(coord.close());
+    timed
 }
 
 // Ends the figure of the opening, and times the gets.
@@ -53,19 +53,7 @@ fn time_in(
     reads: u64,
 ) -> Result<(), TimingError> {
     opening.end(bench, entries, with_files(0, coord))?;
-    time_gets(bench, coord, entries, reads)
-}
-
-fn time_gets(
-    bench: Bench,
-    coord: &mut FolderCoord,
-    entries: u64,
-    reads: u64,
-) -> Result<(), TimingError> {
-    let figure = Figure::begin(bench, "durable_get")?;
-    let checksum = get_present(bench, coord, entries, reads)?;
-    figure.end(bench, reads, checksum)?;
-    Ok(())
+    time_get(bench, coord, "durable_get", Keys::Of(entries), reads)
 }
 
 // The store in the folder, which is made if there is none.

@@ -17,18 +17,12 @@ pub(crate) enum TimingError {
 pub(crate) const OUT_OF_MEMORY: TimingError = TimingError::Plain("out of memory");
 
 pub(crate) const STREAM: TimingError = TimingError::Plain(
-    "the clock, the account of the memory, standard output or standard error failed",
-);
-
-pub(crate) const NO_ACCOUNT: TimingError = TimingError::Plain(
-    "the system does not tell the memory of the process",
+    "the clock, a folder, standard output or standard error failed",
 );
 
 pub(crate) const NO_STORE: TimingError = TimingError::Plain("the vault was not opened");
 
 pub(crate) const NO_EDITS: TimingError = TimingError::Plain("the edits were not read");
-
-pub(crate) const NO_TABLE: TimingError = TimingError::Plain("a table was not opened");
 
 pub(crate) const NO_MERGE: TimingError = TimingError::Plain("a merge was refused");
 

@@ -1,16 +1,17 @@
 //! Filling a store, with all its flushes and merges in the caller's own thread.
 
-use crate::batches::{batch_count, batch_number};
 use crate::bench::Bench;
 use crate::error::{NO_EDITS, NO_STORE, TimingError};
 use crate::figure::{Figure, with_number};
 use crate::keys::or_one;
+use crate::load::{BATCH, Load};
 use lsm_coord::{Coord, CoordError};
 use lsm_edit::FileMeta;
 use lsm_key::{Batch, DEFAULT_BASE, DEFAULT_BLOCK, DEFAULT_L0, Limits, MAX_LEVEL, NUM_LEVELS};
 use lsm_store::{compact_once, stats_of};
 use lsm_vault::{MemoryVault, Vault};
 use lsm_versions::edit_of;
+use std::io;
 
 /// The number of levels.
 const LEVELS: usize = NUM_LEVELS as usize;
@@ -24,11 +25,6 @@ pub(crate) const DEFAULT: Limits = Limits {
 
 /// A store in memory.
 pub(crate) type MemoryCoord = Coord<MemoryVault>;
-
-/// A new store in memory, with the default limits.
-pub(crate) fn new_store(bench: Bench) -> Result<MemoryCoord, TimingError> {
-    opened(bench, MemoryVault::new(bench.alloc()), DEFAULT)
-}
 
 /// The store that a vault has.
 pub(crate) fn opened<V: Vault + Drop>(
@@ -48,21 +44,14 @@ pub(crate) fn write<V: Vault>(
     coord: &mut Coord<V>,
     batch: &Batch,
 ) -> Result<(), TimingError> {
-    if accept(coord, batch)? {
-        return Ok(());
+    match coord.write(batch) {
+        Ok(_) => return Ok(()),
+        Err(CoordError::MemtableFull) => {}
+        Err(why) => return Err(TimingError::from(why)),
     }
     settle(bench, coord)?;
     coord.write(batch)?;
     Ok(())
-}
-
-// Writes a batch if the memtable has room for it.
-fn accept<V: Vault>(coord: &mut Coord<V>, batch: &Batch) -> Result<bool, CoordError> {
-    match coord.write(batch) {
-        Ok(_) => Ok(true),
-        Err(CoordError::MemtableFull) => Ok(false),
-        Err(why) => Err(why),
-    }
 }
 
 /// Flushes, and compacts until no level needs it.
@@ -85,74 +74,64 @@ fn merge_next<V: Vault>(bench: Bench, coord: &mut Coord<V>) -> Result<bool, Coor
     Ok(true)
 }
 
-/// A store of `entries` entries in memory, put in random order in batches, with no level due.
-pub(crate) fn filled(bench: Bench, entries: u64, batch: u64) -> Result<MemoryCoord, TimingError> {
-    let mut coord = new_store(bench)?;
-    fill(bench, &mut coord, entries, batch)?;
-    Ok(coord)
+/// Writes a load, batch by batch.
+pub(crate) fn write_all<V: Vault>(
+    bench: Bench,
+    coord: &mut Coord<V>,
+    load: Load<'_>,
+) -> Result<(), TimingError> {
+    for number in 0..load.batches() {
+        let batch = load.batch(bench, number)?;
+        write(bench, coord, &batch)?;
+    }
+    Ok(())
 }
 
 /// Puts entries in random order in batches, until no level is due.
-pub(crate) fn fill<V: Vault>(
-    bench: Bench,
-    coord: &mut Coord<V>,
-    entries: u64,
-    batch: u64,
-) -> Result<(), TimingError> {
-    for number in 0..batch_count(entries, batch) {
-        let puts = batch_number(bench, number, entries, batch)?;
-        write(bench, coord, &puts)?;
-    }
+pub(crate) fn fill(bench: Bench, coord: &mut MemoryCoord, entries: u64) -> Result<(), TimingError> {
+    write_all(bench, coord, Load::puts(entries, BATCH))?;
     settle(bench, coord)?;
     Ok(())
 }
 
-// Makes the same batches, and drops them: the part of a fill that is not the store's.
-fn made(bench: Bench, entries: u64, batch: u64) -> Result<u64, TimingError> {
-    let mut checksum = 0;
-    for number in 0..batch_count(entries, batch) {
-        let puts = batch_number(bench, number, entries, batch)?;
-        checksum = with_number(checksum, puts.weight() as u64);
-    }
-    Ok(checksum)
-}
-
 /// Times the filling of a store, and the making of its batches alone, and prints its write amplification and its
 /// levels.
-pub(crate) fn time_fill(bench: Bench, entries: u64, batch: u64) -> Result<(), TimingError> {
-    time_making(bench, entries, batch)?;
-    let mut coord = new_store(bench)?;
-    time_fill_in(bench, &mut coord, entries, batch)
-}
-
-// What has to be dropped dearly is lent, so that no refusal drops it.
-fn time_fill_in(
+pub(crate) fn time_fill(
     bench: Bench,
     coord: &mut MemoryCoord,
     entries: u64,
     batch: u64,
 ) -> Result<(), TimingError> {
-    time_filling(bench, coord, entries, batch)?;
+    let load = Load::puts(entries, batch);
+    time_making(bench, load)?;
+    time_filling(bench, coord, "fill", load)?;
     tell_sizes(bench, entries, coord)
 }
 
-fn time_making(bench: Bench, entries: u64, batch: u64) -> Result<(), TimingError> {
+// Makes the same batches, and drops them: the part of a fill that is not the store's.
+fn time_making(bench: Bench, load: Load<'_>) -> Result<(), TimingError> {
     let figure = Figure::begin(bench, "make")?;
-    let checksum = made(bench, entries, batch)?;
-    figure.end(bench, entries, checksum)?;
+    let mut checksum = 0;
+    for number in 0..load.batches() {
+        let batch = load.batch(bench, number)?;
+        checksum = with_number(checksum, batch.weight() as u64);
+    }
+    figure.end(bench, load.count, checksum)?;
     Ok(())
 }
 
-fn time_filling(
+/// Times how a load is written, until no level is due, as a figure of this name.
+pub(crate) fn time_filling<V: Vault>(
     bench: Bench,
-    coord: &mut MemoryCoord,
-    entries: u64,
-    batch: u64,
+    coord: &mut Coord<V>,
+    name: &'static str,
+    load: Load<'_>,
 ) -> Result<(), TimingError> {
-    let figure = Figure::begin(bench, "fill")?;
-    fill(bench, coord, entries, batch)?;
+    let figure = Figure::begin(bench, name)?;
+    write_all(bench, coord, load)?;
+    settle(bench, coord)?;
     let checksum = shape_of(bench, coord)?;
-    figure.end(bench, entries, checksum)?;
+    figure.end(bench, load.count, checksum)?;
     Ok(())
 }
 
@@ -163,11 +142,21 @@ fn tell_sizes(bench: Bench, entries: u64, coord: &mut MemoryCoord) -> Result<(),
     eprintln!(bench.rt; "write_amplification_percent {entries} {percent}")?;
     for level in 0..=MAX_LEVEL {
         let bytes = written.get(level as usize).copied().unwrap_or(0);
-        eprintln!(bench.rt; "bytes_written_to_level_{level} {entries} {bytes}")?;
+        tell_level(bench, "bytes_written_to", level, entries, bytes)?;
         let left = stats_of(coord.show().files, level).bytes;
-        eprintln!(bench.rt; "bytes_in_level_{level} {entries} {left}")?;
+        tell_level(bench, "bytes_in", level, entries, left)?;
     }
     Ok(())
+}
+
+fn tell_level(
+    bench: Bench,
+    what: &'static str,
+    level: u8,
+    entries: u64,
+    bytes: u64,
+) -> io::Result<()> {
+    eprintln!(bench.rt; "{what}_level_{level} {entries} {bytes}")
 }
 
 // How many bytes of tables were written to each level, by the edits of the manifest.

@@ -1,7 +1,5 @@
 //! The commands, each with its numbers and what they may be.
 
-use std::fmt;
-
 /// The most entries of a store that is filled.
 const MAX_ENTRIES: u64 = 100_000_000;
 
@@ -15,14 +13,9 @@ pub(crate) enum Task {
     Synced,
     Churn,
     Pauses,
-    MemoryFill,
-    MemoryMemtable,
-    MemoryTables,
     Merge,
     Flush,
-    Open,
     Pick,
-    Script,
     Threads,
     ThreadsAlone,
     All,
@@ -45,7 +38,8 @@ pub(crate) struct Form {
     pub(crate) task: Task,
     pub(crate) first: Option<Number>,
     pub(crate) second: Option<Number>,
-    pub(crate) about: &'static str,
+    /// Its line of the help.
+    pub(crate) help: &'static str,
 }
 
 const ENTRIES: Option<Number> = Some(Number {
@@ -72,6 +66,30 @@ const GETS: Option<Number> = Some(Number {
     default: None,
 });
 
+const SCANS: Option<Number> = Some(Number {
+    name: "[K]",
+    most: MAX_ENTRIES,
+    default: Some(0),
+});
+
+const MEGABYTES: Option<Number> = Some(Number {
+    name: "<MB>",
+    most: 230,
+    default: None,
+});
+
+const MEMTABLE: Option<Number> = Some(Number {
+    name: "[N]",
+    most: 61_538,
+    default: Some(61_538),
+});
+
+const FILES: Option<Number> = Some(Number {
+    name: "[FILES]",
+    most: 100_000,
+    default: Some(5_000),
+});
+
 const SECONDS: Option<Number> = Some(Number {
     name: "<SECONDS>",
     most: 600,
@@ -84,174 +102,97 @@ const READERS: Option<Number> = Some(Number {
     default: Some(0),
 });
 
-const MEMTABLE: Option<Number> = Some(Number {
-    name: "[N]",
-    most: 61_538,
-    default: Some(61_538),
-});
-
 /// All commands.
-pub(crate) static FORMS: [Form; 18] = [
+pub(crate) static FORMS: [Form; 13] = [
     Form {
         name: "fill",
         task: Task::Fill,
         first: ENTRIES,
         second: BATCH,
-        about: "Put N entries into a new store, with all flushes and merges",
+        help: "  fill <N> <BATCH>: Put N entries into a new store, with all flushes and merges",
     },
     Form {
         name: "get",
         task: Task::Get,
         first: ENTRIES,
         second: GETS,
-        about: "Get M random keys that exist, and M keys that do not, of N entries",
+        help: "  get <N> <M>: Get M random keys that exist, and M keys that do not, of N entries",
     },
     Form {
         name: "scan",
         task: Task::Scan,
         first: ENTRIES,
-        second: Some(Number {
-            name: "[K]",
-            most: MAX_ENTRIES,
-            default: Some(0),
-        }),
-        about: "Scan a store of N entries whole, or 20 keys from each of K random ones",
+        second: SCANS,
+        help: "  scan <N> [K]: Scan a store of N entries whole, or 20 keys from each of K random ones",
     },
     Form {
         name: "durable",
         task: Task::Durable,
         first: ENTRIES,
         second: GETS,
-        about: "Fill a store in the new folder lsm_timing.store, open it again, and get M random keys",
+        help: "  durable <N> <M>: Fill a store in the new folder lsm_timing.store, open it again, and get M random keys",
     },
     Form {
         name: "synced",
         task: Task::Synced,
         first: ENTRIES,
         second: TURN,
-        about: "Put N entries into a store in a new folder, with a sync behind each K, as they come and gathered",
+        help: "  synced <N> <K>: Put N entries into a store in a new folder, with a sync behind each K, as they come and gathered",
     },
     Form {
         name: "churn",
         task: Task::Churn,
         first: ENTRIES,
         second: None,
-        about: "Put and delete N/4 keys in random order, N times, one time in eight a deletion, and scan what is left",
+        help: "  churn <N>: Put and delete N/4 keys in random order, N times, one time in eight a deletion, and scan what is left",
     },
     Form {
         name: "pauses",
         task: Task::Pauses,
         first: ENTRIES,
         second: BATCH,
-        about: "Tell the longest write of a fill",
-    },
-    Form {
-        name: "memory_fill",
-        task: Task::MemoryFill,
-        first: ENTRIES,
-        second: None,
-        about: "Tell the bytes by which the process grows as a store is filled",
-    },
-    Form {
-        name: "memory_memtable",
-        task: Task::MemoryMemtable,
-        first: MEMTABLE,
-        second: None,
-        about: "Tell the bytes by which the process grows as a memtable is written",
-    },
-    Form {
-        name: "memory_tables",
-        task: Task::MemoryTables,
-        first: ENTRIES,
-        second: None,
-        about: "Tell the bytes by which the process grows as tables are made",
+        help: "  pauses <N> <BATCH>: Tell the longest write of a fill",
     },
     Form {
         name: "merge",
         task: Task::Merge,
-        first: Some(Number {
-            name: "<MB>",
-            most: 230,
-            default: None,
-        }),
+        first: MEGABYTES,
         second: None,
-        about: "Merge the tables of two levels, of MB megabytes of keys and values",
+        help: "  merge <MB>: Merge the tables of two levels, of MB megabytes of keys and values",
     },
     Form {
         name: "flush",
         task: Task::Flush,
         first: MEMTABLE,
         second: None,
-        about: "Flush a memtable of N entries",
-    },
-    Form {
-        name: "open",
-        task: Task::Open,
-        first: Some(Number {
-            name: "<MB>",
-            most: 2_000,
-            default: None,
-        }),
-        second: None,
-        about: "Open tables of MB megabytes of keys and values",
+        help: "  flush [N]: Flush a memtable of N entries",
     },
     Form {
         name: "pick",
         task: Task::Pick,
-        first: Some(Number {
-            name: "[FILES]",
-            most: 100_000,
-            default: Some(5_000),
-        }),
+        first: FILES,
         second: None,
-        about: "Pick a merge, 20 times",
-    },
-    Form {
-        name: "script",
-        task: Task::Script,
-        first: Some(Number {
-            name: "<LINES>",
-            most: MAX_ENTRIES,
-            default: None,
-        }),
-        second: None,
-        about: "Print a script for 'lsmsim run'",
+        help: "  pick [FILES]: Pick a merge, 20 times",
     },
     Form {
         name: "threads",
         task: Task::Threads,
         first: SECONDS,
         second: READERS,
-        about: "Let two writers, two dispatchers with workers, a follower and its readers share a store",
+        help: "  threads <SECONDS> [READERS]: Let two writers, two dispatchers with workers, a follower and its readers share a store",
     },
     Form {
         name: "threads_alone",
         task: Task::ThreadsAlone,
         first: SECONDS,
         second: READERS,
-        about: "The same without dispatchers, so that nothing is merged",
+        help: "  threads_alone <SECONDS> [READERS]: The same without dispatchers, so that nothing is merged",
     },
     Form {
         name: "all",
         task: Task::All,
         first: None,
         second: None,
-        about: "Each figure at a small size",
+        help: "  all: Each figure of a store in memory at a small size",
     },
 ];
-
-/// The command with its numbers, and what it does.
-impl fmt::Display for Form {
-    fn fmt<W: fmt::Write>(&self, f: &mut fmt::Formatter<W>) -> fmt::Result {
-        let (name, about) = (self.name, self.about);
-        let (first, second) = (name_of(self.first), name_of(self.second));
-        write!(f, "  {name} {first} {second}: {about}")
-    }
-}
-
-fn name_of(number: Option<Number>) -> &'static str {
-    match number {
-        Some(number) => number.name,
-        None => "",
-    }
-}

@@ -75,6 +75,12 @@ pub(crate) struct Shape {
 }
 
 impl Shape {
+    /// Scattered keys, and values of 100 bytes.
+    pub(crate) const DEFAULT: Shape = Shape {
+        keys: KeyShape::Scattered,
+        value_len: 100,
+    };
+
     /// How many bytes a key and its value have.
     pub(crate) fn entry_bytes(self) -> u64 {
         let key_len = match self.keys {
@@ -112,10 +118,17 @@ impl Shape {
         Ok(value.freeze()?)
     }
 
-    /// The put of an index.
-    pub(crate) fn put(self, alloc: Global, index: u64) -> Result<Op, AllocError> {
+    /// The put of the key of an index with the value of another one, or without one its deletion.
+    pub(crate) fn op(
+        self,
+        alloc: Global,
+        index: u64,
+        value: Option<u64>,
+    ) -> Result<Op, AllocError> {
         let key = Bytes::copy_from_slice(alloc, self.key(index).as_slice())?;
-        let value = self.value(alloc, index)?;
-        Ok(Op::Put(key, value))
+        match value {
+            None => Ok(Op::Delete(key)),
+            Some(number) => Ok(Op::Put(key, self.value(alloc, number)?)),
+        }
     }
 }

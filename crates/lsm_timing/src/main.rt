@@ -1,8 +1,7 @@
 //! The program `lsm_timing`: times the store by its public calls. Each figure is a line `name n checksum` on standard
-//! output and a line `name n nanoseconds` on standard error, or bytes in place of the nanoseconds.
+//! output and a line `name n nanoseconds` on standard error.
 #![tactic(auto)]
 
-mod batches;
 mod bench;
 mod churn;
 mod clock;
@@ -10,24 +9,27 @@ mod durable;
 mod error;
 mod figure;
 mod fill;
+mod flushes;
 mod forms;
 mod keys;
-mod memory;
+mod load;
 mod merges;
 mod options;
 mod pauses;
 mod picks;
 mod reads;
-mod script;
 mod synced;
-mod tables;
 mod threads;
 
 use bench::Bench;
 use error::{OUT_OF_MEMORY, TimingError};
+use fill::{DEFAULT, MemoryCoord, opened};
 use forms::Task;
 use keys::{KeyShape, Shape};
+use lsm_key::Limits;
+use lsm_vault::MemoryVault;
 use options::{OptionsError, Request, print_help, request_of};
+use picks::LOOSE;
 use std::io::ErrorKind;
 use std::process::ExitCode;
 use std::sync::Wait;
@@ -66,39 +68,55 @@ fn words_of(rt: &HostRuntime) -> io::Result<Vec<String>> {
     Ok(words.collect(rt.alloc())?)
 }
 
+/// Takes a figure.
 fn run<R: Threads + Wait + Sync>(
     rt: &R,
     bench: Bench,
-    request: Request,
+    task: Task,
+    first: u64,
+    second: u64,
 ) -> Result<(), TimingError> {
-    let (first, second) = (request.first, request.second);
-    match request.task {
-        Task::All => run_all(rt, bench),
-        Task::Threads => time_threads(rt, bench, first, second, true),
-        Task::ThreadsAlone => time_threads(rt, bench, first, second, false),
-        Task::Fill => fill::time_fill(bench, first, second),
-        Task::Get => reads::time_gets(bench, first, second),
-        Task::Scan => reads::time_scans(bench, first, second),
+    match task {
         Task::Durable => durable::time_durable(bench, first, second),
         Task::Synced => synced::time_synced(bench, first, second),
-        Task::Churn => churn::time_churn(bench, first),
-        Task::Pauses => pauses::time_pauses(bench, first, second),
-        other => run_small(bench, other, first),
+        Task::Threads => time_threads(rt, bench, first, second, true),
+        Task::ThreadsAlone => time_threads(rt, bench, first, second, false),
+        Task::Pick => run_new(bench, LOOSE, task, first, second),
+        _ => run_new(bench, DEFAULT, task, first, second),
     }
 }
 
-// The figures of tables and of single calls, and the script.
-fn run_small(bench: Bench, task: Task, number: u64) -> Result<(), TimingError> {
+/// Takes a figure of a new store in memory. The store is dear to drop, so it is lent, and closed in the end.
+fn run_new(
+    bench: Bench,
+    limits: Limits,
+    task: Task,
+    first: u64,
+    second: u64,
+) -> Result<(), TimingError> {
+    let mut coord = opened(bench, MemoryVault::new(bench.alloc()), limits)?;
+    let timed = run_over(bench, &mut coord, task, first, second);
+    drop(coord.close());
+    timed
+}
+
+fn run_over(
+    bench: Bench,
+    coord: &mut MemoryCoord,
+    task: Task,
+    first: u64,
+    second: u64,
+) -> Result<(), TimingError> {
     match task {
-        Task::MemoryFill => memory::tell_filled(bench, number),
-        Task::MemoryMemtable => memory::tell_memtable(bench, number),
-        Task::MemoryTables => memory::tell_tables(bench, number),
-        Task::Merge => merges::time_merge(bench, number),
-        Task::Flush => tables::time_flush(bench, number),
-        Task::Open => tables::time_open(bench, number),
-        Task::Pick => picks::time_picks(bench, number),
-        Task::Script => script::print_script(&bench.rt, number),
-        _ => Ok(()),
+        Task::Fill => fill::time_fill(bench, coord, first, second),
+        Task::Get => reads::time_gets(bench, coord, first, second),
+        Task::Scan => reads::time_scans(bench, coord, first, second),
+        Task::Churn => churn::time_churn(bench, coord, first),
+        Task::Pauses => pauses::time_pauses(bench, coord, first, second),
+        Task::Merge => merges::time_merge(bench, coord, first),
+        Task::Flush => flushes::time_flush(bench, coord, first),
+        Task::Pick => picks::time_picks(bench, coord, first),
+        Task::Durable | Task::Synced | Task::Threads | Task::ThreadsAlone | Task::All => Ok(()),
     }
 }
 
@@ -111,32 +129,38 @@ const OTHER: Shape = Shape {
     value_len: 1_000,
 };
 
-/// Each figure at a small size.
-fn run_all<R: Threads + Wait + Sync>(rt: &R, bench: Bench) -> Result<(), TimingError> {
-    fill::time_fill(bench, MERGED, 1_000)?;
-    reads::time_gets(bench, MERGED, 2_000)?;
-    reads::time_scans(bench, MERGED, 0)?;
-    reads::time_scans(bench, 2_000, 50)?;
-    merges::time_merge(bench, 1)?;
-    tables::time_flush(bench, 1_000)?;
-    tables::time_open(bench, 1)?;
-    picks::time_picks(bench, 5)?;
-    script::print_script(&bench.rt, 12)?;
-    run_more(bench)?;
-    time_threads(rt, bench, 1, 1, true)
-}
+/// Figures at a small size, each with its numbers and its entries.
+const SMALL: [(Task, u64, u64, Shape); 11] = [
+    (Task::Fill, MERGED, 1_000, Shape::DEFAULT),
+    (Task::Get, MERGED, 2_000, Shape::DEFAULT),
+    (Task::Scan, MERGED, 0, Shape::DEFAULT),
+    (Task::Scan, 2_000, 50, Shape::DEFAULT),
+    (Task::Merge, 1, 0, Shape::DEFAULT),
+    (Task::Flush, 1_000, 0, Shape::DEFAULT),
+    (Task::Pick, 5, 0, Shape::DEFAULT),
+    (Task::Churn, MERGED, 0, Shape::DEFAULT),
+    (Task::Pauses, 2_000, 100, Shape::DEFAULT),
+    (Task::Get, 20_000, 500, OTHER),
+    (Task::Threads, 1, 1, Shape::DEFAULT),
+];
 
-fn run_more(bench: Bench) -> Result<(), TimingError> {
-    churn::time_churn(bench, MERGED)?;
-    pauses::time_pauses(bench, 2_000, 100)?;
-    memory::tell_filled(bench, 2_000)?;
-    memory::tell_memtable(bench, 1_000)?;
-    memory::tell_tables(bench, 20_000)?;
-    let other = Bench {
-        shape: OTHER,
-        ..bench
+/// Takes what is asked, or each figure of a store in memory at a small size.
+fn run_all<R: Threads + Wait + Sync>(
+    rt: &R,
+    bench: Bench,
+    request: Request,
+) -> Result<(), TimingError> {
+    let Task::All = request.task else {
+        return run(rt, bench, request.task, request.first, request.second);
     };
-    reads::time_gets(other, 20_000, 500)
+    for (task, first, second, shape) in &SMALL {
+        let bench = Bench {
+            shape: *shape,
+            ..bench
+        };
+        run(rt, bench, *task, *first, *second)?;
+    }
+    Ok(())
 }
 
 fn main(rt: HostRuntime) -> ExitCode {
@@ -159,7 +183,7 @@ fn main(rt: HostRuntime) -> ExitCode {
         clock: request.clock,
         shape: request.shape,
     };
-    match run(&rt, bench, request) {
+    match run_all(&rt, bench, request) {
         Ok(()) => ExitCode::SUCCESS,
         Err(error) => fail(&rt, error),
     }

@@ -1,11 +1,14 @@
-//! The figure `merge`: a merge of the tables of two levels.
+//! The figure `merge`: a merge of the tables of two levels, each made by a flush.
+
+ghost use Rattle.std.specs.Prelude.{◌≤◌};
 
 use crate::bench::Bench;
-use crate::error::{NO_JOB, NO_MERGE, TimingError};
+use crate::error::{GONE, NO_JOB, NO_MERGE, TimingError};
 use crate::figure::{Figure, with_bytes};
-use crate::fill::{MemoryCoord, new_store};
-use crate::keys::mix;
-use crate::tables::{entries_in, sorted_indices, tables_of};
+use crate::fill::{MemoryCoord, write_all};
+use crate::flushes::LARGE_BATCH;
+use crate::keys::{mix, or_one, scattered_key};
+use crate::load::{Load, Ops};
 use bytes::Bytes;
 use lsm_claim::JobId;
 use lsm_edit::FileMeta;
@@ -18,10 +21,20 @@ use std::alloc::{AllocError, Global};
 /// The upper one of the two levels.
 const UPPER: u8 = 1;
 
-/// Times the merge of the tables of two levels, with `megabytes` MB of keys and values in all. One key in eight is in
+/// What the entries of a table weigh, at most: about as much as the outputs of a merge.
+const TABLE_WEIGHT: u64 = 1_950_000;
+
+/// The bytes of a megabyte, here.
+const MEGABYTE: u64 = 1_000_000;
+
+/// Times the merge of the tables of two levels, which a store makes, with `megabytes` MB of keys and values in all. One key in eight is in
 /// both.
-pub(crate) fn time_merge(bench: Bench, megabytes: u64) -> Result<(), TimingError> {
-    let (tables, lower) = tables_in(bench, megabytes)?;
+pub(crate) fn time_merge(
+    bench: Bench,
+    coord: &mut MemoryCoord,
+    megabytes: u64,
+) -> Result<(), TimingError> {
+    let (tables, lower) = tables_in(bench, coord, megabytes)?;
     let job = job_of(bench.alloc(), &tables, lower)?;
     time_job(bench, &tables, &job)
 }
@@ -36,11 +49,21 @@ fn time_job(bench: Bench, tables: &[Table], job: &Job) -> Result<(), TimingError
 }
 
 // The tables of the lower level and then those of the upper one, and how many the lower one has.
-fn tables_in(bench: Bench, megabytes: u64) -> Result<(Vec<Table>, usize), TimingError> {
-    let keys = entries_in(bench, megabytes).wrapping_mul(8) / 9;
-    let indices = sorted_indices(bench.alloc(), keys)?;
-    let mut coord = new_store(bench)?;
-    tables_of_both(bench, &mut coord, &indices)
+fn tables_in(
+    bench: Bench,
+    coord: &mut MemoryCoord,
+    megabytes: u64,
+) -> Result<(Vec<Table>, usize), TimingError> {
+    let entries = megabytes.wrapping_mul(MEGABYTE) / or_one(bench.shape.entry_bytes());
+    let indices = sorted_indices(bench.alloc(), entries.wrapping_mul(8) / 9)?;
+    tables_of_both(bench, coord, &indices)
+}
+
+// The indices below a count, in the order of their keys, of either shape.
+fn sorted_indices(alloc: Global, count: u64) -> Result<Vec<u64>, AllocError> {
+    let mut indices: Vec<u64> = (0..count).collect(alloc)?;
+    indices.sort_unstable_by(|index, other| scattered_key(*index).cmp(&scattered_key(*other)));
+    Ok(indices)
 }
 
 fn tables_of_both(
@@ -48,22 +71,26 @@ fn tables_of_both(
     coord: &mut MemoryCoord,
     indices: &[u64],
 ) -> Result<(Vec<Table>, usize), TimingError> {
-    let mut tables = tables_at(bench, coord, indices, 0)?;
+    let mut tables = Vec::new(bench.alloc());
+    add_tables(bench, coord, indices, 0, &mut tables)?;
     let lower = tables.len();
-    let mut upper = tables_at(bench, coord, indices, 1)?;
-    tables.append(&mut upper)?;
+    add_tables(bench, coord, indices, 1, &mut tables)?;
     Ok((tables, lower))
 }
 
-// The tables of a level, 0 for the lower and 1 for the upper one.
-fn tables_at(
+// Adds the tables of a level, 0 for the lower and 1 for the upper one.
+fn add_tables(
     bench: Bench,
     coord: &mut MemoryCoord,
     indices: &[u64],
     level: u64,
-) -> Result<Vec<Table>, TimingError> {
+    tables: &mut Vec<Table>,
+) -> Result<(), TimingError> {
     let chosen = indices_at(bench.alloc(), indices, level)?;
-    tables_of(bench, coord, &chosen)
+    for chunk in chosen.chunks(table_entries(bench)) {
+        tables.push(table_of(bench, coord, chunk)?)?;
+    }
+    Ok(())
 }
 
 // The indices of the entries of a level: every eighth, and a random half of the others.
@@ -75,6 +102,28 @@ fn indices_at(alloc: Global, indices: &[u64], level: u64) -> Result<Vec<u64>, Al
         }
     }
     Ok(chosen)
+}
+
+// How many entries a table has.
+fn table_entries(bench: Bench) -> usize
+    ensures { 1 ≤ result }
+{
+    or_one(bench.shape.count_within(TABLE_WEIGHT)) as usize
+}
+
+// The table that a flush makes of the entries of some indices.
+fn table_of(bench: Bench, coord: &mut MemoryCoord, indices: &[u64]) -> Result<Table, TimingError> {
+    let load = Load {
+        ops: Ops::Listed(indices),
+        count: indices.len() as u64,
+        batch: LARGE_BATCH,
+    };
+    write_all(bench, coord, load)?;
+    let file = coord.flush()?.file.number();
+    match coord.served().table(file) {
+        None => Err(GONE),
+        Some(table) => Ok(table.copy()?),
+    }
 }
 
 // The job that merges the tables, of which the first `lower` are of the lower level.

@@ -23,11 +23,11 @@ pub(crate) enum OptionsError<'a> {
     /// No word names a command. The help lists them.
     NoCommand,
     /// The option or the number of this name is not given its value. Add it.
-    NoValue(&'static str),
+    NoValue(&'a str),
     /// This word is no command, or is one more than the command takes. Leave it out.
     Unexpected(&'a str),
     /// This word is no value of the option or the number of this name. The help says which there are.
-    Invalid(&'a str, &'static str),
+    Invalid(&'a str, &'a str),
 }
 
 impl<'a> fmt::Display for OptionsError<'a> {
@@ -55,95 +55,90 @@ const BYTES: Number = Number {
     default: Some(100),
 };
 
-// The part of the help that lists the options.
-const OPTIONS: &str = "Options, before or after a command:
+// What the help says before the commands.
+const OPTIONS: &str =
+    "Times the store: 'name n checksum' on standard output, 'name n nanoseconds' on standard error
+Options, before or after a command:
   --clock wall|processor: Take the time that passes, or the processor's time of the process; both in steps of 1 ns
   --keys scattered|prefixed: Keys of 16 bytes, or the same after a prefix of 16 bytes
-  --value BYTES: Bytes of a value, 100 if not given";
+  --value BYTES: Bytes of a value, 100 if not given
+Commands:";
 
 /// Prints the help.
 pub(crate) fn print_help(rt: &HostRuntime) -> io::Result<()> {
-    rt.println(
-        "Times the store: 'name n checksum' on standard output, 'name n nanoseconds', or bytes, on standard error",
-    )?;
     rt.println(OPTIONS)?;
-    rt.println("Commands:")?;
     for form in &FORMS {
-        rt.println(*form)?;
+        rt.println(form.help)?;
     }
     Ok(())
 }
 
 // What is read so far.
 #[derive(Clone, Copy)]
-struct Line {
+struct Line<'a> {
     // The option whose value comes next.
-    waiting: Option<&'static str>,
+    waiting: Option<&'a str>,
     clock: ClockKind,
     keys: KeyShape,
     value_len: u64,
     form: Option<Form>,
-    first: Option<u64>,
-    second: Option<u64>,
+    first: Option<&'a str>,
+    second: Option<&'a str>,
 }
-
-const EMPTY: Line = Line {
-    waiting: None,
-    clock: ClockKind::Wall,
-    keys: KeyShape::Scattered,
-    value_len: 100,
-    form: None,
-    first: None,
-    second: None,
-};
 
 /// What the words after the program's name ask for.
 pub(crate) fn request_of(words: &[String]) -> Result<Request, OptionsError<'_>> {
-    let mut line = EMPTY;
+    let mut line = Line {
+        waiting: None,
+        clock: ClockKind::Wall,
+        keys: Shape::DEFAULT.keys,
+        value_len: Shape::DEFAULT.value_len,
+        form: None,
+        first: None,
+        second: None,
+    };
     for word in words {
         line = with_word(line, word.as_str())?;
     }
     request_in(line)
 }
 
-fn with_word(line: Line, word: &str) -> Result<Line, OptionsError<'_>> {
-    if let Some(name) = line.waiting {
-        return with_value(line, name, word);
+fn with_word<'a>(line: Line<'a>, word: &'a str) -> Result<Line<'a>, OptionsError<'a>> {
+    let mut line = line;
+    if let Some(option) = line.waiting {
+        line.waiting = None;
+        return with_value(line, option, word);
     }
-    match (option_of(word), line.form) {
-        (Some(name), _) => Ok(Line {
-            waiting: Some(name),
-            ..line
-        }),
-        (None, Some(form)) => with_number(line, form, word),
-        (None, None) => Ok(Line {
-            form: Some(form_of(word)?),
-            ..line
-        }),
+    if matches!(word, CLOCK | KEYS | VALUE) {
+        line.waiting = Some(word);
+    } else if line.form.is_none() {
+        line.form = Some(form_of(word)?);
+    } else if line.first.is_none() {
+        line.first = Some(word);
+    } else if line.second.is_none() {
+        line.second = Some(word);
+    } else {
+        return Err(OptionsError::Unexpected(word));
     }
+    Ok(line)
 }
 
-fn option_of(word: &str) -> Option<&'static str> {
-    match word {
-        CLOCK => Some(CLOCK),
-        KEYS => Some(KEYS),
-        VALUE => Some(VALUE),
-        _ => None,
+fn with_value<'a>(
+    line: Line<'a>,
+    option: &'a str,
+    word: &'a str,
+) -> Result<Line<'a>, OptionsError<'a>> {
+    let mut line = line;
+    if option == VALUE {
+        line.value_len = number_of(BYTES, word)?;
+        return Ok(line);
     }
-}
-
-fn with_value<'a>(line: Line, name: &'static str, word: &'a str) -> Result<Line, OptionsError<'a>> {
-    let mut line = Line {
-        waiting: None,
-        ..line
-    };
-    match (name, word) {
-        (CLOCK, "wall") => line.clock = ClockKind::Wall,
-        (CLOCK, "processor") => line.clock = ClockKind::Processor,
-        (KEYS, "scattered") => line.keys = KeyShape::Scattered,
-        (KEYS, "prefixed") => line.keys = KeyShape::Prefixed,
-        (VALUE, _) => line.value_len = number_of(BYTES, word)?,
-        _ => return Err(OptionsError::Invalid(word, name)),
+    match (option == CLOCK, word) {
+        (true, "wall") => line.clock = ClockKind::Wall,
+        (true, "processor") => line.clock = ClockKind::Processor,
+        (false, "scattered") => line.keys = KeyShape::Scattered,
+        (false, "prefixed") => line.keys = KeyShape::Prefixed,
+        _ => return Err(OptionsError::Invalid(word, option)),
     }
     Ok(line)
 }
@@ -160,30 +155,9 @@ fn form_of(word: &str) -> Result<Form, OptionsError<'_>> {
     Err(OptionsError::Unexpected(word))
 }
 
-fn with_number(line: Line, form: Form, word: &str) -> Result<Line, OptionsError<'_>> {
-    match (line.first, form.first, line.second, form.second) {
-        (None, Some(number), _, _) => Ok(Line {
-            first: Some(number_of(number, word)?),
-            ..line
-        }),
-        (Some(_), _, None, Some(number)) => Ok(Line {
-            second: Some(number_of(number, word)?),
-            ..line
-        }),
-        _ => Err(OptionsError::Unexpected(word)),
-    }
-}
-
-fn number_of(number: Number, word: &str) -> Result<u64, OptionsError<'_>> {
-    match word.parse::<u64>() {
-        Ok(value) if value >= 1 && value <= number.most => Ok(value),
-        _ => Err(OptionsError::Invalid(word, number.name)),
-    }
-}
-
-fn request_in<'a>(line: Line) -> Result<Request, OptionsError<'a>> {
-    if let Some(name) = line.waiting {
-        return Err(OptionsError::NoValue(name));
+fn request_in(line: Line<'_>) -> Result<Request, OptionsError<'_>> {
+    if let Some(option) = line.waiting {
+        return Err(OptionsError::NoValue(option));
     }
     let Some(form) = line.form else {
         return Err(OptionsError::NoCommand);
@@ -200,11 +174,19 @@ fn request_in<'a>(line: Line) -> Result<Request, OptionsError<'a>> {
     })
 }
 
-// What a number is. A command that has none takes no notice of it.
-fn given<'a>(number: Option<Number>, value: Option<u64>) -> Result<u64, OptionsError<'a>> {
-    match (value, number) {
-        (Some(value), _) => Ok(value),
+// What a number is. One that the command does not have is 0.
+fn given(number: Option<Number>, word: Option<&str>) -> Result<u64, OptionsError<'_>> {
+    match (number, word) {
         (None, None) => Ok(0),
-        (None, Some(number)) => number.default.ok_or(OptionsError::NoValue(number.name)),
+        (None, Some(word)) => Err(OptionsError::Unexpected(word)),
+        (Some(number), None) => number.default.ok_or(OptionsError::NoValue(number.name)),
+        (Some(number), Some(word)) => number_of(number, word),
+    }
+}
+
+fn number_of(number: Number, word: &str) -> Result<u64, OptionsError<'_>> {
+    match word.parse::<u64>() {
+        Ok(value) if value >= 1 && value <= number.most => Ok(value),
+        _ => Err(OptionsError::Invalid(word, number.name)),
     }
 }

@@ -1,22 +1,21 @@
 //! Picks from a version of many files.
 
-use crate::batches::batch_of;
 use crate::bench::Bench;
 use crate::error::{NO_PICK, TimingError};
 use crate::figure::{Figure, with_number};
-use crate::fill::{MemoryCoord, opened, settle, write};
+use crate::fill::{MemoryCoord, settle, write};
+use crate::load::Load;
 use lsm_claim::ClaimBook;
 use lsm_edit::Served;
 use lsm_key::{DEFAULT_BLOCK, Limits, MAX_BASE};
 use lsm_pick::pick;
-use lsm_vault::MemoryVault;
 use std::alloc::Global;
 
 /// How many picks are timed.
 const PICKS: u64 = 20;
 
 /// A file of level 0 is due, and level 1 is not.
-const LOOSE: Limits = Limits {
+pub(crate) const LOOSE: Limits = Limits {
     l0: 1,
     base: MAX_BASE,
     block: DEFAULT_BLOCK,
@@ -29,15 +28,21 @@ const TIGHT: Limits = Limits {
     block: DEFAULT_BLOCK,
 };
 
-/// Times picks from a version with `files` files in level 1, which needs compaction, with no job running.
-pub(crate) fn time_picks(bench: Bench, files: u64) -> Result<(), TimingError> {
-    let coord = version_of(bench, files)?;
-    time_in(bench, coord.served())
-}
-
-fn time_in(bench: Bench, served: &Served) -> Result<(), TimingError> {
+/// Times picks from a version with `files` files of one entry each in level 1, which needs compaction, with no job running. The store has
+/// loose limits, so that each file goes down alone once it is flushed, and stays there.
+pub(crate) fn time_picks(
+    bench: Bench,
+    coord: &mut MemoryCoord,
+    files: u64,
+) -> Result<(), TimingError> {
+    let load = Load::puts(files, 1);
+    for number in 0..files {
+        let batch = load.batch(bench, number)?;
+        write(bench, coord, &batch)?;
+        settle(bench, coord)?;
+    }
     let figure = Figure::begin(bench, "pick")?;
-    let checksum = picked(bench.alloc(), served)?;
+    let checksum = picked(bench.alloc(), coord.served())?;
     figure.end(bench, PICKS, checksum)?;
     Ok(())
 }
@@ -55,20 +60,4 @@ fn picked(alloc: Global, served: &Served) -> Result<u64, TimingError> {
         }
     }
     Ok(checksum)
-}
-
-// A store with `files` files of one entry each in level 1: each is flushed, and goes down alone.
-fn version_of(bench: Bench, files: u64) -> Result<MemoryCoord, TimingError> {
-    let mut coord = opened(bench, MemoryVault::new(bench.alloc()), LOOSE)?;
-    for index in 0..files {
-        add_file(bench, &mut coord, index)?;
-    }
-    Ok(coord)
-}
-
-fn add_file(bench: Bench, coord: &mut MemoryCoord, index: u64) -> Result<(), TimingError> {
-    let batch = batch_of(bench, &[index])?;
-    write(bench, coord, &batch)?;
-    settle(bench, coord)?;
-    Ok(())
 }

@@ -1,10 +1,9 @@
 //! Gets and scans of a settled store.
 
-use crate::batches::BATCH;
 use crate::bench::Bench;
 use crate::error::TimingError;
 use crate::figure::{Figure, with_bytes, with_number};
-use crate::fill::{MemoryCoord, filled};
+use crate::fill::{MemoryCoord, fill};
 use crate::keys::random_below;
 use bytes::Bytes;
 use lsm_coord::Coord;
@@ -20,51 +19,46 @@ const SHORT: u64 = 20;
 /// After every key.
 const END: [u8; 17] = [255; 17];
 
-/// Times gets of random keys that are there, and of keys that are not.
-pub(crate) fn time_gets(bench: Bench, entries: u64, reads: u64) -> Result<(), TimingError> {
-    let mut coord = filled(bench, entries, BATCH)?;
-    time_present(bench, &mut coord, entries, reads)
+/// Which keys are got.
+#[derive(Clone, Copy)]
+pub(crate) enum Keys {
+    /// Random ones of the first so many.
+    Of(u64),
+    /// Those from this one on, none of which is there.
+    From(u64),
 }
 
-fn time_present(
+/// Fills a store, and times gets of random keys that are there, and of keys that are not.
+pub(crate) fn time_gets(
     bench: Bench,
     coord: &mut MemoryCoord,
     entries: u64,
     reads: u64,
 ) -> Result<(), TimingError> {
-    let figure = Figure::begin(bench, "get")?;
-    let checksum = get_present(bench, coord, entries, reads)?;
-    figure.end(bench, reads, checksum)?;
-    time_absent(bench, coord, entries, reads)
+    fill(bench, coord, entries)?;
+    time_get(bench, coord, "get", Keys::Of(entries), reads)?;
+    time_get(bench, coord, "get_absent", Keys::From(entries), reads)
 }
 
-fn time_absent(
+/// Times gets as a figure of this name.
+pub(crate) fn time_get<V: Vault>(
     bench: Bench,
-    coord: &mut MemoryCoord,
-    entries: u64,
+    coord: &mut Coord<V>,
+    name: &'static str,
+    keys: Keys,
     reads: u64,
 ) -> Result<(), TimingError> {
-    let figure = Figure::begin(bench, "get_absent")?;
+    let figure = Figure::begin(bench, name)?;
     let mut checksum = 0;
     for read in 0..reads {
-        checksum = get(bench, coord, entries.wrapping_add(read), checksum)?;
+        let index = match keys {
+            Keys::Of(entries) => random_below(entries, read),
+            Keys::From(first) => first.wrapping_add(read),
+        };
+        checksum = get(bench, coord, index, checksum)?;
     }
     figure.end(bench, reads, checksum)?;
     Ok(())
-}
-
-/// Gets random keys that are there, and returns a checksum of their values.
-pub(crate) fn get_present<V: Vault>(
-    bench: Bench,
-    coord: &mut Coord<V>,
-    entries: u64,
-    reads: u64,
-) -> Result<u64, TimingError> {
-    let mut checksum = 0;
-    for read in 0..reads {
-        checksum = get(bench, coord, random_below(entries, read), checksum)?;
-    }
-    Ok(checksum)
 }
 
 // Gets the key of an index, and returns the checksum with the answer in it.
@@ -81,17 +75,22 @@ fn get<V: Vault>(
     }
 }
 
-/// Times one scan of the whole store, or a number of short ones if there is one.
-pub(crate) fn time_scans(bench: Bench, entries: u64, scans: u64) -> Result<(), TimingError> {
-    let coord = filled(bench, entries, BATCH)?;
+/// Fills a store, and times one scan of it whole, or a number of short ones if there is one.
+pub(crate) fn time_scans(
+    bench: Bench,
+    coord: &mut MemoryCoord,
+    entries: u64,
+    scans: u64,
+) -> Result<(), TimingError> {
+    fill(bench, coord, entries)?;
     if scans == 0 {
-        time_whole(bench, &coord, "scan")
+        time_whole(bench, coord, "scan")
     } else {
-        time_short(bench, &coord, entries, scans)
+        time_short(bench, coord, entries, scans)
     }
 }
 
-/// Times one scan of the whole store, as a figure of this name.
+/// Times one scan of the whole store, window after window, as a figure of this name.
 pub(crate) fn time_whole(
     bench: Bench,
     coord: &MemoryCoord,

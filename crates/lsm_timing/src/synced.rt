@@ -1,9 +1,9 @@
 //! Writes to a store in a folder, whose log is synced after every turn of them.
 
-use crate::batches::{batch_count, batch_of};
 use crate::bench::Bench;
 use crate::error::{NO_FOLDER, NO_STORE, NOT_SYNCED, NOT_WRITTEN, TimingError, USED_FOLDER};
 use crate::figure::Figure;
+use crate::load::Load;
 use lsm_file_vault::{FileVault, HostFolder, LogSync, open_with};
 use lsm_store::{Options, Store};
 use std::fs;
@@ -19,24 +19,35 @@ type FolderStore = Store<FileVault<HostFolder<HostRuntime>>>;
 /// Times puts to a store in a new folder, each a write of its own, with a sync behind each `turn` of them: once with the log written put
 /// by put, and once gathered.
 pub(crate) fn time_synced(bench: Bench, entries: u64, turn: u64) -> Result<(), TimingError> {
-    let store = store_in_folder(bench, ASKED, LogSync::Asked)?;
-    time_turns(bench, store, "synced_asked", entries, turn)?;
-    let store = store_in_folder(bench, GATHERED, LogSync::Gathered)?;
-    time_turns(bench, store, "synced_gathered", entries, turn)
+    let turns = Load::puts(entries, turn);
+    time_log(bench, ASKED, LogSync::Asked, "synced_asked", turns)?;
+    time_log(bench, GATHERED, LogSync::Gathered, "synced_gathered", turns)
+}
+
+fn time_log(
+    bench: Bench,
+    folder: &str,
+    log_sync: LogSync,
+    name: &'static str,
+    turns: Load<'_>,
+) -> Result<(), TimingError> {
+    let mut store = store_in_folder(bench, folder, log_sync)?;
+    let timed = time_turns(bench, &mut store, name, turns);
+    drop(store.close());
+    timed
 }
 
 fn time_turns(
     bench: Bench,
-    mut store: FolderStore,
+    store: &mut FolderStore,
     name: &'static str,
-    entries: u64,
-    turn: u64,
+    turns: Load<'_>,
 ) -> Result<(), TimingError> {
     let figure = Figure::begin(bench, name)?;
-    for number in 0..batch_count(entries, turn) {
-        put_turn(bench, &mut store, number, entries, turn)?;
+    for number in 0..turns.batches() {
+        put_turn(bench, store, number, turns)?;
     }
-    figure.end(bench, entries, store.latest_sequence().number())?;
+    figure.end(bench, turns.count, store.latest_sequence().number())?;
     Ok(())
 }
 
@@ -45,13 +56,13 @@ fn put_turn(
     bench: Bench,
     store: &mut FolderStore,
     number: u64,
-    entries: u64,
-    turn: u64,
+    turns: Load<'_>,
 ) -> Result<(), TimingError> {
-    let first = number.wrapping_mul(turn);
-    let end = first.saturating_add(turn).min(entries);
+    let first = number.wrapping_mul(turns.batch);
+    let end = first.saturating_add(turns.batch).min(turns.count);
+    let alone = Load { batch: 1, ..turns };
     for index in first..end {
-        let put = batch_of(bench, &[index])?;
+        let put = alone.batch(bench, index)?;
         if store.write(&put).is_err() {
             return Err(NOT_WRITTEN);
         }

@@ -24,6 +24,8 @@ pub(crate) struct Course {
     // Two indices of nodes of one kind.
     pub(crate) first: NodeIndex,
     pub(crate) second: NodeIndex,
+    /// When it began, by the clock that was asked for.
+    pub(crate) start: Duration,
     // When it is over, by the clock of the wall.
     end: Duration,
     pub(crate) is_over: AtomicBool,
@@ -51,14 +53,15 @@ impl Course {
         let Some(second) = NodeIndex::new(2) else {
             return Err(NO_NODE);
         };
-        let start = ClockKind::Wall.now(&bench.rt)?;
+        let now = ClockKind::Wall.now(&bench.rt)?;
         Ok(Course {
             bench,
             has_workers,
             readers,
             first,
             second,
-            end: start.saturating_add(Duration::from_secs(seconds)),
+            start: bench.now()?,
+            end: now.saturating_add(Duration::from_secs(seconds)),
             is_over: AtomicBool::new(false),
             turn: Mutex::new(()),
             entries: AtomicU64::new(0),

@@ -1,47 +1,20 @@
-//! The thread of a follower, beside those of its readers.
+//! The thread of a follower.
 
 ghost use Rattle.std.specs.Prelude.{◌≡◌, []};
 
 use super::course::Course;
-use super::reads::{Reads, read_all};
 use lsm_follow::Follower;
 use lsm_key::{MAX_NUMBER, VersionNumber};
 use lsm_nodes::{Hub, Start, Witness};
-use lsm_readers::{FollowerReader, LogName, Publisher};
+use lsm_readers::{LogName, Publisher};
 use lsm_threads::come_to;
 use lsm_vault::Vault;
 use std::sync::Wait;
-use std::thread::{Threads, join};
+use std::thread::Threads;
 
-/// A follower that comes to one current version after another until the run is over, and its readers. Returns the version that it came
-/// to, and what they read.
-pub(crate) fn follow_and_read<
-    'a,
-    V: Vault + Send,
-    J: Start + LogName + Send + Sync,
-    N: Witness + Drop + Send,
-    R: Threads + Wait + Sync,
->(
-    rt: &'a R,
-    course: &Course,
-    hub: &Hub<V, J, N>,
-    publisher: Publisher<J, &'a R>,
-    readers: Vec<FollowerReader<J>>,
-) -> (u64, Reads)
-    requires { publisher ≡ record { published = []; taken = [] } }
-{
-    join(
-        rt,
-        move || -> u64
-            requires { publisher ≡ record { published = []; taken = [] } }
-        { follow_until_over(rt, course, hub, publisher) },
-        move || read_all(rt, course, readers),
-    )
-}
-
-// The follower, and the version that it came to.
+/// A follower that comes to one current version after another until the run is over, and the version that it came to.
 #[tactic(auto, using(lsm_threads::proofs::InStep::in_step_new))]
-fn follow_until_over<
+pub(crate) fn follow_until_over<
     'a,
     V: Vault + Send,
     J: Start + LogName + Send + Sync,

@@ -9,7 +9,6 @@ use lsm_readers::{FollowerReader, LogName, MAX_READERS, NewLog, Publisher, Reade
 use std::io;
 use std::sync::Wait;
 use std::sync::atomic::Ordering;
-use std::thread::{Threads, map_vec};
 use std::time::Duration;
 
 /// How many random numbers a reader has for itself.
@@ -26,7 +25,8 @@ pub(crate) struct Reads {
     pub(crate) time: Duration,
 }
 
-const NONE: Reads = Reads {
+/// No reads.
+pub(crate) const NONE: Reads = Reads {
     count: 0,
     found: 0,
     missed: 0,
@@ -34,11 +34,11 @@ const NONE: Reads = Reads {
 };
 
 /// Where the reads of a thread would be, of which there was no memory or no clock.
-const LOST: Reads = Reads { missed: 1, ..NONE };
+pub(crate) const LOST: Reads = Reads { missed: 1, ..NONE };
 
 impl Reads {
-    // With those of another reader.
-    fn and(self, other: Reads) -> Reads {
+    /// With those of another reader.
+    pub(crate) fn and(self, other: Reads) -> Reads {
         Reads {
             count: self.count.wrapping_add(other.count),
             found: self.found.wrapping_add(other.found),
@@ -67,34 +67,12 @@ pub(crate) fn readers_of<'a, J: LogName, R: Wait>(
     }
 }
 
-/// The gets of readers at once.
-pub(crate) fn read_all<J: LogName + Send + Sync, R: Threads + Sync>(
-    rt: &R,
+/// The gets of a reader until the run is over, with what they took.
+pub(crate) fn read_until_over<J: LogName>(
     course: &Course,
-    readers: Vec<FollowerReader<J>>,
+    reader: &mut FollowerReader<J>,
 ) -> Reads {
-    match map_vec(
-        rt,
-        readers,
-        &|reader: FollowerReader<J>| read_by(course, reader),
-    ) {
-        Ok(each) => sum_of(&each),
-        Err(_) => LOST,
-    }
-}
-
-fn sum_of(each: &[Reads]) -> Reads {
-    let mut sum = NONE;
-    for reads in each {
-        sum = sum.and(*reads);
-    }
-    sum
-}
-
-// The gets of a reader, with what they took.
-fn read_by<J: LogName>(course: &Course, reader: FollowerReader<J>) -> Reads {
-    let mut reader = reader;
-    match read_timed(course, &mut reader) {
+    match read_timed(course, reader) {
         Ok(reads) => reads,
         Err(_) => LOST,
     }

@@ -1,15 +1,14 @@
-//! The threads of the writers, which flush what is full, and end the run.
+//! The thread of a writer, which flushes what is full.
 
 use super::course::Course;
-use crate::batches::{BATCH, batch_number};
 use crate::error::{NO_PART, TimingError};
+use crate::load::{BATCH, Load};
 use lsm_coord::CoordError;
 use lsm_key::Batch;
 use lsm_nodes::{Hub, Start, Tally, Witness};
 use lsm_vault::Vault;
 use std::sync::Wait;
 use std::sync::atomic::Ordering;
-use std::thread::{Threads, join};
 use std::time::Duration;
 
 /// How many writers there are. A batch is of the writer whose index is its number modulo this one.
@@ -25,14 +24,15 @@ pub(crate) struct Writing {
     pub(crate) time: Duration,
 }
 
-const NOTHING: Writing = Writing {
+/// Where nothing is written yet.
+pub(crate) const UNWRITTEN: Writing = Writing {
     entries: 0,
     longest: Duration::ZERO,
     time: Duration::ZERO,
 };
 
 // What came of a batch.
-#[derive(Clone, Copy, PartialEq, Eq)]
+#[derive(Clone, Copy)]
 enum Wrote {
     All,
     /// The memtable has no room for it.
@@ -51,64 +51,23 @@ impl Writing {
     }
 }
 
-/// Lets two writers write one batch after another until the time is over, and then ends the run.
-pub(crate) fn write_until_due<
-    V: Vault + Send,
-    J: Start + Send + Sync,
-    N: Witness + Drop + Send,
-    R: Threads + Wait + Sync,
->(
-    rt: &R,
-    course: &Course,
-    hub: &Hub<V, J, N>,
-    first: &mut Tally<J>,
-    second: &mut Tally<J>,
-) -> Result<Writing, TimingError> {
-    let (one, other) = join(
-        rt,
-        || write_timed(rt, course, hub, 0, first),
-        || write_timed(rt, course, hub, 1, second),
-    );
-    course.is_over.store(true, Ordering::SeqCst);
-    of_both(one, other)
-}
-
-fn of_both(
-    one: Result<Writing, TimingError>,
-    other: Result<Writing, TimingError>,
-) -> Result<Writing, TimingError> {
-    Ok(one?.and(other?))
-}
-
-// The batches of one of the writers.
-fn write_timed<V: Vault, J: Start, N: Witness + Drop, R: Wait>(
+/// Lets a writer write one batch after another until the time is over.
+pub(crate) fn write_until_due<V: Vault, J: Start, N: Witness + Drop, R: Wait>(
     rt: &R,
     course: &Course,
     hub: &Hub<V, J, N>,
     index: u64,
     tally: &mut Tally<J>,
 ) -> Result<Writing, TimingError> {
-    let start = course.bench.now()?;
-    let writing = write_all(rt, course, hub, index, tally)?;
-    let time = course.bench.now()?.saturating_sub(start);
-    Ok(Writing { time, ..writing })
-}
-
-fn write_all<V: Vault, J: Start, N: Witness + Drop, R: Wait>(
-    rt: &R,
-    course: &Course,
-    hub: &Hub<V, J, N>,
-    index: u64,
-    tally: &mut Tally<J>,
-) -> Result<Writing, TimingError> {
-    let mut writing = NOTHING;
+    let mut writing = UNWRITTEN;
     for _ in rt.forever() {
         if course.is_due()? {
             break;
         }
         writing = write_next(rt, course, hub, index, tally, writing)?;
     }
-    Ok(writing)
+    let time = course.bench.now()?.saturating_sub(course.start);
+    Ok(Writing { time, ..writing })
 }
 
 // Writes the next batch of one of the writers, unless there is no memory for it.
@@ -122,7 +81,7 @@ fn write_next<V: Vault, J: Start, N: Witness + Drop, R: Wait>(
 ) -> Result<Writing, TimingError> {
     let before = writing.entries / BATCH;
     let number = before.wrapping_mul(WRITERS).wrapping_add(index);
-    match batch_number(course.bench, number, u64::MAX, BATCH) {
+    match Load::puts(u64::MAX, BATCH).batch(course.bench, number) {
         Ok(batch) => write_timed_once(rt, course, hub, tally, &batch, writing),
         Err(_) => {
             course.miss();
@@ -144,9 +103,9 @@ fn write_timed_once<V: Vault, J: Start, N: Witness + Drop, R: Wait>(
     let wrote = write(rt, course, hub, tally, batch)?;
     let took = course.now()?.saturating_sub(start);
     let longest = writing.longest.max(took);
-    if wrote != Wrote::All {
+    let Wrote::All = wrote else {
         return Ok(Writing { longest, ..writing });
-    }
+    };
     course.entries.fetch_add(BATCH, Ordering::SeqCst);
     let entries = writing.entries.wrapping_add(BATCH);
     Ok(Writing {
