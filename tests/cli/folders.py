@@ -17,6 +17,7 @@ FIRST, SECOND = "L0 file 1: a @1 put 1\nL0 file 1: b%20c @2 del\n", 'L0 file 2: 
 WRITE_4, WRITE_5, FREEZE_6, NO_RECORD = record_of(4, (b"c", b"3")), record_of(5, (b"a",), (b"d", b" ")), freeze_of(6), b"\3"
 LOG_LINES = "write 4-4 put c 3\nwrite 5-6 del a put d %20\n"
 TORN_LOG = "the last log record is torn or damaged: 1 bytes; an opening sets them aside\n"
+HEAVY_LOG = "the log is bad: a memtable of it is too heavy; an opening is refused\n"
 BAD_LOG = "the log is bad: the bytes of a record are none: BadField; an opening is refused\n"
 
 
@@ -74,6 +75,11 @@ def try_tables(folders):
 
 
 def try_edits(folders):
+    folder = folders.copy()
+    with (folder / "edits").open("ab") as it:
+        it.write(b"ab")
+    faults = "the last edit is torn or damaged: 2 bytes; an opening sets aside no table\n"
+    folders.says("torn edits", folder, f"{FILES}{faults}version 3 flushed 3: 2 files, 0 damaged, the last edit not whole\n", FIRST + SECOND, faults)
     (folders.room / "new").mkdir()
     folders.says("a folder without edits", folders.room / "new", "version 0 flushed 0: 0 files, no damage\n", "")
     folder = folders.copy()
@@ -105,6 +111,13 @@ def try_logs(folders):
     counted = f"{FILES}log 3 records, 1 operations above 3, {(folder / 'log').stat().st_size} bytes\n"
     report = f"{counted}{BAD_LOG}version 3 flushed 3: 2 files, 0 damaged, the log bad\n"
     folders.says("a log with what is no record", folder, report, LOG_LINES, BAD_LOG, command=("dump", "--log"))
+    # Two batches of 61 long values and one value more weigh over 8,000,000 bytes; an empty one does not.
+    folder, large = folders.copy(), (b"k", b"v" * 65_536)
+    for last, fault, sum_up in ((large, HEAVY_LOG, "0 damaged, the log bad"), ((b"k", b""), "", "no damage")):
+        write_log(folder, [record_of(4, *[large] * 61), record_of(65, *[large] * 61), record_of(126, last)])
+        size = (folder / "log").stat().st_size
+        report = f"{FILES}log 3 records, 123 operations above 3, {size} bytes\n{fault}version 3 flushed 3: 2 files, {sum_up}\n"
+        folders.says(f"a log of {size} bytes", folder, report, FIRST + SECOND, fault)
 
 
 def try_levels(folders):
@@ -123,7 +136,17 @@ def try_levels(folders):
     folders.says("the deepest level", folder, "L6 1 files 20047 bytes 1 entries\nversion 8 flushed 1: 1 files, no damage\n", f"L6 file 7: a @1 put {value}\n")
 
 
+def try_lost(folders):
+    """Refuses a check that lists what was set aside as the folder happens to have it."""
+    folder = folders.copy()
+    names = [f"lost-{it}" for it in (7, 2, 9, 4, 1, 8, 3, 6, 5, "log-12", "edits-70")]
+    for it in names:
+        (folder / it).touch()
+    listed = "".join(f"{it}: set aside, nobody reads it\n" for it in sorted(names))
+    folders.says("a folder with files that were set aside", folder, WHOLE.replace("version", f"{listed}version"), FIRST + SECOND)
+
+
 def tried(cli, room):
     folders = Folders(cli, room)
-    for part in (try_tables, try_edits, try_logs, try_levels):
+    for part in (try_tables, try_edits, try_logs, try_levels, try_lost):
         part(folders)

@@ -1,7 +1,9 @@
 """A folder is in use by one process, and is read by as many as like: each command beside another process that has the folder open, or that reads it."""
 import contextlib
 import fcntl
+import os
 import subprocess
+import time
 
 # Each command that opens a folder, and those that only read it.
 OPENS = (
@@ -34,6 +36,14 @@ class Folder:
             fcntl.flock(lock, kind)
             yield
 
+    def is_locked(self):
+        with (self.room / "used/lock").open("r+b") as lock:
+            try:
+                fcntl.flock(lock, fcntl.LOCK_EX | fcntl.LOCK_NB)
+            except BlockingIOError:
+                return True
+        return False
+
 
 def try_second_process(folder):
     """Refuses a program that opens a folder that a session has open, one that reads it then, and one that waits for the session's end."""
@@ -61,7 +71,32 @@ def try_readers(folder):
         folder.is_read(it, "a folder that nobody has open")
 
 
+def opened_to_write(pipe, patience):
+    """The end of a pipe that is written to, once somebody has opened the other one."""
+    end = time.monotonic() + patience
+    while True:
+        try:
+            return os.open(pipe, os.O_WRONLY | os.O_NONBLOCK)
+        except OSError:
+            if time.monotonic() > end:
+                raise
+            time.sleep(0.01)
+
+
+def try_reading(folder):
+    """Refuses a reader that lets the folder go before it has read it: the file of a table is a pipe, at which it waits."""
+    pipe = folder.room / "used/00000000000000000009.table"
+    os.mkfifo(pipe)
+    for it in READS:
+        with subprocess.Popen(["luddimpa", *it, "--dir", "used"], executable=folder.cli.PROGRAM, stdout=subprocess.DEVNULL, stderr=subprocess.DEVNULL, cwd=folder.room) as reader:
+            end = opened_to_write(pipe, folder.cli.PATIENCE)
+            folder.cli.tell(f"{' '.join(it)} has the folder until it has read it", "" if folder.is_locked() else "nobody has it")
+            os.close(end)
+            folder.cli.case(f"and then {' '.join(it)} finds a damaged table", 1, reader.wait(folder.cli.PATIENCE))
+    pipe.unlink()
+
+
 def tried(cli, room):
     folder = Folder(cli, room)
-    for part in (try_second_process, try_readers):
+    for part in (try_second_process, try_readers, try_reading):
         part(folder)

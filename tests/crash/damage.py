@@ -22,6 +22,10 @@ WITHOUT_LAST = {"b": "2", "c": "3"}
 COMPACTED = ["put a 1", "flush", "put b 2", "flush", "compact"]
 # A length and its complement: if they are changed, nothing tells where a frame ends.
 LENGTHS = 8
+# What is torn of two files, by which calls an opening is stopped, and more calls than it makes.
+TORN = {"edits": b"torn edit", "log": b"torn record"}
+WAYS = ("kept", "lost", "names", "contents", "mixed")
+MOST = 90
 
 
 def bytes_of(folder):
@@ -181,6 +185,27 @@ def cuts(room, good, held):
         opened(folder, Model(pairs))
 
 
+def never_lost(room, good, shim):
+    """What is torn of the edits and of the log outlives each stop of the opening that sets it aside: where it stood, or in a file of its own."""
+    sizes = {name: (good / name).stat().st_size for name in TORN}
+    for at in range(1, MOST):
+        for way in WAYS:
+            folder = copied(good, room)
+            for name, data in TORN.items():
+                (folder / name).write_bytes((folder / name).read_bytes() + data)
+            session = Session(folder, shim, CRASH_AT=at, CRASH_WAY=way, CRASH_SEED=at)
+            session.ask(SCAN)
+            status, _ = session.end()
+            for name, data in TORN.items():
+                stands = (folder / name).read_bytes()[sizes[name] :].startswith(data)
+                if not stands and data not in [it.read_bytes() for it in folder.glob(f"lost-{name}-*")]:
+                    raise Wrong(f"stopped at call {at}, {way}: what was torn of the file {name} is lost")
+            shutil.rmtree(folder.parent)
+        if status == 0:
+            return
+    raise Wrong(f"an opening has more than {MOST} calls")
+
+
 def names_taken(room, good, _held):
     """What was set aside before is not written over, whatever it is."""
     edits, table = (good / "edits").read_bytes(), newest_table(good)
@@ -299,7 +324,7 @@ def no_folder_above(room, _good, _held):
         raise Wrong(f"{answer}, status {status}: {said}")
 
 
-def tried(pool, room, _shim):
+def tried(pool, room, shim):
     """Tries all damage, and gives of each whether it was right, what it is, and why not."""
     good = room / "small"
     held = small_folder(good)
@@ -309,6 +334,7 @@ def tried(pool, room, _shim):
         ("files as documented", layout),
         ("edits that end in the middle or in zeros", cuts),
         ("names of what is set aside that are taken", names_taken),
+        ("stops of an opening that sets aside what is torn", lambda room, good, _held: never_lost(room, good, shim)),
         ("a new table that is another name of a table or of the log", half_renamed),
         ("a missing table", missing_table),
         ("tables without edits", missing_edits),

@@ -6,10 +6,12 @@ MUX=.. takes another multiplexer. By itself its last line is 'N passed, M failed
 import contextlib
 import os
 import pathlib
+import random
 import select
 import signal
 import socket
 import stat
+import struct
 import subprocess
 import sys
 import tempfile
@@ -245,6 +247,61 @@ def empty_lines():
         sender.join()
 
 
+# Requests with the stand-in's replies to them, or the multiplexer's.
+ASKED = [
+    (packed("PING"), b"+PONG\r\n"),
+    (packed("GET", "a"), b"$-1\r\n"),
+    (packed("SET", "a", b"\r\n" * 300), b"+OK\r\n"),
+    (b"set a 1\r\n", b"+OK\r\n"),
+    (b"get a\n", b"$-1\r\n"),
+    (b" \t\r\n*0\r\n", b""),
+    (packed("NONE", *"abc"), b"-ERR unknown command\r\n"),
+    (packed("MULTI") + packed("SET", "a", "1") + b"exec\r\n", f"{REFUSED}\r\n".encode() * 3),
+]
+
+
+class Wanderer:
+    """A client that sends requests at random, in parts, and knows the replies that it has to get."""
+
+    def __init__(self, it, draw):
+        self.client, self.draw, asked = it.client(), draw, [draw.choice(ASKED) for _ in range(draw.randrange(1, 150))]
+        self.left, self.wanted = b"".join(sent for sent, _ in asked), b"".join(reply for _, reply in asked)
+
+    def goes_on(self):
+        """Sends a part, or is gone. Returns whether there is more to send."""
+        if self.draw.random() < 0.01:
+            how = struct.pack("ii", 1, 0)  # nothing waits to be sent behind its end
+            self.client.socket.setsockopt(socket.SOL_SOCKET, socket.SO_LINGER, how)
+            self.client.close()
+            return False
+        size = self.draw.choice((1, 10, 100, 1000))
+        self.client.send(self.left[:size])
+        self.left = self.left[size:]
+        return bool(self.left)
+
+    def ends(self):
+        if not self.left:
+            self.client.socket.shutdown(socket.SHUT_WR)
+            same(self.client.reader.read(), self.wanted)
+            self.client.close()
+
+
+@case("clients that come and go at random: each one that stays gets its own replies, and no other")
+def at_random():
+    with muxed() as it:
+        draw = random.Random(1)
+        for _ in range(10):
+            there = [Wanderer(it, draw) for _ in range(20)]
+            left = list(there)
+            while left:
+                one = draw.choice(left)
+                if not one.goes_on():
+                    left.remove(one)
+            for one in there:
+                one.ends()
+        same(len(it.said().splitlines()), 1)
+
+
 @case("more clients than descriptors: the limit is raised, and clients past it are refused")
 def descriptors():
     with muxed(limits="ulimit -Sn 40; ulimit -Hn 64;") as it:
@@ -279,10 +336,10 @@ def in_file_system():
         words = [MUX, "--unix", path, "0", sys.executable, str(HERE / "stand_in.py"), f"{room}/log"]
         alone = subprocess.Popen(words, stderr=subprocess.PIPE, text=True)
         try:
-            assert waits_until(lambda: os.path.exists(path))
+            same(alone.stderr.readline(), f"redis-mux: listening on {path}\n")
             same(Connected(path, SOON).ask("PING"), "PONG")
             alone.send_signal(signal.SIGTERM)
-            same((alone.communicate(timeout=SOON)[1], alone.returncode), (f"redis-mux: listening on {path}\n", 0))
+            same((alone.communicate(timeout=SOON)[1], alone.returncode), ("", 0))
         finally:
             alone.kill()
 

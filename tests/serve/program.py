@@ -25,10 +25,11 @@ def serving(*arguments, memory=None):
 
 
 def fails(sent, reason):
-    """A stream that ends with an error reply, or with none if no reason is given, and with a status other than 0."""
+    """A stream that ends with an error reply, or with none if no reason is given, and with status 1 and a line that says why."""
     served = Served([*PROGRAM, "serve"], MEMORY)
     with contextlib.suppress(BrokenPipeError):
         served.send(sent)
     ended, out, err = served.end()
     wanted = b"-ERR Protocol error: " + reason + b"\r\n" if reason else b""
-    assert ended > 0 and out == wanted and err, f"status {ended}, {out[:200]!r}, {err[:200]}"
+    said = f"protocol error: {reason.decode()}\n" if reason else "the input ends within a request\n"
+    assert (ended, out, err) == (1, wanted, said), f"status {ended}, {out[:200]!r}, {err[:200]}"

@@ -1,6 +1,8 @@
 """Cases of bytes that are no request, and of requests that come in parts or are as long as they may be."""
 import contextlib
 import fcntl
+import os
+import subprocess
 import sys
 import tempfile
 import termios
@@ -34,6 +36,16 @@ def hostile():
 def truncated():
     for sent in (b"*1\r\n$4\r\nPI", b"*2\r\n", b"PING", b"*"):
         fails(sent, None)
+
+
+@case("an input that can't be read, and an output without room")
+def failing():
+    """Refuses a server that says of one stream what is wrong with the other one."""
+    for given, out, why in (("/", os.devnull, "the input could not be read\n"), ("/dev/zero", "/dev/full", "the output could not be written\n")):
+        read, written = os.open(given, os.O_RDONLY), os.open(out, os.O_WRONLY)
+        served = subprocess.run([*PROGRAM, "serve"], stdin=read, stdout=written, stderr=subprocess.PIPE, text=True, timeout=180)
+        same((served.returncode, served.stderr), (1, why))
+        os.close(read), os.close(written)
 
 
 @case("what stands before a fault is answered and kept")
