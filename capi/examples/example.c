@@ -1,6 +1,6 @@
 /* Reads the folder of a store: the version that its edits make, a value in a table, and what a compaction of its two tables would write.
  *
- *     printf 'put a 1\nput b 2\nflush\nput a 3\ndel b\nflush\n' | lsmsim store --dir FOLDER
+ *     printf 'put a 1\nput b 2\nflush\nput a 3\ndel b\nflush\n' | luddimpa store --dir FOLDER
  *     example FOLDER
  *
  * prints

@@ -1,4 +1,4 @@
-"""The same as example.c, from Python: example.py libluddimpa.so FOLDER, over a folder that 'lsmsim store' made as it says there.
+"""The same as example.c, from Python: example.py libluddimpa.so FOLDER, over a folder that 'luddimpa store' made as it says there.
 
 The library is one file:
 

@@ -1,4 +1,4 @@
-//! The same as example.c, from Rust: `example FOLDER`, over a folder that `lsmsim store` made as it says there.
+//! The same as example.c, from Rust: `example FOLDER`, over a folder that `luddimpa store` made as it says there.
 
 use std::process::exit;
 use std::{env, fs};
