@@ -49,6 +49,17 @@ def try_torn(cli, room):
             break
 
 
+def try_each(cli, room):
+    """Refuses a session of '--sync each' that does not sync each record by itself: a put whose sync fails is refused, and the next one is not."""
+    outs = []
+    for at in range(1, 20):
+        ran = ask_unsynced(cli, at, "store", "--dir", f"each-{at}", "--sync", "each", given=b"put a 1\nput b 2\n", room=room)
+        outs.append(ran[1])
+        if ran[1] == b"seq 1\nseq 2\n":
+            break
+    cli.case("a put whose sync fails is refused by itself in a session of '--sync each'", True, b"refused Device\nseq 1\n" in outs)
+
+
 def tried(cli, room):
-    for part in (try_import, try_torn):
+    for part in (try_import, try_torn, try_each):
         part(cli, room)

@@ -5,8 +5,8 @@ use lsm_file_vault::{FileCall, FolderError, LogSync, open_with};
 use lsm_key::FileNumber;
 use lsm_vault::{Vault, VaultError};
 use std::alloc::{AllocError, Global};
-use std::fs;
 use std::test::Fail;
+use std::{fs, io};
 
 /// A call of a vault. A record of `Large` has as many bytes as it says.
 #[derive(Clone, Copy)]
@@ -373,5 +373,21 @@ fn calls_on_files_have_texts(rt: HostRuntime) -> Result<(), Fail> {
     }
     let text = format!(in alloc; "{}", FolderError::OutOfMemory)?;
     assert!(rt; text.as_str() == "out of memory");
+    Ok(())
+}
+
+// First the name of a table that is written is that of a folder, and then the folder of the store is gone.
+#[test]
+fn the_error_that_is_handed_out_is_the_last_one(rt: HostRuntime) -> Result<(), Fail> {
+    let path = "lsm_file_vault_errors";
+    let _ = fs::remove_dir_all(&rt, path);
+    let mut opened = open_with(&rt, path, LogSync::Each)?;
+    fs::create_dir(&rt, "lsm_file_vault_errors/new")?;
+    let first = make(rt.alloc(), &mut opened.vault, Call::Put(1, "one"));
+    fs::remove_dir_all(&rt, path)?;
+    let last = make(rt.alloc(), &mut opened.vault, Call::Put(1, "one"));
+    let kept = opened.incidents.take_error().map(|error| error.kind());
+    assert_eq!(rt; (first.is_err(), last.is_err()), (true, true));
+    assert_eq!(rt; kept, Some(io::ErrorKind::NotFound));
     Ok(())
 }

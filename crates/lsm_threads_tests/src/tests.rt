@@ -1,6 +1,7 @@
 //! Loops over channels in which all messages wait that will come, and which are closed behind them.
 
 mod answering;
+mod dispatching;
 mod following;
 mod linked;
 mod scripts;

@@ -43,11 +43,12 @@ pub(super) fn new_coord(alloc: Global) -> Result<Coord<MemoryVault>, Fail>
     }
 }
 
-/// Writes a, and flushes it to file 1.
-pub(super) fn put_a<V: Vault, J: Start, N: Witness + Drop, R: Wait>(
+/// Writes a key, and flushes it to a file of its own.
+pub(super) fn put<V: Vault, J: Start, N: Witness + Drop, R: Wait>(
     rt: &R,
     alloc: Global,
     hub: &Hub<V, J, N>,
+    key: &'static [u8],
     tally: &mut Tally<J>,
 ) -> Option<()>
     requires { 0 < tally.old.parts }
@@ -55,7 +56,7 @@ pub(super) fn put_a<V: Vault, J: Start, N: Witness + Drop, R: Wait>(
     ensures picked { tally.new.picked ≡ tally.old.picked }
 {
     let mut batch = Batch::new(alloc);
-    let put = Op::Put(Bytes::from_static(b"a"), Bytes::from_static(b"1"));
+    let put = Op::Put(Bytes::from_static(key), Bytes::from_static(b"1"));
     batch.push(put).ok()?;
     hub.write(rt, &batch, tally).ok()?;
     hub.flush(rt, tally).ok()?;
@@ -76,7 +77,7 @@ fn answer<V: Vault + Drop, J: Start, N: Witness + Drop, R: Wait>(
     requires idle { coord.book.live ≡ [] }
 {
     let (hub, mut tally) = Hub::<V, J, N>::new(alloc, coord, blank);
-    put_a(rt, alloc, &hub, &mut tally).ok_or("out of memory")?;
+    put(rt, alloc, &hub, b"a", &mut tally).ok_or("out of memory")?;
     let inbox = waiting(rt, alloc, come)?;
     let (outbox, sent) = unbounded(alloc)?;
     let mut port = ChannelPort::new(rt, alloc, inbox, outbox);

@@ -3,7 +3,7 @@
 ghost use Rattle.std.specs.Prelude.{◌≡◌, []};
 
 use super::vectors::{
-    ASK, ASK_NEW, FLUSH, FOLLOWER_FETCH, FOLLOWER_GONE, FOLLOWER_TABLE, JUNK, OPENING,
+    ASK, ASK_NEW, CURRENT, FLUSH, FOLLOWER_FETCH, FOLLOWER_GONE, FOLLOWER_TABLE, JUNK, OPENING,
 };
 use super::{Messages, are_sent, waiting};
 use crossbeam_channel::unbounded;
@@ -19,8 +19,9 @@ use std::test::Fail;
 
 // What comes, what is sent, how the loop ends whose goal is version 2, and at which version a reader is then. A second Gone for a change that was
 // given up asks for nothing.
-const COURSES: [(Messages, Messages, Ending, u64); 4] = [
+const COURSES: [(Messages, Messages, Ending, u64); 5] = [
     (&[], &[ASK_NEW], Ending::Closed, 0),
+    (&[CURRENT], &[ASK_NEW], Ending::Current, 0),
     (&[OPENING, JUNK], &[ASK_NEW, ASK], Ending::NoMessage, 1),
     (
         &[OPENING, FLUSH, FOLLOWER_TABLE],

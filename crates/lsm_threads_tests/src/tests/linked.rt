@@ -2,7 +2,7 @@
 
 ghost use Rattle.std.specs.Prelude.{◌≡◌, []};
 
-use super::answering::{new_coord, put_a};
+use super::answering::{new_coord, put};
 use super::vectors::{FETCH, JOB, JUNK, LATE_RESULT, RESULT, TABLE};
 use super::{Messages, are_sent, waiting};
 use crossbeam_channel::unbounded;
@@ -72,7 +72,7 @@ fn carry<V: Vault + Drop, J: Start, N: Witness + Drop, R: Wait>(
     requires idle { coord.book.live ≡ [] }
 {
     let (hub, mut tally) = Hub::<V, J, N>::new(alloc, coord, blank);
-    put_a(rt, alloc, &hub, &mut tally).ok_or("out of memory")?;
+    put(rt, alloc, &hub, b"a", &mut tally).ok_or("out of memory")?;
     let index = NodeIndex::new(1).ok_or("no index")?;
     let inbox = waiting(rt, alloc, come)?;
     let (outbox, sent) = unbounded(alloc)?;

@@ -37,6 +37,9 @@ pub(super) const ASK_NEW: &[u8] = b"LSMM\x01\x06\x02\x01\0\0\0\0\0\0\0\0\0\0";
 /// Follower 1 asks what comes after version 1.
 pub(super) const ASK: &[u8] = b"LSMM\x01\x06\x02\x01\0\0\0\0\0\0\0\0\0\x01";
 
+/// Follower 1 has the current version, which is version 0.
+pub(super) const CURRENT: &[u8] = b"LSMM\x01\x09\0\0\x02\x01\0\0\0\0\0\0\0\0";
+
 /// Edit 1, of an opening, for follower 1.
 pub(super) const OPENING: &[u8] =
     b"LSMM\x01\x07\0\0\x02\x01\0\0\0\0\0\0\0\x01\x03\0\0\0\0\0\0\0\0\0\0\0\0\0\0\0\x01\0\0\0\0\0\0\0\x01\0\0\0\0\0\0\0\0";
