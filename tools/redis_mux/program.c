@@ -11,7 +11,7 @@
 #include <unistd.h>
 
 // How many bytes are written to the program at once.
-enum { MAX_BATCH = 65536 };
+enum { MAX_BATCH = 1 << 20 };
 
 static void write_on(void *owner, uint32_t ready);
 static void read_on(void *owner, uint32_t ready);

@@ -19,6 +19,9 @@ struct pipe_ends {
     int read, write;
 };
 
+// How many bytes the program's input holds, as far as the system allows it: what is read at once is run before one sync.
+enum { INPUT_BYTES = 1 << 20 };
+
 static struct pipe_ends new_pipe(const char *program) {
     int ends[2];
     if (pipe2(ends, O_CLOEXEC) < 0) fail("%s: %s", program, strerror(errno));
@@ -57,6 +60,7 @@ static int why_not(int told) {
 
 struct spawned spawn(char **words) {
     struct pipe_ends input = new_pipe(words[0]), output = new_pipe(words[0]), told = new_pipe(words[0]);
+    fcntl(input.write, F_SETPIPE_SZ, INPUT_BYTES); // if it is refused, the pipe keeps the system's size
     pid_t process = fork();
     if (process < 0) fail("%s: %s", words[0], strerror(errno));
     if (process == 0) {

@@ -25,8 +25,9 @@ use lsm_store::Store;
 use lsm_vault::Vault;
 use std::alloc::{AllocError, Global};
 
-/// How much is read at once. In bytes.
-const READ_BYTES: usize = 65_536;
+/// How much is read at once, and so how many bytes of requests at most are run before a sync, beside the beginning of one that had come. In
+/// bytes.
+const READ_BYTES: usize = 1_048_576;
 
 /// Fewer bytes of replies than these are kept back when one more request is answered.
 pub(crate) const KEPT_BYTES: usize = 65_536;
@@ -43,7 +44,7 @@ enum Reached {
 }
 
 /// Answers the requests of the reader in order, until it ends or a `QUIT` was answered. Replies are written and flushed before more input
-/// is waited for, and the store is synced before each write of them: once for all requests that have come. If that is refused, none of the
+/// is waited for, and the store is synced before each write of them: once for the requests that one read gave. If that is refused, none of the
 /// replies that wait is written, and it ends. What is no request within the limits is answered with an error, and ends it; a request that
 /// begins as one of HTTP does ends it without an answer. The store is not flushed.
 pub fn serve<V: Vault, R: Source, W: Sink>(
