@@ -2,7 +2,7 @@
 use Rattle.std.specs.Prelude.{◌≡◌, ℕ, ◌⊎◌, true, false, not, List, [], ◌∷◌, Option, None, Some, Err, length, filter}
 use Rattle.std.specs.List.{list_any}
 use Rattle.std.specs.FinMap as map
-use Rattle.lsm_key.specs.Sets.{IsIn, is_among}
+use Rattle.lsm_key.specs.Sets.{is_among}
 use Rattle.lsm_key.specs.declared.refused.Refused.{Refused}
 use Rattle.lsm_key.specs.declared.refused.Refused.TheVariants as refused
 use Rattle.lsm_table.specs.Tables.{IsTable, Opened, smallest_key, largest_key}
@@ -28,11 +28,11 @@ pub record IsWhole (kept : TableMap) (damaged : List ℕ) (f : FileMeta) : Type 
   pub table : HasRecordedTable kept f
   pub undamaged : is_among damaged f.number ≡ false
 
--- a table is not as the file's record says
+-- in this, and in nothing before it, a table is not as the file's record says: its length, its count, its keys
 abbrev pub IsMismatch : FileMeta → Opened → Damage → Type 0
 IsMismatch f t (WrongLength recorded found) = (recorded ≡ f.bytes) × (found ≡ length t.bytes) × (recorded ≡ found → ⊥)
-IsMismatch f t (WrongCount recorded found) = (recorded ≡ f.entries) × (found ≡ length t.entries) × (recorded ≡ found → ⊥)
-IsMismatch f t WrongKeys = f.smallest ≡ smallest_key t.entries → f.largest ≡ largest_key t.entries → ⊥
+IsMismatch f t (WrongCount recorded found) = (f.bytes ≡ length t.bytes) × (recorded ≡ f.entries) × (found ≡ length t.entries) × (recorded ≡ found → ⊥)
+IsMismatch f t WrongKeys = (f.bytes ≡ length t.bytes) × (f.entries ≡ length t.entries) × (f.smallest ≡ smallest_key t.entries → f.largest ≡ largest_key t.entries → ⊥)
 IsMismatch f t NotWhole = ⊥
 IsMismatch f t Missing = ⊥
 IsMismatch f t (NotATable fault) = ⊥
@@ -44,14 +44,18 @@ pub record HasMismatch (kept : TableMap) (f : FileMeta) (d : Damage) : Type 0 wh
   pub table : IsTable opened.bytes opened.entries
   pub mismatch : IsMismatch f opened d
 
--- this is wrong with the file's table
+-- this is wrong with the table of a file that is not damaged
+abbrev pub IsTableDamage : TableMap → FileMeta → Damage → Type 0
+IsTableDamage kept f NotWhole = ⊥
+IsTableDamage kept f Missing = map.get kept f.number ≡ None
+IsTableDamage kept f (NotATable fault) = (bytes : List ℕ) × (map.get kept f.number ≡ Some bytes) × (read_table bytes ≡ Err fault)
+IsTableDamage kept f (WrongLength recorded found) = HasMismatch kept f (WrongLength recorded found)
+IsTableDamage kept f (WrongCount recorded found) = HasMismatch kept f (WrongCount recorded found)
+IsTableDamage kept f WrongKeys = HasMismatch kept f WrongKeys
+
+-- this is what is wrong with the file's table, and no other is: that the file is damaged comes before all
 abbrev pub IsDamage : TableMap → List ℕ → FileMeta → Damage → Type 0
-IsDamage kept damaged f NotWhole = is_among damaged f.number ≡ true
-IsDamage kept damaged f Missing = map.get kept f.number ≡ None
-IsDamage kept damaged f (NotATable fault) = (bytes : List ℕ) × (map.get kept f.number ≡ Some bytes) × (read_table bytes ≡ Err fault)
-IsDamage kept damaged f (WrongLength recorded found) = HasMismatch kept f (WrongLength recorded found)
-IsDamage kept damaged f (WrongCount recorded found) = HasMismatch kept f (WrongCount recorded found)
-IsDamage kept damaged f WrongKeys = HasMismatch kept f WrongKeys
+IsDamage kept damaged f d = ((is_among damaged f.number ≡ true) × (d ≡ NotWhole)) ⊎ ((is_among damaged f.number ≡ false) × IsTableDamage kept f d)
 
 -- a refusal for what is wrong with the file's table, or since memory ran out
 abbrev pub RefusesTable : TableMap → List ℕ → FileMeta → Refused Damage → Type 0
@@ -63,10 +67,12 @@ pub record IsFinding (kept : TableMap) (damaged : List ℕ) (f : FileMeta) (x : 
   pub file : x.file ≡ f.number
   pub damage : IsDamage kept damaged f x.damage
 
--- each finding is true of one of the files, and each of them without a finding is whole
-pub record Finds (kept : TableMap) (damaged : List ℕ) (files : List FileMeta) (found : List Finding) : Type 0 where
-  pub each : (x : Finding) → IsIn x found → (f : FileMeta) × IsIn f files × IsFinding kept damaged f x
-  pub all : (f : FileMeta) → IsIn f files → IsWhole kept damaged f ⊎ ((x : Finding) × IsIn x found × IsFinding kept damaged f x)
+-- the findings of the files, in the files' order: none of a whole one, one of another
+abbrev pub Finds : TableMap → List ℕ → List FileMeta → List Finding → Type 0
+Finds kept damaged [] [] = Unit {0}
+Finds kept damaged [] (x ∷ found) = ⊥
+Finds kept damaged (f ∷ files) [] = IsWhole kept damaged f × Finds kept damaged files []
+Finds kept damaged (f ∷ files) (x ∷ found) = (IsWhole kept damaged f × Finds kept damaged files (x ∷ found)) ⊎ (IsFinding kept damaged f x × Finds kept damaged files found)
 
 -- those of the numbers that no file has
 abbrev pub unneeded_numbers : List FileMeta → List ℕ → List ℕ

@@ -17,7 +17,7 @@ use std::fmt;
 pub struct Report {
     /// The version that the edits make.
     pub version: Version,
-    /// What is wrong with the tables of its files: at most one finding a file, in the order of their numbers.
+    /// What is wrong with the tables of its files: at most one finding a file, the first, in the order of the files.
     pub findings: Vec<Finding>,
     /// The whole tables that no file of the version needs, ascending. A stop may leave them. An opening removes them, or sets them aside
     /// if the last edit is torn.
