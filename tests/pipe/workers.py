@@ -67,6 +67,8 @@ def result(epoch, at, *outputs):
 NOTHING = []
 # The worker ends, and has sent nothing.
 GIVES_UP, WHY = (), b"the worker gave its job up\n"
+# What ends a worker behind its messages, and its text: what came of these is sent in any case.
+FAULTS = (b"\0\0", b"the input ends inside a frame\n"), (b"\0\0\0\4LSMM", b"a frame has no message\n")
 
 
 def tables_in_any_order():
@@ -177,10 +179,11 @@ def difference(turns, data):
     return f"it sends {len(frames)} messages and {len(rest)} bytes more" if frames or rest else None
 
 
-def tried(program, turns):
-    """What is wrong with a case, or None."""
-    ended = subprocess.run([*program, "worker", "--index", "3"], input=b"".join(it for it, _ in turns), capture_output=True, timeout=60, check=False)
-    wanted = (1, WHY) if turns[-1][1] is GIVES_UP else (0, b"")
+def tried(program, turns, behind=b"", why=b""):
+    """What is wrong with a case, or None. With what is behind its messages the worker ends for this reason."""
+    given = b"".join(it for it, _ in turns) + behind
+    ended = subprocess.run([*program, "worker", "--index", "3"], input=given, capture_output=True, timeout=60, check=False)
+    wanted = (1, WHY) if turns[-1][1] is GIVES_UP else (1, why) if why else (0, b"")
     if (ended.returncode, ended.stderr) != wanted:
         return f"status {ended.returncode}: {ended.stderr!r}"
     return difference(turns, ended.stdout)
@@ -199,8 +202,9 @@ def main():
     count, wrong = 0, []
     for name, turns in cases():
         count += len(turns)
-        if it := tried(sys.argv[1:], turns):
-            wrong.append(f"{name}: {it}")
+        for behind, why in ((b"", b""), *FAULTS):
+            if it := tried(sys.argv[1:], turns, behind, why):
+                wrong.append(f"{name}, with {behind.hex() or 'nothing'} behind it: {it}")
     print("\n".join(wrong) or f"ok, {count} messages")
     return 1 if wrong else 0
 
