@@ -1,8 +1,10 @@
-"""The same as example.c, from Python: example.py libluddimpa.so FOLDER, over a folder that 'luddimpa store' made as it says there.
+"""The same as example.c, from Python: example.py ./libluddimpa.so FOLDER, over a folder that 'luddimpa store' made as it says there.
 
 The library is one file:
 
-    cc -shared -o libluddimpa.so -Wl,--whole-archive libluddimpa.a -Wl,--no-whole-archive liblibc_c.a
+    cc -shared -o libluddimpa.so -Wl,--whole-archive crates/luddimpa/out/libluddimpa.a -Wl,--no-whole-archive $KIT/c/liblibc_c.a
+
+KIT is the toolchain's folder, as in capi/README.md.
 """
 import ctypes
 import pathlib
