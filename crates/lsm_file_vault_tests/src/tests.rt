@@ -386,8 +386,10 @@ fn the_error_that_is_handed_out_is_the_last_one(rt: HostRuntime) -> Result<(), F
     let first = make(rt.alloc(), &mut opened.vault, Call::Put(1, "one"));
     fs::remove_dir_all(&rt, path)?;
     let last = make(rt.alloc(), &mut opened.vault, Call::Put(1, "one"));
+    if first != Err(VaultError::Device) || last != Err(VaultError::Device) {
+        return Err("out of memory, or not refused")?;
+    }
     let kept = opened.incidents.take_error().map(|error| error.kind());
-    assert_eq!(rt; (first.is_err(), last.is_err()), (true, true));
     assert_eq!(rt; kept, Some(io::ErrorKind::NotFound));
     Ok(())
 }
