@@ -44,7 +44,7 @@ enum Reached {
 }
 
 /// Answers the requests of the reader in order, until it ends or a `QUIT` was answered. Replies are written and flushed before more input
-/// is waited for, and the store is synced before each write of them: once for the requests that one read gave. If that is refused, none of the
+/// is waited for, and also once 64 KiB of them wait. The store is synced before each write of them. If that is refused, none of the
 /// replies that wait is written, and it ends. What is no request within the limits is answered with an error, and ends it; a request that
 /// begins as one of HTTP does ends it without an answer. The store is not flushed.
 pub fn serve<V: Vault, R: Source, W: Sink>(
