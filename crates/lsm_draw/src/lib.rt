@@ -1,9 +1,9 @@
 //! A space-time diagram of a script's run, as SVG: a line for each node, time downwards, a row for each event, an arrow
 //! for each delivery.
 //!
-//! It promises that texts can't become markup, that no text is longer than its column, and that rows and columns keep
-//! their distances, so that no two labels overlap. It is given the lines of events and replies. It stands on
-//! `lsm_world` for events and replies, of which alone it derives who sent which message.
+//! It promises that texts can't become markup, and that columns hold their longest texts and rows keep their distances.
+//! That each text is put at its place, cut to its column, is tested. It is given the lines of events and replies. It
+//! stands on `lsm_world` for events and replies, of which alone it derives who sent which message.
 #![tactic(auto)]
 
 mod arrows;
