@@ -41,6 +41,7 @@ impl<F: Folder> FileVault<F> {
         requires same_log { log.items ≡ F.log folder }
         ensures stored { ⟦<FileVault<F> as Vault>⟧.stored result ≡ record { edits = F.edits folder; tables = F.tables folder; log = F.log folder } }
         ensures failures { ⟦<FileVault<F> as Vault>⟧.failures result ≡ 0 }
+        ensures folder { result.folder ≡ folder }
     {
         FileVault {
             alloc,

@@ -64,6 +64,8 @@ impl<R: Files + AllocGlobal + Drop> HostFolder<R> {
         ensures edits { IfOk result (λ folder. ⟦<HostFolder<R> as Folder>⟧.edits folder ≡ contents.now.edits.items) }
         ensures log { IfOk result (λ folder. ⟦<HostFolder<R> as Folder>⟧.log folder ≡ contents.now.log.items) }
         ensures synced { IfOk result ⟦<HostFolder<R> as Folder>⟧.is_synced }
+        ensures log_sync { IfOk result (λ folder. folder.log_file.log_sync ≡ log_sync) }
+        ensures path { IfOk result (λ folder. folder.path.bytes.items ≡ path.now) }
         ensures torn { IfOk result (λ folder. (IsTrue folder.is_torn ↔ 0 < contents.now.torn_bytes) × (folder.torn ≡ contents.now.torn)) }
     {
         let torn = contents.torn.clone()?;

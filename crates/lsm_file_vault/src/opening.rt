@@ -1,6 +1,7 @@
 //! Opening the vault in a folder: what is locked, read and tested before there is a vault over it.
 
 ghost use Rattle.std.specs.Prelude.{◌≡◌, IfOk};
+ghost use Rattle.lsm_file_vault.specs.declared.log_sync.LogSync.TheVariants.{Each};
 
 use crate::error::called;
 use crate::host_folder::sync_folder;
@@ -34,6 +35,8 @@ where
 /// `DamagedEdits`, `DamagedLog`, `DamagedTable`. Then nothing was changed but that the folder was made and, if no file is foreign, its lock.
 pub fn open(rt: &HostRuntime, path: &str) -> Result<Opened<HostRuntime>, FolderError>
     ensures failures { IfOk result (λ opened. ⟦<FileVault<HostFolder<HostRuntime>> as Vault>⟧.failures opened.vault ≡ 0) }
+    ensures log_sync { IfOk result (λ opened. opened.vault.folder.log_file.log_sync ≡ Each) }
+    ensures path { IfOk result (λ opened. opened.vault.folder.path.bytes.items ≡ path.now) }
 {
     open_with(rt, path, LogSync::Each)
 }
@@ -45,6 +48,8 @@ pub fn open_with(
     log_sync: LogSync,
 ) -> Result<Opened<HostRuntime>, FolderError>
     ensures failures { IfOk result (λ opened. ⟦<FileVault<HostFolder<HostRuntime>> as Vault>⟧.failures opened.vault ≡ 0) }
+    ensures log_sync { IfOk result (λ opened. opened.vault.folder.log_file.log_sync ≡ log_sync) }
+    ensures path { IfOk result (λ opened. opened.vault.folder.path.bytes.items ≡ path.now) }
 {
     create_folder(rt, path)?;
     let _listing = list(rt, path)?;
@@ -58,6 +63,8 @@ pub fn open_unlocked<R: Files + AllocGlobal + Clone + Drop>(
     path: &str,
 ) -> Result<Opened<R>, FolderError>
     ensures failures { IfOk result (λ opened. ⟦<FileVault<HostFolder<R>> as Vault>⟧.failures opened.vault ≡ 0) }
+    ensures log_sync { IfOk result (λ opened. opened.vault.folder.log_file.log_sync ≡ Each) }
+    ensures path { IfOk result (λ opened. opened.vault.folder.path.bytes.items ≡ path.now) }
 {
     create_folder(&files, path)?;
     open_contents(files, path, None, LogSync::Each)
@@ -79,6 +86,8 @@ fn open_contents<R: Files + AllocGlobal + Clone + Drop>(
     log_sync: LogSync,
 ) -> Result<Opened<R>, FolderError>
     ensures failures { IfOk result (λ opened. ⟦<FileVault<HostFolder<R>> as Vault>⟧.failures opened.vault ≡ 0) }
+    ensures log_sync { IfOk result (λ opened. opened.vault.folder.log_file.log_sync ≡ log_sync) }
+    ensures path { IfOk result (λ opened. opened.vault.folder.path.bytes.items ≡ path.now) }
 {
     let alloc = files.alloc();
     let contents = whole_contents(&files, path)?;
