@@ -1,13 +1,13 @@
 //! The entries whose keys have one prefix.
 
-ghost use Rattle.std.specs.Prelude.{◌≡◌, ◌≢◌, ◌++◌, ◌↔◌, [], IfOk, IfSome, IfNone, IsTrue, OnOk, OnErr, length, nat_lt};
+ghost use Rattle.std.specs.Prelude.{◌≡◌, ◌≢◌, ◌↔◌, [], IfOk, IfSome, IfNone, IsTrue, OnOk, OnErr, length, nat_lt};
 ghost use Rattle.lsm_key.specs.Sets.{IsIn};
 ghost use Rattle.lsm_mem.specs.Chains.{AreChains, Chain, chains_before, chains_from, entries_in, with_entry, without_newest};
 ghost use Rattle.lsm_mem.specs.Buckets.{chain_of_versions, chains_in, chains_lent};
 
 use crate::bucket_cursor::BucketCursor;
 use crate::chains::Chains;
-use crate::versions::{are_of, keep_older, push_newest_first, versions_from};
+use crate::versions::{are_of, keep_older, versions_from};
 use lsm_key::{Entry, Seq};
 use std::alloc::{AllocError, Global};
 use std::slice;
@@ -74,16 +74,6 @@ impl Bucket {
             Lent::Key(versions) if are_of(versions, key) => Some(versions),
             Lent::Key(_) => None,
             Lent::Keys(chains) => chains.versions(key),
-        }
-    }
-
-    /// Appends copies of all entries, in order. Shares the bytes.
-    pub(crate) fn push_all(&self, copies: &mut Vec<Entry>) -> Result<(), AllocError>
-        ensures { OnOk result (copies.new.items ≡ copies.old.items ++ entries_in (chains_in self.now)) }
-    {
-        match self.lend() {
-            Lent::Key(versions) => push_newest_first(copies, versions),
-            Lent::Keys(chains) => chains.push_all(copies),
         }
     }
 

@@ -209,17 +209,6 @@ impl Buckets {
         self.by_prefix.retain(|_, bucket| bucket.undo(alloc, first));
     }
 
-    /// Copies of all entries, in order, with room for `count` of them. Shares the bytes.
-    pub(crate) fn entries(&self, count: usize) -> Result<Vec<Entry>, AllocError>
-        ensures { IfOk result (λ copies. copies.items ≡ entries_in self.now) }
-    {
-        let mut copies = Vec::with_capacity(self.alloc, count)?;
-        for (_, bucket) in &self.by_prefix {
-            bucket.push_all(&mut copies)?;
-        }
-        Ok(copies)
-    }
-
     /// A cursor over all entries. Allocates nothing.
     pub(crate) fn cursor(&self) -> MemtableCursor<'_>
         ensures { result ≡ entries_in self.now }

@@ -1,9 +1,9 @@
 //! The entries of several keys, key by key.
 
-ghost use Rattle.std.specs.Prelude.{◌≡◌, ◌++◌, OnOk};
+ghost use Rattle.std.specs.Prelude.{◌≡◌, OnOk};
 
 use crate::bucket_cursor::BucketCursor;
-use crate::versions::{keep_older, push_newest_first};
+use crate::versions::keep_older;
 use lsm_key::{Entry, Seq};
 use std::alloc::{AllocError, Global};
 use std::collections::BTreeMap;
@@ -117,16 +117,6 @@ impl Chains {
         self.by_key
             .retain(|_, versions| keep_older(versions, first));
         !self.by_key.is_empty()
-    }
-
-    /// Appends copies of all entries, in order. Shares the bytes.
-    pub(crate) fn push_all(&self, copies: &mut Vec<Entry>) -> Result<(), AllocError>
-        ensures { OnOk result (copies.new.items ≡ copies.old.items ++ entries_in self.now) }
-    {
-        for (_, versions) in &self.by_key {
-            push_newest_first(copies, versions.as_slice())?;
-        }
-        Ok(())
     }
 
     /// A cursor over all entries.

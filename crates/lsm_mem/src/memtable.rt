@@ -3,10 +3,12 @@
 use crate::buckets::Buckets;
 use crate::front::Front;
 use crate::memtable_cursor::MemtableCursor;
+use crate::table::table_of;
 use crate::totals::totals_of;
 use crate::versions::newest_at;
 use bytes::Bytes;
 use lsm_key::{Batch, Entry, EntryRef, Seq};
+use lsm_table::Table;
 use std::alloc::{AllocError, Global};
 use std::marker::Model;
 
@@ -48,6 +50,7 @@ impl Memtable {
     ghost use Rattle.lsm_key.specs.Visible.{visible, lent_entry};
     ghost use Rattle.lsm_edit.specs.declared.log_record.LogRecord.TheVariants.{Write};
     ghost use Rattle.lsm_edit.specs.LogRecord.{record_bytes};
+    ghost use Rattle.lsm_table.specs.Tables.{IsTarget, target_of};
     ghost use Rattle.lsm_mem.specs.Memtable.{IsMemtable, last_sequence};
     ghost use Rattle.lsm_key.specs.Order.{is_between, key_le};
 
@@ -130,12 +133,13 @@ impl Memtable {
         })
     }
 
-    /// Copies of all entries, in the order of internal keys, or out of memory. Shares the bytes.
-    pub fn entries(&self) -> Result<Vec<Entry>, AllocError>
-        ensures all { IfOk result (λ copies. copies.items ≡ self.now) }
-        ensures sound { IsMemtable self.now }
+    /// The table of all entries, its blocks cut at the target, in bytes, or out of memory. The memtable is not empty.
+    pub fn table(&self, alloc: Global, target: u32) -> Result<Table, AllocError>
+        requires target { IsTarget target }
+        requires some { 0 < length self.now }
+        ensures { IfOk result (λ table. (table.entries ≡ self.now) × (target_of table.bytes ≡ target)) }
     {
-        self.buckets.entries(self.count)
+        table_of(alloc, target, self.weight, self.buckets.cursor())
     }
 
     /// A cursor over the entries whose key is at or after `lo`, in the order of internal keys, or out of memory. O(log n)

@@ -1,13 +1,12 @@
 //! The versions of one key, the oldest first.
 
-ghost use Rattle.std.specs.Prelude.{◌≡◌, ◌++◌, OnOk, filter, length, nat_lt, reverse};
+ghost use Rattle.std.specs.Prelude.{◌≡◌, filter, length, nat_lt, reverse};
 ghost use Rattle.std.specs.Option.{option_copied};
 ghost use Rattle.lsm_key.specs.Visible.{latest};
 ghost use Rattle.lsm_mem.specs.Buckets.{are_of, chain_of_versions};
 ghost use Rattle.lsm_mem.specs.Chains.{SequencesRise, chains_from, entries_in, is_older, is_written};
 
 use lsm_key::{Entry, Seq};
-use std::alloc::AllocError;
 
 /// The last one of a sequence at most `at`.
 pub(crate) fn newest_at(versions: &[Entry], at: Seq) -> Option<&Entry>
@@ -38,19 +37,6 @@ pub(crate) fn are_of(versions: &[Entry], key: &[u8]) -> bool
         Some(first) => key.cmp(first.ikey.key.as_slice()).is_eq(),
         None => false,
     }
-}
-
-/// Appends copies, the last one first. Shares the bytes.
-pub(crate) fn push_newest_first(
-    copies: &mut Vec<Entry>,
-    versions: &[Entry],
-) -> Result<(), AllocError>
-    ensures { OnOk result (copies.new.items ≡ copies.old.items ++ reverse versions.now) }
-{
-    for entry in versions.iter().rev() {
-        copies.push(entry.clone()?)?;
-    }
-    Ok(())
 }
 
 /// The versions if their key is at or after `lo`, else none.

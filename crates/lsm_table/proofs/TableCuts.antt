@@ -149,18 +149,3 @@ after_more target taken (x ∷ es) e (c ∷ closed) last is =
           let split : cut_after target (taken ++ x ∷ []) es ≡ c ∷ (closed ++ last ∷ []) = subst (λ (b : Bool). cond b (taken ∷ cut_after target (x ∷ []) es) (cut_after target (taken ++ x ∷ []) es) ≡ c ∷ (closed ++ last ∷ [])) room is in
           rw room (after_more target (taken ++ x ∷ []) es e (c ∷ closed) last split)
     ]
-
--- what one more entry makes of the cut: it begins a block if the last one is full
-pub cut_more : (target : ℕ) (es : List Entry) (e : Entry) (closed : List (List Entry)) (taken : List Entry) → 0 < length es → cut_of target es ≡ closed ++ taken ∷ [] → cut_of target (es ++ e ∷ []) ≡ closed ++ cut_after target taken (e ∷ [])
-cut_more target [] e closed taken some is = absurd (omega (arith, some))
-cut_more target (x ∷ es) e closed taken some is = after_more target (x ∷ []) es e closed taken is
-
-pub cut_more_full : (target : ℕ) (es : List Entry) (e : Entry) (closed : List (List Entry)) (taken : List Entry) → 0 < length es → cut_of target es ≡ closed ++ taken ∷ [] → target ≤ length (entries taken) → cut_of target (es ++ e ∷ []) ≡ closed ++ taken ∷ (e ∷ []) ∷ []
-cut_more_full target es e closed taken some is full =
-    let test : leb target (length (entries taken)) ≡ true = le-leb target (length (entries taken)) full in
-    cut_more target es e closed taken some is ∙ rw test refl
-
-pub cut_more_room : (target : ℕ) (es : List Entry) (e : Entry) (closed : List (List Entry)) (taken : List Entry) → 0 < length es → cut_of target es ≡ closed ++ taken ∷ [] → length (entries taken) < target → cut_of target (es ++ e ∷ []) ≡ closed ++ (taken ++ e ∷ []) ∷ []
-cut_more_room target es e closed taken some is room =
-    let test : leb target (length (entries taken)) ≡ false = lt-leb target (length (entries taken)) room in
-    cut_more target es e closed taken some is ∙ rw test refl

@@ -10,6 +10,7 @@
 mod building;
 mod fault;
 mod head;
+mod headroom;
 mod heads;
 mod index;
 mod laws;
@@ -19,7 +20,7 @@ mod table;
 mod writing;
 mod written;
 
-pub use building::{BuildError, TableBuilder, encode_table};
+pub use building::{BuildError, TableBuilder};
 pub use fault::{TableError, TableFault};
 pub use head::Head;
 pub use heads::Heads;

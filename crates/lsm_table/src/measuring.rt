@@ -1,11 +1,9 @@
 //! Measuring the table of entries that come one at a time: how many blocks and how many bytes it has, and its version.
 
 ghost use Rattle.std.specs.Prelude.{◌≡◌, ◌+◌, ◌*◌, ◌<◌, ◌≤◌, ◌++◌, [], ◌∷◌, ℕ, List, length, nat_lt, if◌then◌else◌};
-ghost use Rattle.std.specs.List.{AllByRecursion};
 ghost use Rattle.lsm_key.specs.declared.entry.Entry.{Entry};
 ghost use Rattle.lsm_key.specs.Entries.{IsEntry};
 ghost use Rattle.lsm_key.specs.Limits.{entry_weight};
-ghost use Rattle.lsm_block.specs.Blocks.{entries};
 ghost use Rattle.lsm_table.specs.Measuring.{IsWithinWeight, IsMeasured};
 ghost use Rattle.lsm_table.specs.Tables.{table_of};
 
@@ -112,18 +110,4 @@ pub(crate) fn entry_len(e: &Entry) -> usize
     ensures small { result ≤ MAX_TABLE_BYTES }
 {
     ENTRY_OVERHEAD + e.ikey.key.len() + e.value.len()
-}
-
-/// What entries measure together.
-pub(crate) fn measured(target: u32, es: &[Entry]) -> Measure
-    requires target { 1 ≤ target }
-    requires each { AllByRecursion IsEntry es.now }
-    requires small { length (entries es.now) ≤ MAX_TABLE_BYTES }
-    ensures { IsMeasured target es.now result }
-{
-    let mut measure = Measure::new();
-    for e in es {
-        measure = measure.grown(target, e.ikey.key.len(), entry_len(e));
-    }
-    measure
 }

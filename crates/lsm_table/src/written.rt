@@ -1,6 +1,6 @@
 //! What is written of a table while its entries come.
 
-ghost use Rattle.std.specs.Prelude.{◌≡◌, ◌+◌, ◌<◌, ◌≤◌, ◌++◌, [], ◌∷◌, List, None, Some, length, IfErr, IfOk, OnErr, OnOk};
+ghost use Rattle.std.specs.Prelude.{◌≡◌, ℕ, ◌+◌, ◌<◌, ◌≤◌, ◌++◌, [], ◌∷◌, List, None, Some, length, nat_lt, IfErr, IfOk, OnErr, OnOk};
 ghost use Rattle.std.specs.Int.{w32, to_be_bytes};
 ghost use Rattle.std.specs.Option.{option_map};
 ghost use Rattle.lsm_key.specs.declared.entry.Entry.{Entry};
@@ -9,9 +9,10 @@ ghost use Rattle.lsm_key.specs.Visible.{lent_entry};
 ghost use Rattle.lsm_block.specs.Blocks.{entries, entry};
 ghost use Rattle.lsm_block.specs.BlockReading.{may_follow, last_of};
 ghost use Rattle.lsm_table.specs.Building.{IsLastEnd, IsNextEntry, IsDraftWritten, add_fault, finish_fault, BuilderRefuses};
-ghost use Rattle.lsm_table.specs.Tables.{IsTable, IsTarget, end_key, target_of};
+ghost use Rattle.lsm_table.specs.Tables.{IsTable, IsTarget, end_key, table_of, target_of};
 
 use crate::building::BuildError;
+use crate::headroom::WithHeadroom;
 use crate::measuring::{Measure, entry_len};
 use crate::writing::{write_header, write_line};
 use bytes::{BufMut, Bytes, BytesMut};
@@ -35,8 +36,8 @@ pub(crate) struct Written {
     count: u32,
     /// What the index says of the closed blocks.
     index: BytesMut,
-    /// The blocks, without a gap.
-    blocks: BytesMut,
+    /// The blocks, without a gap, and room for what comes before them in the table.
+    blocks: WithHeadroom,
     /// Where the last entry begins among them.
     last: usize,
     measure: Measure,
@@ -63,7 +64,7 @@ impl Written {
             target,
             count: 0,
             index: BytesMut::new(alloc),
-            blocks: BytesMut::new(alloc),
+            blocks: WithHeadroom::new(alloc),
             last: 0,
             measure: Measure::new(),
         }
@@ -77,13 +78,20 @@ impl Written {
         if !self.may_take(entry) {
             return Some(BuildError::OutOfOrder);
         }
-        let measure = self
-            .measure
-            .grown(self.target, entry.ikey.key.len(), entry_len(entry));
-        if measure.table_len() > MAX_TABLE_BYTES {
+        if self.is_full(entry) {
             return Some(BuildError::TableFull);
         }
         None
+    }
+
+    /// Whether there is no room for one more entry.
+    pub(crate) fn is_full(&self, entry: &Entry) -> bool
+        requires { IsEntry entry.now }
+        ensures { result ≡ nat_lt MAX_TABLE_BYTES (length (table_of self.now.target (self.now.entries ++ entry.now ∷ []))) }
+    {
+        let key = entry.ikey.key.len();
+        let measure = self.measure.grown(self.target, key, entry_len(entry));
+        measure.table_len() > MAX_TABLE_BYTES
     }
 
     // Whether the entry may come after the last one.
@@ -142,42 +150,50 @@ impl Written {
         self.measure.weight
     }
 
-    /// The bytes of the table of the entries.
-    pub(crate) fn table(&self, alloc: Global) -> Result<Bytes, BuildError>
-        ensures found { IfOk result (λ b. IsTable b self.now.entries × (target_of b ≡ self.now.target)) }
-        ensures refused { IfErr result (BuilderRefuses (finish_fault self.now.entries)) }
+    /// Takes the table of the entries out, and leaves none. A refusal changes nothing.
+    pub(crate) fn take(&mut self, alloc: Global) -> Result<Bytes, BuildError>
+        ensures found { IfOk result (λ b. IsTable b self.old.entries × (target_of b ≡ self.old.target)) }
+        ensures empty { OnOk result (self.new ≡ record { target = self.old.target; entries = [] }) }
+        ensures err { OnErr result (self.new ≡ self.old) }
+        ensures refused { IfErr result (BuilderRefuses (finish_fault self.old.entries)) }
     {
         if self.count == 0 {
             return Err(BuildError::EmptyTable);
         }
-        Ok(self.spelled(alloc)?)
-    }
-
-    // The same of one or more entries.
-    fn spelled(&self, alloc: Global) -> Result<Bytes, AllocError>
-        requires { 0 < length self.now.entries }
-        ensures { IfOk result (λ b. IsTable b self.now.entries × (target_of b ≡ self.now.target)) }
-    {
-        let measure = &self.measure;
-        let mut out = BytesMut::with_capacity(alloc, measure.table_len())?;
-        let blocks = measure.closed + 1;
-        write_header(&mut out, measure.version, self.target, self.count, blocks)?;
-        out.put_slice(self.index.as_slice())?;
-        let end = end_in(self.blocks.as_slice(), self.last, measure.last_key);
-        write_line(&mut out, measure.last as u32, end)?;
-        out.put_slice(self.blocks.as_slice())?;
-        Ok(out.freeze()?)
-    }
-
-    /// Leaves no entry. Keeps the memory.
-    pub(crate) fn clear(&mut self)
-        ensures { self.new ≡ record { target = self.old.target; entries = [] } }
-    {
+        let front = self.front(alloc)?;
+        let table = self.blocks.take_behind(alloc, front.as_slice())?;
         self.count = 0;
         self.index.clear();
-        self.blocks.clear();
         self.last = 0;
         self.measure = Measure::new();
+        Ok(table)
+    }
+
+    // What a table of one or more entries has before its blocks: the header and the index.
+    fn front(&self, alloc: Global) -> Result<BytesMut, AllocError>
+        requires { 0 < length self.now.entries }
+        ensures { IfOk result (λ front. (b : List ℕ) → b ≡ front.items ++ entries self.now.entries → IsTable b self.now.entries × (target_of b ≡ self.now.target)) }
+    {
+        let measure = &self.measure;
+        let len = measure.table_len() - measure.weight;
+        let mut front = BytesMut::with_capacity(alloc, len)?;
+        let blocks = measure.closed + 1;
+        write_header(&mut front, measure.version, self.target, self.count, blocks)?;
+        front.put_slice(self.index.as_slice())?;
+        let end = end_in(self.blocks.as_slice(), self.last, measure.last_key);
+        write_line(&mut front, measure.last as u32, end)?;
+        Ok(front)
+    }
+
+    /// Makes room for a table that is about as large as one with these bytes before its blocks and in them. Without memory there is less.
+    pub(crate) fn make_room(&mut self, front: usize, blocks: usize)
+        requires { self.old.entries ≡ [] }
+        ensures { self.new ≡ self.old }
+    {
+        let room = front.saturating_add(front / 16);
+        let _ = self
+            .blocks
+            .make_room(room, blocks.saturating_add(blocks / 128));
     }
 }
 

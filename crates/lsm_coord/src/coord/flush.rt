@@ -55,8 +55,7 @@ impl<V: Vault> Coord<V> {
         let number = self.versions.version().number() + 1;
         let file = self.versions.version().next_file();
         let seq = self.flush_end();
-        let entries = self.flushable().entries()?;
-        let table = Table::from_entries(self.alloc, self.limits.block, entries.as_slice())?;
+        let table = self.flushable().table(self.alloc, self.limits.block)?;
         let meta = FileMeta::of_table(file, 0, &table)?;
         self.add_table(meta, table, seq)?;
         Ok(Flushed {

@@ -1,12 +1,8 @@
-use Rattle.std.proofs.Common.{◌≡◌, ◌<◌, ◌≤◌, None, Some, List, length, sym, ap, subst, ◌∙◌, refl, arith, rules}
-use Rattle.std.specs.Prelude.{nat_le, sum_by}
+use Rattle.std.proofs.Common.{◌≡◌, None, Some, sym, ap, subst, ◌∙◌, refl, arith}
+use Rattle.std.specs.Prelude.{nat_le}
 use Rattle.std.proofs.lemmas.Bool.{leb-false, or_parts}
 use Rattle.std.specs.Option.{option_map}
-use Rattle.lsm_key.specs.declared.entry.Entry.{Entry}
-use Rattle.lsm_key.specs.declared.limits.TheConstants.{MAX_MEMTABLE_WEIGHT, MAX_NUMBER}
-use Rattle.lsm_key.specs.Entries.{AreSound}
-use Rattle.lsm_key.specs.Limits.{entry_weight}
-use Rattle.lsm_table.proofs.TableWeights.{light_fits}
+use Rattle.lsm_key.specs.declared.limits.TheConstants.{MAX_NUMBER}
 use Rattle.lsm_edit.specs.declared.edit.Edit.{Edit}
 use Rattle.lsm_edit.specs.Edit.{IsSpelledEdit}
 use Rattle.lsm_edit.specs.Version.{VersionValue, apply_fault}
@@ -33,15 +29,6 @@ returns-in-Some-clause-step g c = λ s h.
     let forced : refusal s say.Flush ≡ Some (refusal_of c.in-Some.why) = flush_forced c.args.self.now s h ∙ ap (option_map refusal_of) (sym c.flush_fault.ensures ∙ c.in-Some.is) in
     (s, flush_refused s (refusal_of c.in-Some.why) forced, h)
 
-pub from_entries-requires-clause-each : goal.from_entries-requires-clause-each
-from_entries-requires-clause-each g c = subst AreSound (sym (c.as_slice.ensures.value ∙ c.in_ok-entries.ensures.all)) c.in_ok-entries.ensures.sound.sound
-
-pub from_entries-requires-clause-small : goal.from_entries-requires-clause-small
-from_entries-requires-clause-small g c =
-    let es = c.as_slice.result.now in
-    let some : 0 < length es = search rules in
-    light_fits c.self.inside.limits.block es some (subst (λ (entries : List Entry). sum_by entry_weight entries ≤ MAX_MEMTABLE_WEIGHT) (sym (c.as_slice.ensures.value ∙ c.in_ok-entries.ensures.all)) c.in_ok-entries.ensures.sound.light)
-
 pub add_table-requires-clause-room : goal.add_table-requires-clause-room
 add_table-requires-clause-room g c =
     let v = c.args.self.now.served.version in
@@ -56,7 +43,7 @@ add_table-requires-clause-newer g c =
     rw (c.flush_end-seq.ensures, ← c.self.view_is) (taken_newer c.self.inside.active c.self.inside.frozen c.self.inside.newest c.self.inside.versions.served c.self.inside.book c.self.inside.live.items c.self.invariant.0 free.0).0
 
 pub add_table-requires-clause-whole : goal.add_table-requires-clause-whole
-add_table-requires-clause-whole g c = c.in_ok-table.ensures.0 ∙ c.as_slice.ensures.value ∙ c.in_ok-entries.ensures.all ∙ c.flushable.ensures
+add_table-requires-clause-whole g c = c.in_ok-table.ensures.0 ∙ c.flushable.ensures
 
 pub add_table-requires-clause-cut : goal.add_table-requires-clause-cut
 add_table-requires-clause-cut g c = c.in_ok-table.ensures.1 ∙ ap (λ (x : CoordValue). x.limits.block) c.self.view_is
@@ -76,7 +63,7 @@ returns-clause-step g c = λ s h.
     let number : c.number-number.result ≡ v.served.version.number = c.number-number.ensures.value ∙ ap (λ (x : VersionValue). x.number) c.version.ensures ∙ ap (λ (x : CoordValue). x.served.version.number) c.self.view_is in
     let file : c.next_file-file.result ≡ v.served.version.next_file = c.next_file-file.ensures.value ∙ ap (λ (x : VersionValue). x.next_file) c.version-2.ensures ∙ ap (λ (x : CoordValue). x.served.version.next_file) c.self.view_is in
     let adds : AddsTable v c.in_ok-meta.meta c.in_ok-table.table c.add_table.new.self = c.in_ok-add_table.ensures.ok in
-    let whole : c.in_ok-table.table.entries ≡ (flush_source v).memtable = c.in_ok-table.ensures.0 ∙ c.as_slice.ensures.value ∙ c.in_ok-entries.ensures.all ∙ c.flushable.ensures in
+    let whole : c.in_ok-table.table.entries ≡ (flush_source v).memtable = c.in_ok-table.ensures.0 ∙ c.flushable.ensures in
     let spelled = subst (IsSpelledEdit adds.text) adds.edit_is adds.spelled in
     let applies = subst (λ (e : Edit). apply_fault v.served.version e ≡ None) adds.edit_is adds.applies in
     let l = subst (λ (x : CoordValue). IsLogged x.active x.frozen x.last x.served.version.flushed x.stored.log) c.self.view_is c.self.invariant.1 in
@@ -86,7 +73,7 @@ returns-clause-step g c = λ s h.
     (after_flush s, (may, (omega (arith, versions, number, c.new.ensures), c.flush_end-seq.ensures ∙ sym (end_of v v.frozen s h refl), c.new-2.ensures ∙ file ∙ sym h.tables.next_file, refl)), subst (λ (x : CoordValue). Shows x (after_flush s)) (sym adds.new_is) (Shows-beside _ _ _ _ (after_flush s) shows))
 
 pub returns-clause-ok : goal.returns-clause-ok
-returns-clause-ok g c = (sym c.flush_fault.ensures ∙ c.in-None.is, (c.in_ok-meta.meta, c.in_ok-table.table, c.in_ok-table.ensures.0 ∙ c.as_slice.ensures.value ∙ c.in_ok-entries.ensures.all ∙ c.flushable.ensures, c.in_ok-add_table.ensures.ok, c.in_ok-table.ensures.1 ∙ ap (λ (x : CoordValue). x.limits.block) c.self.view_is))
+returns-clause-ok g c = (sym c.flush_fault.ensures ∙ c.in-None.is, (c.in_ok-meta.meta, c.in_ok-table.table, c.in_ok-table.ensures.0 ∙ c.flushable.ensures, c.in_ok-add_table.ensures.ok, c.in_ok-table.ensures.1 ∙ ap (λ (x : CoordValue). x.limits.block) c.self.view_is))
 
 pub returns-in_err-add_table-clause-step : goal.returns-in_err-add_table-clause-step
 returns-in_err-add_table-clause-step g c = λ s h.
