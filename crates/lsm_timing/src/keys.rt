@@ -2,7 +2,7 @@
 
 ghost use Rattle.std.specs.Prelude.{◌≤◌};
 
-use bytes::{BufMut, Bytes, BytesMut};
+use bytes::{Bytes, BytesMut};
 use lsm_key::Op;
 use std::alloc::{AllocError, Global};
 
@@ -111,10 +111,11 @@ impl Shape {
         let words = self.value_len / WORD;
         let mut value = BytesMut::with_capacity(alloc, self.value_len as usize)?;
         for word in 0..words {
-            value.put_u64(mix(index.wrapping_mul(words).wrapping_add(word)))?;
+            let made = mix(index.wrapping_mul(words).wrapping_add(word));
+            value.extend_reserved(&made.to_be_bytes());
         }
         let rest = mix(index).to_be_bytes();
-        value.put_slice(&rest[..(self.value_len % WORD) as usize])?;
+        value.extend_reserved(&rest[..(self.value_len % WORD) as usize]);
         Ok(value.freeze()?)
     }
 
