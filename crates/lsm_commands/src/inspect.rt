@@ -1,11 +1,12 @@
 //! The commands `check` and `dump`: what the folder of a store holds. They change nothing there.
 
 use crate::{CommandError, Screen};
-use lsm_file_vault::read;
+use lsm_file_vault::{Contents, read};
 use lsm_inspect::{Report, check, dump, dump_log};
 use lsm_options::FAILED;
-use std::io;
+use std::io::ErrorKind;
 use std::process::ExitCode;
+use std::{fs, io};
 
 /// Verifies each file of a folder, the log over what is flushed too, and prints what was found. The exit status is 0 only if nothing is damaged.
 pub(crate) fn check_folder(rt: &HostRuntime, folder: &str) -> ExitCode {
@@ -50,8 +51,19 @@ pub(crate) fn report_faults(rt: &HostRuntime, folder: &str, screen: &Screen<'_>)
 }
 
 fn report_of(rt: &HostRuntime, folder: &str) -> Result<Report, CommandError> {
-    let contents = read(rt, folder)?;
+    let contents = contents_of(rt, folder)?;
     Ok(check(rt.alloc(), &contents)?)
+}
+
+// What a folder holds. One that is not there is refused as one without a store.
+fn contents_of(rt: &HostRuntime, folder: &str) -> Result<Contents, CommandError> {
+    match fs::metadata(rt, folder) {
+        Err(error) if error.kind() == ErrorKind::NotFound => {
+            let folder = String::from_str(rt.alloc(), folder)?;
+            Err(CommandError::NoStore(folder))
+        }
+        _ => Ok(read(rt, folder)?),
+    }
 }
 
 // Returns whether nothing is damaged.
@@ -67,7 +79,7 @@ fn print_report(rt: &HostRuntime, folder: &str, screen: &Screen<'_>) -> Result<b
 
 // Prints the dump, and returns what is damaged.
 fn print_dump(rt: &HostRuntime, folder: &str, dumped: Dumped) -> Result<Report, CommandError> {
-    let contents = read(rt, folder)?;
+    let contents = contents_of(rt, folder)?;
     let printed = match dumped {
         Dumped::Tables => dump(rt.alloc(), &contents, io::writer(rt)),
         Dumped::Log => dump_log(rt.alloc(), &contents, io::writer(rt)),

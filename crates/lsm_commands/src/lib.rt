@@ -3,11 +3,11 @@
 //!
 //! It opens folders, reports what is wrong with them, and hands standard input and output to the layers below. It
 //! promises that a session answers each call by what the store held and holds, and that a get, a put, a deletion, a
-//! scan and an export write what they have of it; for the rest no more than these layers do. An exit status other than
-//! 0 comes with its reason: on standard error, or, where `check` finds damage, as its report on standard output. What a
-//! command has answered is synced, as its folder is to be synced, or it says that it is not. It reads no arguments:
-//! `lsm_options` says what they ask for. It stands on the store, on the vault of files, on the words of lines, on what
-//! checks and dumps a folder, and on what serves it.
+//! scan and an export write what they have of it; for the rest no more than these layers do. Tested is that an exit
+//! status other than 0 comes with its reason, on standard error, or, where `check` finds damage, as its report on
+//! standard output; and that what a command has answered is synced, as its folder is to be synced, or that it says that
+//! it is not. It reads no arguments: `lsm_options` says what they ask for. It stands on the store, on the vault of
+//! files, on the words of lines, on what checks and dumps a folder, and on what serves it.
 #![tactic(auto)]
 
 mod command;

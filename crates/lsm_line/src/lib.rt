@@ -1,9 +1,9 @@
 //! The commands and answers of a store as lines: the words of sessions and scripts.
 //!
-//! It promises that a command's words give the call that they ask for, or the first fault from left to right, byte for
-//! byte as its definitions say; and that each writer appends the line of an answer, or the piece of one. The grammar
-//! stands in `specs/Commands.antt`, the lines in `specs/Lines.antt`. It calls no store and reads no stream. It stands
-//! on the coordinator for snapshots, listings and refusals, and on `lsm_key` for operations.
+//! It promises that a command's words give the call that they ask for, or the first fault, which is a wrong number of
+//! words, or else the first one from left to right, as its definitions say; and that each writer appends the line of an
+//! answer, or the piece of one. The grammar stands in `specs/Commands.antt`, the lines in `specs/Lines.antt`. It calls
+//! no store and reads no stream. It stands on the coordinator for snapshots, listings and refusals, and on `lsm_key`.
 #![tactic(auto)]
 
 mod call;
