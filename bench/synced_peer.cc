@@ -6,7 +6,7 @@ static void put_all(leveldb::DB &db, uint64_t entries, uint64_t turn) {
     for (uint64_t index = 0; index < entries; index++) {
         leveldb::WriteOptions options;
         options.sync = (index + 1) % turn == 0 || index + 1 == entries;
-        ok(db.Put(options, key_of(index), value_of(index)));
+        ok(db.Put(options, slice(key_of(index)), slice(value_of(index))));
     }
 }
 

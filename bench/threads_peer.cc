@@ -22,10 +22,11 @@ namespace store = leveldb;
 #include <cstdint>
 #include <cstdio>
 #include <cstdlib>
-#include <cstring>
 #include <string>
 #include <thread>
 #include <vector>
+
+#include "peer.h"
 
 namespace {
 
@@ -39,27 +40,7 @@ void check(const store::Status& status) {
     }
 }
 
-uint64_t mix(uint64_t number) {
-    uint64_t s = number + 0x9e3779b97f4a7c15;
-    uint64_t a = (s ^ (s >> 30)) * 0xbf58476d1ce4e5b9;
-    uint64_t b = (a ^ (a >> 27)) * 0x94d049bb133111eb;
-    return b ^ (b >> 31);
-}
-
-uint64_t big_endian(uint64_t number) { return __builtin_bswap64(number); }
-
-// 16 bytes: a random number that the index gives, and the index.
-void key_of(uint64_t index, char* key) {
-    uint64_t parts[2] = {big_endian(mix(index)), big_endian(index)};
-    std::memcpy(key, parts, 16);
-}
-
-// 100 bytes.
-void value_of(uint64_t index, char* value) {
-    uint64_t words[13];
-    for (uint64_t at = 0; at < 13; at++) words[at] = big_endian(mix(index * 12 + at));
-    std::memcpy(value, words, 100);
-}
+store::Slice slice(std::string_view bytes) { return {bytes.data(), bytes.size()}; }
 
 store::Options options() {
     store::Options of;
@@ -106,14 +87,9 @@ int main(int count, char** words) {
 #ifdef ROCKSDB
         how.disableWAL = true;
 #endif
-        char key[16], value[100];
         for (uint64_t number = index; since(start) < seconds * 1000000000; number += kWriters) {
             store::WriteBatch batch;
-            for (uint64_t at = number * kBatch; at < (number + 1) * kBatch; at++) {
-                key_of(at, key);
-                value_of(at, value);
-                batch.Put(store::Slice(key, 16), store::Slice(value, 100));
-            }
+            for (uint64_t at = number * kBatch; at < (number + 1) * kBatch; at++) batch.Put(slice(key_of(at)), slice(value_of(at)));
             const auto began = Clock::now();
             check(db->Write(how, &batch));
             const uint64_t took = since(began);
@@ -123,14 +99,13 @@ int main(int count, char** words) {
         }
     };
     auto read = [&](uint64_t index) {
-        char key[16];
         std::string value;
         uint64_t made = 0, has = 0;
         const auto began = Clock::now();
         while (!is_over) {
             const uint64_t all = entries;
-            key_of(all == 0 ? 0 : mix(~(index * kSpan + made)) % all, key);
-            has += db->Get(store::ReadOptions(), store::Slice(key, 16), &value).ok();
+            const Key key = key_of(all == 0 ? 0 : random_below(all, index * kSpan + made));
+            has += db->Get(store::ReadOptions(), slice(key), &value).ok();
             made++;
         }
         gets += made;
