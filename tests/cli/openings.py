@@ -51,6 +51,9 @@ def refuses(cli, room, what, reason, edits, tables, faults=""):
 def try_bad(cli, room):
     for what, edits in BAD_EDITS.items():
         refuses(cli, room, what, BAD_MANIFEST, edits, {1: OF_A})
+        for words in (["check"], ["dump"], ["dump", "--log"]):
+            at = what.replace(" ", "_")
+            cli.says(f"{' '.join(words)} of {what}", [*words, "--dir", at], status=1, err=f"{BAD_MANIFEST}\n".encode(), room=room)
     for what, (text, fault) in BAD_TABLES.items():
         refuses(cli, room, what, MISSING_TABLE, [EPOCH, FLUSH], {1: text} if text else {}, f"file 1: {fault}\n")
     refuses(cli, room, "a record of another count", MISSING_TABLE, [EPOCH, f"{FLUSH[:-1]}2"], {1: OF_A}, "file 1: its record says 2 entries, and its table has 1\n")
