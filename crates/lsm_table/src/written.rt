@@ -13,7 +13,7 @@ ghost use Rattle.lsm_table.specs.Tables.{IsTable, IsTarget, end_key, table_of, t
 
 use crate::building::BuildError;
 use crate::headroom::WithHeadroom;
-use crate::measuring::{Measure, entry_len};
+use crate::measuring::Measure;
 use crate::writing::{write_header, write_line};
 use bytes::{BufMut, Bytes, BytesMut};
 use lsm_block::entry_in;
@@ -70,32 +70,8 @@ impl Written {
         }
     }
 
-    /// Why one more entry is refused, or nothing.
-    pub(crate) fn fault(&self, entry: &Entry) -> Option<BuildError>
-        requires { IsEntry entry.now }
-        ensures { result ≡ add_fault self.now entry.now }
-    {
-        if !self.may_take(entry) {
-            return Some(BuildError::OutOfOrder);
-        }
-        if self.is_full(entry) {
-            return Some(BuildError::TableFull);
-        }
-        None
-    }
-
-    /// Whether there is no room for one more entry.
-    pub(crate) fn is_full(&self, entry: &Entry) -> bool
-        requires { IsEntry entry.now }
-        ensures { result ≡ nat_lt MAX_TABLE_BYTES (length (table_of self.now.target (self.now.entries ++ entry.now ∷ []))) }
-    {
-        let key = entry.ikey.key.len();
-        let measure = self.measure.grown(self.target, key, entry_len(entry));
-        measure.table_len() > MAX_TABLE_BYTES
-    }
-
-    // Whether the entry may come after the last one.
-    fn may_take(&self, entry: &Entry) -> bool
+    /// Whether the entry may come after the last one.
+    pub(crate) fn may_take(&self, entry: &Entry) -> bool
         ensures { result ≡ may_follow (last_of self.now.entries) entry.now }
     {
         match self.last() {

@@ -1,4 +1,4 @@
-use Rattle.std.proofs.Common.{◌≡◌, ◌≤◌, [], drop, length, arith, ap}
+use Rattle.std.proofs.Common.{length, arith, ap}
 use Rattle.std.proofs.lemmas.List.{drop_all}
 use Rattle.lsm_table.proofs.headroom.WithHeadroom.make_room.Goals as goal
 

@@ -1,9 +1,8 @@
-use Rattle.std.proofs.Common.{◌≡◌, ◌++◌, ℕ, List, [], ap, sym, subst, ◌∙◌}
+use Rattle.std.proofs.Common.{◌≡◌, ◌++◌, ℕ, List, [], ap, ◌∙◌}
 use Rattle.lsm_key.specs.declared.entry.Entry.{Entry}
 use Rattle.lsm_block.specs.Blocks.{entries}
 use Rattle.lsm_block.specs.Indexed.{block_entries}
 use Rattle.lsm_table.specs.Building.{Draft}
-use Rattle.lsm_table.specs.Tables.{IsTable, target_of}
 use Rattle.lsm_block.proofs.ReadBlocks.{none_read}
 use Rattle.lsm_table.proofs.WrittenTables.{written_none}
 use Rattle.lsm_table.proofs.written.Written.take.Goals as goal
