@@ -102,3 +102,12 @@ fn version_with(version: u8, key: usize) -> u8
         version
     }
 }
+
+/// The bytes of an entry in its block.
+pub(crate) fn entry_len(e: &Entry) -> usize
+    requires { IsEntry e.now }
+    ensures value { result ≡ entry_weight e.now }
+    ensures small { result ≤ MAX_TABLE_BYTES }
+{
+    ENTRY_OVERHEAD + e.ikey.key.len() + e.value.len()
+}

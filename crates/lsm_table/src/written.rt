@@ -13,7 +13,7 @@ ghost use Rattle.lsm_table.specs.Tables.{IsTable, IsTarget, end_key, table_of, t
 
 use crate::building::BuildError;
 use crate::headroom::WithHeadroom;
-use crate::measuring::Measure;
+use crate::measuring::{Measure, entry_len};
 use crate::writing::{write_header, write_line};
 use bytes::{BufMut, Bytes, BytesMut};
 use lsm_block::entry_in;
@@ -68,6 +68,16 @@ impl Written {
             last: 0,
             measure: Measure::new(),
         }
+    }
+
+    /// Whether there is no room for one more entry.
+    pub(crate) fn is_full(&self, entry: &Entry) -> bool
+        requires { IsEntry entry.now }
+        ensures { result ≡ nat_lt MAX_TABLE_BYTES (length (table_of self.now.target (self.now.entries ++ entry.now ∷ []))) }
+    {
+        let key = entry.ikey.key.len();
+        let measure = self.measure.grown(self.target, key, entry_len(entry));
+        measure.table_len() > MAX_TABLE_BYTES
     }
 
     /// Whether the entry may come after the last one.
