@@ -40,7 +40,7 @@ front_fits front rest h i =
       | inr le ↦ rw (get_or_past front i 0 le) (omega arith)
     ]
 
-key_fits : (bytes : List ℕ) (before : List Entry) (first : Entry) (more : List Entry) → IsBytes bytes → bytes ≡ entries (before ++ first ∷ more) → IsBytes first.ikey.key
+pub key_fits : (bytes : List ℕ) (before : List Entry) (first : Entry) (more : List Entry) → IsBytes bytes → bytes ≡ entries (before ++ first ∷ more) → IsBytes first.ikey.key
 key_fits bytes before first more fits is =
     let k = first.ikey.key in
     let all : IsBytes (entries before ++ entries (first ∷ more)) = subst IsBytes (is ∙ flat_map-append entry before (first ∷ more)) fits in

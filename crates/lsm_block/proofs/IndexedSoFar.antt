@@ -1,5 +1,5 @@
 -- What a walk over the bytes of a block has found so far.
-use Rattle.std.proofs.Common.{◌≡◌, ℕ, ◌+◌, ◌-◌, ◌<◌, ◌≤◌, Bool, true, cond, List, [], ◌∷◌, ◌++◌, length, drop, Option, Some, None, Result, Ok, Err, refl, sym, ap, ◌∙◌, append_assoc, arith, inl, inr}
+use Rattle.std.proofs.Common.{◌≡◌, ℕ, ◌+◌, ◌-◌, ◌<◌, ◌≤◌, Bool, true, cond, List, [], ◌∷◌, ◌++◌, length, drop, Option, Some, None, Result, Ok, Err, refl, sym, ap, subst, ◌∙◌, append_assoc, arith, inl, inr}
 use Rattle.std.specs.Prelude.{MatchOption, OnOk, slice_index}
 use Rattle.std.specs.Ordering.{is_lt}
 use Rattle.std.proofs.lemmas.Bool.{cases_lt}
@@ -58,46 +58,49 @@ next_faulty limit es rest f h = rw h refl
 
 -- ---- fences
 
-module _ (front : List ℕ) (es : List Entry) (prefixes places : List ℕ) (are : AreFences front es prefixes places) (e : Entry) where
-  fence_stays : (n place : ℕ) → IsFence front es n place → IsFence front (es ++ e ∷ []) n place
-  fence_stays n place f = record {
+-- of no entries
+pub no_fences : (front : List ℕ) → AreFences front [] [] []
+no_fences front = record { counted = refl; paired = refl; each = λ i lt. absurd (omega (arith, lt)) }
+
+-- one more entry, with its fence
+module _ (front : List ℕ) (es : List Entry) (prefixes places : List ℕ) (are : AreFences front es prefixes places) (e : Entry) (place : ℕ) (at_end : place ≡ length (entries es)) where
+  fence_stays : (i n at : ℕ) → IsFence front es i n at → IsFence front (es ++ e ∷ []) i n at
+  fence_stays i n at f = record {
     before = f.before;
     first = f.first;
     more = f.more ++ e ∷ [];
     parts = ap (λ (xs : List Entry). xs ++ e ∷ []) f.parts ∙ append_assoc f.before (f.first ∷ f.more) (e ∷ []);
+    numbered = f.numbered;
     begins = f.begins;
     prefixed = f.prefixed;
   }
 
-  -- one more entry, without a fence
-  pub fences_stay : AreFences front (es ++ e ∷ []) prefixes places
-  fences_stay = record { paired = are.paired; each = λ i lt. fence_stays (slice_index prefixes i) (slice_index places i) (are.each i lt) }
+  abbrev n : ℕ
+  n = prefix_of front e.ikey.key
 
-  -- one more entry, with a fence at the end
-  pub fence_added : (place : ℕ) → place ≡ length (entries es) → AreFences front (es ++ e ∷ []) (prefixes ++ prefix_of front e.ikey.key ∷ []) (places ++ place ∷ [])
-  fence_added place at_end = record {
+  added : IsFence front (es ++ e ∷ []) (length es) n place
+  added = record { before = es; first = e; more = []; parts = refl; numbered = refl; begins = at_end; prefixed = refl }
+
+  each : (i : ℕ) → i < length (prefixes ++ n ∷ []) → IsFence front (es ++ e ∷ []) i (slice_index (prefixes ++ n ∷ []) i) (slice_index (places ++ place ∷ []) i)
+  each i lt = elim (cases_lt i (length prefixes)) [
+    | inl within ↦
+        let other : i < length places = omega (arith, within, are.paired) in
+        rw (get_or_append_left prefixes (n ∷ []) 0 i within, get_or_append_left places (place ∷ []) 0 i other) (fence_stays i (slice_index prefixes i) (slice_index places i) (are.each i within))
+    | inr past ↦
+        let here : i ≡ length prefixes = omega (arith, past, lt, length-append prefixes (n ∷ [])) in
+        let there : i ≡ length places = omega (arith, here, are.paired) in
+        let last : i ≡ length es = omega (arith, here, are.counted) in
+        let p : slice_index (prefixes ++ n ∷ []) i ≡ n = ap (slice_index (prefixes ++ n ∷ [])) here ∙ get_or-append_seam prefixes n [] 0 in
+        let q : slice_index (places ++ place ∷ []) i ≡ place = ap (slice_index (places ++ place ∷ [])) there ∙ get_or-append_seam places place [] 0 in
+        rw (p, q) (subst (λ (m : ℕ). IsFence front (es ++ e ∷ []) m n place) (sym last) added)
+  ]
+
+  pub fence_added : AreFences front (es ++ e ∷ []) (prefixes ++ prefix_of front e.ikey.key ∷ []) (places ++ place ∷ [])
+  fence_added = record {
+    counted = omega (arith, are.counted, length-append prefixes (n ∷ []), length-append es (e ∷ []));
     paired = omega (arith, are.paired, length-append prefixes (n ∷ []), length-append places (place ∷ []));
     each = each;
   }
-    where
-      n : ℕ
-      n = prefix_of front e.ikey.key
-
-      added : IsFence front (es ++ e ∷ []) n place
-      added = record { before = es; first = e; more = []; parts = refl; begins = at_end; prefixed = refl }
-
-      each : (i : ℕ) → i < length (prefixes ++ n ∷ []) → IsFence front (es ++ e ∷ []) (slice_index (prefixes ++ n ∷ []) i) (slice_index (places ++ place ∷ []) i)
-      each i lt = elim (cases_lt i (length prefixes)) [
-        | inl within ↦
-            let other : i < length places = omega (arith, within, are.paired) in
-            rw (get_or_append_left prefixes (n ∷ []) 0 i within, get_or_append_left places (place ∷ []) 0 i other) (fence_stays (slice_index prefixes i) (slice_index places i) (are.each i within))
-        | inr past ↦
-            let here : i ≡ length prefixes = omega (arith, past, lt, length-append prefixes (n ∷ [])) in
-            let there : i ≡ length places = omega (arith, here, are.paired) in
-            let p : slice_index (prefixes ++ n ∷ []) i ≡ n = ap (slice_index (prefixes ++ n ∷ [])) here ∙ get_or-append_seam prefixes n [] 0 in
-            let q : slice_index (places ++ place ∷ []) i ≡ place = ap (slice_index (places ++ place ∷ [])) there ∙ get_or-append_seam places place [] 0 in
-            rw (p, q) added
-      ]
 
 -- ---- the walk
 

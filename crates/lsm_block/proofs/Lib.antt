@@ -6,6 +6,7 @@ pub mod ShortKeys
 pub mod FencedSpans
 pub mod IndexedSoFar
 pub mod BlockEntries
+pub mod SoughtFences
 pub mod SpanFronts
 pub mod SpanWalks
 pub mod ReadBlocks

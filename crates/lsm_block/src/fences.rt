@@ -1,11 +1,14 @@
-//! Some entries of a span, by the prefixes of their keys and where they begin: a look-up begins its walk at one of them.
+//! The entries of a span, by the prefixes of their keys and where they begin: a look-up goes to the first one of its key's prefix.
 
-ghost use Rattle.std.specs.Prelude.{◌≡◌, List};
+ghost use Rattle.std.specs.Prelude.{◌≡◌, ◌≢◌, ◌<◌, ◌≤◌, List, IfSome, IfNone, length};
+ghost use Rattle.std.specs.List.{All};
+ghost use Rattle.std.specs.List.Sorted.{IsNonDecreasing, IsPartitionPoint};
 ghost use Rattle.std.specs.Option.{option_map};
 ghost use Rattle.lsm_key.specs.declared.entry.Entry.{Entry};
 ghost use Rattle.lsm_key.specs.Visible.{visible, lent_entry};
 ghost use Rattle.lsm_block.specs.Spans.{IsSpan, IsSomeSpan};
-ghost use Rattle.lsm_block.specs.Fences.{AreFences, MayBegin, MayEnd};
+ghost use Rattle.lsm_key.specs.Prefix.{prefix_of};
+ghost use Rattle.lsm_block.specs.Fences.{AreFences, IsFirstFence, MayBegin, MayEnd};
 
 use crate::walk::seek_in;
 use bytes::Bytes;
@@ -22,7 +25,7 @@ pub struct Fences {
 }
 
 impl Fences {
-    ghost use Rattle.std.specs.Prelude.{◌≡◌, ◌<◌, ◌++◌, ◌∷◌, [], IfOk, IfSome, OnOk, OnErr, length, slice_index};
+    ghost use Rattle.std.specs.Prelude.{◌≡◌, ◌<◌, ◌≤◌, ◌++◌, ◌∷◌, [], IfOk, IfSome, IfNone, OnOk, OnErr, length, slice_index};
     ghost use Rattle.lsm_key.specs.Prefix.{prefix_of};
 
     /// No fence, with room for `count`.
@@ -61,7 +64,8 @@ impl Fences {
 
     // The prefix and the place of a fence.
     fn fence(&self, number: usize) -> Option<(u64, u32)>
-        ensures { IfSome result (λ f. (number < length self.now.prefixes.items) × (slice_index self.now.prefixes.items number ≡ f.0) × (slice_index self.now.places.items number ≡ f.1)) }
+        ensures some { IfSome result (λ f. (number < length self.now.prefixes.items) × (slice_index self.now.prefixes.items number ≡ f.0) × (slice_index self.now.places.items number ≡ f.1)) }
+        ensures none { IfNone result (number < length self.now.prefixes.items → length self.now.places.items ≤ number) }
     {
         Some((*self.prefixes.get(number)?, *self.places.get(number)?))
     }
@@ -94,16 +98,38 @@ pub(crate) fn end_of(fences: &Fences, key: &[u8], len: usize) -> usize
     }
 }
 
-/// The entry of the key with the greatest sequence at most `at`, in a span with fences. O(log n) for n fences, and a walk from
-/// one of them to the entry. Allocates nothing.
+// How many prefixes are less.
+fn count_below(prefixes: &[u64], prefix: u64) -> usize
+    requires { IsNonDecreasing prefixes.now }
+    ensures { IsPartitionPoint (λ n. n < prefix) (λ n. prefix ≤ n) prefixes.now result }
+{
+    prefixes.partition_point(|other| *other < prefix)
+}
+
+// Where the first entry begins whose prefix is the key's, if there is one.
+fn first_of(fences: &Fences, key: &[u8]) -> Option<u32>
+    requires sorted { IsNonDecreasing fences.now.prefixes.items }
+    requires paired { length fences.now.prefixes.items ≡ length fences.now.places.items }
+    ensures found { IfSome result (IsFirstFence fences.now.front fences.now.prefixes.items fences.now.places.items key.now) }
+    ensures none { IfNone result (All (λ n. n ≢ prefix_of fences.now.front key.now) fences.now.prefixes.items) }
+{
+    let prefix = prefix_of(fences.front.as_slice(), key);
+    let number = count_below(fences.prefixes.as_slice(), prefix);
+    match fences.fence(number) {
+        Some((other, place)) if other == prefix => Some(place),
+        _ => None,
+    }
+}
+
+/// The entry of the key with the greatest sequence at most `at`, in a span with fences. O(log n) for n fences, and a walk over
+/// the entries of its key's prefix. Allocates nothing.
 pub fn get_in<'a>(bytes: &'a [u8], fences: &Fences, key: &[u8], at: Seq) -> Option<EntryRef<'a>>
     requires known { IsSomeSpan bytes.now }
     requires fenced { (es : List Entry) → IsSpan bytes.now es → AreFences fences.now.front es fences.now.prefixes.items fences.now.places.items }
     ensures { (es : List Entry) → IsSpan bytes.now es → option_map lent_entry result ≡ visible es key.now at }
 {
-    let begin = begin_of(fences, key) as usize;
-    if begin > bytes.len() {
+    let Some(begin) = first_of(fences, key) else {
         return None;
-    }
-    seek_in(&bytes[begin..], key, at)
+    };
+    seek_in(&bytes[begin as usize..], key, at)
 }

@@ -21,9 +21,6 @@ use lsm_key::{ENTRY_OVERHEAD, EntryRef, MAX_KEY_BYTES, Refused, Seq, know_slice}
 use std::alloc::{AllocError, Global};
 use std::cmp::Ordering;
 
-// One of so many entries has a fence.
-const FENCE_SPACING: usize = 8;
-
 /// What one walk over a block's bytes finds: fences, the count of entries, and where the last one begins.
 #[derive(Debug, Drop)]
 pub(crate) struct Indexed {
@@ -75,20 +72,17 @@ fn next_in<'a>(
     Ok((entry, after))
 }
 
-// Adds a fence for the entry of this key after so many, if one is due.
-fn add_fence(fences: &mut Fences, count: usize, key: &[u8], place: usize) -> Result<(), AllocError>
+// Adds the fence of the entry of this key. Its place has at most 32 bits: for a longer block there is no memory.
+fn add_fence(fences: &mut Fences, key: &[u8], place: usize) -> Result<(), AllocError>
     ensures { (es : List Entry) (e : Entry) → AreFences fences.old.front es fences.old.prefixes.items fences.old.places.items → place ≡ length (entries es) → e.ikey.key ≡ key.now → OnOk result (AreFences fences.new.front (es ++ e ∷ []) fences.new.prefixes.items fences.new.places.items) }
 {
-    if !count.is_multiple_of(FENCE_SPACING) {
-        return Ok(());
-    }
     match u32::try_from(place) {
         Ok(place) => fences.push(key, place),
-        Err(_) => Ok(()),
+        Err(_) => Err(AllocError),
     }
 }
 
-/// No entry found yet. Room is reserved for as many fences as `about` entries have, if `len` bytes can hold them.
+/// No entry found yet. Room is reserved for the fences of `about` entries, if `len` bytes can hold so many.
 pub(crate) fn no_index(
     alloc: Global,
     front: Bytes,
@@ -97,7 +91,7 @@ pub(crate) fn no_index(
 ) -> Result<Indexed, AllocError>
     ensures { IfOk result (λ found. AreIndexed [] found) }
 {
-    let room = about.min(len / ENTRY_OVERHEAD) / FENCE_SPACING + 1;
+    let room = about.min(len / ENTRY_OVERHEAD);
     let fences = Fences::with_capacity(alloc, front, room)?;
     Ok(Indexed {
         fences,
@@ -132,7 +126,7 @@ fn walk_on<'a>(
             Ok(found) => found,
             Err(fault) => return Err(Refused::Fault(fault)),
         };
-        add_fence(&mut found.fences, found.count, entry.key, place)?;
+        add_fence(&mut found.fences, entry.key, place)?;
         found.count += 1;
         found.last = place;
         if after.is_empty() {
@@ -181,8 +175,8 @@ pub(crate) fn index_more(
     }
 }
 
-/// The index of the block that the bytes encode, all of them: no key has more than `max_key` bytes. Room is reserved for as many
-/// fences as `about` entries have, if the bytes can hold them.
+/// The index of the block that the bytes encode, all of them: no key has more than `max_key` bytes. Room is reserved for the fences
+/// of `about` entries, if the bytes can hold so many.
 pub(crate) fn index_block(
     alloc: Global,
     bytes: &[u8],
