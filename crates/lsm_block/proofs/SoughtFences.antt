@@ -43,10 +43,17 @@ fence_entry front es i n place f d =
     ap (λ (xs : List Entry). get_or xs i d) f.parts ∙ ap (λ (j : ℕ). get_or (f.before ++ f.first ∷ f.more) j d) k ∙ get_or-append-add f.before (f.first ∷ f.more) 0 d
 
 module _ (front bytes prefixes places : List ℕ) (es : List Entry) (span : IsSpan bytes es) (fenced : AreFences front es prefixes places) where
-  prefix_at : (i : ℕ) (d : Entry) → i < length prefixes → slice_index prefixes i ≡ prefix_of front (get_or es i d).ikey.key
+  pub prefix_at : (i : ℕ) (d : Entry) → i < length prefixes → slice_index prefixes i ≡ prefix_of front (get_or es i d).ikey.key
   prefix_at i d lt =
       let f = fenced.each i lt in
       f.prefixed ∙ ap (λ (e : Entry). prefix_of front e.ikey.key) (sym (fence_entry front es i (slice_index prefixes i) (slice_index places i) f d))
+
+  -- the same of an entry before that of a fence
+  pub before_at : (i : ℕ) (lt : i < length prefixes) (k : ℕ) (d : Entry) → k < length (fenced.each i lt).before → slice_index prefixes k ≡ prefix_of front (get_or (fenced.each i lt).before k d).ikey.key
+  before_at i lt k d less =
+      let f = fenced.each i lt in
+      let own : get_or es k d ≡ get_or f.before k d = ap (λ (xs : List Entry). get_or xs k d) f.parts ∙ get_or_append_left f.before (f.first ∷ f.more) d k less in
+      prefix_at k d (omega (arith, less, f.numbered, lt)) ∙ ap (λ (e : Entry). prefix_of front e.ikey.key) own
 
   module _ (fits : IsBytes bytes) where
     -- an entry of a smaller prefix does not come later
@@ -87,11 +94,8 @@ module _ (front bytes prefixes places : List ℕ) (es : List Entry) (span : IsSp
       let parted : IsSpan bytes (f.before ++ f.first ∷ f.more) = subst (IsSpan bytes) f.parts span in
       let long : length bytes ≡ length (entries f.before) + length (entries (f.first ∷ f.more)) = ap length (parted.spelled ∙ flat_map-append entry f.before (f.first ∷ f.more)) ∙ length-append (entries f.before) (entries (f.first ∷ f.more)) in
       let others : (k : ℕ) (d : Entry) → k < length f.before → prefix_of front (get_or f.before k d).ikey.key ≢ prefix_of front key = λ k d lt same.
-      (let within : k < length prefixes = omega (arith, lt, f.numbered, is.within) in
-      let own : get_or es k d ≡ get_or f.before k d = ap (λ (xs : List Entry). get_or xs k d) f.parts ∙ get_or_append_left f.before (f.first ∷ f.more) d k lt in
-      let less : slice_index prefixes k < prefix_of front key = is.first k 0 (omega arith) (omega (arith, lt, f.numbered)) in
-      let prefixed : slice_index prefixes k ≡ prefix_of front (get_or f.before k d).ikey.key = prefix_at k d within ∙ ap (λ (e : Entry). prefix_of front e.ikey.key) own in
-      omega (arith, less, prefixed, same)) in
+      (let less : slice_index prefixes k < prefix_of front key = is.first k 0 (omega arith) (omega (arith, lt, f.numbered)) in
+      omega (arith, less, before_at is.number is.within k d lt, same)) in
       record {
         more = f.first ∷ f.more;
         span = rw begin_is (rest_span bytes f.before (f.first ∷ f.more) parted);

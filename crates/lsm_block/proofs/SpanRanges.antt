@@ -1,39 +1,51 @@
 -- A walk over a span to where a range of keys begins.
-use Rattle.std.proofs.Common.{◌≡◌, ℕ, ◌+◌, ◌-◌, ◌<◌, ◌≤◌, true, List, [], ◌∷◌, ◌++◌, length, take, drop, refl, sym, ap, subst, ◌∙◌, append_assoc, arith, inl, inr}
+use Rattle.std.proofs.Common.{◌≡◌, ℕ, suc, get_or, ◌+◌, ◌-◌, ◌<◌, ◌≤◌, true, List, [], ◌∷◌, ◌++◌, length, take, drop, sym, ap, subst, ◌∙◌, append_assoc, arith, inl, inr}
 use Rattle.std.specs.List.{AllByRecursion}
 use Rattle.std.specs.Ordering.{is_lt}
-use Rattle.std.proofs.lemmas.List.{length-append}
+use Rattle.std.proofs.lemmas.List.{append-nil, length-append}
 use Rattle.std.proofs.lemmas.List.Concat.{flat_map-append}
 use Rattle.lsm_key.specs.declared.entry.Entry.{Entry}
-use Rattle.lsm_key.specs.Order.{IsAscending, Precedes}
 use Rattle.lsm_key.specs.Prefix.{prefix_of}
-use Rattle.lsm_key.proofs.AscendingEntries.{Falls, ascending_falls}
 use Rattle.lsm_key.proofs.FieldLaws.{IsBytes}
-use Rattle.lsm_key.proofs.Membership.{IsIn-append_right}
 use Rattle.lsm_key.proofs.PrefixOrder.{prefix_before}
-use Rattle.lsm_key.proofs.RangeSlices.{before_smaller}
 use Rattle.lsm_block.specs.Blocks.{entry, entries}
-use Rattle.lsm_block.specs.Fences.{AreFences, MayBegin}
+use Rattle.lsm_block.specs.Fences.{AreFences, IsLowerFence}
 use Rattle.lsm_block.specs.Ranges.{is_below, StartsFrom, Skips, IsLowerPlace}
 use Rattle.lsm_block.specs.Spans.{IsSpan}
 use Rattle.lsm_block.proofs.EntriesGrow.{each_push}
 use Rattle.lsm_block.proofs.FencedSpans.{rest_span, to_end}
+use Rattle.lsm_block.proofs.SoughtFences.{prefix_at, before_at}
 
 -- ---- where a walk may begin
 
-all_below : (front : List Entry) (x : Entry) (more : List Entry) (lo : List ℕ) → Falls (front ++ x ∷ more) → is_below lo x ≡ true → AllByRecursion (λ e. is_below lo e ≡ true) front
-all_below [] x more lo falls less = tt
-all_below (e ∷ front) x more lo falls less =
-    let later : Precedes e x = falls.0 x (IsIn-append_right x front (x ∷ more) (inl refl)) in
-    (before_smaller e.ikey.key e.ikey.seq x.ikey.key x.ikey.seq lo later less, all_below front x more lo falls.1 less)
+all_below : (front : List ℕ) (xs : List Entry) (lo : List ℕ) → IsBytes lo → ((k : ℕ) (d : Entry) → k < length xs → prefix_of front (get_or xs k d).ikey.key < prefix_of front lo) → AllByRecursion (λ e. is_below lo e ≡ true) xs
+all_below front [] lo fits less = tt
+all_below front (x ∷ xs) lo fits less = (
+  ap is_lt (prefix_before front x.ikey.key lo fits (less 0 x (omega arith))),
+  all_below front xs lo fits (λ k d lt. less (suc k) d (omega (arith, lt))),
+)
 
-pub fence_skips : (front prefixes places : List ℕ) (es : List Entry) (lo : List ℕ) (begin : ℕ) → IsAscending es → IsBytes lo → AreFences front es prefixes places → MayBegin front prefixes places lo begin → Skips es lo begin
-fence_skips front prefixes places es lo begin up fits fenced may = elim may [
-  | inl zero_is ↦ record { before = []; more = es; parts = refl; begins = zero_is; below = tt }
-  | inr at_fence ↦
-      let f = fenced.each at_fence.0 at_fence.1 in
-      let less : is_below lo f.first ≡ true = ap is_lt (prefix_before front f.first.ikey.key lo fits (subst (λ (n : ℕ). n < prefix_of front lo) f.prefixed at_fence.3)) in
-      record { before = f.before; more = f.first ∷ f.more; parts = f.parts; begins = at_fence.2 ∙ f.begins; below = all_below f.before f.first f.more lo (ascending_falls (f.before ++ f.first ∷ f.more) (subst IsAscending f.parts up)) less }
+pub fence_skips : (front bytes prefixes places : List ℕ) (es : List Entry) (lo : List ℕ) (place : ℕ) → IsSpan bytes es → IsBytes lo → AreFences front es prefixes places → IsLowerFence front prefixes places lo (length bytes) place → Skips es lo place
+fence_skips front bytes prefixes places es lo place span fits fenced lower = elim lower [
+  | inl past ↦ record {
+    before = es;
+    more = [];
+    parts = sym (append-nil es);
+    begins = past.0 ∙ ap length span.spelled;
+    below = all_below front es lo fits (λ k d lt.
+        let within : k < length prefixes = omega (arith, lt, fenced.counted) in
+        omega (arith, past.1 k 0 within, prefix_at front bytes prefixes places es span fenced k d within));
+  }
+  | inr found ↦
+      let f = fenced.each found.0 found.1 in
+      record {
+        before = f.before;
+        more = f.first ∷ f.more;
+        parts = f.parts;
+        begins = found.2 ∙ f.begins;
+        below = all_below front f.before lo fits (λ k d lt.
+            omega (arith, found.3 k 0 (omega arith) (omega (arith, lt, f.numbered)), before_at front bytes prefixes places es span fenced found.0 found.1 k d lt));
+      }
 ]
 
 long : (bytes : List ℕ) (es front more : List Entry) → IsSpan bytes es → es ≡ front ++ more → length bytes ≡ length (entries front) + length (entries more)

@@ -1,6 +1,6 @@
 -- Fences of a span: the prefixes of its keys, and where their entries begin (LevelDB, doc/table_format.md: an index of keys; the form is the store's own).
 use Rattle.std.specs.Prelude.{◌≡◌, ◌⊎◌, ℕ, ◌<◌, List, ◌∷◌, ◌++◌, length, slice_index}
-use Rattle.std.specs.List.{AllWithin}
+use Rattle.std.specs.List.{All, AllWithin}
 use Rattle.lsm_key.specs.declared.entry.Entry.{Entry}
 use Rattle.lsm_key.specs.Prefix.{prefix_of}
 use Rattle.lsm_block.specs.Blocks.{entries}
@@ -28,6 +28,12 @@ pub record IsFirstFence (front prefixes places key : List ℕ) (place : ℕ) : T
   pub begins : place ≡ slice_index places number
   pub prefixed : slice_index prefixes number ≡ prefix_of front key
   pub first : AllWithin (λ n. n < prefix_of front key) prefixes 0 number
+
+-- the first entry whose prefix is not less than that of the key begins at the place, which is the end of the bytes if there is none
+abbrev pub IsLowerFence : List ℕ → List ℕ → List ℕ → List ℕ → ℕ → ℕ → Type 0
+IsLowerFence front prefixes places key len place =
+    ((place ≡ len) × All (λ n. n < prefix_of front key) prefixes)
+    ⊎ ((i : ℕ) × (i < length prefixes) × (place ≡ slice_index places i) × AllWithin (λ n. n < prefix_of front key) prefixes 0 i)
 
 -- a walk for the key may begin at the front of the span, and at a fence whose prefix is less than the key's
 abbrev pub MayBegin : List ℕ → List ℕ → List ℕ → List ℕ → ℕ → Type 0

@@ -8,7 +8,7 @@ ghost use Rattle.lsm_key.specs.declared.entry.Entry.{Entry};
 ghost use Rattle.lsm_key.specs.Visible.{visible, lent_entry};
 ghost use Rattle.lsm_block.specs.Spans.{IsSpan, IsSomeSpan};
 ghost use Rattle.lsm_key.specs.Prefix.{prefix_of};
-ghost use Rattle.lsm_block.specs.Fences.{AreFences, IsFirstFence, MayBegin, MayEnd};
+ghost use Rattle.lsm_block.specs.Fences.{AreFences, IsFirstFence, IsLowerFence, MayBegin, MayEnd};
 
 use crate::walk::seek_in;
 use bytes::Bytes;
@@ -118,6 +118,21 @@ fn first_of(fences: &Fences, key: &[u8]) -> Option<u32>
     match fences.fence(number) {
         Some((other, place)) if other == prefix => Some(place),
         _ => None,
+    }
+}
+
+/// Where the first entry begins whose prefix is not less than the key's: at the end of the bytes, which are so many, if there is
+/// none.
+pub(crate) fn lower_of(fences: &Fences, key: &[u8], len: usize) -> usize
+    requires sorted { IsNonDecreasing fences.now.prefixes.items }
+    requires paired { length fences.now.prefixes.items ≡ length fences.now.places.items }
+    ensures { IsLowerFence fences.now.front fences.now.prefixes.items fences.now.places.items key.now len result }
+{
+    let prefix = prefix_of(fences.front.as_slice(), key);
+    let number = count_below(fences.prefixes.as_slice(), prefix);
+    match fences.fence(number) {
+        Some((_, place)) => place as usize,
+        None => len,
     }
 }
 

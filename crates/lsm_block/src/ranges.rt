@@ -7,21 +7,21 @@ ghost use Rattle.lsm_block.specs.Spans.{IsSpan, IsSomeSpan};
 ghost use Rattle.lsm_block.specs.Fences.{AreFences};
 ghost use Rattle.lsm_block.specs.Ranges.{Skips, IsLowerPlace};
 
-use crate::fences::{Fences, begin_of};
+use crate::fences::{Fences, lower_of};
 use crate::lent::entry_in;
 use crate::reading::read_entry;
 use bytes::Bytes;
 use lsm_key::{ENTRY_OVERHEAD, Entry};
 use std::alloc::{AllocError, Global};
 
-// A place to begin a walk to the first entry whose key is not below `lo`: at a fence, or at the front.
+// Where a walk to the first entry whose key is not below `lo` begins: at the first one whose prefix is not, or at the end.
 fn fence_below(bytes: &[u8], fences: &Fences, lo: &[u8]) -> usize
     requires known { IsSomeSpan bytes.now }
     requires fenced { (es : List Entry) → IsSpan bytes.now es → AreFences fences.now.front es fences.now.prefixes.items fences.now.places.items }
     ensures within { result ≤ length bytes.now }
     ensures place { (es : List Entry) → IsSpan bytes.now es → Skips es lo.now result }
 {
-    begin_of(fences, lo) as usize
+    lower_of(fences, lo, bytes.len())
 }
 
 /// Where the first entry whose key is not below `lo` begins, in bytes from the beginning of the span: at their end if there is
