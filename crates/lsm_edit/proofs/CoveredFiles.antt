@@ -155,6 +155,23 @@ last_covers ps key from on some = elim on [ inl none ↦ absurd (omega (arith, n
 pub within_places : (ps : List Placed) (key : List ℕ) (from : ℕ) → AreInSearchOrder ps → GoesOn ps key from → from ≤ length ps
 within_places ps key from up on = elim on [ inl none ↦ omega (arith, none) | inr last ↦ omega (arith, last.0, within_last ps up key from last.0 last.1) ]
 
+-- ---- the deepest level
+
+-- that of the last file
+pub deepest_last : (ps : List Placed) → AreInSearchOrder ps → (last : Placed) → 0 < length ps → last ≡ get_or ps (length ps - 1) last → (p : Placed) → IsIn p ps → p.meta.level ≤ last.meta.level
+deepest_last ps up last some is p m =
+    let i = IsIn-place p ps m in
+    elim (cases_lt i.0 (length ps - 1)) [
+      | inl before ↦
+          let here : p ≡ get_or ps i.0 p = sym i.2 in
+          let rises = level_rises p.meta (get_or ps (length ps - 1) last).meta (order ps up i.0 (length ps - 1) p last before (omega (arith, some)) here) in
+          omega (arith, rises, ap (λ (x : Placed). x.meta.level) is)
+      | inr past ↦
+          let same : i.0 ≡ length ps - 1 = omega (arith, past, i.1) in
+          let one : p ≡ last = sym i.2 ∙ ap (λ (n : ℕ). get_or ps n p) same ∙ get_or_default ps (length ps - 1) p last (omega (arith, some)) ∙ sym is in
+          omega (arith, ap (λ (x : Placed). x.meta.level) one)
+    ]
+
 -- ---- what the search shows
 
 pub all_miss : (ps : List Placed) (key : List ℕ) (from level most : ℕ) → ((p : Placed) → IsIn p ps → p.meta.level ≤ most) → most < level → UpperMiss ps key from level → AllWithin (Misses key) ps from (length ps)

@@ -2,7 +2,7 @@
 
 use crate::bench::Bench;
 use crate::error::TimingError;
-use crate::fill::{MemoryCoord, time_filling};
+use crate::fill::{MemoryStore, time_filling};
 use crate::keys::or_one;
 use crate::load::{BATCH, Load, Ops};
 use crate::reads::time_whole;
@@ -13,7 +13,7 @@ const OPERATIONS_TO_A_KEY: u64 = 4;
 /// Times operations on a quarter as many random keys, one in eight a deletion, and then a scan of what is left.
 pub(crate) fn time_churn(
     bench: Bench,
-    coord: &mut MemoryCoord,
+    store: &mut MemoryStore,
     operations: u64,
 ) -> Result<(), TimingError> {
     let load = Load {
@@ -21,6 +21,6 @@ pub(crate) fn time_churn(
         count: operations,
         batch: BATCH,
     };
-    time_filling(bench, coord, "churn", load)?;
-    time_whole(bench, coord, "churn_scan")
+    time_filling(bench, store, "churn", load)?;
+    time_whole(bench, store, "churn_scan")
 }

@@ -3,18 +3,18 @@
 use crate::bench::Bench;
 use crate::error::{NO_FOLDER, TimingError, USED_FOLDER};
 use crate::figure::Figure;
-use crate::fill::{DEFAULT, opened, time_filling, with_files};
+use crate::fill::{opened, time_filling, with_files};
 use crate::load::{BATCH, Load};
 use crate::reads::{Keys, time_get};
-use lsm_coord::Coord;
 use lsm_file_vault::{FileVault, HostFolder, open};
+use lsm_store::Store;
 use std::fs;
 
 /// The folder, in the one in which the program runs. It stays there.
 const FOLDER: &str = "lsm_timing.store";
 
 /// A store in a folder.
-type FolderCoord = Coord<FileVault<HostFolder<HostRuntime>>>;
+type FolderStore = Store<FileVault<HostFolder<HostRuntime>>>;
 
 /// Times the filling of a store in a new folder, its opening, and gets of random keys that are there.
 pub(crate) fn time_durable(bench: Bench, entries: u64, reads: u64) -> Result<(), TimingError> {
@@ -29,18 +29,18 @@ pub(crate) fn time_durable(bench: Bench, entries: u64, reads: u64) -> Result<(),
 // The figures of the store in the folder, if it is new, and else those of its opening and of gets.
 fn time_over(bench: Bench, is_new: bool, entries: u64, reads: u64) -> Result<(), TimingError> {
     let opening = Figure::begin(bench, "durable_open")?;
-    let mut coord = store_in_folder(bench)?;
+    let mut store = store_in_folder(bench)?;
     let timed = if is_new {
         time_filling(
             bench,
-            &mut coord,
+            &mut store,
             "durable_fill",
             Load::puts(entries, BATCH),
         )
     } else {
-        time_in(bench, opening, &mut coord, entries, reads)
+        time_in(bench, opening, &mut store, entries, reads)
     };
-    drop(coord.close());
+    drop(store.close());
     timed
 }
 
@@ -48,18 +48,18 @@ fn time_over(bench: Bench, is_new: bool, entries: u64, reads: u64) -> Result<(),
 fn time_in(
     bench: Bench,
     opening: Figure,
-    coord: &mut FolderCoord,
+    store: &mut FolderStore,
     entries: u64,
     reads: u64,
 ) -> Result<(), TimingError> {
-    opening.end(bench, entries, with_files(0, coord))?;
-    time_get(bench, coord, "durable_get", Keys::Of(entries), reads)
+    opening.end(bench, entries, with_files(0, store))?;
+    time_get(bench, store, "durable_get", Keys::Of(entries), reads)
 }
 
 // The store in the folder, which is made if there is none.
-fn store_in_folder(bench: Bench) -> Result<FolderCoord, TimingError> {
+fn store_in_folder(bench: Bench) -> Result<FolderStore, TimingError> {
     match open(&bench.rt, FOLDER) {
-        Ok(found) => opened(bench, found.vault, DEFAULT),
+        Ok(found) => opened(bench, found.vault),
         Err(_) => Err(NO_FOLDER),
     }
 }

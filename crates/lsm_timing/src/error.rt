@@ -2,6 +2,7 @@
 
 use lsm_coord::CoordError;
 use lsm_key::KeyError;
+use lsm_store::StoreError;
 use std::alloc::{AllocError, AllocFailed};
 use std::{fmt, io};
 
@@ -22,8 +23,6 @@ pub(crate) const STREAM: TimingError = TimingError::Plain(
 
 pub(crate) const NO_STORE: TimingError = TimingError::Plain("the vault was not opened");
 
-pub(crate) const NO_EDITS: TimingError = TimingError::Plain("the edits were not read");
-
 pub(crate) const NO_MERGE: TimingError = TimingError::Plain("a merge was refused");
 
 pub(crate) const NO_FOLDER: TimingError = TimingError::Plain(
@@ -33,10 +32,6 @@ pub(crate) const NO_FOLDER: TimingError = TimingError::Plain(
 pub(crate) const USED_FOLDER: TimingError = TimingError::Plain(
     "the folder of the store is there already",
 );
-
-pub(crate) const NOT_WRITTEN: TimingError = TimingError::Plain("a write was refused");
-
-pub(crate) const NOT_SYNCED: TimingError = TimingError::Plain("a sync was refused");
 
 pub(crate) const GONE: TimingError = TimingError::Plain("a table was not served");
 
@@ -92,6 +87,15 @@ impl From<KeyError> for TimingError {
         match why {
             KeyError::OutOfMemory => OUT_OF_MEMORY,
             _ => TimingError::Plain("a batch refused an operation"),
+        }
+    }
+}
+
+impl From<StoreError> for TimingError {
+    fn from(why: StoreError) -> TimingError {
+        match why {
+            StoreError::Key(why) => TimingError::from(why),
+            StoreError::Coord(why) => TimingError::from(why),
         }
     }
 }

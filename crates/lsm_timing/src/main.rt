@@ -22,11 +22,12 @@ mod synced;
 mod threads;
 
 use bench::Bench;
-use error::{OUT_OF_MEMORY, TimingError};
-use fill::{DEFAULT, MemoryCoord, opened};
+use error::{NO_STORE, OUT_OF_MEMORY, TimingError};
+use fill::{MemoryStore, opened};
 use forms::Task;
 use keys::{KeyShape, Shape};
-use lsm_key::Limits;
+use lsm_coord::Coord;
+use lsm_store::Options;
 use lsm_vault::MemoryVault;
 use options::{OptionsError, Request, print_help, request_of};
 use picks::LOOSE;
@@ -81,43 +82,52 @@ fn run<R: Threads + Wait + Sync>(
         Task::Synced => synced::time_synced(bench, first, second),
         Task::Threads => time_threads(rt, bench, first, second, true),
         Task::ThreadsAlone => time_threads(rt, bench, first, second, false),
-        Task::Pick => run_new(bench, LOOSE, task, first, second),
-        _ => run_new(bench, DEFAULT, task, first, second),
+        Task::Merge | Task::Pick => run_coord(bench, task, first),
+        _ => run_new(bench, task, first, second),
     }
 }
 
 /// Takes a figure of a new store in memory. The store is dear to drop, so it is lent, and closed in the end.
-fn run_new(
-    bench: Bench,
-    limits: Limits,
-    task: Task,
-    first: u64,
-    second: u64,
-) -> Result<(), TimingError> {
-    let mut coord = opened(bench, MemoryVault::new(bench.alloc()), limits)?;
-    let timed = run_over(bench, &mut coord, task, first, second);
-    drop(coord.close());
+fn run_new(bench: Bench, task: Task, first: u64, second: u64) -> Result<(), TimingError> {
+    let mut store = opened(bench, MemoryVault::new(bench.alloc()))?;
+    let timed = run_over(bench, &mut store, task, first, second);
+    drop(store.close());
     timed
 }
 
 fn run_over(
     bench: Bench,
-    coord: &mut MemoryCoord,
+    store: &mut MemoryStore,
     task: Task,
     first: u64,
     second: u64,
 ) -> Result<(), TimingError> {
     match task {
-        Task::Fill => fill::time_fill(bench, coord, first, second),
-        Task::Get => reads::time_gets(bench, coord, first, second),
-        Task::Scan => reads::time_scans(bench, coord, first, second),
-        Task::Churn => churn::time_churn(bench, coord, first),
-        Task::Pauses => pauses::time_pauses(bench, coord, first, second),
-        Task::Merge => merges::time_merge(bench, coord, first),
-        Task::Flush => flushes::time_flush(bench, coord, first),
-        Task::Pick => picks::time_picks(bench, coord, first),
-        Task::Durable | Task::Synced | Task::Threads | Task::ThreadsAlone | Task::All => Ok(()),
+        Task::Fill => fill::time_fill(bench, store, first, second),
+        Task::Get => reads::time_gets(bench, store, first, second),
+        Task::Scan => reads::time_scans(bench, store, first, second),
+        Task::Churn => churn::time_churn(bench, store, first),
+        Task::Pauses => pauses::time_pauses(bench, store, first, second),
+        Task::Flush => flushes::time_flush(bench, store, first),
+        _ => Ok(()),
     }
+}
+
+/// Takes a figure of a new coordinator in memory, which is lent and closed as a store is.
+fn run_coord(bench: Bench, task: Task, first: u64) -> Result<(), TimingError> {
+    let limits = match task {
+        Task::Pick => LOOSE,
+        _ => Options::default().limits,
+    };
+    let Ok(mut coord) = Coord::open(bench.alloc(), MemoryVault::new(bench.alloc()), limits) else {
+        return Err(NO_STORE);
+    };
+    let timed = match task {
+        Task::Pick => picks::time_picks(bench, &mut coord, first),
+        _ => merges::time_merge(bench, &mut coord, first),
+    };
+    drop(coord.close());
+    timed
 }
 
 /// Enough entries for a merge of level 0, and for merges of level 1 after it.

@@ -5,17 +5,18 @@ ghost use Rattle.std.specs.Prelude.{◌≤◌};
 use crate::bench::Bench;
 use crate::error::{GONE, NO_JOB, NO_MERGE, TimingError};
 use crate::figure::{Figure, with_bytes};
-use crate::fill::{MemoryCoord, write_all};
 use crate::flushes::LARGE_BATCH;
 use crate::keys::{mix, or_one, scattered_key};
 use crate::load::{Load, Ops};
 use bytes::Bytes;
 use lsm_claim::JobId;
+use lsm_coord::Coord;
 use lsm_edit::FileMeta;
 use lsm_key::{DEFAULT_BLOCK, Items, MAX_INPUTS};
 use lsm_merge::merge;
 use lsm_msg::{Job, JobParts};
 use lsm_table::Table;
+use lsm_vault::MemoryVault;
 use std::alloc::{AllocError, Global};
 
 /// The upper one of the two levels.
@@ -27,11 +28,11 @@ const TABLE_WEIGHT: u64 = 1_950_000;
 /// The bytes of a megabyte, here.
 const MEGABYTE: u64 = 1_000_000;
 
-/// Times the merge of the tables of two levels, which a store makes, with `megabytes` MB of keys and values in all. One key in eight is in
+/// Times the merge of the tables of two levels, which flushes make, with `megabytes` MB of keys and values in all. One key in eight is in
 /// both.
 pub(crate) fn time_merge(
     bench: Bench,
-    coord: &mut MemoryCoord,
+    coord: &mut Coord<MemoryVault>,
     megabytes: u64,
 ) -> Result<(), TimingError> {
     let (tables, lower) = tables_in(bench, coord, megabytes)?;
@@ -51,7 +52,7 @@ fn time_job(bench: Bench, tables: &[Table], job: &Job) -> Result<(), TimingError
 // The tables of the lower level and then those of the upper one, and how many the lower one has.
 fn tables_in(
     bench: Bench,
-    coord: &mut MemoryCoord,
+    coord: &mut Coord<MemoryVault>,
     megabytes: u64,
 ) -> Result<(Vec<Table>, usize), TimingError> {
     let entries = megabytes.wrapping_mul(MEGABYTE) / or_one(bench.shape.entry_bytes());
@@ -68,7 +69,7 @@ fn sorted_indices(alloc: Global, count: u64) -> Result<Vec<u64>, AllocError> {
 
 fn tables_of_both(
     bench: Bench,
-    coord: &mut MemoryCoord,
+    coord: &mut Coord<MemoryVault>,
     indices: &[u64],
 ) -> Result<(Vec<Table>, usize), TimingError> {
     let mut tables = Vec::new(bench.alloc());
@@ -81,7 +82,7 @@ fn tables_of_both(
 // Adds the tables of a level, 0 for the lower and 1 for the upper one.
 fn add_tables(
     bench: Bench,
-    coord: &mut MemoryCoord,
+    coord: &mut Coord<MemoryVault>,
     indices: &[u64],
     level: u64,
     tables: &mut Vec<Table>,
@@ -112,13 +113,20 @@ fn table_entries(bench: Bench) -> usize
 }
 
 // The table that a flush makes of the entries of some indices.
-fn table_of(bench: Bench, coord: &mut MemoryCoord, indices: &[u64]) -> Result<Table, TimingError> {
+fn table_of(
+    bench: Bench,
+    coord: &mut Coord<MemoryVault>,
+    indices: &[u64],
+) -> Result<Table, TimingError> {
     let load = Load {
         ops: Ops::Listed(indices),
         count: indices.len() as u64,
         batch: LARGE_BATCH,
     };
-    write_all(bench, coord, load)?;
+    for number in 0..load.batches() {
+        let batch = load.batch(bench, number)?;
+        coord.write(&batch)?;
+    }
     let file = coord.flush()?.file.number();
     match coord.served().table(file) {
         None => Err(GONE),

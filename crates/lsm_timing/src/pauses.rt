@@ -3,15 +3,15 @@
 use crate::bench::Bench;
 use crate::error::TimingError;
 use crate::figure::tell;
-use crate::fill::{MemoryCoord, settle, shape_of, write};
+use crate::fill::{MemoryStore, settle, shape_of};
 use crate::load::Load;
 use lsm_key::Batch;
 use std::time::Duration;
 
-/// Prints how long the longest write of a fill takes, with the flush and the merges in it.
+/// Prints how long the longest write of a fill takes, with the flush and the compactions in it.
 pub(crate) fn time_pauses(
     bench: Bench,
-    coord: &mut MemoryCoord,
+    store: &mut MemoryStore,
     entries: u64,
     batch: u64,
 ) -> Result<(), TimingError> {
@@ -19,10 +19,10 @@ pub(crate) fn time_pauses(
     let mut longest = Duration::ZERO;
     for number in 0..load.batches() {
         let batch = load.batch(bench, number)?;
-        longest = longest.max(write_timed(bench, coord, &batch)?);
+        longest = longest.max(write_timed(bench, store, &batch)?);
     }
-    settle(bench, coord)?;
-    let checksum = shape_of(bench, coord)?;
+    settle(store)?;
+    let checksum = shape_of(store)?;
     tell(bench, "longest_write", 1, checksum, longest.as_nanos())?;
     Ok(())
 }
@@ -30,11 +30,11 @@ pub(crate) fn time_pauses(
 // Writes a batch, and returns how long it took.
 fn write_timed(
     bench: Bench,
-    coord: &mut MemoryCoord,
+    store: &mut MemoryStore,
     batch: &Batch,
 ) -> Result<Duration, TimingError> {
     let start = bench.now()?;
-    write(bench, coord, batch)?;
+    store.write(batch)?;
     let end = bench.now()?;
     Ok(end.saturating_sub(start))
 }

@@ -3,12 +3,14 @@
 use crate::bench::Bench;
 use crate::error::{NO_PICK, TimingError};
 use crate::figure::{Figure, with_number};
-use crate::fill::{MemoryCoord, settle, write};
 use crate::load::Load;
 use lsm_claim::ClaimBook;
+use lsm_coord::Coord;
 use lsm_edit::Served;
 use lsm_key::{DEFAULT_BLOCK, Limits, MAX_BASE};
 use lsm_pick::pick;
+use lsm_store::compact_once;
+use lsm_vault::MemoryVault;
 use std::alloc::Global;
 
 /// How many picks are timed.
@@ -28,22 +30,31 @@ const TIGHT: Limits = Limits {
     block: DEFAULT_BLOCK,
 };
 
-/// Times picks from a version with `files` files of one entry each in level 1, which needs compaction, with no job running. The store has
-/// loose limits, so that each file goes down alone once it is flushed, and stays there.
+/// Times picks from a version with `files` files of one entry each in level 1, which needs compaction, with no job running. The coordinator
+/// has loose limits, so that each file goes down alone once it is flushed, and stays there.
 pub(crate) fn time_picks(
     bench: Bench,
-    coord: &mut MemoryCoord,
+    coord: &mut Coord<MemoryVault>,
     files: u64,
 ) -> Result<(), TimingError> {
     let load = Load::puts(files, 1);
     for number in 0..files {
         let batch = load.batch(bench, number)?;
-        write(bench, coord, &batch)?;
-        settle(bench, coord)?;
+        coord.write(&batch)?;
+        coord.flush()?;
+        move_down(bench, coord)?;
     }
     let figure = Figure::begin(bench, "pick")?;
     let checksum = picked(bench.alloc(), coord.served())?;
     figure.end(bench, PICKS, checksum)?;
+    Ok(())
+}
+
+// Runs the compaction that is due, and lets the tables go that it replaced.
+fn move_down(bench: Bench, coord: &mut Coord<MemoryVault>) -> Result<(), TimingError> {
+    if let Some((number, _files)) = compact_once(bench.alloc(), coord)? {
+        coord.trim(number)?;
+    }
     Ok(())
 }
 

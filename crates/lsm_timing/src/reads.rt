@@ -3,10 +3,10 @@
 use crate::bench::Bench;
 use crate::error::TimingError;
 use crate::figure::{Figure, with_bytes, with_number};
-use crate::fill::{MemoryCoord, fill};
+use crate::fill::{MemoryStore, fill};
 use crate::keys::random_below;
 use bytes::Bytes;
-use lsm_coord::Coord;
+use lsm_store::Store;
 use lsm_vault::Vault;
 use std::alloc::{AllocError, Global};
 
@@ -31,19 +31,19 @@ pub(crate) enum Keys {
 /// Fills a store, and times gets of random keys that are there, and of keys that are not.
 pub(crate) fn time_gets(
     bench: Bench,
-    coord: &mut MemoryCoord,
+    store: &mut MemoryStore,
     entries: u64,
     reads: u64,
 ) -> Result<(), TimingError> {
-    fill(bench, coord, entries)?;
-    time_get(bench, coord, "get", Keys::Of(entries), reads)?;
-    time_get(bench, coord, "get_absent", Keys::From(entries), reads)
+    fill(bench, store, entries)?;
+    time_get(bench, store, "get", Keys::Of(entries), reads)?;
+    time_get(bench, store, "get_absent", Keys::From(entries), reads)
 }
 
 /// Times gets as a figure of this name.
 pub(crate) fn time_get<V: Vault>(
     bench: Bench,
-    coord: &mut Coord<V>,
+    store: &mut Store<V>,
     name: &'static str,
     keys: Keys,
     reads: u64,
@@ -55,7 +55,7 @@ pub(crate) fn time_get<V: Vault>(
             Keys::Of(entries) => random_below(entries, read),
             Keys::From(first) => first.wrapping_add(read),
         };
-        checksum = get(bench, coord, index, checksum)?;
+        checksum = get(bench, store, index, checksum)?;
     }
     figure.end(bench, reads, checksum)?;
     Ok(())
@@ -64,12 +64,12 @@ pub(crate) fn time_get<V: Vault>(
 // Gets the key of an index, and returns the checksum with the answer in it.
 fn get<V: Vault>(
     bench: Bench,
-    coord: &mut Coord<V>,
+    store: &mut Store<V>,
     index: u64,
     checksum: u64,
 ) -> Result<u64, TimingError> {
     let key = bench.shape.key(index);
-    match coord.get(key.as_slice(), None)? {
+    match store.get(key.as_slice(), None)? {
         Some(value) => Ok(with_bytes(checksum, &value)),
         None => Ok(with_number(checksum, 1)),
     }
@@ -78,33 +78,33 @@ fn get<V: Vault>(
 /// Fills a store, and times one scan of it whole, or a number of short ones if there is one.
 pub(crate) fn time_scans(
     bench: Bench,
-    coord: &mut MemoryCoord,
+    store: &mut MemoryStore,
     entries: u64,
     scans: u64,
 ) -> Result<(), TimingError> {
-    fill(bench, coord, entries)?;
+    fill(bench, store, entries)?;
     if scans == 0 {
-        time_whole(bench, coord, "scan")
+        time_whole(bench, store, "scan")
     } else {
-        time_short(bench, coord, entries, scans)
+        time_short(bench, store, entries, scans)
     }
 }
 
 /// Times one scan of the whole store, window after window, as a figure of this name.
 pub(crate) fn time_whole(
     bench: Bench,
-    coord: &MemoryCoord,
+    store: &MemoryStore,
     name: &'static str,
 ) -> Result<(), TimingError> {
     let figure = Figure::begin(bench, name)?;
-    let (count, checksum) = scan_whole(bench.alloc(), coord)?;
+    let (count, checksum) = scan_whole(bench.alloc(), store)?;
     figure.end(bench, count, checksum)?;
     Ok(())
 }
 
 fn time_short(
     bench: Bench,
-    coord: &MemoryCoord,
+    store: &MemoryStore,
     entries: u64,
     scans: u64,
 ) -> Result<(), TimingError> {
@@ -112,7 +112,7 @@ fn time_short(
     let mut checksum = 0;
     for scan in 0..scans {
         let from = bench.shape.key(random_below(entries, scan));
-        let pairs = coord.scan(from.as_slice(), &END, None, SHORT)?;
+        let pairs = store.scan(from.as_slice(), &END, None, SHORT)?;
         checksum = with_pairs(checksum, &pairs);
     }
     figure.end(bench, scans, checksum)?;
@@ -120,11 +120,11 @@ fn time_short(
 }
 
 // All pairs, window after window: how many there are, and their checksum.
-fn scan_whole(alloc: Global, coord: &MemoryCoord) -> Result<(u64, u64), TimingError> {
+fn scan_whole(alloc: Global, store: &MemoryStore) -> Result<(u64, u64), TimingError> {
     let (mut count, mut checksum) = (0u64, 0);
     let mut from = Vec::new(alloc);
     for _window in 0..u64::MAX {
-        let pairs = coord.scan(&from, &END, None, WINDOW)?;
+        let pairs = store.scan(&from, &END, None, WINDOW)?;
         let Some((last, _)) = pairs.last() else {
             break;
         };

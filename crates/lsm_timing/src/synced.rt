@@ -1,11 +1,12 @@
 //! Writes to a store in a folder, whose log is synced after every turn of them.
 
 use crate::bench::Bench;
-use crate::error::{NO_FOLDER, NO_STORE, NOT_SYNCED, NOT_WRITTEN, TimingError, USED_FOLDER};
+use crate::error::{NO_FOLDER, TimingError, USED_FOLDER};
 use crate::figure::Figure;
+use crate::fill::opened;
 use crate::load::Load;
 use lsm_file_vault::{FileVault, HostFolder, LogSync, open_with};
-use lsm_store::{Options, Store};
+use lsm_store::Store;
 use std::fs;
 
 /// The folders, in the one in which the program runs. They stay there.
@@ -63,13 +64,9 @@ fn put_turn(
     let alone = Load { batch: 1, ..turns };
     for index in first..end {
         let put = alone.batch(bench, index)?;
-        if store.write(&put).is_err() {
-            return Err(NOT_WRITTEN);
-        }
+        store.write(&put)?;
     }
-    if store.sync().is_err() {
-        return Err(NOT_SYNCED);
-    }
+    store.sync()?;
     Ok(())
 }
 
@@ -85,8 +82,5 @@ fn store_in_folder(
     let Ok(found) = open_with(&bench.rt, folder, log_sync) else {
         return Err(NO_FOLDER);
     };
-    match Store::open(bench.alloc(), found.vault, Options::default()) {
-        Ok(store) => Ok(store),
-        Err(_) => Err(NO_STORE),
-    }
+    opened(bench, found.vault)
 }

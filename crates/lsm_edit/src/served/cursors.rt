@@ -6,8 +6,8 @@ ghost use Rattle.lsm_key.specs.Places.{all_entries};
 ghost use Rattle.lsm_edit.specs.Served.{AllRecorded, AreInSearchOrder, tables_of};
 
 use super::level_cursor::{LevelCursor, level_cursor};
+use super::search::deepest_level;
 use super::{Placed, Served};
-use lsm_key::MAX_LEVEL;
 use std::alloc::{AllocError, Global};
 
 impl Served {
@@ -19,7 +19,7 @@ impl Served {
     {
         let places = self.places();
         let mut cursors = zero_cursors(self.current.alloc(), places, lo)?;
-        for level in 1..MAX_LEVEL + 1 {
+        for level in 1..deepest_level(places) + 1 {
             let Some(cursor) = level_cursor(places, level, lo) else {
                 continue;
             };

@@ -104,13 +104,26 @@ fn in_deeper_levels(places: &[Placed], key: &[u8], from: usize, first: u8) -> Op
     ensures found { IfSome result (IsNext places.now key.now from) }
     ensures none { IfNone result (AllWithin (Misses key.now) places.now from (length places.now)) }
 {
-    for level in first..MAX_LEVEL + 1 {
+    for level in first..deepest_level(places) + 1 {
         match in_level(places, key, from, level) {
             Some(place) => return Some(place),
             None => {}
         }
     }
     None
+}
+
+/// The deepest level that has a file, or 0.
+pub(super) fn deepest_level(places: &[Placed]) -> u8
+    requires ordered { AreInSearchOrder places.now }
+    requires levels { (p : Placed) → IsIn p places.now → p.meta.level ≤ MAX_LEVEL }
+    ensures deepest { (p : Placed) → IsIn p places.now → p.meta.level ≤ result }
+    ensures small { result ≤ MAX_LEVEL }
+{
+    if places.is_empty() {
+        return 0;
+    }
+    places[places.len() - 1].meta.level
 }
 
 // The place of the one file of a deeper level whose range covers the key.

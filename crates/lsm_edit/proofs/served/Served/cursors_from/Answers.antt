@@ -10,6 +10,9 @@ use Rattle.lsm_edit.proofs.LevelEntries.{all_levels, level_zero}
 use Rattle.lsm_edit.proofs.ServedPlaces.{levels_in_range}
 use Rattle.lsm_edit.proofs.served.Served.cursors_from.Goals as goal
 
+pub deepest_level-level-end-requires-clause-levels : goal.deepest_level-level-end-requires-clause-levels
+deepest_level-level-end-requires-clause-levels c = levels_in_range c.args.self.now c.places-places.result.now c.places-places.ensures.all c.places-places.ensures.sound.0 c.places-places.ensures.sound.1
+
 pub loop-level-init : goal.loop-level-init
 loop-level-init c = (c.in_ok-cursors.ensures.all ∙ ap (onward c.args.lo.now) (level_zero c.places-places.result.now), c.in_ok-cursors.ensures.order)
 
@@ -38,7 +41,7 @@ pub returns-clause-all : goal.returns-clause-all
 returns-clause-all c =
     let places = c.places-places.result.now in
     let all = all_levels c.loop-level.level places (λ p m.
-    let most = levels_in_range c.args.self.now places c.places-places.ensures.all c.places-places.ensures.sound.0 c.places-places.ensures.sound.1 p m in
+    let most = c.deepest_level-level-end.ensures.deepest p m in
     omega (arith, most, c.loop-level-test.false)) in
     c.loop-level.invariant.0 ∙ ap (onward c.args.lo.now) (all ∙ c.places-places.ensures.all)
 
