@@ -2,6 +2,7 @@
 
 use crate::clock::ClockKind;
 use crate::keys::Shape;
+use lsm_key::Limits;
 use std::alloc::Global;
 use std::io;
 use std::time::Duration;
@@ -12,6 +13,8 @@ pub(crate) struct Bench {
     pub(crate) rt: HostRuntime,
     pub(crate) clock: ClockKind,
     pub(crate) shape: Shape,
+    /// Those of each store.
+    pub(crate) limits: Limits,
 }
 
 impl Bench {

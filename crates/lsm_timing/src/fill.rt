@@ -15,7 +15,10 @@ pub(crate) type MemoryStore = Store<MemoryVault>;
 
 /// The store that a vault has.
 pub(crate) fn opened<V: Vault + Drop>(bench: Bench, vault: V) -> Result<Store<V>, TimingError> {
-    match Store::open(bench.alloc(), vault, Options::default()) {
+    let options = Options {
+        limits: bench.limits,
+    };
+    match Store::open(bench.alloc(), vault, options) {
         Ok(store) => Ok(store),
         Err(_) => Err(NO_STORE),
     }

@@ -27,7 +27,6 @@ use fill::{MemoryStore, opened};
 use forms::Task;
 use keys::{KeyShape, Shape};
 use lsm_coord::Coord;
-use lsm_store::Options;
 use lsm_vault::MemoryVault;
 use options::{OptionsError, Request, print_help, request_of};
 use picks::LOOSE;
@@ -117,7 +116,7 @@ fn run_over(
 fn run_coord(bench: Bench, task: Task, first: u64) -> Result<(), TimingError> {
     let limits = match task {
         Task::Pick => LOOSE,
-        _ => Options::default().limits,
+        _ => bench.limits,
     };
     let Ok(mut coord) = Coord::open(bench.alloc(), MemoryVault::new(bench.alloc()), limits) else {
         return Err(NO_STORE);
@@ -192,6 +191,7 @@ fn main(rt: HostRuntime) -> ExitCode {
         rt,
         clock: request.clock,
         shape: request.shape,
+        limits: request.limits,
     };
     match run_all(&rt, bench, request) {
         Ok(()) => ExitCode::SUCCESS,

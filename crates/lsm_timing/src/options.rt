@@ -3,6 +3,7 @@
 use crate::clock::ClockKind;
 use crate::forms::{FORMS, Form, Number, Task};
 use crate::keys::{KeyShape, Shape};
+use lsm_key::{DEFAULT_BASE, DEFAULT_BLOCK, DEFAULT_L0, Limits, MAX_BASE, MAX_L0};
 use std::{fmt, io};
 
 /// What the command line asks for.
@@ -13,6 +14,7 @@ pub(crate) struct Request {
     pub(crate) second: u64,
     pub(crate) clock: ClockKind,
     pub(crate) shape: Shape,
+    pub(crate) limits: Limits,
 }
 
 /// Why a command line asks for nothing.
@@ -48,11 +50,29 @@ const KEYS: &str = "--keys";
 
 const VALUE: &str = "--value";
 
+const L0: &str = "--l0";
+
+const BASE: &str = "--base";
+
 /// How long a value is, in bytes.
 const BYTES: Number = Number {
     name: VALUE,
     most: 1_000,
     default: Some(100),
+};
+
+/// How many files of level 0 are due.
+const FILES: Number = Number {
+    name: L0,
+    most: MAX_L0,
+    default: Some(DEFAULT_L0),
+};
+
+/// Above how many bytes level 1 is due.
+const LEVEL_BYTES: Number = Number {
+    name: BASE,
+    most: MAX_BASE,
+    default: Some(DEFAULT_BASE),
 };
 
 // What the help says before the commands.
@@ -62,6 +82,8 @@ Options, before or after a command:
   --clock wall|processor: Take the time that passes, or the processor's time of the process; both in steps of 1 ns
   --keys scattered|prefixed: Keys of 16 bytes, or the same after a prefix of 16 bytes
   --value BYTES: Bytes of a value, 100 if not given
+  --l0 FILES: Level 0 is due at so many files
+  --base BYTES: Level 1 is due above so many bytes, and each deeper level above ten times as many as the one before
 Commands:";
 
 /// Prints the help.
@@ -81,6 +103,8 @@ struct Line<'a> {
     clock: ClockKind,
     keys: KeyShape,
     value_len: u64,
+    l0: u64,
+    base: u64,
     form: Option<Form>,
     first: Option<&'a str>,
     second: Option<&'a str>,
@@ -93,6 +117,8 @@ pub(crate) fn request_of(words: &[String]) -> Result<Request, OptionsError<'_>> 
         clock: ClockKind::Wall,
         keys: Shape::DEFAULT.keys,
         value_len: Shape::DEFAULT.value_len,
+        l0: DEFAULT_L0,
+        base: DEFAULT_BASE,
         form: None,
         first: None,
         second: None,
@@ -109,7 +135,7 @@ fn with_word<'a>(line: Line<'a>, word: &'a str) -> Result<Line<'a>, OptionsError
         line.waiting = None;
         return with_value(line, option, word);
     }
-    if matches!(word, CLOCK | KEYS | VALUE) {
+    if matches!(word, CLOCK | KEYS | VALUE | L0 | BASE) {
         line.waiting = Some(word);
     } else if line.form.is_none() {
         line.form = Some(form_of(word)?);
@@ -129,15 +155,14 @@ fn with_value<'a>(
     word: &'a str,
 ) -> Result<Line<'a>, OptionsError<'a>> {
     let mut line = line;
-    if option == VALUE {
-        line.value_len = number_of(BYTES, word)?;
-        return Ok(line);
-    }
-    match (option == CLOCK, word) {
-        (true, "wall") => line.clock = ClockKind::Wall,
-        (true, "processor") => line.clock = ClockKind::Processor,
-        (false, "scattered") => line.keys = KeyShape::Scattered,
-        (false, "prefixed") => line.keys = KeyShape::Prefixed,
+    match (option, word) {
+        (VALUE, _) => line.value_len = number_of(BYTES, word)?,
+        (L0, _) => line.l0 = number_of(FILES, word)?,
+        (BASE, _) => line.base = number_of(LEVEL_BYTES, word)?,
+        (CLOCK, "wall") => line.clock = ClockKind::Wall,
+        (CLOCK, "processor") => line.clock = ClockKind::Processor,
+        (KEYS, "scattered") => line.keys = KeyShape::Scattered,
+        (KEYS, "prefixed") => line.keys = KeyShape::Prefixed,
         _ => return Err(OptionsError::Invalid(word, option)),
     }
     Ok(line)
@@ -162,6 +187,8 @@ fn request_in(line: Line<'_>) -> Result<Request, OptionsError<'_>> {
     let Some(form) = line.form else {
         return Err(OptionsError::NoCommand);
     };
+    // Each number is within its range, so these are limits.
+    let limits = Limits::new(line.l0, line.base, DEFAULT_BLOCK).ok_or(OptionsError::NoValue(L0))?;
     Ok(Request {
         task: form.task,
         first: given(form.first, line.first)?,
@@ -171,6 +198,7 @@ fn request_in(line: Line<'_>) -> Result<Request, OptionsError<'_>> {
             keys: line.keys,
             value_len: line.value_len,
         },
+        limits,
     })
 }
 

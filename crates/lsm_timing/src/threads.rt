@@ -18,7 +18,6 @@ use lsm_coord::Coord;
 use lsm_edit::Served;
 use lsm_nodes::{Hub, PARTS, Start, Tally, Witness};
 use lsm_readers::{LogName, NewLog};
-use lsm_store::Options;
 use lsm_vault::{MemoryVault, Vault};
 use reads::readers_of;
 use role::{ends_of, play_all, roles_of};
@@ -47,7 +46,7 @@ pub(crate) fn time_threads<R: Threads + Wait + Sync>(
 // What has to be dropped dearly is lent from here on, so that no refusal drops it.
 fn over_anew<R: Threads + Wait + Sync>(rt: &R, course: &Course) -> Result<Ends, TimingError> {
     let alloc = course.bench.alloc();
-    let Ok(coord) = Coord::open(alloc, MemoryVault::new(alloc), Options::default().limits) else {
+    let Ok(coord) = Coord::open(alloc, MemoryVault::new(alloc), course.bench.limits) else {
         return Err(NO_STORE);
     };
     over_hub::<MemoryVault, Brand, Snapshot<Served>, R>(
