@@ -9,7 +9,7 @@ use Rattle.lsm_table.specs.Tables.{IsTable, Opened, smallest_key, largest_key}
 use Rattle.lsm_table.specs.TableReading.{read_table}
 use Rattle.lsm_edit.specs.declared.file.FileMeta.{FileMeta}
 use Rattle.lsm_edit.specs.Served.{IsAsRecorded}
-use Rattle.lsm_edit.specs.Version.{has_number}
+use Rattle.lsm_edit.specs.Version.{VersionValue, has_number}
 use Rattle.lsm_vault.specs.Stored.{TableMap}
 use Rattle.lsm_versions.specs.Manifest.{Folds}
 use Rattle.lsm_versions.specs.Opening.{manifest_version}
@@ -95,8 +95,8 @@ IsWriteError BadManifest = ⊥
 IsWriteError OutOfMemory = Unit {0}
 IsWriteError (Write why) = Unit {0}
 
--- a dump of these edits is refused, for this reason
+-- a dump of these edits is refused, for this reason: its lines are not written only if the edits make a version
 abbrev pub DumpRefuses : List (List ℕ) → InspectError → Type 0
-DumpRefuses texts (Write why) = Unit {0}
+DumpRefuses texts (Write why) = (v : VersionValue) × Folds texts v
 DumpRefuses texts BadManifest = CheckRefuses texts BadManifest
 DumpRefuses texts OutOfMemory = CheckRefuses texts OutOfMemory
